@@ -1,0 +1,203 @@
+-- The place of a key among rows that ascend.
+use Rattle.std.proofs.Common.{◌≡◌, ℕ, suc, ◌<◌, ◌≤◌, ◌≢◌, Bool, true, false, cond, not, ◌||◌, ◌&&◌, eqb, ltb, List, [], ◌∷◌, length, get_or, set, refl, ap, sym, ◌∙◌, subst, inl, inr, ◌⊎◌, arith, Option, Some, None}
+use Rattle.std.specs.List.{insert, remove, slice_get}
+use Rattle.std.specs.Option.{is_some}
+use Rattle.std.proofs.lemmas.Bool.{ltb-true, ltb-false, lt-ltb, le-ltb, eq-eqb, ne_eqb, eqb-true, eqb-false, or_parts, or_cases, and_parts, and_cases, cases_order, both_ways, cases_Bool, true≢false}
+use Rattle.std.proofs.lemmas.Bool.Decides.{nat_tests}
+use Rattle.wsm_lists.specs.Rows.{key_lt, key_eq, AllRows, Ascends, row_at, put_row, drop_row, rows_below, is_row_at}
+
+-- the order of keys, by numbers
+pub lt_means : (a b : ℕ × ℕ) → key_lt a b ≡ true → (a.0 < b.0) ⊎ ((a.0 ≡ b.0) × (a.1 < b.1))
+lt_means a b e =
+    elim (or_cases (ltb a.0 b.0) (eqb a.0 b.0 && ltb a.1 b.1) e) [
+      | inl h ↦ inl (ltb-true _ _ h)
+      | inr h ↦ let p = and_parts (eqb a.0 b.0) (ltb a.1 b.1) h in inr (eqb-true _ _ p.0, ltb-true _ _ p.1)
+    ]
+
+pub lt_from : (a b : ℕ × ℕ) → (a.0 < b.0) ⊎ ((a.0 ≡ b.0) × (a.1 < b.1)) → key_lt a b ≡ true
+lt_from a b (inl h) = rw (lt-ltb a.0 b.0 h) refl
+lt_from a b (inr h) = rw (le-ltb a.0 b.0 (omega arith), eq-eqb a.0 b.0 h.0, lt-ltb a.1 b.1 h.1) refl
+
+pub not_lt_means : (a b : ℕ × ℕ) → key_lt a b ≡ false → (b.0 < a.0) ⊎ ((a.0 ≡ b.0) × (b.1 ≤ a.1))
+not_lt_means a b e =
+    elim (cases_order a.0 b.0) [
+      | inl same ↦ inr (same, let q : key_lt a b ≡ ltb a.1 b.1 = rw (le-ltb a.0 b.0 (omega arith), eq-eqb a.0 b.0 same) refl in ltb-false _ _ (sym q ∙ e))
+      | inr (inl less) ↦ absurd (both_ways _ e (lt_from a b (inl less)))
+      | inr (inr more) ↦ inl more
+    ]
+
+pub eq_means : (a b : ℕ × ℕ) → key_eq a b ≡ true → (a.0 ≡ b.0) × (a.1 ≡ b.1)
+eq_means a b e = let p = and_parts (eqb a.0 b.0) (eqb a.1 b.1) e in (eqb-true _ _ p.0, eqb-true _ _ p.1)
+
+pub eq_from : (a b : ℕ × ℕ) → (a.0 ≡ b.0) → (a.1 ≡ b.1) → key_eq a b ≡ true
+eq_from a b p q = rw (eq-eqb a.0 b.0 p, eq-eqb a.1 b.1 q) refl
+
+pub lt_not_eq : (a b : ℕ × ℕ) → key_lt a b ≡ true → key_eq a b ≡ false
+lt_not_eq a b e =
+    elim (cases_Bool (key_eq a b)) [
+      | inl same ↦ let s = eq_means a b same in absurd (elim (lt_means a b e) [ inl h ↦ omega arith | inr h ↦ omega arith ])
+      | inr other ↦ other
+    ]
+
+pub lt_trans : (a b c : ℕ × ℕ) → key_lt a b ≡ true → key_lt b c ≡ true → key_lt a c ≡ true
+lt_trans a b c p q =
+    lt_from a c (elim (lt_means a b p) [
+      | inl x ↦ elim (lt_means b c q) [ inl y ↦ inl (omega arith) | inr y ↦ inl (omega arith) ]
+      | inr x ↦ elim (lt_means b c q) [ inl y ↦ inl (omega arith) | inr y ↦ inr (omega arith, omega arith) ]
+    ])
+
+pub lt_other : (a b : ℕ × ℕ) → key_lt a b ≡ false → key_eq a b ≡ false → key_lt b a ≡ true
+lt_other a b p q =
+    lt_from b a (elim (not_lt_means a b p) [
+      | inl x ↦ inl x
+      | inr x ↦ elim (cases_order a.1 b.1) [
+        | inl same ↦ absurd (both_ways _ q (eq_from a b x.0 same))
+        | inr (inl less) ↦ absurd (omega arith)
+        | inr (inr more) ↦ inr (sym x.0, more)
+      ]
+    ])
+
+module _ {X : Type 0} (key : X → ℕ × ℕ) where
+  pub rows_below_le : (k : ℕ × ℕ) (xs : List X) → rows_below key k xs ≤ length xs
+  rows_below_le k [] = omega arith
+  rows_below_le k (x ∷ xs) =
+      elim (key_lt (key x) k) as (λ b. cond b (suc (rows_below key k xs)) 0 ≤ suc (length xs)) [
+        | true ↦ omega (arith, rows_below_le k xs)
+        | false ↦ omega arith
+      ]
+
+  -- where all keys are above k, there is no row with it
+  none_above : (k : ℕ × ℕ) (xs : List X) → AllRows (λ y. key_lt k (key y) ≡ true) xs → row_at key k xs ≡ None
+  none_above k [] h = refl
+  none_above k (x ∷ xs) h = rw (key_eq_off (key x) k h.0) (none_above k xs h.1)
+    where
+      key_eq_off : (a b : ℕ × ℕ) → key_lt b a ≡ true → key_eq a b ≡ false
+      key_eq_off a b e =
+          elim (cases_Bool (key_eq a b)) [
+            | inl same ↦ let s = eq_means a b same in absurd (elim (lt_means b a e) [ inl h ↦ omega arith | inr h ↦ omega arith ])
+            | inr other ↦ other
+          ]
+
+  above_all : (k : ℕ × ℕ) (x : X) (xs : List X) → key_lt k (key x) ≡ true → AllRows (λ y. key_lt (key x) (key y) ≡ true) xs → AllRows (λ y. key_lt k (key y) ≡ true) xs
+  above_all k x [] p h = tt
+  above_all k x (y ∷ ys) p h = (lt_trans k (key x) (key y) p h.0, above_all k x ys p h.1)
+
+  pub row_is_there : (k : ℕ × ℕ) (xs : List X) → Ascends key xs → is_row_at key k (slice_get xs (rows_below key k xs)) ≡ is_some (row_at key k xs)
+  row_is_there k [] s = refl
+  row_is_there k (x ∷ xs) s =
+      elim (cases_Bool (key_lt (key x) k)) [
+        | inl below ↦ rw (below, lt_not_eq (key x) k below) (row_is_there k xs s.1)
+        | inr not_below ↦ elim (cases_Bool (key_eq (key x) k)) [
+          | inl same ↦ rw (not_below, same) refl
+          | inr other ↦ let up = lt_other (key x) k not_below other in rw (not_below, other, none_above k xs (above_all k x xs up s.0)) refl
+        ]
+      ]
+
+  pub put_is_insert : (x : X) (xs : List X) → is_row_at key (key x) (slice_get xs (rows_below key (key x) xs)) ≡ false → put_row key x xs ≡ insert xs (rows_below key (key x) xs) x
+  put_is_insert x [] e = refl
+  put_is_insert x (y ∷ ys) e =
+      elim (cases_Bool (key_lt (key y) (key x))) [
+        | inl below ↦ rw below (ap (λ z. y ∷ z) (put_is_insert x ys (rw below at e)))
+        | inr not_below ↦ let other : key_eq (key y) (key x) ≡ false = rw not_below at e in rw (not_below, other) refl
+      ]
+
+  put_above : (k : ℕ × ℕ) (x : X) (xs : List X) → key_lt k (key x) ≡ true → AllRows (λ y. key_lt k (key y) ≡ true) xs → AllRows (λ y. key_lt k (key y) ≡ true) (put_row key x xs)
+  put_above k x [] p h = (p, tt)
+  put_above k x (y ∷ ys) p h =
+      elim (cases_Bool (key_lt (key y) (key x))) [
+        | inl below ↦ rw below (h.0, put_above k x ys p h.1)
+        | inr not_below ↦ elim (cases_Bool (key_eq (key y) (key x))) [
+          | inl same ↦ rw (not_below, same) (p, h.1)
+          | inr other ↦ rw (not_below, other) (p, h)
+        ]
+      ]
+
+  same_above : (a b : ℕ × ℕ) (xs : List X) → key_eq a b ≡ true → AllRows (λ y. key_lt a (key y) ≡ true) xs → AllRows (λ y. key_lt b (key y) ≡ true) xs
+  same_above a b [] e h = tt
+  same_above a b (y ∷ ys) e h = (lt_from b (key y) (let s = eq_means a b e in elim (lt_means a (key y) h.0) [ inl q ↦ inl (omega arith) | inr q ↦ inr (omega arith, omega arith) ]), same_above a b ys e h.1)
+
+  pub ascends_put : (x : X) (xs : List X) → Ascends key xs → Ascends key (put_row key x xs)
+  ascends_put x [] s = (tt, tt)
+  ascends_put x (y ∷ ys) s =
+      elim (cases_Bool (key_lt (key y) (key x))) [
+        | inl below ↦ rw below (put_above (key y) x ys below s.0, ascends_put x ys s.1)
+        | inr not_below ↦ elim (cases_Bool (key_eq (key y) (key x))) [
+          | inl same ↦ rw (not_below, same) (same_above (key y) (key x) ys same s.0, s.1)
+          | inr other ↦ let up = lt_other (key y) (key x) not_below other in rw (not_below, other) ((up, above_all (key x) y ys up s.0), s)
+        ]
+      ]
+
+  pub insert_where_absent : (x : X) (xs : List X) → Ascends key xs → is_some (row_at key (key x) xs) ≡ false → put_row key x xs ≡ insert xs (rows_below key (key x) xs) x
+  insert_where_absent x xs s e = put_is_insert x xs (row_is_there (key x) xs s ∙ e)
+
+  -- a key that is there stands at its place
+  at_place : (k : ℕ × ℕ) (xs : List X) → Ascends key xs → is_some (row_at key k xs) ≡ true → is_row_at key k (slice_get xs (rows_below key k xs)) ≡ true
+  at_place k xs s e = row_is_there k xs s ∙ e
+
+  pub place_within : (k : ℕ × ℕ) (xs : List X) → Ascends key xs → is_some (row_at key k xs) ≡ true → rows_below key k xs < length xs
+  place_within k xs s e = go xs (at_place k xs s e)
+    where
+      go : (xs : List X) → is_row_at key k (slice_get xs (rows_below key k xs)) ≡ true → rows_below key k xs < length xs
+      go [] h = absurd (both_ways _ refl h)
+      go (x ∷ xs) h =
+          elim (cases_Bool (key_lt (key x) k)) [
+            | inl below ↦ rw below (omega (arith, go xs (rw below at h)))
+            | inr not_below ↦ rw not_below (omega arith)
+          ]
+
+  pub set_where_there : (x : X) (xs : List X) → Ascends key xs → is_some (row_at key (key x) xs) ≡ true → put_row key x xs ≡ set xs (rows_below key (key x) xs) x
+  set_where_there x xs s e = go xs (at_place (key x) xs s e)
+    where
+      go : (ys : List X) → is_row_at key (key x) (slice_get ys (rows_below key (key x) ys)) ≡ true → put_row key x ys ≡ set ys (rows_below key (key x) ys) x
+      go [] h = absurd (both_ways _ refl h)
+      go (y ∷ ys) h =
+          elim (cases_Bool (key_lt (key y) (key x))) [
+            | inl below ↦ rw below (ap (λ z. y ∷ z) (go ys (rw below at h)))
+            | inr not_below ↦ let same : key_eq (key y) (key x) ≡ true = rw not_below at h in rw (not_below, same) refl
+          ]
+
+  pub remove_where_there : (k : ℕ × ℕ) (xs : List X) → Ascends key xs → is_some (row_at key k xs) ≡ true → drop_row key k xs ≡ remove xs (rows_below key k xs)
+  remove_where_there k xs s e = go xs (at_place k xs s e)
+    where
+      go : (ys : List X) → is_row_at key k (slice_get ys (rows_below key k ys)) ≡ true → drop_row key k ys ≡ remove ys (rows_below key k ys)
+      go [] h = absurd (both_ways _ refl h)
+      go (y ∷ ys) h =
+          elim (cases_Bool (key_lt (key y) k)) [
+            | inl below ↦ rw (below, lt_not_eq (key y) k below) (ap (λ z. y ∷ z) (go ys (rw below at h)))
+            | inr not_below ↦ let same : key_eq (key y) k ≡ true = rw not_below at h in rw (not_below, same) refl
+          ]
+
+  pub drop_where_absent : (k : ℕ × ℕ) (xs : List X) → is_some (row_at key k xs) ≡ false → drop_row key k xs ≡ xs
+  drop_where_absent k [] e = refl
+  drop_where_absent k (x ∷ xs) e =
+      elim (cases_Bool (key_eq (key x) k)) [
+        | inl same ↦ absurd (both_ways _ (rw same at e) refl)
+        | inr other ↦ rw other (ap (λ z. x ∷ z) (drop_where_absent k xs (rw other at e)))
+      ]
+
+  pub all_put : (P : X → Type 0) (x : X) (xs : List X) → P x → AllRows P xs → AllRows P (put_row key x xs)
+  all_put P x [] p h = (p, tt)
+  all_put P x (y ∷ ys) p h =
+      elim (cases_Bool (key_lt (key y) (key x))) [
+        | inl below ↦ rw below (h.0, all_put P x ys p h.1)
+        | inr not_below ↦ elim (cases_Bool (key_eq (key y) (key x))) [
+          | inl same ↦ rw (not_below, same) (p, h.1)
+          | inr other ↦ rw (not_below, other) (p, h)
+        ]
+      ]
+
+  pub all_drop : (P : X → Type 0) (k : ℕ × ℕ) (xs : List X) → AllRows P xs → AllRows P (drop_row key k xs)
+  all_drop P k [] h = tt
+  all_drop P k (x ∷ xs) h =
+      elim (cases_Bool (key_eq (key x) k)) [
+        | inl same ↦ rw same h.1
+        | inr other ↦ rw other (h.0, all_drop P k xs h.1)
+      ]
+
+  pub ascends_drop : (k : ℕ × ℕ) (xs : List X) → Ascends key xs → Ascends key (drop_row key k xs)
+  ascends_drop k [] s = tt
+  ascends_drop k (x ∷ xs) s =
+      elim (cases_Bool (key_eq (key x) k)) [
+        | inl same ↦ rw same s.1
+        | inr other ↦ rw other (all_drop (λ y. key_lt (key x) (key y) ≡ true) k xs s.0, ascends_drop k xs s.1)
+      ]
