@@ -1,9 +1,9 @@
 -- The place of a key among rows that ascend.
-use Rattle.std.proofs.Common.{◌≡◌, ℕ, suc, ◌<◌, ◌≤◌, ◌≢◌, Bool, true, false, cond, not, ◌||◌, ◌&&◌, eqb, ltb, List, [], ◌∷◌, length, get_or, set, refl, ap, sym, ◌∙◌, subst, inl, inr, ◌⊎◌, arith, Option, Some, None}
+use Rattle.std.proofs.Common.{◌≡◌, ℕ, suc, ◌<◌, ◌≤◌, true, false, cond, ◌&&◌, eqb, ltb, List, [], ◌∷◌, length, zero, get_or, set, refl, ap, sym, ◌∙◌, inl, inr, ◌⊎◌, arith, Option, Some, None}
 use Rattle.std.specs.List.{insert, remove, slice_get}
+use Rattle.std.specs.List.Sorted.{IsPartitionedBy, IsPartitionPoint}
 use Rattle.std.specs.Option.{is_some}
-use Rattle.std.proofs.lemmas.Bool.{ltb-true, ltb-false, lt-ltb, le-ltb, eq-eqb, ne_eqb, eqb-true, eqb-false, or_parts, or_cases, and_parts, and_cases, cases_order, both_ways, cases_Bool, true≢false}
-use Rattle.std.proofs.lemmas.Bool.Decides.{nat_tests}
+use Rattle.std.proofs.lemmas.Bool.{ltb-true, ltb-false, lt-ltb, le-ltb, eq-eqb, eqb-true, or_cases, and_parts, cases_order, both_ways, cases_Bool}
 use Rattle.wsm_lists.specs.Rows.{key_lt, key_eq, AllRows, Ascends, row_at, put_row, drop_row, rows_below, is_row_at}
 
 -- the order of keys, by numbers
@@ -201,3 +201,47 @@ module _ {X : Type 0} (key : X → ℕ × ℕ) where
         | inl same ↦ rw same s.1
         | inr other ↦ rw other (all_drop (λ y. key_lt (key x) (key y) ≡ true) k xs s.0, ascends_drop k xs s.1)
       ]
+
+  -- the keys of rows that ascend, below k, stand at the front
+  pub ascends-partitioned : (k : ℕ × ℕ) (xs : List X) → Ascends key xs → IsPartitionedBy (λ x. key_lt (key x) k) xs
+  ascends-partitioned k [] s i j d le lt h = absurd (omega (arith, lt))
+  ascends-partitioned k (x ∷ xs) s zero zero d le lt h = h
+  ascends-partitioned k (x ∷ xs) s zero (suc j) d le lt h = lt_trans (key x) (key (get_or xs j d)) k (row_of xs j s.0 (omega (arith, lt))) h
+    where
+      row_of : (ys : List X) (n : ℕ) → AllRows (λ y. key_lt (key x) (key y) ≡ true) ys → n < length ys → key_lt (key x) (key (get_or ys n d)) ≡ true
+      row_of [] n a l = absurd (omega (arith, l))
+      row_of (y ∷ ys) zero a l = a.0
+      row_of (y ∷ ys) (suc n) a l = row_of ys n a.1 (omega (arith, l))
+  ascends-partitioned k (x ∷ xs) s (suc i) zero d le lt h = absurd (omega (arith, le))
+  ascends-partitioned k (x ∷ xs) s (suc i) (suc j) d le lt h = ascends-partitioned k xs s.1 i j d (omega (arith, le)) (omega (arith, lt)) h
+
+  -- where the rows below k end, there are so many of them
+  pub rows_below-point : (k : ℕ × ℕ) (xs : List X) (n : ℕ) → n ≤ length xs → IsPartitionPoint (λ x. key_lt (key x) k ≡ true) (λ x. key_lt (key x) k ≡ false) xs n → n ≡ rows_below key k xs
+  rows_below-point k [] n le p = omega (arith, le)
+  rows_below-point k (x ∷ xs) zero le p = rw (p.1 0 x (omega arith) (omega arith)) refl
+  rows_below-point k (x ∷ xs) (suc n) le p =
+      rw (p.0 0 x (omega arith) (omega arith))
+      (ap suc (rows_below-point k xs n (omega (arith, le)) ((λ i d a b. p.0 (suc i) d (omega arith) (omega (arith, b))), (λ i d a b. p.1 (suc i) d (omega (arith, a)) (omega (arith, b))))))
+
+  -- the row at the place of its key
+  pub row_at-found : (k : ℕ × ℕ) (xs : List X) (n : ℕ) (x : X) → n ≡ rows_below key k xs → slice_get xs n ≡ Some x → key_eq (key x) k ≡ true → row_at key k xs ≡ Some x
+  row_at-found k xs n x place there same = go xs (rw (sym place) there)
+    where
+      go : (ys : List X) → slice_get ys (rows_below key k ys) ≡ Some x → row_at key k ys ≡ Some x
+      go [] e = e
+      go (y ∷ ys) e =
+          elim (cases_Bool (key_lt (key y) k)) [
+            | inl below ↦ rw (lt_not_eq (key y) k below) (go ys (rw below at e))
+            | inr not_below ↦
+                let front : Some y ≡ Some x = rw not_below at e in
+                let y_is_x : y ≡ x = cc in
+                rw (y_is_x, same) refl
+          ]
+
+  -- where there is no row at that place, or one with another key, no row has this one
+  pub row_at-absent : (k : ℕ × ℕ) (xs : List X) (n : ℕ) → n ≡ rows_below key k xs → Ascends key xs → is_row_at key k (slice_get xs n) ≡ false → row_at key k xs ≡ None
+  row_at-absent k xs n place s e = none_of (row_at key k xs) (sym (row_is_there k xs s) ∙ rw (sym place) e)
+    where
+      none_of : (o : Option X) → is_some o ≡ false → o ≡ None
+      none_of None h = refl
+      none_of (Some x) h = absurd (both_ways _ h refl)

@@ -1,5 +1,5 @@
 // Tables: rows that ascend strictly by their keys.
-ghost use Rattle.std.specs.Prelude.{◌≡◌, ◌<◌, ℕ, List, [], length, slice_get, not, OnErr, OnOk, IfOk, IsTrue, ◌↔◌, if◌then◌else◌};
+ghost use Rattle.std.specs.Prelude.{◌≡◌, ◌<◌, ℕ, List, [], true, length, slice_get, not, OnErr, OnOk, IfOk, IsTrue, ◌↔◌, if◌then◌else◌};
 ghost use Rattle.std.specs.Option.{option_copied, is_some};
 ghost use Rattle.std.specs.Slice.Iter.{iter_rest};
 ghost use Rattle.wsm_lists.specs.Rows.{put_row, drop_row, row_at, rows_below, is_row_at, key_lt, key_eq, Ascends};
@@ -167,7 +167,7 @@ fn row_with<K: Keys>(rows: &[K::Row], at: usize, key: (u32, u32)) -> Option<&K::
     requires place { at ≡ rows_below K.key_of key rows.now }
     ensures { option_copied result ≡ row_at K.key_of key rows.now }
 {
-    match rows.get(at) {
+    match item_at(rows, at) {
         None => None,
         Some(row) => {
             if is_same(K::key(row), key) {
@@ -177,6 +177,12 @@ fn row_with<K: Keys>(rows: &[K::Row], at: usize, key: (u32, u32)) -> Option<&K::
             }
         }
     }
+}
+
+fn item_at<T>(items: &[T], index: usize) -> Option<&T>
+    ensures { option_copied result ≡ slice_get items.now index }
+{
+    items.get(index)
 }
 
 fn is_below(a: (u32, u32), b: (u32, u32)) -> bool
