@@ -1,0 +1,7 @@
+use Rattle.std.proofs.Common.{◌≡◌, drop}
+use Rattle.wsm_schema.specs.TreeOf.{parts_of}
+use Rattle.wsm_schema.specs.Places.{leaving}
+use Rattle.wsm_schema.proofs.blocks.leaving.Given as goal
+
+abbrev pub invariant-loop-block : goal.invariant-loop-block
+invariant-loop-block l = leaving (parts_of (drop l.block-index l.items)) l.last ≡ leaving (parts_of l.items) l.fn.from

@@ -1,0 +1,64 @@
+-- A schema's flat form: a card for each node, in document order, and the elements.
+use Rattle.std.specs.Prelude.{◌≡◌, ℕ, Bool, List, [], ◌∷◌, map, filter, find, Option, Some, None, option_map, ◌==◌, is_some, if◌then◌else◌}
+use Rattle.wsm_lists.specs.Keys.{role_in}
+use Rattle.wsm_schema.specs.Kinds.{is_loop_end}
+use Rattle.wsm_schema.specs.SchemaModel.{SchemaModel}
+use Rattle.wsm_schema.specs.Places.{places}
+use Rattle.wsm_schema.specs.declared.places.Place.{Place}
+use Rattle.wsm_schema.specs.declared.cards.Card.{Card}
+use Rattle.wsm_lists.specs.declared.values.ElementKind.{ElementKind}
+
+pub record FlatModel : Type 0 where
+  pub cards : List Card
+  pub elements : List (ℕ × ElementKind)
+
+-- a place, with what the lists say of its node
+abbrev pub card_of : SchemaModel → Place → Card
+card_of s p = record {
+  node = p.node;
+  kind = p.kind;
+  partner = p.partner;
+  ins = p.ins;
+  outs = p.outs;
+  syncs_in = map (λ e. e.0) (filter (λ e. e.1 == p.node) s.syncs);
+  syncs_out = map (λ e. e.1) (filter (λ e. e.0 == p.node) s.syncs);
+  reads = map (λ r. (r.1, r.2)) (filter (λ r. r.0 == p.node) s.reads);
+  writes = map (λ w. w.1) (filter (λ w. w.0 == p.node) s.writes);
+  role = role_in p.node s.roles;
+}
+
+abbrev pub cards_of : SchemaModel → List Card
+cards_of s = map (card_of s) (places s.start s.body s.finish)
+
+abbrev pub flat_of : SchemaModel → FlatModel
+flat_of s = record { cards = cards_of s; elements = s.elements }
+
+-- the first card of a node
+abbrev pub card_at : ℕ → List Card → Option Card
+card_at node cards = find (λ c. c.node == node) cards
+
+-- the kind of an element, where it is listed
+abbrev pub kind_in : ℕ → List (ℕ × ElementKind) → Option ElementKind
+kind_in element [] = None
+kind_in element (e ∷ es) = if e.0 == element then Some e.1 else kind_in element es
+
+-- the nodes from the first s on, and those up to the first e
+abbrev pub from_node : ℕ → List ℕ → List ℕ
+from_node s [] = []
+from_node s (n ∷ ns) = if n == s then n ∷ ns else from_node s ns
+
+abbrev pub up_to_node : ℕ → List ℕ → List ℕ
+up_to_node e [] = []
+up_to_node e (n ∷ ns) = if n == e then n ∷ [] else n ∷ up_to_node e ns
+
+-- the nodes of the loop that ends with e, both ends included, in document order
+abbrev pub loop_start : Option Card → Option ℕ
+loop_start None = None
+loop_start (Some c) = if is_loop_end c.kind then c.partner else None
+
+abbrev pub loop_from : Option ℕ → ℕ → List ℕ → List ℕ
+loop_from None e nodes = []
+loop_from (Some s) e nodes = up_to_node e (from_node s nodes)
+
+abbrev pub loop_nodes : List Card → ℕ → List ℕ
+loop_nodes cards e = loop_from (loop_start (card_at e cards)) e (map (λ c. c.node) cards)

@@ -1,0 +1,16 @@
+pub mod Tree
+pub mod Tokens
+pub mod TreeOf
+pub mod Ends
+pub mod Kinds
+pub mod SchemaModel
+pub mod Places
+pub mod Flat
+pub mod Rules
+pub mod Trail
+pub mod Replay
+pub mod Sound
+pub mod Marks
+pub mod Touched
+pub mod Rank
+pub mod Pass

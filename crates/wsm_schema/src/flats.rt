@@ -1,0 +1,308 @@
+// The flat form of a schema: a card for each node, in document order.
+ghost use Rattle.std.specs.Prelude.{◌≡◌, [], ◌∷◌, ◌++◌, IfOk, OnOk, map, Some};
+ghost use Rattle.std.specs.Option.{option_copied};
+ghost use Rattle.wsm_schema.specs.TreeOf.{part_of, parts_of, lanes_of};
+ghost use Rattle.wsm_schema.specs.Tree.{lanes};
+ghost use Rattle.wsm_schema.specs.Places.{place, part_places, parts_places, lanes_places, branch_heads, branch_tails};
+ghost use Rattle.wsm_schema.specs.Flat.{card_of, flat_of, cards_of, card_at, kind_in, loop_nodes, loop_start, up_to_node, from_node};
+
+use crate::blocks::{Block, Branch, first_node, leaving};
+use crate::card_lists::card;
+use crate::cards::{Card, End, Ends, NodeKind};
+use crate::places::Place;
+use crate::schemas::Schema;
+use std::alloc::Global;
+use std::marker::Model;
+use wsm_lists::{ElementKind, Elements, NoMemory, Nodes};
+
+/// The cards of a schema's nodes in document order, and its elements.
+#[derive(Drop)]
+pub struct Flat {
+    cards: Vec<Card>,
+    elements: Elements,
+}
+
+impl Model for Flat {
+    ghost use Rattle.wsm_schema.specs.Flat.{FlatModel};
+
+    ghost Value = { FlatModel };
+
+    ghost view = { λ a. record { cards = a.cards.items; elements = a.elements } };
+}
+
+impl Flat {
+    /// The flat form of the schema.
+    pub fn of(alloc: Global, schema: &Schema) -> Result<Flat, NoMemory>
+        ensures { IfOk result (λ flat. flat ≡ flat_of schema.now) }
+    {
+        Ok(Flat {
+            cards: all_cards(alloc, schema)?,
+            elements: schema.elements.copy(alloc)?,
+        })
+    }
+
+    /// All cards, in document order.
+    pub fn cards(&self) -> &[Card]
+        ensures { result.now ≡ self.now.cards }
+    {
+        &self.cards
+    }
+
+    /// The first card of the node.
+    pub fn card(&self, node: u32) -> Option<&Card>
+        ensures { option_copied result ≡ card_at node self.now.cards }
+    {
+        self.cards.iter().find(|c| c.node == node)
+    }
+
+    /// The kind of the element, where it is listed.
+    pub fn kind(&self, element: u32) -> Option<ElementKind>
+        ensures { result ≡ kind_in element self.now.elements }
+    {
+        match self.elements.find((element, 0)) {
+            Some(row) => Some(row.1),
+            None => None,
+        }
+    }
+
+    /// The nodes of the loop that ends there, both ends included, in document order. Empty where no loop ends there.
+    pub fn loop_body(&self, alloc: Global, end: u32) -> Result<Nodes, NoMemory>
+        ensures { IfOk result (λ nodes. nodes ≡ loop_nodes self.now.cards end) }
+    {
+        match self.loop_start(end) {
+            None => Ok(Nodes::new(alloc)),
+            Some(start) => Ok(Nodes::from_vec(nodes_between(
+                alloc,
+                &self.cards,
+                start,
+                end,
+            )?)),
+        }
+    }
+
+    // The start of the loop that ends there.
+    fn loop_start(&self, end: u32) -> Option<u32>
+        ensures { result ≡ loop_start (card_at end self.now.cards) }
+    {
+        match self.card(end) {
+            Some(card) => {
+                if card.kind == NodeKind::LoopEnd {
+                    card.partner
+                } else {
+                    None
+                }
+            }
+            None => None,
+        }
+    }
+}
+
+// The nodes of the cards from the first `start` up to the first `end` behind it.
+fn nodes_between(alloc: Global, cards: &[Card], start: u32, end: u32) -> Result<Vec<u32>, NoMemory>
+    ensures { IfOk result (λ new. new.items ≡ up_to_node end (from_node start (map (λ c. c.node) cards.now))) }
+{
+    let mut all = Vec::new(alloc);
+    let mut inside = false;
+    for c in cards {
+        if c.node == start {
+            inside = true;
+        }
+        if inside {
+            all.push(c.node)?;
+            if c.node == end {
+                return Ok(all);
+            }
+        }
+    }
+    Ok(all)
+}
+
+// The cards of all nodes.
+fn all_cards(alloc: Global, schema: &Schema) -> Result<Vec<Card>, NoMemory>
+    ensures { IfOk result (λ all. all.items ≡ cards_of schema.now) }
+{
+    let mut all = Vec::new(alloc);
+    let from = End::plain(schema.start);
+    let next = first_node(&schema.body, schema.finish);
+    let start = Place {
+        node: schema.start,
+        kind: NodeKind::Start,
+        partner: None,
+        ins: Ends::new(alloc),
+        outs: Ends::of_one(alloc, End::plain(next))?,
+    };
+    put(alloc, &mut all, schema, start)?;
+    put_items(alloc, &mut all, schema, &schema.body, from, schema.finish)?;
+    let finish = Place {
+        node: schema.finish,
+        kind: NodeKind::Finish,
+        partner: None,
+        ins: Ends::of_one(alloc, leaving(&schema.body, from))?,
+        outs: Ends::new(alloc),
+    };
+    put(alloc, &mut all, schema, finish)?;
+    Ok(all)
+}
+
+// One more card.
+fn put(alloc: Global, all: &mut Vec<Card>, schema: &Schema, place: Place) -> Result<(), NoMemory>
+    ensures { OnOk result (all.new.items ≡ all.old.items ++ card_of schema.now place ∷ []) }
+{
+    all.push(card(alloc, schema, place)?)?;
+    Ok(())
+}
+
+// The edges out of a split.
+fn heads(alloc: Global, branches: &[Branch], join: u32) -> Result<Ends, NoMemory>
+    ensures { IfOk result (λ new. new ≡ branch_heads (lanes (lanes_of branches.now)) join) }
+{
+    let mut all = Vec::new(alloc);
+    for branch in branches {
+        all.push(End::labelled(first_node(&branch.items, join), branch.code))?;
+    }
+    Ok(Ends::from_vec(all))
+}
+
+// The edges into a join.
+fn tails(alloc: Global, branches: &[Branch], split: u32) -> Result<Ends, NoMemory>
+    ensures { IfOk result (λ new. new ≡ branch_tails (lanes (lanes_of branches.now)) split) }
+{
+    let mut all = Vec::new(alloc);
+    for branch in branches {
+        let from = End::labelled(split, branch.code);
+        all.push(leaving(&branch.items, from))?;
+    }
+    Ok(Ends::from_vec(all))
+}
+
+// The cards of items, which the edge from `from` enters and which one to `to` leaves.
+#[cycle(flatten)]
+fn put_items(
+    alloc: Global,
+    all: &mut Vec<Card>,
+    schema: &Schema,
+    items: &[Block],
+    from: End,
+    to: u32,
+) -> Result<(), NoMemory>
+    ensures { OnOk result (all.new.items ≡ all.old.items ++ map (card_of schema.now) (parts_places (parts_of items.now) from to)) }
+{
+    let mut last = from;
+    for i in 0..items.len() {
+        let next = first_node(&items[i + 1..], to);
+        put_block(alloc, all, schema, &items[i], last, next)?;
+        last = End::plain(items[i].last());
+    }
+    Ok(())
+}
+
+// The cards of all branches of a block.
+#[cycle(flatten)]
+fn put_branches(
+    alloc: Global,
+    all: &mut Vec<Card>,
+    schema: &Schema,
+    branches: &[Branch],
+    split: u32,
+    join: u32,
+) -> Result<(), NoMemory>
+    ensures { OnOk result (all.new.items ≡ all.old.items ++ map (card_of schema.now) (lanes_places (lanes (lanes_of branches.now)) split join)) }
+{
+    for i in 0..branches.len() {
+        let from = End::labelled(split, branches[i].code);
+        put_items(alloc, all, schema, &branches[i].items, from, join)?;
+    }
+    Ok(())
+}
+
+// The cards of a block.
+#[cycle(flatten)]
+fn put_block(
+    alloc: Global,
+    all: &mut Vec<Card>,
+    schema: &Schema,
+    block: &Block,
+    from: End,
+    to: u32,
+) -> Result<(), NoMemory>
+    ensures { OnOk result (all.new.items ≡ all.old.items ++ map (card_of schema.now) (part_places (part_of block.now) from to)) }
+{
+    match block {
+        Block::Act(node) => {
+            let activity = Place {
+                node: *node,
+                kind: NodeKind::Activity,
+                partner: None,
+                ins: Ends::of_one(alloc, from)?,
+                outs: Ends::of_one(alloc, End::plain(to))?,
+            };
+            put(alloc, all, schema, activity)
+        }
+        Block::And {
+            split,
+            join,
+            branches,
+        } => {
+            let split_place = Place {
+                node: *split,
+                kind: NodeKind::AndSplit,
+                partner: Some(*join),
+                ins: Ends::of_one(alloc, from)?,
+                outs: heads(alloc, branches, *join)?,
+            };
+            put(alloc, all, schema, split_place)?;
+            put_branches(alloc, all, schema, branches, *split, *join)?;
+            let join_place = Place {
+                node: *join,
+                kind: NodeKind::AndJoin,
+                partner: Some(*split),
+                ins: tails(alloc, branches, *split)?,
+                outs: Ends::of_one(alloc, End::plain(to))?,
+            };
+            put(alloc, all, schema, join_place)
+        }
+        Block::Xor {
+            split,
+            join,
+            branches,
+        } => {
+            let split_place = Place {
+                node: *split,
+                kind: NodeKind::XorSplit,
+                partner: Some(*join),
+                ins: Ends::of_one(alloc, from)?,
+                outs: heads(alloc, branches, *join)?,
+            };
+            put(alloc, all, schema, split_place)?;
+            put_branches(alloc, all, schema, branches, *split, *join)?;
+            let join_place = Place {
+                node: *join,
+                kind: NodeKind::XorJoin,
+                partner: Some(*split),
+                ins: tails(alloc, branches, *split)?,
+                outs: Ends::of_one(alloc, End::plain(to))?,
+            };
+            put(alloc, all, schema, join_place)
+        }
+        Block::Loop { start, end, body } => {
+            let start_place = Place {
+                node: *start,
+                kind: NodeKind::LoopStart,
+                partner: Some(*end),
+                ins: Ends::of_one(alloc, from)?,
+                outs: Ends::of_one(alloc, End::plain(first_node(body, *end)))?,
+            };
+            put(alloc, all, schema, start_place)?;
+            let start_end = End::plain(*start);
+            put_items(alloc, all, schema, body, start_end, *end)?;
+            let end_place = Place {
+                node: *end,
+                kind: NodeKind::LoopEnd,
+                partner: Some(*start),
+                ins: Ends::of_one(alloc, leaving(body, start_end))?,
+                outs: Ends::of_one(alloc, End::plain(to))?,
+            };
+            put(alloc, all, schema, end_place)
+        }
+    }
+}
