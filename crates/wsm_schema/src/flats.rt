@@ -74,12 +74,7 @@ impl Flat {
     {
         match self.loop_start(end) {
             None => Ok(Nodes::new(alloc)),
-            Some(start) => Ok(Nodes::from_vec(nodes_between(
-                alloc,
-                &self.cards,
-                start,
-                end,
-            )?)),
+            Some(start) => Ok(Nodes::from_vec(nodes_between(alloc, &self.cards, start, end)?)),
         }
     }
 
