@@ -1,15 +1,18 @@
 // The flat form of a schema: a card for each node, in document order.
-ghost use Rattle.std.specs.Prelude.{◌≡◌, [], ◌∷◌, ◌++◌, IfOk, OnOk, map, Some};
+ghost use Rattle.std.specs.Prelude.{◌≡◌, [], ◌∷◌, ◌++◌, IfOk, OnOk, map};
 ghost use Rattle.std.specs.Option.{option_copied};
 ghost use Rattle.wsm_schema.specs.TreeOf.{part_of, parts_of, lanes_of};
 ghost use Rattle.wsm_schema.specs.Tree.{lanes};
-ghost use Rattle.wsm_schema.specs.Places.{place, part_places, parts_places, lanes_places, branch_heads, branch_tails};
+ghost use Rattle.wsm_schema.specs.Places.{part_places, parts_places, lanes_places};
 ghost use Rattle.wsm_schema.specs.Flat.{card_of, flat_of, cards_of, card_at, kind_in, loop_nodes, loop_start, up_to_node, from_node};
 
-use crate::blocks::{Block, Branch, first_node, leaving};
+use crate::blocks::{Block, Branch, first_node};
 use crate::card_lists::card;
-use crate::cards::{Card, End, Ends, NodeKind};
-use crate::places::Place;
+use crate::cards::{Card, End, NodeKind};
+use crate::places::{
+    Place, activity_place, finish_place, join_place, loop_end_place, loop_start_place, split_place,
+    start_place,
+};
 use crate::schemas::Schema;
 use std::alloc::Global;
 use std::marker::Model;
@@ -71,12 +74,7 @@ impl Flat {
     {
         match self.loop_start(end) {
             None => Ok(Nodes::new(alloc)),
-            Some(start) => Ok(Nodes::from_vec(nodes_between(
-                alloc,
-                &self.cards,
-                start,
-                end,
-            )?)),
+            Some(start) => Ok(Nodes::from_vec(nodes_between(alloc, &self.cards, start, end)?)),
         }
     }
 
@@ -123,23 +121,10 @@ fn all_cards(alloc: Global, schema: &Schema) -> Result<Vec<Card>, NoMemory>
 {
     let mut all = Vec::new(alloc);
     let from = End::plain(schema.start);
-    let next = first_node(&schema.body, schema.finish);
-    let start = Place {
-        node: schema.start,
-        kind: NodeKind::Start,
-        partner: None,
-        ins: Ends::new(alloc),
-        outs: Ends::of_one(alloc, End::plain(next))?,
-    };
+    let start = start_place(alloc, schema.start, &schema.body, schema.finish)?;
     put(alloc, &mut all, schema, start)?;
     put_items(alloc, &mut all, schema, &schema.body, from, schema.finish)?;
-    let finish = Place {
-        node: schema.finish,
-        kind: NodeKind::Finish,
-        partner: None,
-        ins: Ends::of_one(alloc, leaving(&schema.body, from))?,
-        outs: Ends::new(alloc),
-    };
+    let finish = finish_place(alloc, schema.start, &schema.body, schema.finish)?;
     put(alloc, &mut all, schema, finish)?;
     Ok(all)
 }
@@ -150,29 +135,6 @@ fn put(alloc: Global, all: &mut Vec<Card>, schema: &Schema, place: Place) -> Res
 {
     all.push(card(alloc, schema, place)?)?;
     Ok(())
-}
-
-// The edges out of a split.
-fn heads(alloc: Global, branches: &[Branch], join: u32) -> Result<Ends, NoMemory>
-    ensures { IfOk result (λ new. new ≡ branch_heads (lanes (lanes_of branches.now)) join) }
-{
-    let mut all = Vec::new(alloc);
-    for branch in branches {
-        all.push(End::labelled(first_node(&branch.items, join), branch.code))?;
-    }
-    Ok(Ends::from_vec(all))
-}
-
-// The edges into a join.
-fn tails(alloc: Global, branches: &[Branch], split: u32) -> Result<Ends, NoMemory>
-    ensures { IfOk result (λ new. new ≡ branch_tails (lanes (lanes_of branches.now)) split) }
-{
-    let mut all = Vec::new(alloc);
-    for branch in branches {
-        let from = End::labelled(split, branch.code);
-        all.push(leaving(&branch.items, from))?;
-    }
-    Ok(Ends::from_vec(all))
 }
 
 // The cards of items, which the edge from `from` enters and which one to `to` leaves.
@@ -196,23 +158,25 @@ fn put_items(
     Ok(())
 }
 
-// The cards of all branches of a block.
+// The cards of a block with branches.
 #[cycle(flatten)]
-fn put_branches(
+fn put_gate(
     alloc: Global,
     all: &mut Vec<Card>,
     schema: &Schema,
+    opening: Place,
     branches: &[Branch],
-    split: u32,
-    join: u32,
+    closing: Place,
 ) -> Result<(), NoMemory>
-    ensures { OnOk result (all.new.items ≡ all.old.items ++ map (card_of schema.now) (lanes_places (lanes (lanes_of branches.now)) split join)) }
+    ensures { OnOk result (all.new.items ≡ all.old.items ++ map (card_of schema.now) (opening ∷ (lanes_places (lanes (lanes_of branches.now)) opening.node closing.node ++ closing ∷ []))) }
 {
+    let split = opening.node;
+    put(alloc, all, schema, opening)?;
     for i in 0..branches.len() {
         let from = End::labelled(split, branches[i].code);
-        put_items(alloc, all, schema, &branches[i].items, from, join)?;
+        put_items(alloc, all, schema, &branches[i].items, from, closing.node)?;
     }
-    Ok(())
+    put(alloc, all, schema, closing)
 }
 
 // The cards of a block.
@@ -229,13 +193,7 @@ fn put_block(
 {
     match block {
         Block::Act(node) => {
-            let activity = Place {
-                node: *node,
-                kind: NodeKind::Activity,
-                partner: None,
-                ins: Ends::of_one(alloc, from)?,
-                outs: Ends::of_one(alloc, End::plain(to))?,
-            };
+            let activity = activity_place(alloc, *node, from, to)?;
             put(alloc, all, schema, activity)
         }
         Block::And {
@@ -243,66 +201,25 @@ fn put_block(
             join,
             branches,
         } => {
-            let split_place = Place {
-                node: *split,
-                kind: NodeKind::AndSplit,
-                partner: Some(*join),
-                ins: Ends::of_one(alloc, from)?,
-                outs: heads(alloc, branches, *join)?,
-            };
-            put(alloc, all, schema, split_place)?;
-            put_branches(alloc, all, schema, branches, *split, *join)?;
-            let join_place = Place {
-                node: *join,
-                kind: NodeKind::AndJoin,
-                partner: Some(*split),
-                ins: tails(alloc, branches, *split)?,
-                outs: Ends::of_one(alloc, End::plain(to))?,
-            };
-            put(alloc, all, schema, join_place)
+            let opening = split_place(alloc, NodeKind::AndSplit, *split, *join, branches, from)?;
+            let closing = join_place(alloc, NodeKind::AndJoin, *split, *join, branches, to)?;
+            put_gate(alloc, all, schema, opening, branches, closing)
         }
         Block::Xor {
             split,
             join,
             branches,
         } => {
-            let split_place = Place {
-                node: *split,
-                kind: NodeKind::XorSplit,
-                partner: Some(*join),
-                ins: Ends::of_one(alloc, from)?,
-                outs: heads(alloc, branches, *join)?,
-            };
-            put(alloc, all, schema, split_place)?;
-            put_branches(alloc, all, schema, branches, *split, *join)?;
-            let join_place = Place {
-                node: *join,
-                kind: NodeKind::XorJoin,
-                partner: Some(*split),
-                ins: tails(alloc, branches, *split)?,
-                outs: Ends::of_one(alloc, End::plain(to))?,
-            };
-            put(alloc, all, schema, join_place)
+            let opening = split_place(alloc, NodeKind::XorSplit, *split, *join, branches, from)?;
+            let closing = join_place(alloc, NodeKind::XorJoin, *split, *join, branches, to)?;
+            put_gate(alloc, all, schema, opening, branches, closing)
         }
         Block::Loop { start, end, body } => {
-            let start_place = Place {
-                node: *start,
-                kind: NodeKind::LoopStart,
-                partner: Some(*end),
-                ins: Ends::of_one(alloc, from)?,
-                outs: Ends::of_one(alloc, End::plain(first_node(body, *end)))?,
-            };
-            put(alloc, all, schema, start_place)?;
-            let start_end = End::plain(*start);
-            put_items(alloc, all, schema, body, start_end, *end)?;
-            let end_place = Place {
-                node: *end,
-                kind: NodeKind::LoopEnd,
-                partner: Some(*start),
-                ins: Ends::of_one(alloc, leaving(body, start_end))?,
-                outs: Ends::of_one(alloc, End::plain(to))?,
-            };
-            put(alloc, all, schema, end_place)
+            let opening = loop_start_place(alloc, *start, *end, body, from)?;
+            put(alloc, all, schema, opening)?;
+            put_items(alloc, all, schema, body, End::plain(*start), *end)?;
+            let closing = loop_end_place(alloc, *start, *end, body, to)?;
+            put(alloc, all, schema, closing)
         }
     }
 }
