@@ -19,6 +19,9 @@ pub mod standard;
 pub mod sure;
 pub mod writing;
 
+#[cfg(test)]
+mod tests;
+
 pub use lists::{Bytes, Calls};
 pub use memory::{MemorySink, MemorySource};
 pub use reading::{ReadRefusal, read_to_limit};

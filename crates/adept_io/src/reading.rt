@@ -1,5 +1,5 @@
 // Reading a source to its end.
-ghost use Rattle.std.specs.Prelude.{◌≡◌, ℕ, List, ◌+◌, ◌<◌, ◌≤◌, length, IfOk, IfErr, OnOk, OnErr, IsErrOf};
+ghost use Rattle.std.specs.Prelude.{◌≡◌, ℕ, List, ◌+◌, ◌<◌, ◌≤◌, length, vec_len, IfOk, IfErr, OnOk, OnErr, IsErrOf};
 ghost use Rattle.std.specs.Io.KnownBytes.{Consumes, IsAtEnd};
 ghost use Rattle.adept_io.specs.Counts.{Rose};
 ghost use Rattle.adept_io.specs.Read.{ConsumesMany, ConsumesUpTo};
@@ -44,6 +44,13 @@ impl From<NoMemory> for ReadRefusal {
     }
 }
 
+/// Zeros, as room for what a read gives.
+fn zeros(alloc: Global, len: usize) -> Result<Vec<u8>, NoMemory>
+    ensures { IfOk result (λ zeros. vec_len zeros ≡ len) }
+{
+    vec![in alloc; 0; len]
+}
+
 /// How many bytes are asked for at once.
 const CHUNK: usize = 65536;
 
@@ -62,7 +69,7 @@ pub fn read_to_limit<S: Source>(
     ensures rose { IsErrOf result ReadRefusal.Failed → Rose (S.faults source.old) (S.faults source.new) }
     ensures never_falls { S.faults source.old ≤ S.faults source.new }
 {
-    let mut chunk = vec![in alloc; 0; CHUNK]?;
+    let mut chunk = zeros(alloc, CHUNK)?;
     let mut bytes = Vec::new(alloc);
     loop {
         let room = limit - bytes.len();
