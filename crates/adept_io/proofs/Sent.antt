@@ -1,7 +1,5 @@
 -- Several writes in a row.
-use Rattle.std.proofs.Common.{◌≡◌, Bool, true, false, subst, ℕ, ◌<◌, ◌≤◌, List, ◌++◌, take, drop, Option, append_assoc, sym, ap, ◌∙◌, inl, inr, arith}
-use Rattle.std.proofs.Common.{take-add, ◌+◌}
-use Rattle.std.proofs.lemmas.List.{take-append-drop}
+use Rattle.std.proofs.Common.{Bool, true, false, subst, ℕ, ◌≤◌, List, ◌+◌, ◌++◌, take, take-add, drop, Option, append_assoc, sym, ap, ◌∙◌, inl, inr, arith}
 use Rattle.std.proofs.KnownBytes.{Appends-trans}
 use Rattle.std.specs.Io.KnownBytes.{Appends}
 use Rattle.adept_io.specs.Counts.{Rose}
@@ -25,29 +23,25 @@ AppendsPrefix-append a b t u first = record {
   appends = first.appends;
 }
 
--- the bytes up to an index are the first of them
-pub AppendsPrefix-take : (a b : Option (List ℕ)) (n : ℕ) (t : List ℕ) → Appends a b (take n t) → AppendsPrefix a b t
-AppendsPrefix-take a b n t some = record { sent = take n t; rest = drop n t; whole = take-append-drop n t; appends = some }
-
 -- a count that rose later has risen since an earlier moment
 pub Rose-since : (a b c : ℕ) → a ≤ b → Rose b c → Rose a c
 Rose-since a b c le (inl rose) = inl (omega (arith, le, rose))
 Rose-since a b c le (inr greatest) = inr greatest
 
 -- two calls in a row give both texts, one behind the other
-pub Gives-then : {S : Type 0} (written : S → Option (List ℕ)) (faults : S → ℕ) (p q r : Bool) (a b c : S) (t u : List ℕ) →
+pub gives_then : {S : Type 0} (written : S → Option (List ℕ)) (faults : S → ℕ) (p q r : Bool) (a b c : S) (t u : List ℕ) →
     Gives written faults p q a b t → Gives written faults q r b c u → Gives written faults p r a c (t ++ u)
-Gives-then written faults true true true a b c t u first second =
+gives_then written faults true true true a b c t u first second =
     (Appends-trans (written a) (written b) (written c) t u first.0 second.0, omega (arith, first.1, second.1))
-Gives-then written faults true true false a b c t u first second =
+gives_then written faults true true false a b c t u first second =
     (AppendsPrefix-after (written a) (written b) (written c) t u first.0 second.0, Rose-since (faults a) (faults b) (faults c) first.1 second.1)
-Gives-then written faults true false true a b c t u first second = absurd second
-Gives-then written faults true false false a b c t u first second =
+gives_then written faults true false true a b c t u first second = absurd second
+gives_then written faults true false false a b c t u first second =
     let P : _ → Type 0 = λ s. AppendsPrefix (written a) (written s) (t ++ u) × Rose (faults a) (faults s) in
     subst P (sym second) (AppendsPrefix-append (written a) (written b) t u first.0, first.1)
-Gives-then written faults false true r a b c t u first second = absurd first
-Gives-then written faults false false true a b c t u first second = absurd second
-Gives-then written faults false false false a b c t u first second = second ∙ first
+gives_then written faults false true r a b c t u first second = absurd first
+gives_then written faults false false true a b c t u first second = absurd second
+gives_then written faults false false false a b c t u first second = second ∙ first
 
 -- a piece behind those that were written is what was written up to its end
 pub Appends-take : (a b c : Option (List ℕ)) (i n : ℕ) (bytes : List ℕ) → Appends a b (take i bytes) → Appends b c (take n (drop i bytes)) → Appends a c (take (i + n) bytes)

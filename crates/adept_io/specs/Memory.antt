@@ -1,5 +1,5 @@
 -- Sources and sinks in memory: what contracts see of them, and what each call does to it.
-use Rattle.std.specs.Prelude.{ℕ, ◌+◌, ◌-◌, ◌++◌, ◌==◌, ◌&&◌, ◌||◌, not, Bool, List, [], length, take, drop, min, if◌then◌else◌, nat_lt}
+use Rattle.std.specs.Prelude.{ℕ, ◌-◌, ◌++◌, ◌==◌, ◌&&◌, ◌||◌, Bool, List, length, take, drop, min, if◌then◌else◌, nat_lt}
 use Rattle.adept_io.specs.Counts.{one_more, is_listed}
 
 -- a source that never fails: the bytes that are left, and the most that a call hands over

@@ -5,8 +5,6 @@
 // of faults that never falls. A call answers `Failed` only where that count rose.
 #![tactic(auto)]
 
-ghost use Rattle.std.specs.Prelude.{◌≡◌};
-
 use std::alloc::AllocError;
 use thiserror::Error;
 
@@ -17,10 +15,9 @@ pub mod sinks;
 pub mod sources;
 pub mod standard;
 pub mod sure;
-pub mod writing;
-
 #[cfg(test)]
 mod tests;
+pub mod writing;
 
 pub use lists::{Bytes, Calls};
 pub use memory::{MemorySink, MemorySource};
@@ -29,12 +26,12 @@ pub use sinks::Sink;
 pub use sources::Source;
 pub use standard::{StdSink, StdSource};
 pub use sure::{SureSink, SureSource};
-pub use writing::{put, put_integer, put_number, write};
+pub use writing::{put, put_integer, put_line, put_number, write_all};
 
 /// There was not enough memory.
 pub type NoMemory = AllocError;
 
 /// A read of a source or a write to a sink failed. The object's count of faults rose in that call.
-#[derive(Debug, Drop, Error)]
+#[derive(Clone, Copy, Debug, PartialEq, Eq, Error)]
 #[error("a read or a write failed")]
 pub struct Failed;

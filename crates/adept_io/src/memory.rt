@@ -1,5 +1,5 @@
 // A source and a sink in memory that fail at the calls that they are told.
-ghost use Rattle.std.specs.Prelude.{◌≡◌, ℕ, List, [], ◌<◌, ◌≤◌, length, IfOk, OnErr, Some, is_err};
+ghost use Rattle.std.specs.Prelude.{◌≡◌, ℕ, List, [], ◌<◌, ◌≤◌, length, IfOk, OnErr, IsOk, Some, is_err};
 ghost use Rattle.std.specs.Io.{ReadsAtMost, WritesAtMost};
 ghost use Rattle.std.specs.Io.KnownBytes.{ReadConsumes, WriteAppends};
 ghost use Rattle.adept_io.specs.Counts.{Rose};
@@ -40,6 +40,13 @@ impl MemorySource {
             faults: 0,
         }
     }
+
+    /// How many reads failed, up to u64's greatest.
+    pub fn faults(&self) -> u64
+        ensures { result ≡ self.now.faults }
+    {
+        self.faults
+    }
 }
 
 impl Source for MemorySource {
@@ -56,6 +63,8 @@ impl Source for MemorySource {
         ensures fails { is_err result ≡ read_fails self.old }
         ensures count { IfOk result (λ n. n ≡ read_count self.old (length buf.old)) }
         ensures buffer { IfOk result (λ n. buf.new ≡ filled n self.old.left buf.old) }
+        ensures untouched { OnErr result (buf.new ≡ buf.old) }
+        ensures sure { self.old.fails ≡ [] → IsOk result × (self.new.faults ≡ self.old.faults) }
         ensures state { self.new ≡ after_read self.old (length buf.old) }
     {
         self.calls = self.calls.saturating_add(1);
@@ -118,6 +127,13 @@ impl MemorySink {
     {
         self.bytes.as_slice()
     }
+
+    /// How many writes failed, up to u64's greatest.
+    pub fn faults(&self) -> u64
+        ensures { result ≡ self.now.faults }
+    {
+        self.faults
+    }
 }
 
 impl Sink for MemorySink {
@@ -134,6 +150,7 @@ impl Sink for MemorySink {
         ensures never_falls { self.old.faults ≤ self.new.faults }
         ensures fails { is_err result ≡ write_fails self.old (length bytes.now) }
         ensures count { IfOk result (λ n. n ≡ write_count self.old (length bytes.now)) }
+        ensures sure { self.old.fails ≡ [] → length bytes.now ≤ self.old.room → IsOk result × (self.new.faults ≡ self.old.faults) }
         ensures state { self.new ≡ after_write self.old bytes.now }
     {
         self.calls = self.calls.saturating_add(1);

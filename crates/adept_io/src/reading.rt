@@ -5,11 +5,11 @@ ghost use Rattle.adept_io.specs.Counts.{Rose};
 ghost use Rattle.adept_io.specs.Read.{ConsumesMany, ConsumesUpTo};
 
 use crate::{Bytes, Failed, NoMemory, Source};
-use std::alloc::{AllocFailed, Global};
+use std::alloc::Global;
 use thiserror::Error;
 
 /// Why a source was not read to its end.
-#[derive(Debug, Drop, Error)]
+#[derive(Clone, Copy, Debug, PartialEq, Eq, Error)]
 pub enum ReadRefusal {
     /// The source failed.
     #[error("a read failed")]

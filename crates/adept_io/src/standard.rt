@@ -29,6 +29,13 @@ impl<R: Read> StdSource<R> {
         let StdSource { reader, faults: _ } = self;
         reader
     }
+
+    /// How many reads failed, up to u64's greatest.
+    pub fn faults(&self) -> u64
+        ensures { result ≡ reader_faults self.now }
+    {
+        self.faults
+    }
 }
 
 impl<R: Read> Source for StdSource<R> {
@@ -70,6 +77,13 @@ impl<W: Write> StdSink<W> {
     {
         let StdSink { writer, faults: _ } = self;
         writer
+    }
+
+    /// How many writes failed, up to u64's greatest.
+    pub fn faults(&self) -> u64
+        ensures { result ≡ writer_faults self.now }
+    {
+        self.faults
     }
 }
 

@@ -1,7 +1,7 @@
 // What no contract says: that the calls succeed where memory is there, and the forms over std at concrete types.
 use crate::{
-    Bytes, Calls, MemorySink, MemorySource, ReadRefusal, StdSink, StdSource, put, put_integer, put_number, read_to_limit,
-    write,
+    Bytes, Calls, MemorySink, MemorySource, ReadRefusal, StdSink, StdSource, put, put_integer,
+    put_line, put_number, read_to_limit, write_all,
 };
 use std::test::Fail;
 
@@ -48,7 +48,7 @@ fn source_gives_one_byte_too_many(rt: HostRuntime) -> Result<(), Fail> {
 fn sink_fails_at_its_third_call(rt: HostRuntime) -> Result<(), Fail> {
     let fails = Calls::from_vec([3u64].to_vec(rt.alloc())?);
     let mut sink = MemorySink::new(rt.alloc(), 4096, 10, fails)?;
-    assert!(rt; write(&mut sink, b"twenty-six bytes in pieces").is_err());
+    assert!(rt; write_all(&mut sink, b"twenty-six bytes in pieces").is_err());
     assert_eq!(rt; sink.bytes(), b"twenty-six bytes in ".as_slice());
     Ok(())
 }
@@ -60,7 +60,11 @@ fn reader_and_writer_of_std(rt: HostRuntime) -> Result<(), Fail> {
     let mut sink = StdSink::new(Vec::new(rt.alloc()));
     let ok = put(&mut sink, true, bytes.as_slice());
     let ok = put_number(&mut sink, ok, 12);
+    let ok = put_line(&mut sink, ok, b" is done");
     assert!(rt; put_integer(&mut sink, ok, -3));
-    assert_eq!(rt; sink.into_inner().as_slice(), b"case 12-3".as_slice());
+    assert_eq!(rt;
+        sink.into_inner().as_slice(),
+        b"case 12 is done\n-3".as_slice()
+    );
     Ok(())
 }

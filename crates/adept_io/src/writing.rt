@@ -1,5 +1,5 @@
 // Writing all of some bytes, in whatever pieces the sink takes them.
-ghost use Rattle.std.specs.Prelude.{◌≡◌, ℕ, ℤ, List, ◌≤◌, true, OnOk, OnErr, decimal};
+ghost use Rattle.std.specs.Prelude.{◌≡◌, ℕ, ℤ, List, [], ◌∷◌, ◌++◌, ◌≤◌, OnOk, OnErr, decimal};
 ghost use Rattle.std.specs.Fmt.{signed_decimal};
 ghost use Rattle.std.specs.Io.KnownBytes.{Appends};
 ghost use Rattle.adept_io.specs.Counts.{Rose};
@@ -9,7 +9,7 @@ use crate::{Failed, Sink};
 use itoa::Buffer;
 
 /// Writes all of the bytes. Where a write fails, the first of them may have been written.
-pub fn write<K: Sink>(sink: &mut K, bytes: &[u8]) -> Result<(), Failed>
+pub fn write_all<K: Sink>(sink: &mut K, bytes: &[u8]) -> Result<(), Failed>
     ensures all { OnOk result (Appends (K.written sink.old) (K.written sink.new) bytes.now) }
     ensures part { OnErr result (AppendsPrefix (K.written sink.old) (K.written sink.new) bytes.now) }
     ensures rose { OnErr result (Rose (K.faults sink.old) (K.faults sink.new)) }
@@ -28,7 +28,16 @@ pub fn write<K: Sink>(sink: &mut K, bytes: &[u8]) -> Result<(), Failed>
 pub fn put<K: Sink>(sink: &mut K, ok: bool, bytes: &[u8]) -> bool
     ensures { Gives K.written K.faults ok result sink.old sink.new bytes.now }
 {
-    ok && write(sink, bytes).is_ok()
+    ok && write_all(sink, bytes).is_ok()
+}
+
+/// Writes the bytes and a line feed, as `put` writes bytes.
+#[tactic(auto, using(crate::proofs::Sent::gives_then))]
+pub fn put_line<K: Sink>(sink: &mut K, ok: bool, line: &[u8]) -> bool
+    ensures { Gives K.written K.faults ok result sink.old sink.new (line.now ++ 10 ∷ []) }
+{
+    let ok = put(sink, ok, line);
+    put(sink, ok, b"\n")
 }
 
 /// Writes a number in decimal digits, as `put` writes bytes.

@@ -1,7 +1,6 @@
-use Rattle.std.proofs.Common.{◌+◌, take, rules, arith, subst}
-use Rattle.std.specs.Io.KnownBytes.{Appends}
+use Rattle.std.proofs.Common.{arith}
 use Rattle.adept_io.proofs.Sent.{Appends-take}
-use Rattle.adept_io.proofs.writing.write.Goals as goal
+use Rattle.adept_io.proofs.writing.write_all.Goals as goal
 
 pub loop-sent-preserved : goal.loop-sent-preserved
 loop-sent-preserved g c =
