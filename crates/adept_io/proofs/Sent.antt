@@ -1,6 +1,9 @@
 -- Several writes in a row.
-use Rattle.std.proofs.Common.{Bool, true, false, subst, ℕ, ◌≤◌, List, ◌+◌, ◌++◌, take, take-add, drop, Option, append_assoc, sym, ap, ◌∙◌, inl, inr, arith}
-use Rattle.std.proofs.KnownBytes.{Appends-trans}
+use Rattle.std.proofs.Common.{◌≡◌, Bool, true, false, subst, ℕ, ◌+◌, ◌<◌, ◌≤◌, List, [], ◌∷◌, ◌++◌, length, get_or, take, take-add, drop, Option, append_assoc, append-nil, refl, sym, ap, ◌∙◌, inl, inr, arith}
+use Rattle.std.specs.List.{flat_map}
+use Rattle.std.proofs.lemmas.List.{take_more}
+use Rattle.std.proofs.lemmas.Grind.{flat_map-append}
+use Rattle.std.proofs.KnownBytes.{Appends-nil, Appends-trans}
 use Rattle.std.specs.Io.KnownBytes.{Appends}
 use Rattle.adept_io.specs.Counts.{Rose}
 use Rattle.adept_io.specs.Written.{AppendsPrefix, Gives}
@@ -47,3 +50,13 @@ gives_then written faults false false false a b c t u first second = second ∙ 
 pub Appends-take : (a b c : Option (List ℕ)) (i n : ℕ) (bytes : List ℕ) → Appends a b (take i bytes) → Appends b c (take n (drop i bytes)) → Appends a c (take (i + n) bytes)
 Appends-take a b c i n bytes first second =
     rw (take-add i n bytes) (Appends-trans a b c (take i bytes) (take n (drop i bytes)) first second)
+
+-- no call writes nothing
+pub gives_nothing : {S : Type 0} (written : S → Option (List ℕ)) (faults : S → ℕ) (p : Bool) (a : S) → Gives written faults p p a a []
+gives_nothing written faults true a = (Appends-nil (written a), omega arith)
+gives_nothing written faults false a = refl
+
+-- the pieces up to an index, and the piece there
+pub flat_map-take_more : {X : Type 0} (f : X → List ℕ) (xs : List X) (i : ℕ) (d : X) → i < length xs → flat_map f (take (i + 1) xs) ≡ flat_map f (take i xs) ++ f (get_or xs i d)
+flat_map-take_more f xs i d within =
+    ap (flat_map f) (take_more xs i d within) ∙ flat_map-append f (take i xs) (get_or xs i d ∷ []) ∙ ap (λ t. flat_map f (take i xs) ++ t) (append-nil (f (get_or xs i d)))

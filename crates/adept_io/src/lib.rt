@@ -26,7 +26,7 @@ pub use sinks::Sink;
 pub use sources::Source;
 pub use standard::{StdSink, StdSource};
 pub use sure::{SureSink, SureSource};
-pub use writing::{put, put_integer, put_line, put_number, write_all};
+pub use writing::{put, put_integer, put_line, put_number, put_pieces, write_all};
 
 /// There was not enough memory.
 pub type NoMemory = AllocError;

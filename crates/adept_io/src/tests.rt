@@ -1,7 +1,7 @@
 // What no contract says: that the calls succeed where memory is there, and the forms over std at concrete types.
 use crate::{
     Bytes, Calls, MemorySink, MemorySource, ReadRefusal, StdSink, StdSource, put, put_integer,
-    put_line, put_number, read_to_limit, write_all,
+    put_line, put_number, put_pieces, read_to_limit, write_all,
 };
 use std::test::Fail;
 
@@ -61,10 +61,11 @@ fn reader_and_writer_of_std(rt: HostRuntime) -> Result<(), Fail> {
     let ok = put(&mut sink, true, bytes.as_slice());
     let ok = put_number(&mut sink, ok, 12);
     let ok = put_line(&mut sink, ok, b" is done");
+    let ok = put_pieces(&mut sink, ok, &[b"left".as_slice(), b" "]);
     assert!(rt; put_integer(&mut sink, ok, -3));
     assert_eq!(rt;
         sink.into_inner().as_slice(),
-        b"case 12 is done\n-3".as_slice()
+        b"case 12 is done\nleft -3".as_slice()
     );
     Ok(())
 }

@@ -1,6 +1,7 @@
 // Writing all of some bytes, in whatever pieces the sink takes them.
 ghost use Rattle.std.specs.Prelude.{◌≡◌, ℕ, ℤ, List, [], ◌∷◌, ◌++◌, ◌≤◌, OnOk, OnErr, decimal};
 ghost use Rattle.std.specs.Fmt.{signed_decimal};
+ghost use Rattle.std.specs.List.{flat_map};
 ghost use Rattle.std.specs.Io.KnownBytes.{Appends};
 ghost use Rattle.adept_io.specs.Counts.{Rose};
 ghost use Rattle.adept_io.specs.Written.{AppendsPrefix, Gives};
@@ -29,6 +30,17 @@ pub fn put<K: Sink>(sink: &mut K, ok: bool, bytes: &[u8]) -> bool
     ensures { Gives K.written K.faults ok result sink.old sink.new bytes.now }
 {
     ok && write_all(sink, bytes).is_ok()
+}
+
+/// Writes pieces one behind the other, as `put` writes bytes.
+pub fn put_pieces<K: Sink>(sink: &mut K, ok: bool, pieces: &[&[u8]]) -> bool
+    ensures { Gives K.written K.faults ok result sink.old sink.new (flat_map (λ piece. piece.now) pieces.now) }
+{
+    let mut well = ok;
+    for piece in pieces {
+        well = put(sink, well, piece);
+    }
+    well
 }
 
 /// Writes the bytes and a line feed, as `put` writes bytes.
