@@ -1,5 +1,6 @@
 -- The table as it is made, and what is known where the last pass closes it.
-use Rattle.std.proofs.Common.{◌≡◌, ◌≢◌, ℕ, zero, suc, ◌+◌, ◌≤◌, ◌<◌, eqb, eq-eqb, ne_eqb, Bool, true, false, List, [], ◌∷◌, ◌++◌, refl, sym, ap, ◌∙◌, subst, arith, Option, Some, Result, if◌then◌else◌, length, inl, inr, All, Any, ◌⊎◌}
+use Rattle.std.proofs.Common.{◌≡◌, ◌≢◌, ℕ, zero, suc, ◌+◌, ◌≤◌, ◌<◌, eqb, eq-eqb, ne_eqb, Bool, true, false, List, [], ◌∷◌, ◌++◌, refl, sym, ap, ◌∙◌, subst, arith, Option, Some, Result, if◌then◌else◌, inl, inr, All, Any, ◌⊎◌}
+use Rattle.std.proofs.lemmas.List.{append-nil, append_cancel_left}
 use mathlib.Core.Logic.{dite}
 use mathlib.Core.Option.{some, some-injective, some-ne-none}
 use native.Mathlib.Decide.{ℕ_discrete}
@@ -17,8 +18,8 @@ use Rattle.turn_cell.specs.declared.faults.CallFault.{CallFault}
 use Rattle.turn_cell.specs.Passes.{IsClosed, view_at}
 use Rattle.turn_cell.proofs.Sums.{total_two, total_gap}
 use Rattle.turn_cell.proofs.Prefixes.{prefix_self}
-use Rattle.turn_cell.proofs.Histories.{seen_whole, calls_of-append, append-cancel, append-none}
-use Rattle.turn_cell.proofs.Turning.{pass_lives, owns_if}
+use Rattle.turn_cell.proofs.Histories.{calls_of-append}
+use Rattle.turn_cell.proofs.Turns.{pass_lives, owns_if}
 
 slot_below_pass : (st : Phase) → one_if (has_slot st) ≤ one_if (is_pass st)
 slot_below_pass Spent = omega arith
@@ -150,10 +151,10 @@ module _ {M E R W S : Type 0} (state : M → S) (after : S → E → S) (reply :
       (λ (ne : o.0 ≢ id). let two = total_two passes vs id o.0 v o.1 ne at o.2 in let y : passes o.1 ≡ 1 = ap one_if u_pass in absurd (omega arith)) in
       let none_behind : (n : ℕ) → calls_of n rest_of ≡ [] = λ n. dite (ℕ_discrete (total (owns n) vs) 0)
       (λ (z : total (owns n) vs ≡ 0). appended_none (calls_of n v.seen) (calls_of n rest_of) (calls_are n ∙ r.known n z))
-      (λ (ne : total (owns n) vs ≢ 0). append-cancel (calls_of n v.seen) (calls_of n rest_of)
-      (calls_are n ∙ seen_calls r.log v.seen n ((v.number, v.own_calls) ∷ v.past) fit.calls (owned n (omega arith)))) in
+      (λ (ne : total (owns n) vs ≢ 0). append_cancel_left (calls_of n v.seen) (calls_of n rest_of) []
+      (calls_are n ∙ (seen_calls r.log v.seen n ((v.number, v.own_calls) ∷ v.past) fit.calls (owned n (omega arith)) ∙ sym (append-nil (calls_of n v.seen))))) in
       let empty : rest_of ≡ [] = nobodys rest_of none_behind in
-      let whole : v.seen ≡ r.log = sym (append-none v.seen) ∙ (ap (λ (zs : List (Entry M E R W S)). v.seen ++ zs) (sym empty) ∙ log_is) in (
+      let whole : v.seen ≡ r.log = sym (append-nil v.seen) ∙ (ap (λ (zs : List (Entry M E R W S)). v.seen ++ zs) (sym empty) ∙ log_is) in (
         whole,
         home,
         λ n ne none_past. dite (ℕ_discrete (total (owns n) vs) 0) (λ (z : total (owns n) vs ≡ 0). r.known n z)

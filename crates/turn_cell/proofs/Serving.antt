@@ -1,11 +1,12 @@
 -- What a call does to the journal.
 use Rattle.std.proofs.Common.{◌≡◌, ℕ, List, [], ◌∷◌, ◌++◌, length, drop, refl, sym, ap, ◌∙◌, subst, Option, Some, None, Bool, true, false, if◌then◌else◌}
+use Rattle.std.proofs.Math.Seq.{drop-append_seam}
 use mathlib.Core.List.{IsPrefix}
 use Rattle.turn_cell.specs.declared.journal.Entry.{Entry}
 use Rattle.turn_cell.specs.History.{state_after, IsLegal, IsLegalFrom, IsStateAfter, calls_of, entry}
 use Rattle.turn_cell.specs.Passes.{PassView, Calls}
 use Rattle.turn_cell.proofs.Prefixes.{prefix_self}
-use Rattle.turn_cell.proofs.Histories.{calls_of-own, drop-all}
+use Rattle.turn_cell.proofs.Histories.{calls_of-own}
 
 module _ {M E R W S : Type 0} (after : S → E → S) (reply : S → E → R) where
   pub legal_snoc : (s : S) (xs : List (Entry M E R W S)) (e : Entry M E R W S) → IsLegal after reply s xs → e.reply ≡ reply (state_after after s xs) e.event → IsLegal after reply s (xs ++ e ∷ [])
@@ -33,7 +34,7 @@ module _ {M E R W S : Type 0} (after : S → E → S) (reply : S → E → R) wh
       → IsLegalFrom after reply v.opening ys → calls_of v.number xs ≡ v.own_calls → Calls after reply event v answer w
   calls_made v w xs ys event answer more longer seen mine opening number legal own =
       let e : Entry M E R W S = entry v.number event answer in
-      let one : drop (length xs) ys ≡ e ∷ [] = ap (drop (length xs)) longer ∙ drop-all xs (e ∷ []) in
+      let one : drop (length xs) ys ≡ e ∷ [] = ap (drop (length xs)) longer ∙ drop-append_seam xs (e ∷ []) in
       let mine' : w.own_calls ≡ v.own_calls ++ e ∷ [] = mine ∙ ap (λ (zs : List (Entry M E R W S)). v.own_calls ++ zs) one in
       record {
         others = more.0;

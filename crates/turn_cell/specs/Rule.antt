@@ -10,6 +10,7 @@ use Rattle.turn_cell.specs.declared.guarded.Guarded.{Guarded}
 use Rattle.turn_cell.specs.declared.seat_view.SeatView.{SeatView}
 use Rattle.turn_cell.specs.declared.seat_view.Phase.{Phase}
 use Rattle.turn_cell.specs.declared.seat_view.Phase.TheVariants.{Spent, Note, Idle, Entered, Inside}
+use Rattle.turn_cell.specs.declared.limits.TheConstants.{MAX_ENTRIES, MAX_OPENING_AGE, MAX_WEIGHT}
 use Rattle.turn_cell.specs.History.{IsLegal, IsLegalFrom, IsStateAfter, state_after, calls_of}
 
 abbrev pub is_live : Phase → Bool
@@ -99,7 +100,7 @@ module _ {M E R W S : Type 0} (state : M → S) (after : S → E → S) (reply :
   IsHeld opening log h = (h.journal.items.items ≡ log) × (state h.machine ≡ state_after after opening log)
 
   abbrev pub IsYoung : S → List (Entry M E R W S) → Type 0
-  IsYoung opening log = age (state_after after opening log) ≤ 60000000 + 60000 * length log
+  IsYoung opening log = age (state_after after opening log) ≤ MAX_OPENING_AGE + MAX_WEIGHT * length log
 
   pub record IsKept (s : State (Option (Guarded M E R W S)) (SeatView M E R W S)) : Type 0 where
     pub opening : S
@@ -108,7 +109,7 @@ module _ {M E R W S : Type 0} (state : M → S) (after : S → E → S) (reply :
     pub words : s.words ≡ length log ∷ busy ∷ []
     pub legal : IsLegal after reply opening log
     pub young : IsYoung opening log
-    pub short : length log ≤ 65536
+    pub short : length log ≤ MAX_ENTRIES
     pub live : (id : ℕ) (v : SeatView M E R W S) → get_elem? s.views id ≡ some v → is_live v.phase ≡ true → Fits opening log v
     pub pass : (id : ℕ) (v : SeatView M E R W S) → get_elem? s.views id ≡ some v → is_pass v.phase ≡ true → FitsPass log s.views v
     pub turn : total turns s.views ≡ busy
@@ -185,8 +186,8 @@ module _ {M E R W S : Type 0} where
       pub state_is : IsStateAfter after m.0.opening held.journal.items.items (state held.machine)
       pub legal : IsLegalFrom after reply m.0.opening held.journal.items.items
       pub own : calls_of m.0.number held.journal.items.items ≡ m.0.own_calls
-      pub young : age (state held.machine) ≤ 60000000 + 60000 * length held.journal.items.items
-      pub short : length held.journal.items.items ≤ 65536
+      pub young : age (state held.machine) ≤ MAX_OPENING_AGE + MAX_WEIGHT * length held.journal.items.items
+      pub short : length held.journal.items.items ≤ MAX_ENTRIES
 
     abbrev pub took_out : (M → S) → (S → ℕ) → Step (Option (Guarded M E R W S)) → Seated M E R W S → ℕ → Seated M E R W S → Type 0
     took_out state age st m r m' = IsTaken state age m r m'
@@ -199,5 +200,5 @@ module _ {M E R W S : Type 0} where
       pub state_is : IsStateAfter after m.0.opening g.journal.items.items (state g.machine)
       pub legal : IsLegalFrom after reply m.0.opening g.journal.items.items
       pub own : calls_of m.0.number g.journal.items.items ≡ m.0.own_calls
-      pub young : age (state g.machine) ≤ 60000000 + 60000 * length g.journal.items.items
-      pub short : length g.journal.items.items ≤ 65536
+      pub young : age (state g.machine) ≤ MAX_OPENING_AGE + MAX_WEIGHT * length g.journal.items.items
+      pub short : length g.journal.items.items ≤ MAX_ENTRIES

@@ -7,6 +7,7 @@ ghost use Rattle.turn_cell.specs.Passes.{view_of, view_at, cell_id, IsPassOf, St
 use crate::cell::{Cell, PassSeat};
 use crate::faults::{CallFault, TryFault};
 use crate::gate::{Gate, Side};
+use crate::limits::{MAX_ENTRIES, MAX_WEIGHT};
 use crate::machine::{Machine, NoMemory};
 use crate::pass::Pass;
 use std::alloc::Global;
@@ -44,15 +45,15 @@ impl<M: Machine> Cell<M> {
         requires cell { seat.old.table_id ≡ cell_id self.now }
         requires turn { (seat.old.me.0.phase ≡ Entered) × (seat.old.me.1 ≡ []) }
         requires number { number ≡ seat.old.me.0.number }
-        requires light { M.weight event.now ≤ 60000 }
+        requires light { M.weight event.now ≤ MAX_WEIGHT }
         ensures idle { (seat.new.me.0.phase ≡ Idle) × (seat.new.me.1 ≡ []) }
         ensures stays { Stays (view_at seat.old.table_id None seat.old.me.0) (view_at seat.new.table_id None seat.new.me.0) }
         ensures met { seat.new.me.0.met ≡ seat.old.me.0.met }
         ensures ok { IfOk result (λ r. Calls M.after M.reply event.now (view_at seat.old.table_id None seat.old.me.0) r (view_at seat.new.table_id None seat.new.me.0)) }
         ensures err { OnErr result (Sees M.after M.reply (view_at seat.old.table_id None seat.old.me.0) (view_at seat.new.table_id None seat.new.me.0)) }
-        ensures room { length seat.new.me.0.seen ≤ 65536 }
-        ensures full { IfErr result (λ f. f ≡ CallFault.Full → length seat.new.me.0.seen ≡ 65536) }
-        ensures memory { IfErr result (λ f. f ≡ CallFault.NoMemory → length seat.new.me.0.seen < 65536) }
+        ensures room { length seat.new.me.0.seen ≤ MAX_ENTRIES }
+        ensures full { IfErr result (λ f. f ≡ CallFault.Full → length seat.new.me.0.seen ≡ MAX_ENTRIES) }
+        ensures memory { IfErr result (λ f. f ≡ CallFault.NoMemory → length seat.new.me.0.seen < MAX_ENTRIES) }
     {
         let mut guarded = self.take_out(seat);
         gate.reach(number, line, Side::Inside(self.label));
@@ -81,14 +82,14 @@ impl<M: Machine> Cell<M> {
         line: u32,
     ) -> Result<M::Reply, CallFault>
         requires cell { IsPassOf self.now pass.old }
-        requires light { M.weight event.now ≤ 60000 }
+        requires light { M.weight event.now ≤ MAX_WEIGHT }
         ensures cell { IsPassOf self.now pass.new }
         ensures stays { Stays (view_of pass.old) (view_of pass.new) }
         ensures ok { IfOk result (λ r. Calls M.after M.reply event.now (view_of pass.old) r (view_of pass.new)) }
         ensures err { OnErr result (Sees M.after M.reply (view_of pass.old) (view_of pass.new)) }
-        ensures room { length (view_of pass.new).seen ≤ 65536 }
-        ensures full { IfErr result (λ f. f ≡ CallFault.Full → length (view_of pass.new).seen ≡ 65536) }
-        ensures memory { IfErr result (λ f. f ≡ CallFault.NoMemory → length (view_of pass.new).seen < 65536) }
+        ensures room { length (view_of pass.new).seen ≤ MAX_ENTRIES }
+        ensures full { IfErr result (λ f. f ≡ CallFault.Full → length (view_of pass.new).seen ≡ MAX_ENTRIES) }
+        ensures memory { IfErr result (λ f. f ≡ CallFault.NoMemory → length (view_of pass.new).seen < MAX_ENTRIES) }
     {
         let number = pass.number;
         let seat = &mut pass.seat;
@@ -106,7 +107,7 @@ impl<M: Machine> Cell<M> {
         line: u32,
     ) -> Result<M::Reply, TryFault>
         requires cell { IsPassOf self.now pass.old }
-        requires light { M.weight event.now ≤ 60000 }
+        requires light { M.weight event.now ≤ MAX_WEIGHT }
         ensures cell { IsPassOf self.now pass.new }
         ensures stays { Stays (view_of pass.old) (view_of pass.new) }
         ensures ok { IfOk result (λ r. Calls M.after M.reply event.now (view_of pass.old) r (view_of pass.new)) }
@@ -116,9 +117,9 @@ impl<M: Machine> Cell<M> {
         ensures met { MatchResult result (λ _. (view_of pass.new).met ≡ (view_of pass.old).met) (λ f. f ≢ TryFault.Busy → (view_of pass.new).met ≡ (view_of pass.old).met) }
 
         ensures err { IfErr result (λ f. f ≢ TryFault.Busy → Sees M.after M.reply (view_of pass.old) (view_of pass.new)) }
-        ensures room { MatchResult result (λ _. length (view_of pass.new).seen ≤ 65536) (λ f. f ≢ TryFault.Busy → length (view_of pass.new).seen ≤ 65536) }
-        ensures full { IfErr result (λ f. f ≡ TryFault.Full → length (view_of pass.new).seen ≡ 65536) }
-        ensures memory { IfErr result (λ f. f ≡ TryFault.NoMemory → length (view_of pass.new).seen < 65536) }
+        ensures room { MatchResult result (λ _. length (view_of pass.new).seen ≤ MAX_ENTRIES) (λ f. f ≢ TryFault.Busy → length (view_of pass.new).seen ≤ MAX_ENTRIES) }
+        ensures full { IfErr result (λ f. f ≡ TryFault.Full → length (view_of pass.new).seen ≡ MAX_ENTRIES) }
+        ensures memory { IfErr result (λ f. f ≡ TryFault.NoMemory → length (view_of pass.new).seen < MAX_ENTRIES) }
     {
         let number = pass.number;
         let seat = &mut pass.seat;

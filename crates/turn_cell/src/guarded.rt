@@ -4,11 +4,9 @@ ghost use Rattle.turn_cell.specs.History.{entry};
 
 use crate::faults::CallFault;
 use crate::journal::{Entry, Journal};
+use crate::limits::{MAX_ENTRIES, MAX_OPENING_AGE, MAX_WEIGHT};
 use crate::machine::Machine;
 use std::alloc::Global;
-
-/// A journal has at most so many entries.
-pub const MAX_ENTRIES: usize = 65_536;
 
 /// The machine and its journal, which lie in the slot of a cell. Who has the turn may take them out.
 #[derive(Drop)]
@@ -25,16 +23,16 @@ impl<M: Machine> Guarded<M> {
         caller: u32,
         event: &M::Event,
     ) -> Result<M::Reply, CallFault>
-        requires young { M.age (M.state self.old.machine) ≤ 60000000 + 60000 * length self.old.journal.items.items }
-        requires light { M.weight event.now ≤ 60000 }
+        requires young { M.age (M.state self.old.machine) ≤ MAX_OPENING_AGE + MAX_WEIGHT * length self.old.journal.items.items }
+        requires light { M.weight event.now ≤ MAX_WEIGHT }
         ensures journal { IfOk result (λ r. self.new.journal.items.items ≡ self.old.journal.items.items ++ entry caller event.now r ∷ []) }
         ensures reply { IfOk result (λ r. r ≡ M.reply (M.state self.old.machine) event.now) }
         ensures state { OnOk result (M.state self.new.machine ≡ M.after (M.state self.old.machine) event.now) }
-        ensures young { OnOk result (M.age (M.state self.new.machine) ≤ 60000000 + 60000 * (length self.old.journal.items.items + 1)) }
-        ensures room { OnOk result (length self.old.journal.items.items < 65536) }
+        ensures young { OnOk result (M.age (M.state self.new.machine) ≤ MAX_OPENING_AGE + MAX_WEIGHT * (length self.old.journal.items.items + 1)) }
+        ensures room { OnOk result (length self.old.journal.items.items < MAX_ENTRIES) }
         ensures kept { OnErr result ((self.new.journal.items.items ≡ self.old.journal.items.items) × (M.state self.new.machine ≡ M.state self.old.machine)) }
-        ensures full { IfErr result (λ f. f ≡ CallFault.Full → 65536 ≤ length self.old.journal.items.items) }
-        ensures memory { IfErr result (λ f. f ≡ CallFault.NoMemory → length self.old.journal.items.items < 65536) }
+        ensures full { IfErr result (λ f. f ≡ CallFault.Full → MAX_ENTRIES ≤ length self.old.journal.items.items) }
+        ensures memory { IfErr result (λ f. f ≡ CallFault.NoMemory → length self.old.journal.items.items < MAX_ENTRIES) }
     {
         if self.journal.items.len() >= MAX_ENTRIES {
             return Err(CallFault::Full);

@@ -1,11 +1,11 @@
 //! A gate for tests, which holds one actor at one place.
 use crate::gate::{Gate, Side};
-use std::hint;
 use std::sync::atomic::{AtomicBool, Ordering};
-use std::thread;
+use std::{hint, thread};
 
 // How often a held actor looks whether the gate is open, and after how many looks it lets other threads run.
 const TURNS: u32 = 50_000_000;
+
 const TURNS_IN_A_ROW: u32 = 10_000;
 
 /// An actor at one side of a line.

@@ -8,6 +8,7 @@ mod gate;
 mod guarded;
 mod hold_gate;
 mod journal;
+mod limits;
 mod machine;
 mod pass;
 mod passes;
@@ -18,8 +19,11 @@ mod steps;
 pub use cell::Cell;
 pub use faults::{CallFault, TryFault};
 pub use gate::{Gate, OpenGate, Side};
-pub use guarded::MAX_ENTRIES;
 pub use hold_gate::{HoldGate, Place};
 pub use journal::{Closed, Entry, Journal};
-pub use machine::{MAX_AGE, MAX_OPENING_AGE, MAX_WEIGHT, Machine, NoMemory};
+pub use limits::{MAX_AGE, MAX_ENTRIES, MAX_OPENING_AGE, MAX_WEIGHT};
+pub use machine::{Machine, NoMemory};
 pub use pass::Pass;
+
+#[cfg(test)]
+mod tests;

@@ -1,18 +1,9 @@
 //! What a cell runs: a deterministic machine, which answers events.
 ghost use Rattle.std.specs.Prelude.{◌≡◌, ℕ, ◌+◌, ◌≤◌, IfOk, OnErr};
 
-use std::alloc::Global;
-
+use crate::limits::MAX_AGE;
 pub use std::alloc::AllocError as NoMemory;
-
-/// No step takes a machine past this age.
-pub const MAX_AGE: u32 = 4_000_000_000;
-
-/// No machine is older than this when its cell is made.
-pub const MAX_OPENING_AGE: u32 = 60_000_000;
-
-/// No event of a call on a cell weighs more than this.
-pub const MAX_WEIGHT: u32 = 60_000;
+use std::alloc::Global;
 
 /// A machine whose next state and reply depend on its state and the event alone.
 pub trait Machine: Send + Sync + Drop {

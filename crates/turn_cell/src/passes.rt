@@ -7,6 +7,7 @@ ghost use Rattle.turn_cell.specs.Rule.{longer};
 use crate::cell::{Cell, GUARDED};
 use crate::guarded::Guarded;
 use crate::journal::{Closed, Journal};
+use crate::limits::MAX_OPENING_AGE;
 use crate::machine::{Machine, NoMemory};
 use crate::pass::Pass;
 use crate::rule::{JoinNote, JoinPass, SplitNote, SplitPass};
@@ -17,7 +18,7 @@ use std::snapshot::Snapshot;
 impl<M: Machine> Cell<M> {
     /// A cell over a machine, and its first pass, whose number is 0. Gates are told the label.
     pub fn new(alloc: Global, label: u32, machine: M) -> Result<(Cell<M>, Pass<M>), NoMemory>
-        requires { M.age (M.state machine) ≤ 60000000 }
+        requires { M.age (M.state machine) ≤ MAX_OPENING_AGE }
         ensures { IfOk result (λ r. view_of r.1 ≡ first_of (cell_id r.0) (M.state machine)) }
     {
         let opening = Snapshot::of(&machine);
@@ -53,10 +54,7 @@ impl<M: Machine> Cell<M> {
         ensures new { view_of result ≡ split_off (view_of first.old) }
         ensures legal { IsLegalView M.after M.reply (view_of result) }
     {
-        let mut seat = self
-            .table
-            .shared
-            .split_seat::<SplitPass>(&mut first.seat);
+        let mut seat = self.table.shared.split_seat::<SplitPass>(&mut first.seat);
         let number = first.made;
         first.made += 1;
         self.observe(&mut seat);
@@ -97,21 +95,11 @@ impl<M: Machine> Cell<M> {
         ensures more { IsPrefix (view_of one.old).seen (view_of two.new).seen × IsPrefix (view_of two.old).seen (view_of two.new).seen }
         ensures legal { IsLegalView M.after M.reply (view_of one.new) × IsLegalView M.after M.reply (view_of two.new) }
     {
-        let note = self
-            .table
-            .shared
-            .split_seat::<SplitNote>(&mut one.seat);
-        self.table
-            .shared
-            .join_seat::<JoinNote>(&mut two.seat, note);
+        let note = self.table.shared.split_seat::<SplitNote>(&mut one.seat);
+        self.table.shared.join_seat::<JoinNote>(&mut two.seat, note);
         self.observe(&mut two.seat);
-        let note = self
-            .table
-            .shared
-            .split_seat::<SplitNote>(&mut two.seat);
-        self.table
-            .shared
-            .join_seat::<JoinNote>(&mut one.seat, note);
+        let note = self.table.shared.split_seat::<SplitNote>(&mut two.seat);
+        self.table.shared.join_seat::<JoinNote>(&mut one.seat, note);
         self.observe(&mut one.seat);
     }
 

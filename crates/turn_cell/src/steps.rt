@@ -6,6 +6,7 @@ ghost use Rattle.turn_cell.specs.Rule.{IsSeen, TakesOut};
 
 use crate::cell::{COUNT, Cell, GUARDED, HELD, PassSeat};
 use crate::guarded::Guarded;
+use crate::limits::{MAX_ENTRIES, MAX_OPENING_AGE, MAX_WEIGHT};
 use crate::machine::Machine;
 use crate::rule::{Acquire, Commit, Observe, Release, TakeOut};
 
@@ -18,7 +19,10 @@ impl<M: Machine> Cell<M> {
         ensures taken { result ≡ true → seat.new.me ≡ (record seat.old.me.0 { phase = Entered }, []) }
         ensures missed { result ≡ false → seat.new.me ≡ (record seat.old.me.0 { met = seat.old.me.0.met + 1 }, []) }
     {
-        self.table.shared.compare_exchange::<Acquire>(seat, HELD, 0, 1) == 0
+        self.table
+            .shared
+            .compare_exchange::<Acquire>(seat, HELD, 0, 1)
+            == 0
     }
 
     // Takes machine and journal out of the slot.
@@ -52,8 +56,8 @@ impl<M: Machine> Cell<M> {
         requires grown { (e : _) × (guarded.journal.items.items ≡ seat.old.me.0.seen ++ e ∷ []) × (e.caller ≡ seat.old.me.0.number) }
         requires legal { IsLegalFrom M.after M.reply seat.old.me.0.opening guarded.journal.items.items }
         requires state { IsStateAfter M.after seat.old.me.0.opening guarded.journal.items.items (M.state guarded.machine) }
-        requires young { M.age (M.state guarded.machine) ≤ 60000000 + 60000 * length guarded.journal.items.items }
-        requires short { length guarded.journal.items.items ≤ 65536 }
+        requires young { M.age (M.state guarded.machine) ≤ MAX_OPENING_AGE + MAX_WEIGHT * length guarded.journal.items.items }
+        requires short { length guarded.journal.items.items ≤ MAX_ENTRIES }
         ensures cell { seat.new.table_id ≡ seat.old.table_id }
         ensures left { seat.new.me ≡ (record seat.old.me.0 { phase = Idle; seen = guarded.journal.items.items; own_calls = seat.old.me.0.own_calls ++ drop (length seat.old.me.0.seen) guarded.journal.items.items }, []) }
     {

@@ -3,7 +3,7 @@ use Rattle.std.specs.Prelude.{ltb}
 use mathlib.Core.List.{IsPrefix}
 use Rattle.turn_cell.specs.Rule.{longer, shorter}
 use Rattle.turn_cell.proofs.Serving.{more_of}
-use Rattle.turn_cell.proofs.Joining.{joins_pass}
+use Rattle.turn_cell.proofs.Joins.{joins_pass}
 use Rattle.turn_cell.proofs.cell.Cell.join.Goals as goal
 
 pub join_seat-requires : goal.join_seat-requires

@@ -1,5 +1,5 @@
 use Rattle.std.proofs.Common.{arith}
-use Rattle.turn_cell.proofs.Joining.{splits_pass}
+use Rattle.turn_cell.proofs.Joins.{splits_pass}
 use Rattle.turn_cell.proofs.cell.Cell.split.Goals as goal
 
 pub split_seat-seat-requires : goal.split_seat-seat-requires

@@ -18,7 +18,7 @@ use Rattle.std.proofs.lemmas.Bool.{ltb-true, ltb-false}
 use Rattle.turn_cell.proofs.Sums.{total_set, total_same, total_at, total_two, total_append}
 use Rattle.turn_cell.proofs.Prefixes.{prefix_self, prefix_shorter}
 use Rattle.turn_cell.proofs.Histories.{calls_none, more_seen, calls_snoc, times_snoc}
-use Rattle.turn_cell.proofs.Turning.{pass_lives, owns_if, fits_again}
+use Rattle.turn_cell.proofs.Turns.{pass_lives, owns_if, fits_again}
 
 one_number : (k n : ℕ) → k ≢ n → one_if (eqb k n) ≡ 0
 one_number k n ne = ap one_if (ne_eqb k n ne)

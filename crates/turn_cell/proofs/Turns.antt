@@ -2,6 +2,7 @@
 use Rattle.std.proofs.Common.{◌≡◌, ◌≢◌, ℕ, ◌+◌, ◌*◌, ◌≤◌, ◌<◌, eqb, eq-eqb, Bool, true, List, [], ◌∷◌, ◌++◌, length, drop, set, refl, sym, ap, ◌∙◌, subst, ⊎_elim, arith, Option, Some, if◌then◌else◌, get_or, le_refl}
 use mathlib.Core.Option.{some, none, some-injective, some-ne-none}
 use mathlib.Core.Option as maybe
+use Rattle.std.proofs.Math.Seq.{drop-append_seam}
 use mathlib.Core.List.{IsPrefix}
 use lib.ListN.{get_elem?}
 use prog.Atomic.{either}
@@ -16,7 +17,7 @@ use Rattle.turn_cell.specs.History.{IsLegal, IsLegalFrom, IsStateAfter, state_af
 use Rattle.turn_cell.specs.Rule.{is_live, is_pass, has_turn, has_slot, one_if, total, times, turns, slots, passes, owns, AreCalls, Fits, FitsPass, IsHeld, IsYoung, IsKept, Seated, acquired, committed, released, observed, took_out, carried_log}
 use Rattle.turn_cell.proofs.Sums.{total_set, total_same, total_at, total_two, total_below, total_gap}
 use Rattle.turn_cell.proofs.Prefixes.{prefix_self, prefix_trans}
-use Rattle.turn_cell.proofs.Histories.{calls_of-own, calls_of-other, others_stay, seen_whole, pasts_stay, drop-all, legal_start}
+use Rattle.turn_cell.proofs.Histories.{calls_of-own, calls_of-other, others_stay, seen_whole, pasts_stay, legal_start}
 
 pub pass_lives : (st : Phase) → is_pass st ≡ true → is_live st ≡ true
 pass_lives Spent e = e
@@ -108,9 +109,9 @@ module _ {M E R W S : Type 0} (state : M → S) (after : S → E → S) (reply :
   legal_before : (xs log : List (Entry M E R W S)) (s : S) → IsPrefix xs log → IsLegal after reply s log → IsLegal after reply s xs
   legal_before xs log s pre k = legal_start after reply s xs pre.0 (subst (IsLegal after reply s) (sym pre.1) k)
 
-  pub asks : (slots id : ℕ) (me : Seated M E R W S) → me.0.phase ≡ Idle
+  pub acquires : (slots id : ℕ) (me : Seated M E R W S) → me.0.phase ≡ Idle
       → Allows Rule slots id me 1 (λ y. either (eqb y 0) 1 y) (acquired (step slots 1 0 1 none) me)
-  asks n id me waits s r _ at _ =
+  acquires n id me waits s r _ at _ =
       let v = me.0 in
       let pass : is_pass v.phase ≡ true = ap is_pass waits in
       let no_turn : one_if (has_turn v.phase) ≡ 0 = ap (λ (st : Phase). one_if (has_turn st)) waits in
@@ -139,9 +140,9 @@ module _ {M E R W S : Type 0} (state : M → S) (after : S → E → S) (reply :
         (waits, (λ hit. absurd (miss hit)), (λ _. refl)),
       ))
 
-  pub looks : (slots id : ℕ) (me : Seated M E R W S) → me.0.phase ≡ Idle
+  pub observes : (slots id : ℕ) (me : Seated M E R W S) → me.0.phase ≡ Idle
       → Allows Rule slots id me 0 (λ y. y) (observed after reply (step slots 0 0 0 none) me)
-  looks n id me waits s r _ at _ =
+  observes n id me waits s r _ at _ =
       let v = me.0 in
       let pass : is_pass v.phase ≡ true = ap is_pass waits in
       let was = r.live id v at (pass_lives v.phase pass) in
@@ -233,9 +234,9 @@ module _ {M E R W S : Type 0} (state : M → S) (after : S → E → S) (reply :
         },
       )
 
-  pub leaves : (slots id : ℕ) (me : Seated M E R W S) (h : Guarded M E R W S) → me.0.phase ≡ Inside → me.1 ≡ (0, Some h) ∷ [] → h.journal.items.items ≡ me.0.seen → IsStateAfter after me.0.opening me.0.seen (state h.machine)
+  pub releases : (slots id : ℕ) (me : Seated M E R W S) (h : Guarded M E R W S) → me.0.phase ≡ Inside → me.1 ≡ (0, Some h) ∷ [] → h.journal.items.items ≡ me.0.seen → IsStateAfter after me.0.opening me.0.seen (state h.machine)
       → Allows Rule slots id me 1 (λ _. 0) (λ _. released (step slots 1 0 0 none) me 0)
-  leaves n id me h is has same st_is s r _ at _ =
+  releases n id me h is has same st_is s r _ at _ =
       let v = me.0 in
       let pass : is_pass v.phase ≡ true = ap is_pass is in
       let turn : one_if (has_turn v.phase) ≡ 1 = ap (λ (st : Phase). one_if (has_turn st)) is in
@@ -259,17 +260,17 @@ module _ {M E R W S : Type 0} (state : M → S) (after : S → E → S) (reply :
       )
 
   -- a call is committed while the slot is out
-  pub counts : (slots id : ℕ) (me : Seated M E R W S) (h : Guarded M E R W S) (e : Entry M E R W S) (new : ℕ) → me.0.phase ≡ Inside → me.1 ≡ (0, Some h) ∷ [] → h.journal.items.items ≡ me.0.seen ++ e ∷ [] → e.caller ≡ me.0.number
+  pub commits : (slots id : ℕ) (me : Seated M E R W S) (h : Guarded M E R W S) (e : Entry M E R W S) (new : ℕ) → me.0.phase ≡ Inside → me.1 ≡ (0, Some h) ∷ [] → h.journal.items.items ≡ me.0.seen ++ e ∷ [] → e.caller ≡ me.0.number
       → new ≡ length h.journal.items.items → IsLegalFrom after reply me.0.opening h.journal.items.items → IsStateAfter after me.0.opening h.journal.items.items (state h.machine) → age (state h.machine) ≤ 60000000 + 60000 * length h.journal.items.items → length h.journal.items.items ≤ 65536
       → Allows Rule slots id me 0 (λ _. new) (λ _. committed (step slots 0 new 0 none) me new)
-  counts n id me h e new is has grown own count legal st_is young short s r _ at _ =
+  commits n id me h e new is has grown own count legal st_is young short s r _ at _ =
       let v = me.0 in
       let vs = s.views in
       let xs : List (Entry M E R W S) = h.journal.items.items in
       let w : SeatView M E R W S = record v { seen = carried_log me.1; own_calls = v.own_calls ++ drop (length v.seen) (carried_log me.1) } in
       let w' : SeatView M E R W S = record v { seen = xs; own_calls = v.own_calls ++ e ∷ [] } in
       let carried : carried_log me.1 ≡ xs = ap carried_log has in
-      let rest_is : drop (length v.seen) (carried_log me.1) ≡ e ∷ [] = ap (drop (length v.seen)) (carried ∙ grown) ∙ drop-all v.seen (e ∷ []) in
+      let rest_is : drop (length v.seen) (carried_log me.1) ≡ e ∷ [] = ap (drop (length v.seen)) (carried ∙ grown) ∙ drop-append_seam v.seen (e ∷ []) in
       let w_is : w ≡ w' = λ i. record v { seen = carried i; own_calls = v.own_calls ++ rest_is i } in
       let pass : is_pass v.phase ≡ true = ap is_pass is in
       let was = r.live id v at (pass_lives v.phase pass) in
