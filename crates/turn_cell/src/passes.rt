@@ -79,9 +79,8 @@ impl<M: Machine> Cell<M> {
         ensures legal { IsLegalView M.after M.reply (view_of into.new) }
     {
         let Pass { seat, .. } = done;
-        self.table
-            .shared
-            .join_seat::<JoinPass>(&mut into.seat, seat);
+        let table = &self.table.shared;
+        table.join_seat::<JoinPass>(&mut into.seat, seat);
         into.taken += 1;
         self.observe(&mut into.seat);
     }
@@ -95,11 +94,12 @@ impl<M: Machine> Cell<M> {
         ensures more { IsPrefix (view_of one.old).seen (view_of two.new).seen × IsPrefix (view_of two.old).seen (view_of two.new).seen }
         ensures legal { IsLegalView M.after M.reply (view_of one.new) × IsLegalView M.after M.reply (view_of two.new) }
     {
-        let note = self.table.shared.split_seat::<SplitNote>(&mut one.seat);
-        self.table.shared.join_seat::<JoinNote>(&mut two.seat, note);
+        let table = &self.table.shared;
+        let note = table.split_seat::<SplitNote>(&mut one.seat);
+        table.join_seat::<JoinNote>(&mut two.seat, note);
         self.observe(&mut two.seat);
-        let note = self.table.shared.split_seat::<SplitNote>(&mut two.seat);
-        self.table.shared.join_seat::<JoinNote>(&mut one.seat, note);
+        let note = table.split_seat::<SplitNote>(&mut two.seat);
+        table.join_seat::<JoinNote>(&mut one.seat, note);
         self.observe(&mut one.seat);
     }
 
