@@ -1,6 +1,6 @@
-ghost use Rattle.std.specs.Prelude.{◌≡◌, ◌+◌, ◌≤◌, IfOk};
+ghost use Rattle.std.specs.Prelude.{◌+◌};
 ghost use Rattle.turn_batch.specs.Batch.{AreOf};
-ghost use Rattle.turn_cell.specs.Passes.{view_of, IsPassOf, Stays};
+ghost use Rattle.turn_cell.specs.Passes.{IsPassOf};
 
 use super::*;
 use std::alloc::Global;

@@ -102,7 +102,7 @@ module _ {M E R W S : Type 0} (state : M → S) (after : S → E → S) (reply :
   abbrev Goes : State (Option (Guarded M E R W S)) (SeatView M E R W S) → ℕ → ℕ → Seated M E R W S → (ℕ → Seated M E R W S → Type 0) → ℕ → Type 0
   Goes s i id me tells y = (w : SeatView M E R W S) × (a : Act (Option (Guarded M E R W S))) × Valid s.homes me.1 a × Rule (stepped s i y id me.1 w a) × tells (get_or s.words i 0) (w, carried_after me.1 a)
 
-  -- the calls that a pass seat_view of
+  -- the calls that a pass knows of
   pub calls_at : (s : State (Option (Guarded M E R W S)) (SeatView M E R W S)) (r : Rule s) (id : ℕ) (v : SeatView M E R W S) → get_elem? s.views id ≡ some v → is_pass v.phase ≡ true → AreCalls r.log v.seen ((v.number, v.own_calls) ∷ v.past)
   calls_at s r id v at pass = (r.pass id v at pass).calls
 

@@ -1,5 +1,5 @@
 //! The calls on a cell.
-ghost use Rattle.std.specs.Prelude.{◌≡◌, ◌≢◌, ◌+◌, ◌*◌, ◌≤◌, ◌<◌, ◌++◌, ◌∷◌, [], length, true, false, IfOk, IfErr, OnErr, OnOk, MatchResult, None};
+ghost use Rattle.std.specs.Prelude.{◌≡◌, ◌≢◌, ◌+◌, ◌≤◌, ◌<◌, [], length, IfOk, IfErr, OnErr, MatchResult, None};
 ghost use Rattle.turn_cell.specs.declared.seat_view.Phase.TheVariants.{Idle, Entered, Inside};
 ghost use Rattle.turn_cell.specs.History.{IsViewAfter};
 ghost use Rattle.turn_cell.specs.Passes.{view_of, view_at, cell_id, IsPassOf, Stays, Sees, Calls};

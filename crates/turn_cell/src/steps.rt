@@ -1,5 +1,5 @@
 //! The atomic steps of a pass on the table of its cell.
-ghost use Rattle.std.specs.Prelude.{◌≡◌, ◌≢◌, ◌+◌, ◌*◌, ◌≤◌, ◌<◌, ◌++◌, ◌∷◌, [], true, false, length, drop, None, Some};
+ghost use Rattle.std.specs.Prelude.{◌≡◌, ◌+◌, ◌*◌, ◌≤◌, ◌++◌, ◌∷◌, [], true, false, length, drop, None, Some};
 ghost use Rattle.turn_cell.specs.declared.seat_view.Phase.TheVariants.{Idle, Entered, Inside};
 ghost use Rattle.turn_cell.specs.History.{IsLegalFrom, IsStateAfter};
 ghost use Rattle.turn_cell.specs.Rule.{IsSeen, TakesOut};

@@ -1,4 +1,4 @@
-ghost use Rattle.std.specs.Prelude.{◌≡◌, ◌+◌, ◌≤◌, IfOk};
+ghost use Rattle.std.specs.Prelude.{◌+◌, IfOk};
 ghost use Rattle.turn_cell.specs.Passes.{view_of, IsPassOf, Stays};
 
 use super::*;
