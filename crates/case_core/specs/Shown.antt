@@ -9,7 +9,7 @@ use Rattle.case_core.specs.declared.views.View.TheVariants as view
 use Rattle.wsm_lists.specs.Keys.{first}
 use Rattle.wsm_lists.specs.Rows.{put_row}
 use Rattle.wsm_lists.specs.Values.{Written}
-use Rattle.wsm_schema.specs.Flat.{cards_of}
+use Rattle.wsm_schema.specs.Flat.{cards_of, card_at}
 use Rattle.wsm_schema.specs.Kinds.{worked_on}
 use Rattle.wsm_schema.specs.Replay.{is_in_state}
 use Rattle.wsm_schema.specs.Rules.{marking_of}
@@ -39,3 +39,20 @@ cards_by_node cards = fold (λ sorted c. put_row card_key c sorted) [] cards
 
 abbrev pub items_of : LiveModel → List Item
 items_of l = flat_map (item_at l) (cards_by_node (cards_of l.schema))
+
+-- the state of a node of the schema, and who holds it where it is running
+abbrev pub shown_state_of : LiveModel → ℕ → Option Card → Option State
+shown_state_of l n None = None
+shown_state_of l n (Some c) = Some (state_of l n)
+
+abbrev pub shown_state : Option LiveModel → ℕ → Option State
+shown_state None n = None
+shown_state (Some l) n = shown_state_of l n (card_at n (cards_of l.schema))
+
+abbrev pub held_by : LiveModel → ℕ → Option State → Option ℕ
+held_by l n (Some state.Running) = Some (holder_of l n)
+held_by l n _ = None
+
+abbrev pub shown_holder : Option LiveModel → ℕ → Option ℕ
+shown_holder None n = None
+shown_holder (Some l) n = held_by l n (shown_state (Some l) n)
