@@ -1,0 +1,6 @@
+pub mod CaseModel
+pub mod Codes
+pub mod Writes
+pub mod Machine
+pub mod Shown
+pub mod Ages

@@ -1,0 +1,37 @@
+-- Which of the values that an end brings are wrong, and how right ones are recorded.
+use Rattle.std.specs.Prelude.{ℕ, Bool, true, false, ◌&&◌, not, List, [], ◌∷◌, ◌++◌, map, filter, fold, ◌==◌}
+use Rattle.wsm_lists.specs.Keys.{first}
+use Rattle.wsm_lists.specs.Rows.{put_row}
+use Rattle.wsm_lists.specs.Values.{Written}
+use Rattle.wsm_lists.specs.declared.values.ElementKind.{ElementKind}
+use Rattle.wsm_schema.specs.Flat.{kind_in}
+use Rattle.wsm_schema.specs.Replay.{is_of_kind}
+use Rattle.wsm_schema.specs.Trail.{is_one_of}
+
+-- there is one write, and its value is of the element's kind
+abbrev pub is_one_right : List (ℕ × ElementKind) → ℕ → Written → Bool
+is_one_right elements d [] = false
+is_one_right elements d (w ∷ []) = is_of_kind (kind_in d elements) w.1
+is_one_right elements d (w ∷ v ∷ ws) = false
+
+abbrev pub writes_to : ℕ → Written → Written
+writes_to d writes = filter (λ w. w.0 == d) writes
+
+-- an element is wrong unless it is a write edge and exactly one of the writes names it, with a value of its kind
+abbrev pub is_wrong : List (ℕ × ElementKind) → List ℕ → Written → ℕ → Bool
+is_wrong elements edges writes d = not (is_one_of d edges && is_one_right elements d (writes_to d writes))
+
+-- numbers in ascending order, each once
+abbrev pub number_key : ℕ → ℕ × ℕ
+number_key n = (n, 0)
+
+abbrev pub ascending : List ℕ → List ℕ
+ascending ns = fold (λ sorted n. put_row number_key n sorted) [] ns
+
+-- the wrong elements among the write edges and the elements that are written
+abbrev pub wrong_elements : List (ℕ × ElementKind) → List ℕ → Written → List ℕ
+wrong_elements elements edges writes = ascending (filter (is_wrong elements edges writes) (edges ++ map (λ w. w.0) writes))
+
+-- writes in ascending order of their elements
+abbrev pub by_element : Written → Written
+by_element writes = fold (λ sorted w. put_row first w sorted) [] writes
