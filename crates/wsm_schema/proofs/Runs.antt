@@ -106,3 +106,41 @@ sources-reversed n (e ∷ es) =
       | inl here ↦ rw here (ap (λ ns. e.0 ∷ ns) (sources-reversed n es))
       | inr other ↦ rw other (sources-reversed n es)
     ]
+
+-- the first row of a number, among numbered cards, has the place of the node's first card
+numbered-first : (n start : ℕ) (cards : List Card) →
+    ((rows_with n (numbered start cards) ≡ []) × (card_at n cards ≡ None))
+    ⊎ ((k : ℕ) × (rest : List (ℕ × ℕ)) × (rows_with n (numbered start cards) ≡ (n, start + k) ∷ rest) × (slice_get cards k ≡ card_at n cards))
+numbered-first n start [] = inl (refl, refl)
+numbered-first n start (c ∷ cs) =
+    elim (cases_Bool (eqb c.node n)) [
+      | inl here ↦
+          let node : c.node ≡ n = eqb-true c.node n here in
+          let place : start ≡ start + 0 = omega arith in
+          inr (0, rows_with n (numbered (start + 1) cs), rw here (ap (λ m. (m, start) ∷ rows_with n (numbered (start + 1) cs)) node ∙ ap (λ p. (n, p) ∷ rows_with n (numbered (start + 1) cs)) place), rw here refl)
+      | inr other ↦
+          elim (numbered-first n (start + 1) cs) [
+            | inl none ↦ inl (rw other none.0, rw other none.1)
+            | inr found ↦
+                let place : (start + 1) + found.0 ≡ start + suc found.0 = omega arith in
+                inr (suc found.0, found.1, rw other (found.2 ∙ ap (λ p. (n, p) ∷ found.1) place), rw other found.3)
+          ]
+    ]
+
+pub no_card-numbered : (n : ℕ) (cards : List Card) → slice_get (rows_with n (numbered 0 cards)) 0 ≡ None → card_at n cards ≡ None
+no_card-numbered n cards none =
+    elim (numbered-first n 0 cards) [
+      | inl absent ↦ absent.1
+      | inr found ↦ let bad : Some (n, 0 + found.0) ≡ None = rw found.2 at none in absurd (cc)
+    ]
+
+pub first_card-numbered : (n : ℕ) (cards : List Card) (row : ℕ × ℕ) → slice_get (rows_with n (numbered 0 cards)) 0 ≡ Some row → slice_get cards row.1 ≡ card_at n cards
+first_card-numbered n cards row some =
+    elim (numbered-first n 0 cards) [
+      | inl absent ↦ let bad : None ≡ Some row = rw absent.0 at some in absurd (cc)
+      | inr found ↦
+          let same : Some (n, 0 + found.0) ≡ Some row = rw found.2 at some in
+          let first : (n, 0 + found.0) ≡ row = cc in
+          let place : 0 + found.0 ≡ found.0 = omega arith in
+          ap (slice_get cards) (ap (λ (r : ℕ × ℕ). r.1) (sym first) ∙ place) ∙ found.3
+    ]

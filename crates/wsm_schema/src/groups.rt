@@ -1,5 +1,6 @@
 // Rows grouped by a number.
-ghost use Rattle.std.specs.Prelude.{◌≡◌, ◌≤◌, length, IfOk};
+ghost use Rattle.std.specs.Prelude.{◌≡◌, ◌≤◌, length, slice_get, IfOk};
+ghost use Rattle.std.specs.Option.{option_copied};
 ghost use Rattle.std.specs.List.Sorted.{IsNonDecreasingBy};
 ghost use Rattle.wsm_schema.specs.Groups.{rows_with, SameGroups, IsStart, IsEnd};
 
@@ -37,6 +38,13 @@ impl<T: Drop> Groups<T> {
         ensures { result.now ≡ rows_with number self.now }
     {
         run_of(&self.rows, number)
+    }
+
+    /// The first row of a number.
+    pub fn first_with(&self, number: u32) -> Option<&(u32, T)>
+        ensures { option_copied result ≡ slice_get (rows_with number self.now) 0 }
+    {
+        self.rows_with(number).first()
     }
 }
 
