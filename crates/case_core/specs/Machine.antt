@@ -83,10 +83,14 @@ end_refusal l c node user writes choice =
 abbrev pub start_entry : LiveModel → Card → ℕ → ℕ → Entry
 start_entry l c node user = entry.Start node user (reads_now l c)
 
--- the trail after an end: a loop that goes on is cut from it
+-- the trail of a loop that goes on: what stands in it is cut from the trail
+abbrev pub repeated_trail : LiveModel → ℕ → Written → TrailModel
+repeated_trail l node writes = pushed (entry.Again node writes) (cut_by (loop_nodes (flat_of l.schema).cards node) l.trail)
+
+-- the trail after an end, whose writes are in order
 abbrev pub ended_trail : LiveModel → ℕ → Written → Option ℕ → Bool → TrailModel
-ended_trail l node writes choice false = pushed (entry.End node (by_element writes) choice) l.trail
-ended_trail l node writes choice true = pushed (entry.Again node (by_element writes)) (cut_by (loop_nodes (flat_of l.schema).cards node) l.trail)
+ended_trail l node writes choice false = pushed (entry.End node writes choice) l.trail
+ended_trail l node writes choice true = repeated_trail l node writes
 
 abbrev pub ended_reply : Bool → Reply
 ended_reply repeated = if repeated then reply.Repeated else reply.Ended
@@ -102,7 +106,7 @@ abbrev pub end_on : LiveModel → ℕ → ℕ → Written → Option ℕ → Opt
 end_on l node user writes choice None = (l, reply.NoNode)
 end_on l node user writes choice (Some c) =
     or_reply (end_refusal l c node user writes choice) l
-    (with_trail l (ended_trail l node writes choice (repeats c choice)), ended_reply (repeats c choice))
+    (with_trail l (ended_trail l node (by_element writes) choice (repeats c choice)), ended_reply (repeats c choice))
 
 abbrev pub start_live : LiveModel → ℕ → ℕ → List ℕ → LiveModel × Reply
 start_live l node user roles = start_on l node user roles (card_at node (flat_of l.schema).cards)

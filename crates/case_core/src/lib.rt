@@ -7,6 +7,8 @@ mod items;
 mod live;
 mod replies;
 mod views;
+mod work;
+mod writes;
 
 pub use cases::Case;
 pub use events::{CaseId, Event};

@@ -1,10 +1,11 @@
 // A case that was created.
-ghost use Rattle.std.specs.Prelude.{◌≡◌, ◌+◌, ◌<◌, ◌≤◌, ◌^◌, ◌==◌, not, map, find, Some, None, IfOk, OnErr};
+ghost use Rattle.std.specs.Prelude.{◌≡◌, ◌+◌, ◌<◌, ◌^◌, IfOk, OnOk, OnErr};
 ghost use Rattle.std.specs.Option.{option_copied};
 ghost use Rattle.case_core.specs.CaseModel.{created_on, state_of, value_now};
-ghost use Rattle.case_core.specs.Machine.{holder_of, reads_now, start_entry, ended_trail, with_trail, user_of, is_start_of};
-ghost use Rattle.wsm_schema.specs.Flat.{flat_of, card_at, loop_nodes};
-ghost use Rattle.wsm_schema.specs.Trail.{pushed, cut_by};
+ghost use Rattle.case_core.specs.Machine.{holder_of, reads_now, repeated_trail, with_trail};
+ghost use Rattle.case_core.specs.Replayed.{state_in};
+ghost use Rattle.wsm_schema.specs.Flat.{flat_of, card_at};
+ghost use Rattle.wsm_schema.specs.Trail.{pushed};
 
 use std::alloc::Global;
 use std::marker::Model;

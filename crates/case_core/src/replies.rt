@@ -60,3 +60,11 @@ impl Reply {
         })
     }
 }
+
+/// Two equal replies, one to keep and one to hand out.
+pub fn both(alloc: Global, reply: Reply) -> Result<(Reply, Reply), NoMemory>
+    ensures { IfOk result (λ replies. (replies.0 ≡ reply) × (replies.1 ≡ reply)) }
+{
+    let copy = reply.copy(alloc)?;
+    Ok((reply, copy))
+}
