@@ -1,9 +1,9 @@
 -- The place of a key among rows that ascend.
-use Rattle.std.proofs.Common.{◌≡◌, ℕ, suc, ◌<◌, ◌≤◌, ◌≢◌, Bool, true, false, cond, not, ◌||◌, ◌&&◌, eqb, ltb, List, [], ◌∷◌, length, get_or, set, refl, ap, sym, ◌∙◌, subst, inl, inr, ◌⊎◌, arith, Option, Some, None}
-use Rattle.std.specs.List.{insert, remove, slice_get}
+use Rattle.std.proofs.Common.{◌≡◌, ◌≢◌, ℕ, suc, ◌+◌, ◌<◌, ◌≤◌, Bool, true, false, cond, ◌&&◌, eqb, ltb, leb, leb-true, leb-false, ◌==◌, List, [], ◌∷◌, length, filter, take, drop, zero, get_or, set, refl, ap, sym, ◌∙◌, inl, inr, ◌⊎◌, arith, Option, Some, None}
+use Rattle.std.specs.List.{insert, remove, slice_get, slice_range}
+use Rattle.std.specs.List.Sorted.{IsPartitionedBy, IsPartitionPoint}
 use Rattle.std.specs.Option.{is_some}
-use Rattle.std.proofs.lemmas.Bool.{ltb-true, ltb-false, lt-ltb, le-ltb, eq-eqb, ne_eqb, eqb-true, eqb-false, or_parts, or_cases, and_parts, and_cases, cases_order, both_ways, cases_Bool, true≢false}
-use Rattle.std.proofs.lemmas.Bool.Decides.{nat_tests}
+use Rattle.std.proofs.lemmas.Bool.{ltb-true, ltb-false, lt-ltb, le-ltb, eq-eqb, ne_eqb, eqb-true, or_cases, and_parts, cases_order, both_ways, cases_Bool}
 use Rattle.wsm_lists.specs.Rows.{key_lt, key_eq, AllRows, Ascends, row_at, put_row, drop_row, rows_below, is_row_at}
 
 -- the order of keys, by numbers
@@ -201,3 +201,121 @@ module _ {X : Type 0} (key : X → ℕ × ℕ) where
         | inl same ↦ rw same s.1
         | inr other ↦ rw other (all_drop (λ y. key_lt (key x) (key y) ≡ true) k xs s.0, ascends_drop k xs s.1)
       ]
+
+  -- the keys of rows that ascend, below k, stand at the front
+  pub ascends-partitioned : (k : ℕ × ℕ) (xs : List X) → Ascends key xs → IsPartitionedBy (λ x. key_lt (key x) k) xs
+  ascends-partitioned k [] s i j d le lt h = absurd (omega (arith, lt))
+  ascends-partitioned k (x ∷ xs) s zero zero d le lt h = h
+  ascends-partitioned k (x ∷ xs) s zero (suc j) d le lt h = lt_trans (key x) (key (get_or xs j d)) k (row_of xs j s.0 (omega (arith, lt))) h
+    where
+      row_of : (ys : List X) (n : ℕ) → AllRows (λ y. key_lt (key x) (key y) ≡ true) ys → n < length ys → key_lt (key x) (key (get_or ys n d)) ≡ true
+      row_of [] n a l = absurd (omega (arith, l))
+      row_of (y ∷ ys) zero a l = a.0
+      row_of (y ∷ ys) (suc n) a l = row_of ys n a.1 (omega (arith, l))
+  ascends-partitioned k (x ∷ xs) s (suc i) zero d le lt h = absurd (omega (arith, le))
+  ascends-partitioned k (x ∷ xs) s (suc i) (suc j) d le lt h = ascends-partitioned k xs s.1 i j d (omega (arith, le)) (omega (arith, lt)) h
+
+  -- where the rows below k end, there are so many of them
+  pub rows_below-point : (k : ℕ × ℕ) (xs : List X) (n : ℕ) → n ≤ length xs → IsPartitionPoint (λ x. key_lt (key x) k ≡ true) (λ x. key_lt (key x) k ≡ false) xs n → n ≡ rows_below key k xs
+  rows_below-point k [] n le p = omega (arith, le)
+  rows_below-point k (x ∷ xs) zero le p = rw (p.1 0 x (omega arith) (omega arith)) refl
+  rows_below-point k (x ∷ xs) (suc n) le p =
+      rw (p.0 0 x (omega arith) (omega arith))
+      (ap suc (rows_below-point k xs n (omega (arith, le)) ((λ i d a b. p.0 (suc i) d (omega arith) (omega (arith, b))), (λ i d a b. p.1 (suc i) d (omega (arith, a)) (omega (arith, b))))))
+
+  -- the row at the place of its key
+  pub row_at-found : (k : ℕ × ℕ) (xs : List X) (n : ℕ) (x : X) → n ≡ rows_below key k xs → slice_get xs n ≡ Some x → key_eq (key x) k ≡ true → row_at key k xs ≡ Some x
+  row_at-found k xs n x place there same = go xs (rw (sym place) there)
+    where
+      go : (ys : List X) → slice_get ys (rows_below key k ys) ≡ Some x → row_at key k ys ≡ Some x
+      go [] e = e
+      go (y ∷ ys) e =
+          elim (cases_Bool (key_lt (key y) k)) [
+            | inl below ↦ rw (lt_not_eq (key y) k below) (go ys (rw below at e))
+            | inr not_below ↦
+                let front : Some y ≡ Some x = rw not_below at e in
+                let y_is_x : y ≡ x = cc in
+                rw (y_is_x, same) refl
+          ]
+
+  -- where there is no row at that place, or one with another key, no row has this one
+  pub row_at-absent : (k : ℕ × ℕ) (xs : List X) (n : ℕ) → n ≡ rows_below key k xs → Ascends key xs → is_row_at key k (slice_get xs n) ≡ false → row_at key k xs ≡ None
+  row_at-absent k xs n place s e = none_of (row_at key k xs) (sym (row_is_there k xs s) ∙ rw (sym place) e)
+    where
+      none_of : (o : Option X) → is_some o ≡ false → o ≡ None
+      none_of None h = refl
+      none_of (Some x) h = absurd (both_ways _ h refl)
+
+  at_least : (a : ℕ × ℕ) (n : ℕ) → n ≤ a.0 → key_lt a (n, 0) ≡ false
+  at_least a n le =
+      elim (cases_Bool (key_lt a (n, 0))) [
+        | inl below ↦ absurd (elim (lt_means a (n, 0) below) [ inl less ↦ omega (arith, less, le) | inr same ↦ let none = same.1 in omega (arith, none) ])
+        | inr not_below ↦ not_below
+      ]
+
+  sub_zero : (xs : List X) (n : ℕ) → slice_range xs 0 n ≡ take n xs
+  sub_zero xs n = ap (λ m. take m xs) (omega arith)
+
+  -- where the first key is not below k, no later key is
+  none_below : (k : ℕ × ℕ) (x : X) (xs : List X) → key_lt (key x) k ≡ false → AllRows (λ y. key_lt (key x) (key y) ≡ true) xs → rows_below key k xs ≡ 0
+  none_below k x [] e h = refl
+  none_below k x (y ∷ ys) e h =
+      elim (cases_Bool (key_lt (key y) k)) [
+        | inl below ↦ absurd (both_ways _ e (lt_trans (key x) (key y) k h.0 below))
+        | inr not_below ↦ rw not_below refl
+      ]
+
+  none_begin : (n : ℕ) (x : X) (xs : List X) → n < (key x).0 → AllRows (λ y. key_lt (key x) (key y) ≡ true) xs → filter (λ y. (key y).0 == n) xs ≡ []
+  none_begin n x [] e h = refl
+  none_begin n x (y ∷ ys) e h = rw (ne_eqb (key y).0 n (beyond (lt_means (key x) (key y) h.0))) (none_begin n x ys e h.1)
+    where
+      beyond : ((key x).0 < (key y).0) ⊎ (((key x).0 ≡ (key y).0) × ((key x).1 < (key y).1)) → (key y).0 ≢ n
+      beyond (inl up) same = omega (arith, e, up, same)
+      beyond (inr up) same = omega (arith, e, up.0, same)
+
+  -- a key is below (n + 1, 0) where it begins with n or a smaller number
+  pub lt_next : (a : ℕ × ℕ) (n : ℕ) → key_lt a (n + 1, 0) ≡ leb a.0 n
+  lt_next a n =
+      elim (cases_Bool (leb a.0 n)) [
+        | inl low ↦ rw low (lt_from a (n + 1, 0) (inl (let le = leb-true _ _ low in omega (arith, le))))
+        | inr high ↦ rw high (not_true (key_lt a (n + 1, 0)) (λ up. elim (lt_means a (n + 1, 0) up) [
+          | inl less ↦ let gt = leb-false _ _ high in omega (arith, less, gt)
+          | inr same ↦ let none = same.1 in omega (arith, none)
+        ]))
+      ]
+    where
+      not_true : (b : Bool) → (b ≡ true → ⊥) → b ≡ false
+      not_true true h = absurd (h refl)
+      not_true false h = refl
+
+  pub rows_below-next : (n : ℕ) (xs : List X) → rows_below key (n, 0) xs ≤ rows_below key (n + 1, 0) xs
+  rows_below-next n [] = omega arith
+  rows_below-next n (x ∷ xs) =
+      elim (cases_Bool (key_lt (key x) (n, 0))) [
+        | inl below ↦ rw (below, lt_trans (key x) (n, 0) (n + 1, 0) below (lt_from (n, 0) (n + 1, 0) (inl (omega arith)))) (let later = rows_below-next n xs in omega (arith, later))
+        | inr not_below ↦ rw not_below (omega arith)
+      ]
+
+  -- the rows whose keys begin with n are one run
+  pub filter-run : (n : ℕ) (xs : List X) → Ascends key xs →
+      filter (λ x. (key x).0 == n) xs ≡ slice_range xs (rows_below key (n, 0) xs) (rows_below key (n + 1, 0) xs)
+  filter-run n [] s = refl
+  filter-run n (x ∷ xs) s = by_order (cases_order (key x).0 n) (filter-run n xs s.1)
+    where
+      at_place : (a b : ℕ) → slice_range (x ∷ xs) (suc a) (suc b) ≡ slice_range xs a b
+      at_place a b = ap (λ m. take m (drop a xs)) (omega arith)
+
+      by_order : ((key x).0 ≡ n) ⊎ (((key x).0 < n) ⊎ (n < (key x).0)) → filter (λ y. (key y).0 == n) xs ≡ slice_range xs (rows_below key (n, 0) xs) (rows_below key (n + 1, 0) xs) → filter (λ y. (key y).0 == n) (x ∷ xs) ≡ slice_range (x ∷ xs) (rows_below key (n, 0) (x ∷ xs)) (rows_below key (n + 1, 0) (x ∷ xs))
+      by_order (inl same) ih =
+          let here : key_lt (key x) (n, 0) ≡ false = at_least (key x) n (omega (arith, same)) in
+          let within : key_lt (key x) (n + 1, 0) ≡ true = lt_from (key x) (n + 1, 0) (inl (omega (arith, same))) in
+          let later = none_below (n, 0) x xs here s.0 in
+          rw (here, within, eq-eqb (key x).0 n same) (ap (λ ys. x ∷ ys) (ih ∙ rw later (sub_zero xs (rows_below key (n + 1, 0) xs))) ∙ sym (sub_zero (x ∷ xs) (suc (rows_below key (n + 1, 0) xs))))
+      by_order (inr (inl less)) ih =
+          let below : key_lt (key x) (n, 0) ≡ true = lt_from (key x) (n, 0) (inl less) in
+          let within : key_lt (key x) (n + 1, 0) ≡ true = lt_from (key x) (n + 1, 0) (inl (omega (arith, less))) in
+          rw (below, within, ne_eqb (key x).0 n (λ same. omega (arith, less, same))) (ih ∙ sym (at_place (rows_below key (n, 0) xs) (rows_below key (n + 1, 0) xs)))
+      by_order (inr (inr more)) ih =
+          let here : key_lt (key x) (n, 0) ≡ false = at_least (key x) n (omega (arith, more)) in
+          let past : key_lt (key x) (n + 1, 0) ≡ false = at_least (key x) (n + 1) (omega (arith, more)) in
+          rw (here, past, ne_eqb (key x).0 n (λ same. omega (arith, more, same))) (none_begin n x xs more s.0)

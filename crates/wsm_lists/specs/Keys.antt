@@ -1,6 +1,6 @@
 -- The keys of the rows, and the roles of nodes.
-use Rattle.std.specs.Prelude.{ℕ, ◌<◌, List, [], ◌∷◌, ◌==◌, if◌then◌else◌}
-use Rattle.wsm_lists.specs.Rows.{Ascends, AllRows, put_row, drop_row}
+use Rattle.std.specs.Prelude.{ℕ, ◌<◌, List, Option, Some, None, ◌==◌, if◌then◌else◌}
+use Rattle.wsm_lists.specs.Rows.{Ascends, AllRows, put_row, drop_row, row_at}
 
 -- the whole row
 abbrev pub both : ℕ × ℕ → ℕ × ℕ
@@ -19,9 +19,12 @@ abbrev pub put_role : ℕ → ℕ → List (ℕ × ℕ) → List (ℕ × ℕ)
 put_role node role roles = if role == 0 then drop_row first (node, 0) roles else put_row first (node, role) roles
 
 -- the role of a node, which is 0 where none is listed
+abbrev pub listed_role : Option (ℕ × ℕ) → ℕ
+listed_role None = 0
+listed_role (Some row) = row.1
+
 abbrev pub role_in : ℕ → List (ℕ × ℕ) → ℕ
-role_in node [] = 0
-role_in node (r ∷ rs) = if r.0 == node then r.1 else role_in node rs
+role_in node roles = listed_role (row_at first (node, 0) roles)
 
 -- ascending by node, and no role is 0
 abbrev pub HasRoles : List (ℕ × ℕ) → Type 0

@@ -5,6 +5,8 @@ mod keys;
 mod listings;
 mod roles;
 mod tables;
+#[cfg(test)]
+mod tests;
 mod values;
 
 pub use keys::{ByEdge, ByElement, ByNode, ByRead, Keys};
