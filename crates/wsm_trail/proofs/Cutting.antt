@@ -1,5 +1,5 @@
 -- A cut keeps positions, and what was written at them.
-use Rattle.std.proofs.Common.{◌≡◌, ℕ, ◌+◌, ◌≤◌, Bool, true, false, cond, List, [], ◌∷◌, ◌++◌, length, Option, Some, None, refl, sym, ◌∙◌, ap, subst, arith}
+use Rattle.std.proofs.Common.{◌≡◌, ℕ, ◌+◌, ◌≤◌, Bool, true, false, cond, List, [], ◌∷◌, ◌++◌, Option, Some, None, refl, sym, ◌∙◌, ap, subst, arith}
 use Rattle.std.specs.List.{fold, filter_map, cons_option}
 use Rattle.std.specs.List.Retain.{RetainsInTurn}
 use Rattle.wsm_schema.specs.Trail.{cut_entry, wrote, is_one_of, written_by}

@@ -1,16 +1,16 @@
 -- The table of last writes tells the value of each element.
-use Rattle.std.proofs.Common.{◌≡◌, ℕ, ◌+◌, ◌<◌, ◌≤◌, Bool, true, false, cond, eqb, ltb, List, [], ◌∷◌, ◌++◌, refl, ap, sym, ◌∙◌, inl, inr, arith, Option, Some, None}
+use Rattle.std.proofs.Common.{◌≡◌, ℕ, ◌+◌, ◌<◌, ◌≤◌, Bool, true, false, cond, eqb, ltb, List, [], ◌∷◌, ◌++◌, refl, ap, sym, ◌∙◌, subst, inl, inr, arith, Option, Some, None}
 use Rattle.std.specs.List.{fold}
 use Rattle.std.specs.Option.{is_some, option_or}
-use Rattle.std.proofs.lemmas.Bool.{cases_Bool, both_ways, eqb-true, eq-eqb, ne_eqb, lt-ltb}
+use Rattle.std.proofs.lemmas.Bool.{cases_Bool, both_ways, eqb-true, eq-eqb, ne_eqb, lt-ltb, le-ltb, ltb-true}
 use Rattle.wsm_lists.specs.Keys.{first}
-use Rattle.wsm_lists.specs.Rows.{key_lt, key_eq, AllRows, Ascends, put_row}
+use Rattle.wsm_lists.specs.Rows.{key_lt, AllRows, Ascends, put_row}
 use Rattle.wsm_lists.specs.Values.{Written, value_in}
 use Rattle.wsm_lists.specs.declared.values.Value.{Value}
 use Rattle.wsm_lists.proofs.Rows.{ascends_put}
 use Rattle.wsm_schema.specs.Trail.{written_by, later_or, value_below}
 use Rattle.wsm_schema.specs.declared.entries.Entry.{Entry}
-use Rattle.wsm_trail.specs.EntryAt.{item_at, entry_at, written_to}
+use Rattle.wsm_trail.specs.EntryAt.{item_at, entry_at, entry_of, written_to, value_noted}
 use Rattle.wsm_trail.specs.LastWrites.{noted, noted_entry, noted_entries, write_of, values_at}
 use Rattle.wsm_trail.specs.TrailWithRoom.{Rises}
 use Rattle.wsm_trail.proofs.Numbered.{item_at-put, lt_number, eq_number}
@@ -84,30 +84,63 @@ tells d low high (e ∷ es) h = step (last_position d es) (tells d (e.0 + 1) hig
         let le = rest.0 in
         (omega (arith, le, h.0), rest.1, rw rest.2 refl, rw (entry_at-later e es p (omega (arith, le))) rest.3)
 
--- the entry at a position, where there is one
-abbrev at_position : List (ℕ × Entry) → Option ℕ → Option Entry
-at_position es None = None
-at_position es (Some p) = entry_at p es
-
-value_of : (d low high : ℕ) (es : List (ℕ × Entry)) (o : Option ℕ) → Tells d low high es o → value_below d high es ≡ written_to d (at_position es o)
+value_of : (d low high : ℕ) (es : List (ℕ × Entry)) (o : Option ℕ) → Tells d low high es o → value_below d high es ≡ written_to d (entry_of es o)
 value_of d low high es None t = t
 value_of d low high es (Some p) t = t.2 ∙ sym t.3
 
 -- the table of a trail tells each element's value
-pub value_below-noted : (d low high : ℕ) (es : List (ℕ × Entry)) → Rises low high es → value_below d high es ≡ written_to d (at_position es (item_at d (noted_entries es)))
+pub value_below-noted : (d low high : ℕ) (es : List (ℕ × Entry)) → Rises low high es → value_below d high es ≡ written_to d (entry_of es (item_at d (noted_entries es)))
 value_below-noted d low high es h =
     value_of d low high es (last_position d es) (tells d low high es h)
-    ∙ ap (λ o. written_to d (at_position es o)) (sym (item_at-entries d [] es ∙ or_none (last_position d es)))
+    ∙ ap (λ o. written_to d (entry_of es o)) (sym (item_at-entries d [] es ∙ or_none (last_position d es)))
   where
     or_none : (o : Option ℕ) → option_or o None ≡ o
     or_none None = refl
     or_none (Some p) = refl
 
 pub value_where_noted : (d p low high : ℕ) (es : List (ℕ × Entry)) → Rises low high es → item_at d (noted_entries es) ≡ Some p → written_to d (entry_at p es) ≡ value_below d high es
-value_where_noted d p low high es h at = sym (value_below-noted d low high es h ∙ ap (λ o. written_to d (at_position es o)) at)
+value_where_noted d p low high es h at = sym (value_below-noted d low high es h ∙ ap (λ o. written_to d (entry_of es o)) at)
 
 pub value_where_none : (d low high : ℕ) (es : List (ℕ × Entry)) → Rises low high es → item_at d (noted_entries es) ≡ None → None ≡ value_below d high es
-value_where_none d low high es h at = sym (value_below-noted d low high es h ∙ ap (λ o. written_to d (at_position es o)) at)
+value_where_none d low high es h at = sym (value_below-noted d low high es h ∙ ap (λ o. written_to d (entry_of es o)) at)
+
+-- ---- the values before an entry
+
+below-none : (d p low high : ℕ) (es : List (ℕ × Entry)) → p ≤ low → Rises low high es → value_below d p es ≡ None
+below-none d p low high [] le h = refl
+below-none d p low high (e ∷ es) le h =
+    rw (below-none d p (e.0 + 1) high es (omega (arith, le, h.0)) h.1, le-ltb e.0 p (omega (arith, le, h.0))) refl
+
+below-append : (d p : ℕ) (xs ys : List (ℕ × Entry)) → value_below d p ys ≡ None → value_below d p (xs ++ ys) ≡ value_below d p xs
+below-append d p [] ys h = h
+below-append d p (x ∷ xs) ys h = ap (λ o. later_or o (cond (ltb x.0 p) (value_in d (written_by x.1)) None)) (below-append d p xs ys h)
+
+entry_at-append : (p : ℕ) (xs ys : List (ℕ × Entry)) (e : Entry) → entry_at p xs ≡ Some e → entry_at p (xs ++ ys) ≡ Some e
+entry_at-append p [] ys e h = absurd (both_ways false refl (ap is_some h))
+entry_at-append p (x ∷ xs) ys e h =
+    elim (cases_Bool (eqb x.0 p)) [
+      | inl same ↦ rw (eq_number x.0 p, same) (rw (eq_number x.0 p, same) at h)
+      | inr other ↦ rw (eq_number x.0 p, other) (entry_at-append p xs ys e (rw (eq_number x.0 p, other) at h))
+    ]
+
+-- the rows of the entries in front of a position tell the values before it
+pub value_before : (d p high : ℕ) (xs ys : List (ℕ × Entry)) → Rises 1 p xs → Rises p high ys → value_below d p (xs ++ ys) ≡ value_noted (xs ++ ys) (noted_entries xs) d
+value_before d p high xs ys front behind =
+    below-append d p xs ys (below-none d p p high ys (omega arith) behind)
+    ∙ told (last_position d xs) (tells d 1 p xs front)
+    ∙ ap (λ o. written_to d (entry_of (xs ++ ys) o)) (sym (item_at-entries d [] xs ∙ or_none (last_position d xs)))
+  where
+    or_none : (o : Option ℕ) → option_or o None ≡ o
+    or_none None = refl
+    or_none (Some q) = refl
+
+    there : (q : ℕ) (v : Value) (o : Option Entry) → entry_at q xs ≡ o → written_to d o ≡ Some v → written_to d (entry_at q (xs ++ ys)) ≡ Some v
+    there q v None at wrote = absurd (both_ways false refl (ap is_some wrote))
+    there q v (Some e) at wrote = ap (written_to d) (entry_at-append q xs ys e at) ∙ wrote
+
+    told : (o : Option ℕ) → Tells d 1 p xs o → value_below d p xs ≡ written_to d (entry_of (xs ++ ys) o)
+    told None t = t
+    told (Some q) t = t.2 ∙ sym (there q t.1 (entry_at q xs) refl t.3)
 
 -- ---- all values
 
@@ -140,16 +173,16 @@ none_above d (r ∷ rs) h =
     ]
   where
     ltb_means : ltb d r.0 ≡ true → d < r.0
-    ltb_means e = Rattle.std.proofs.lemmas.Bool.ltb-true d r.0 e
+    ltb_means e = ltb-true d r.0 e
 
-value_in-values : (d : ℕ) (es : List (ℕ × Entry)) (rs : List (ℕ × ℕ)) → Ascends first rs → value_in d (values_at es rs) ≡ written_to d (at_position es (item_at d rs))
+value_in-values : (d : ℕ) (es : List (ℕ × Entry)) (rs : List (ℕ × ℕ)) → Ascends first rs → value_in d (values_at es rs) ≡ written_to d (entry_of es (item_at d rs))
 value_in-values d es [] h = refl
 value_in-values d es (r ∷ rs) h =
     elim (cases_Bool (eqb r.0 d)) [
       | inl same ↦
           let eq = eqb-true r.0 d same in
-          let after : AllRows (λ y. key_lt (d, 0) (first y) ≡ true) rs = Rattle.std.proofs.Common.subst (λ n. AllRows (λ y. key_lt (n, 0) (first y) ≡ true) rs) eq h.0 in
-          let rest : value_in d (values_at es rs) ≡ None = value_in-values d es rs h.1 ∙ ap (λ o. written_to d (at_position es o)) (none_above d rs after) in
+          let after : AllRows (λ y. key_lt (d, 0) (first y) ≡ true) rs = subst (λ n. AllRows (λ y. key_lt (n, 0) (first y) ≡ true) rs) eq h.0 in
+          let rest : value_in d (values_at es rs) ≡ None = value_in-values d es rs h.1 ∙ ap (λ o. written_to d (entry_of es o)) (none_above d rs after) in
           rw (eq_number r.0 d, same) (first_is (written_to r.0 (entry_at r.1 es)) same rest ∙ ap (λ n. written_to n (entry_at r.1 es)) eq)
       | inr other ↦ rw (eq_number r.0 d, other) (skips (written_to r.0 (entry_at r.1 es)) other ∙ value_in-values d es rs h.1)
     ]

@@ -25,3 +25,7 @@ rises_lower low lower high (e ∷ es) le h = (omega (arith, le, h.0), h.1)
 pub rises_push : (low high : ℕ) (es : List (ℕ × Entry)) (e : Entry) → Rises low high es → Rises low (high + 1) (es ++ (high, e) ∷ [])
 rises_push low high [] e h = (h, omega arith)
 rises_push low high (x ∷ xs) e h = (h.0, rises_push (x.0 + 1) high xs e h.1)
+
+pub rises-parts : (low high : ℕ) (xs ys : List (ℕ × Entry)) (y : ℕ × Entry) → Rises low high (xs ++ y ∷ ys) → Rises low y.0 xs × Rises y.0 high (y ∷ ys)
+rises-parts low high [] ys y h = (h.0, (omega arith, h.1))
+rises-parts low high (x ∷ xs) ys y h = let rest = rises-parts (x.0 + 1) high xs ys y h.1 in ((h.0, rest.0), rest.1)

@@ -18,3 +18,12 @@ entry_at position entries = item_at position entries
 abbrev pub written_to : ℕ → Option Entry → Option Value
 written_to element None = None
 written_to element (Some e) = value_in element (written_by e)
+
+-- the entry at a position, where there is one
+abbrev pub entry_of : List (ℕ × Entry) → Option ℕ → Option Entry
+entry_of entries None = None
+entry_of entries (Some position) = entry_at position entries
+
+-- the value of an element, where `rows` tell the position of its last write
+abbrev pub value_noted : List (ℕ × Entry) → List (ℕ × ℕ) → ℕ → Option Value
+value_noted entries rows element = written_to element (entry_of entries (item_at element rows))

@@ -6,7 +6,8 @@ mod last_writes;
 mod lookups;
 mod trails;
 
-pub use trails::Trail;
+pub use last_writes::LastWrites;
+pub use trails::{Trail, written_by};
 pub use wsm_schema::Entry;
 
 #[cfg(test)]

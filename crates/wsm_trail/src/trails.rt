@@ -146,7 +146,7 @@ impl Trail {
         ensures spare_writes { self.old.spare_writes ≤ self.new.spare_writes + length (written_by entry) }
     {
         let position = self.next;
-        self.last_writes.note(position, writes_of(&entry));
+        self.last_writes.note(position, written_by(&entry));
         self.entries.push_reserved((position, entry));
         self.next = position + 1;
     }
@@ -181,8 +181,8 @@ fn put_write(
     Ok(())
 }
 
-// What the entry wrote.
-fn writes_of(entry: &Entry) -> &[(u32, Value)]
+/// What the entry wrote.
+pub fn written_by(entry: &Entry) -> &[(u32, Value)]
     ensures { result.now ≡ written_by entry.now }
 {
     match entry {

@@ -1,7 +1,7 @@
-use Rattle.std.proofs.Common.{◌≡◌, ◌<◌, ◌≤◌, true, false, length, ap, sym, ◌∙◌, rules}
+use Rattle.std.proofs.Common.{◌≡◌, true, false, ap, sym, ◌∙◌, rules}
 use Rattle.std.specs.Option.{is_some}
 use Rattle.wsm_lists.specs.Keys.{first}
-use Rattle.wsm_lists.specs.Rows.{row_at, rows_below, put_row}
+use Rattle.wsm_lists.specs.Rows.{row_at, rows_below}
 use Rattle.wsm_lists.proofs.Rows.{place_within, rows_below_le, set_where_there, insert_where_absent}
 use Rattle.wsm_trail.specs.EntryAt.{item_at}
 use Rattle.wsm_trail.proofs.Numbered.{is_some-map}

@@ -1,4 +1,5 @@
-use Rattle.std.proofs.Common.{◌≡◌, ◌+◌, List, [], ◌∷◌, ◌++◌, ap, sym, ◌∙◌, subst}
+use Rattle.std.proofs.Common.{◌+◌, ap, sym, ◌∙◌, subst}
+use Rattle.wsm_schema.specs.Trail.{written_by}
 use Rattle.wsm_trail.specs.LastWrites.{noted, noted_entries}
 use Rattle.wsm_trail.specs.TrailWithRoom.{Rises}
 use Rattle.wsm_trail.proofs.Rising.{rises_push}
@@ -12,8 +13,8 @@ invariant_of-self c =
     let kept = c.self.invariant in (
       subst (Rises 1 (next + 1)) (sym c.push_reserved.ensures.items) (rises_push 1 next es c.args.entry kept.0),
       c.note.ensures.rows
-          ∙ ap (λ ws. noted next c.self.inside.last_writes.rows ws) c.writes_of.ensures
-          ∙ ap (λ m. noted next m (Rattle.wsm_schema.specs.Trail.written_by c.args.entry)) kept.1
+          ∙ ap (λ ws. noted next c.self.inside.last_writes.rows ws) c.written_by.ensures
+          ∙ ap (λ m. noted next m (written_by c.args.entry)) kept.1
           ∙ sym (noted_entries-push next c.args.entry es)
           ∙ ap noted_entries (sym c.push_reserved.ensures.items),
     )

@@ -1,4 +1,4 @@
-use Rattle.std.proofs.Common.{◌≡◌, ℕ, [], ◌∷◌, ◌++◌, drop, ap, sym, ◌∙◌, subst, rules, arith, append-nil, drop_of_length-le}
+use Rattle.std.proofs.Common.{◌≡◌, [], ◌++◌, drop, ap, sym, ◌∙◌, subst, arith, append-nil, drop_of_length-le}
 use Rattle.wsm_lists.specs.Keys.{first}
 use Rattle.wsm_lists.specs.Rows.{Ascends}
 use Rattle.wsm_lists.specs.Values.{value_in}
