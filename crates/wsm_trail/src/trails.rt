@@ -116,17 +116,6 @@ impl Trail {
         Ok(Writes::from_vec(values))
     }
 
-    /// An equal trail, without further room.
-    pub fn copy(&self, alloc: Global) -> Result<Trail, NoMemory>
-        ensures { IfOk result (λ new. new.trail ≡ self.now.trail) }
-    {
-        Ok(Trail {
-            entries: copy_entries(alloc, &self.entries)?,
-            next: self.next,
-            last_writes: self.last_writes.copy(alloc)?,
-        })
-    }
-
     /// Room for so many more entries.
     pub fn reserve(&mut self, more: usize) -> Result<(), NoMemory>
         ensures same { self.new.trail ≡ self.old.trail }
@@ -145,16 +134,6 @@ impl Trail {
         ensures kept_writes { self.old.spare_writes ≤ self.new.spare_writes }
     {
         self.last_writes.reserve(more)
-    }
-
-    /// Room for this entry, the next one.
-    pub fn reserve_for(&mut self, entry: &Entry) -> Result<(), NoMemory>
-        ensures same { self.new.trail ≡ self.old.trail }
-        ensures room { OnOk result (0 < self.new.spare) }
-        ensures room_for_writes { OnOk result (length (written_by entry.now) ≤ self.new.spare_writes) }
-    {
-        self.reserve(1)?;
-        self.reserve_writes(written_by(entry).len())
     }
 
     /// One more entry, at the next position. Takes no memory.
@@ -212,14 +191,4 @@ pub fn written_by(entry: &Entry) -> &[(u32, Value)]
         Entry::Again { writes, .. } => writes.as_slice(),
         Entry::Wrote { writes } => writes.as_slice(),
     }
-}
-
-fn copy_entries(alloc: Global, entries: &[(u32, Entry)]) -> Result<Vec<(u32, Entry)>, NoMemory>
-    ensures { IfOk result (λ new. new.items ≡ entries.now) }
-{
-    let mut copies = Vec::new(alloc);
-    for row in entries {
-        copies.push((row.0, row.1.copy(alloc)?))?;
-    }
-    Ok(copies)
 }

@@ -1,0 +1,4 @@
+pub mod Agreement
+pub mod Before
+pub mod Lengths
+pub mod Replays
