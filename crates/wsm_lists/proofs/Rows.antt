@@ -1,9 +1,9 @@
 -- The place of a key among rows that ascend.
-use Rattle.std.proofs.Common.{◌≡◌, ℕ, suc, ◌<◌, ◌≤◌, true, false, cond, ◌&&◌, eqb, ltb, List, [], ◌∷◌, length, zero, get_or, set, refl, ap, sym, ◌∙◌, inl, inr, ◌⊎◌, arith, Option, Some, None}
-use Rattle.std.specs.List.{insert, remove, slice_get}
+use Rattle.std.proofs.Common.{◌≡◌, ◌≢◌, ℕ, suc, ◌+◌, ◌<◌, ◌≤◌, Bool, true, false, cond, ◌&&◌, eqb, ltb, leb, leb-true, leb-false, ◌==◌, List, [], ◌∷◌, length, filter, take, drop, zero, get_or, set, refl, ap, sym, ◌∙◌, inl, inr, ◌⊎◌, arith, Option, Some, None}
+use Rattle.std.specs.List.{insert, remove, slice_get, slice_range}
 use Rattle.std.specs.List.Sorted.{IsPartitionedBy, IsPartitionPoint}
 use Rattle.std.specs.Option.{is_some}
-use Rattle.std.proofs.lemmas.Bool.{ltb-true, ltb-false, lt-ltb, le-ltb, eq-eqb, eqb-true, or_cases, and_parts, cases_order, both_ways, cases_Bool}
+use Rattle.std.proofs.lemmas.Bool.{ltb-true, ltb-false, lt-ltb, le-ltb, eq-eqb, ne_eqb, eqb-true, or_cases, and_parts, cases_order, both_ways, cases_Bool}
 use Rattle.wsm_lists.specs.Rows.{key_lt, key_eq, AllRows, Ascends, row_at, put_row, drop_row, rows_below, is_row_at}
 
 -- the order of keys, by numbers
@@ -245,3 +245,77 @@ module _ {X : Type 0} (key : X → ℕ × ℕ) where
       none_of : (o : Option X) → is_some o ≡ false → o ≡ None
       none_of None h = refl
       none_of (Some x) h = absurd (both_ways _ h refl)
+
+  at_least : (a : ℕ × ℕ) (n : ℕ) → n ≤ a.0 → key_lt a (n, 0) ≡ false
+  at_least a n le =
+      elim (cases_Bool (key_lt a (n, 0))) [
+        | inl below ↦ absurd (elim (lt_means a (n, 0) below) [ inl less ↦ omega (arith, less, le) | inr same ↦ let none = same.1 in omega (arith, none) ])
+        | inr not_below ↦ not_below
+      ]
+
+  sub_zero : (xs : List X) (n : ℕ) → slice_range xs 0 n ≡ take n xs
+  sub_zero xs n = ap (λ m. take m xs) (omega arith)
+
+  -- where the first key is not below k, no later key is
+  none_below : (k : ℕ × ℕ) (x : X) (xs : List X) → key_lt (key x) k ≡ false → AllRows (λ y. key_lt (key x) (key y) ≡ true) xs → rows_below key k xs ≡ 0
+  none_below k x [] e h = refl
+  none_below k x (y ∷ ys) e h =
+      elim (cases_Bool (key_lt (key y) k)) [
+        | inl below ↦ absurd (both_ways _ e (lt_trans (key x) (key y) k h.0 below))
+        | inr not_below ↦ rw not_below refl
+      ]
+
+  none_begin : (n : ℕ) (x : X) (xs : List X) → n < (key x).0 → AllRows (λ y. key_lt (key x) (key y) ≡ true) xs → filter (λ y. (key y).0 == n) xs ≡ []
+  none_begin n x [] e h = refl
+  none_begin n x (y ∷ ys) e h = rw (ne_eqb (key y).0 n (beyond (lt_means (key x) (key y) h.0))) (none_begin n x ys e h.1)
+    where
+      beyond : ((key x).0 < (key y).0) ⊎ (((key x).0 ≡ (key y).0) × ((key x).1 < (key y).1)) → (key y).0 ≢ n
+      beyond (inl up) same = omega (arith, e, up, same)
+      beyond (inr up) same = omega (arith, e, up.0, same)
+
+  -- a key is below (n + 1, 0) where it begins with n or a smaller number
+  pub lt_next : (a : ℕ × ℕ) (n : ℕ) → key_lt a (n + 1, 0) ≡ leb a.0 n
+  lt_next a n =
+      elim (cases_Bool (leb a.0 n)) [
+        | inl low ↦ rw low (lt_from a (n + 1, 0) (inl (let le = leb-true _ _ low in omega (arith, le))))
+        | inr high ↦ rw high (not_true (key_lt a (n + 1, 0)) (λ up. elim (lt_means a (n + 1, 0) up) [
+          | inl less ↦ let gt = leb-false _ _ high in omega (arith, less, gt)
+          | inr same ↦ let none = same.1 in omega (arith, none)
+        ]))
+      ]
+    where
+      not_true : (b : Bool) → (b ≡ true → ⊥) → b ≡ false
+      not_true true h = absurd (h refl)
+      not_true false h = refl
+
+  pub rows_below-next : (n : ℕ) (xs : List X) → rows_below key (n, 0) xs ≤ rows_below key (n + 1, 0) xs
+  rows_below-next n [] = omega arith
+  rows_below-next n (x ∷ xs) =
+      elim (cases_Bool (key_lt (key x) (n, 0))) [
+        | inl below ↦ rw (below, lt_trans (key x) (n, 0) (n + 1, 0) below (lt_from (n, 0) (n + 1, 0) (inl (omega arith)))) (let later = rows_below-next n xs in omega (arith, later))
+        | inr not_below ↦ rw not_below (omega arith)
+      ]
+
+  -- the rows whose keys begin with n are one run
+  pub filter-run : (n : ℕ) (xs : List X) → Ascends key xs →
+      filter (λ x. (key x).0 == n) xs ≡ slice_range xs (rows_below key (n, 0) xs) (rows_below key (n + 1, 0) xs)
+  filter-run n [] s = refl
+  filter-run n (x ∷ xs) s = by_order (cases_order (key x).0 n) (filter-run n xs s.1)
+    where
+      at_place : (a b : ℕ) → slice_range (x ∷ xs) (suc a) (suc b) ≡ slice_range xs a b
+      at_place a b = ap (λ m. take m (drop a xs)) (omega arith)
+
+      by_order : ((key x).0 ≡ n) ⊎ (((key x).0 < n) ⊎ (n < (key x).0)) → filter (λ y. (key y).0 == n) xs ≡ slice_range xs (rows_below key (n, 0) xs) (rows_below key (n + 1, 0) xs) → filter (λ y. (key y).0 == n) (x ∷ xs) ≡ slice_range (x ∷ xs) (rows_below key (n, 0) (x ∷ xs)) (rows_below key (n + 1, 0) (x ∷ xs))
+      by_order (inl same) ih =
+          let here : key_lt (key x) (n, 0) ≡ false = at_least (key x) n (omega (arith, same)) in
+          let within : key_lt (key x) (n + 1, 0) ≡ true = lt_from (key x) (n + 1, 0) (inl (omega (arith, same))) in
+          let later = none_below (n, 0) x xs here s.0 in
+          rw (here, within, eq-eqb (key x).0 n same) (ap (λ ys. x ∷ ys) (ih ∙ rw later (sub_zero xs (rows_below key (n + 1, 0) xs))) ∙ sym (sub_zero (x ∷ xs) (suc (rows_below key (n + 1, 0) xs))))
+      by_order (inr (inl less)) ih =
+          let below : key_lt (key x) (n, 0) ≡ true = lt_from (key x) (n, 0) (inl less) in
+          let within : key_lt (key x) (n + 1, 0) ≡ true = lt_from (key x) (n + 1, 0) (inl (omega (arith, less))) in
+          rw (below, within, ne_eqb (key x).0 n (λ same. omega (arith, less, same))) (ih ∙ sym (at_place (rows_below key (n, 0) xs) (rows_below key (n + 1, 0) xs)))
+      by_order (inr (inr more)) ih =
+          let here : key_lt (key x) (n, 0) ≡ false = at_least (key x) n (omega (arith, more)) in
+          let past : key_lt (key x) (n + 1, 0) ≡ false = at_least (key x) (n + 1) (omega (arith, more)) in
+          rw (here, past, ne_eqb (key x).0 n (λ same. omega (arith, more, same))) (none_begin n x xs more s.0)

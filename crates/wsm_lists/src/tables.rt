@@ -1,5 +1,5 @@
 // Tables: rows that ascend strictly by their keys.
-ghost use Rattle.std.specs.Prelude.{◌≡◌, ◌<◌, ℕ, List, [], true, length, slice_get, not, OnErr, OnOk, IfOk, IsTrue, ◌↔◌, if◌then◌else◌};
+ghost use Rattle.std.specs.Prelude.{◌≡◌, ◌<◌, ℕ, ◌+◌, List, [], true, length, slice_get, filter, ◌==◌, not, OnErr, OnOk, IfOk, IsTrue, ◌↔◌, if◌then◌else◌};
 ghost use Rattle.std.specs.Option.{option_copied, is_some};
 ghost use Rattle.std.specs.Slice.Iter.{iter_rest};
 ghost use Rattle.wsm_lists.specs.Rows.{put_row, drop_row, row_at, rows_below, is_row_at, key_lt, key_eq, Ascends};
@@ -96,6 +96,13 @@ impl<K: Keys> Table<K> {
         self.find(key).is_some()
     }
 
+    /// The rows whose keys begin with this number, by two binary searches.
+    pub fn rows_of(&self, number: u32) -> &[K::Row]
+        ensures { result.now ≡ filter (λ row. (K.key_of row).0 == number) self.now }
+    {
+        run_of::<K>(&self.rows, number)
+    }
+
     /// One more row at its place. False, with no change, where its key is there.
     pub fn put(&mut self, row: K::Row) -> Result<bool, NoMemory>
         ensures added { IfOk result (λ added. added ≡ not (is_some (row_at K.key_of (K.key_of row) self.old))) }
@@ -171,6 +178,26 @@ fn place_of<K: Keys>(rows: &[K::Row], key: (u32, u32)) -> usize
     ensures { result ≡ rows_below K.key_of key rows.now }
 {
     rows.partition_point(|row| is_below(K::key(row), key))
+}
+
+// The rows whose keys begin with this number.
+fn run_of<K: Keys>(rows: &[K::Row], number: u32) -> &[K::Row]
+    requires { Ascends K.key_of rows.now }
+    ensures { result.now ≡ filter (λ row. (K.key_of row).0 == number) rows.now }
+{
+    let from = place_of::<K>(rows, (number, 0));
+    let to = end_of::<K>(rows, number);
+    let (_, rest) = rows.split_at(from);
+    let (run, _) = rest.split_at(to - from);
+    run
+}
+
+// How many rows have a key that begins with this number or a smaller one, by a binary search.
+fn end_of<K: Keys>(rows: &[K::Row], number: u32) -> usize
+    requires { Ascends K.key_of rows.now }
+    ensures { result ≡ rows_below K.key_of (number + 1, 0) rows.now }
+{
+    rows.partition_point(|row| K::key(row).0 <= number)
 }
 
 // The row at a place, where it has the key.

@@ -25,6 +25,7 @@ fn tables_keep_rows_in_order(rt: HostRuntime) -> Result<(), Fail> {
         reads.copy(alloc)?.as_slice(),
         [(2, 9, false), (3, 1, false)].as_slice()
     );
+    assert_eq!(rt; reads.rows_of(3), [(3, 1, false)].as_slice());
     Ok(())
 }
 
