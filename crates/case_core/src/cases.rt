@@ -86,25 +86,41 @@ impl Case {
         Ok((Reply::Created, Reply::Created))
     }
 
+    /// The case, where it is created.
+    pub fn live(&self) -> Option<&Live>
+        ensures { option_copied result ≡ self.now.live }
+    {
+        self.live.as_ref()
+    }
+
     /// What was started and ended. None where the case is not created.
     pub fn trail(&self) -> Option<&Trail>
         ensures { option_map (λ t. t.trail) (option_copied result) ≡ option_map (λ l. l.trail) self.now.live }
     {
-        self.live.as_ref().map(|live| live.trail())
+        match &self.live {
+            None => None,
+            Some(live) => Some(live.trail()),
+        }
     }
 
     /// The case's schema. None where the case is not created.
     pub fn checked(&self) -> Option<&Checked>
         ensures { option_copied result ≡ option_map (λ l. l.schema) self.now.live }
     {
-        self.live.as_ref().map(|live| live.checked())
+        match &self.live {
+            None => None,
+            Some(live) => Some(live.checked()),
+        }
     }
 
     /// The version that the case stands on. None where the case is not created.
     pub fn base(&self) -> Option<&Version>
         ensures { option_copied result ≡ option_map (λ l. l.base) self.now.live }
     {
-        self.live.as_ref().map(|live| live.base())
+        match &self.live {
+            None => None,
+            Some(live) => Some(live.base()),
+        }
     }
 
     /// The state of a node. None where the case is not created, or its schema has no such node.
@@ -113,7 +129,10 @@ impl Case {
     {
         match &self.live {
             None => None,
-            Some(live) => live.card(node).map(|_| live.state(node)),
+            Some(live) => match live.card(node) {
+                None => None,
+                Some(_) => Some(live.state(node)),
+            },
         }
     }
 
@@ -121,9 +140,12 @@ impl Case {
     pub fn holder(&self, node: u32) -> Option<u32>
         ensures { result ≡ shown_holder self.now.live node }
     {
-        match self.state(node) {
-            Some(State::Running) => self.live.as_ref().map(|live| live.holder(node)),
-            _ => None,
+        match &self.live {
+            None => None,
+            Some(live) => match self.state(node) {
+                Some(State::Running) => Some(live.holder(node)),
+                _ => None,
+            },
         }
     }
 }

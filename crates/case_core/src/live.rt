@@ -4,6 +4,7 @@ ghost use Rattle.std.specs.Option.{option_copied};
 ghost use Rattle.case_core.specs.CaseModel.{created_on, state_of, value_now};
 ghost use Rattle.case_core.specs.Machine.{holder_of, reads_now, repeated_trail, with_trail};
 ghost use Rattle.case_core.specs.Replayed.{state_in};
+ghost use Rattle.case_core.specs.Shown.{is_finished, shown_spots};
 ghost use Rattle.wsm_schema.specs.Flat.{flat_of, card_at};
 ghost use Rattle.wsm_schema.specs.Trail.{cut_by, pushed};
 
@@ -12,7 +13,7 @@ use std::marker::Model;
 use std::sync::Arc;
 use wsm_replay::{Replayed, extend, replay};
 use wsm_lists::copy_option;
-use wsm_schema::{Card, Entry, NoMemory, Nodes, ReadValues, State, Writes};
+use wsm_schema::{Card, Entry, NoMemory, Nodes, ReadValues, Spot, State, Value, Writes};
 use wsm_sound::{Checked, Version};
 use wsm_trail::Trail;
 
@@ -89,6 +90,30 @@ impl Live {
         ensures { result ≡ state_of self.now node }
     {
         state_in(&self.replayed, node)
+    }
+
+    /// The spots of the case's nodes in ascending order of nodes.
+    pub fn spots(&self) -> &[Spot]
+        ensures { result.now ≡ shown_spots self.now }
+    {
+        match &self.replayed {
+            Replayed::Whole(marking) => marking.as_slice(),
+            Replayed::Fails { .. } => &[],
+        }
+    }
+
+    /// Whether the finish node is completed.
+    pub fn is_finished(&self) -> bool
+        ensures { result ≡ is_finished self.now }
+    {
+        self.state(self.schema.schema().finish) == State::Completed
+    }
+
+    /// The value of an element.
+    pub fn value(&self, element: u32) -> Option<&Value>
+        ensures { option_copied result ≡ value_now self.now element }
+    {
+        self.trail.value(element)
     }
 
     /// The user who started a node last, or 0.

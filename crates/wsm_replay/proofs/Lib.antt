@@ -2,3 +2,4 @@ pub mod Agreement
 pub mod Before
 pub mod Lengths
 pub mod Replays
+pub mod OneEntryMore

@@ -1,6 +1,7 @@
 //! The replay of a trail on a schema, which gives a case its marking.
 #![tactic(auto)]
 
+mod extending;
 mod fits;
 mod settling;
 mod spots;
@@ -11,6 +12,8 @@ ghost use Rattle.wsm_schema.specs.Replay.{after, replay_of};
 ghost use Rattle.wsm_schema.specs.Rules.{marking_of};
 ghost use Rattle.wsm_trail.specs.LastWrites.{noted_entry};
 ghost use Rattle.wsm_replay.specs.Answer.{answer};
+
+pub use extending::extend;
 
 use crate::fits::applicable;
 use crate::settling::{after, settled};
