@@ -1,13 +1,13 @@
 -- Sound schemas, and the faults of others.
-use Rattle.std.proofs.Common.{◌≡◌, ℕ, List, [], ◌∷◌, Option, Some, None, refl, Bool, true, false, map}
-use Rattle.wsm_schema.specs.Tree.{Part, Parts, act, gate, loop, nothing, part, no_lane, lane, and_gate, xor_gate}
+use Rattle.std.proofs.Common.{◌≡◌, ℕ, List, [], ◌∷◌, Some, None, refl, Bool, true, false, map}
+use Rattle.wsm_schema.specs.Tree.{act, gate, loop, nothing, part, no_lane, lane, and_gate, xor_gate}
 use Rattle.wsm_schema.specs.SchemaModel.{SchemaModel, plain}
 use Rattle.wsm_schema.specs.Sound.{Sound, block_fault, data_fault}
 use Rattle.wsm_schema.specs.declared.faults.BlockFault.TheVariants.{Limit, Twice, FewBranches, CodeTwice, SyncEnd, SyncPlace, SyncLoop, SyncCycle}
 use Rattle.wsm_schema.specs.declared.faults.DataFault.TheVariants.{Unknown, Missing, ParallelWrite}
 use Rattle.wsm_schema.specs.declared.faults.LimitKind.TheVariants as limit
 use Rattle.wsm_lists.specs.declared.values.ElementKind.TheVariants as kind
-use Rattle.wsm_schema.proofs.ExampleSchemas.{sequence, skip, looped, writing_loop, waiting_for_skipped, parallel}
+use Rattle.wsm_schema.proofs.ExampleSchemas.{sequence, skip, writing_loop, waiting_for_skipped, parallel}
 
 pub a_choice_is_sound : Sound skip
 a_choice_is_sound = record { blocks = refl; on_data = refl }

@@ -1,5 +1,5 @@
 -- A schema's flat form: a card for each node, in document order, and the elements.
-use Rattle.std.specs.Prelude.{◌≡◌, ℕ, Bool, List, [], ◌∷◌, map, filter, find, Option, Some, None, option_map, ◌==◌, is_some, if◌then◌else◌}
+use Rattle.std.specs.Prelude.{ℕ, List, [], ◌∷◌, map, filter, find, Option, Some, None, option_map, ◌==◌, if◌then◌else◌}
 use Rattle.wsm_lists.specs.Keys.{first, role_in}
 use Rattle.wsm_lists.specs.Rows.{row_at}
 use Rattle.wsm_schema.specs.Kinds.{is_loop_end}

@@ -1,5 +1,5 @@
 -- Timed marks: at which positions of a trail the facts of a node first hold.
-use Rattle.std.specs.Prelude.{ℕ, Bool, true, false, ◌&&◌, ◌||◌, List, [], ◌∷◌, Option, Some, None, is_some, find, option_map, ◌==◌, if◌then◌else◌}
+use Rattle.std.specs.Prelude.{ℕ, Bool, true, false, ◌||◌, List, [], ◌∷◌, Option, Some, None, is_some, find, option_map, ◌==◌, if◌then◌else◌}
 use Rattle.std.specs.List.{fold}
 use Rattle.wsm_lists.specs.Rows.{put_row}
 use Rattle.wsm_schema.specs.Flat.{FlatModel}

@@ -1,5 +1,5 @@
 -- One pass over a net in the order of a rank.
-use Rattle.std.specs.Prelude.{◌≡◌, ℕ, Bool, List, [], ◌∷◌, ◌++◌, Option, Some, None, if◌then◌else◌}
+use Rattle.std.specs.Prelude.{ℕ, List, [], ◌∷◌, ◌++◌, Option, Some, None, if◌then◌else◌}
 use Rattle.wsm_schema.specs.Flat.{card_at}
 use Rattle.wsm_schema.specs.Rules.{Spots, spot, spot_in, is_begun, state_by, verdict_at}
 use Rattle.wsm_schema.specs.declared.cards.Card.{Card}

@@ -1,16 +1,12 @@
 -- Which entries are applicable, and the replay of a trail.
-use Rattle.std.specs.Prelude.{◌≡◌, ℕ, Bool, true, false, ◌&&◌, ◌||◌, not, List, [], ◌∷◌, ◌++◌, map, length, Option, Some, None, is_some, is_none, ◌==◌, if◌then◌else◌}
-use Rattle.std.specs.List.{list_all, list_any}
+use Rattle.std.specs.Prelude.{ℕ, Bool, true, false, ◌&&◌, ◌||◌, not, List, [], ◌∷◌, Option, Some, None, is_some, ◌==◌, if◌then◌else◌}
 use Rattle.wsm_schema.specs.Flat.{FlatModel, card_at, kind_in}
 use Rattle.wsm_schema.specs.Rules.{Spots, spot, spot_in, settle}
 use Rattle.wsm_schema.specs.Kinds.{is_activity, is_xor_split, is_loop_end}
-use Rattle.wsm_schema.specs.declared.states.Spot.{Spot}
 use Rattle.wsm_schema.specs.Trail.{value_below}
 use Rattle.wsm_lists.specs.Values.{Written, same_option_value, has_kind}
 use Rattle.wsm_schema.specs.declared.cards.Card.{Card}
 use Rattle.wsm_schema.specs.declared.cards.End.{End}
-use Rattle.wsm_schema.specs.declared.cards.NodeKind.{NodeKind}
-use Rattle.wsm_schema.specs.declared.cards.NodeKind.TheVariants as node_kind
 use Rattle.wsm_schema.specs.declared.entries.Entry.{Entry}
 use Rattle.wsm_schema.specs.declared.entries.Entry.TheVariants as entry
 use Rattle.wsm_schema.specs.declared.states.State.{State}

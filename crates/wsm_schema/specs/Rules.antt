@@ -1,6 +1,6 @@
 -- Signals of edges, the node rule, and the settled net.
-use Rattle.std.specs.Prelude.{◌≡◌, ℕ, Bool, true, false, ◌&&◌, ◌||◌, not, List, [], ◌∷◌, map, length, Option, Some, None, is_some, option_map, ◌==◌, if◌then◌else◌, find}
-use Rattle.std.specs.List.{list_all, list_any, count_by, fold}
+use Rattle.std.specs.Prelude.{ℕ, Bool, true, false, ◌&&◌, not, List, [], ◌∷◌, map, length, Option, Some, None, is_some, ◌==◌, if◌then◌else◌}
+use Rattle.std.specs.List.{list_all, count_by, fold}
 use Rattle.std.specs.Fn.{iterate}
 use Rattle.wsm_schema.specs.Flat.{card_at}
 use Rattle.wsm_schema.specs.Kinds.{is_xor_split, worked_on}

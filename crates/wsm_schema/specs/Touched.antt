@@ -1,5 +1,5 @@
 -- The nodes that differ between two schemas, and the region behind them.
-use Rattle.std.specs.Prelude.{◌≡◌, ◌≢◌, ◌⊎◌, ℕ, List, Option, Contains, Some}
+use Rattle.std.specs.Prelude.{◌≡◌, ◌≢◌, ℕ, List, Option, Contains, Some}
 use Rattle.wsm_schema.specs.Flat.{FlatModel, card_at, kind_in}
 use Rattle.wsm_schema.specs.declared.cards.Card.{Card}
 

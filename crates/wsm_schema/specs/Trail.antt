@@ -1,5 +1,5 @@
 -- Trails: entries by position, values, and the cut.
-use Rattle.std.specs.Prelude.{◌≡◌, ℕ, ◌+◌, Bool, true, false, ◌&&◌, ◌||◌, not, List, [], ◌∷◌, ◌++◌, map, filter_map, length, Option, Some, None, is_some, nat_lt, ◌==◌, if◌then◌else◌, find}
+use Rattle.std.specs.Prelude.{ℕ, ◌+◌, Bool, List, [], ◌∷◌, ◌++◌, filter_map, Option, Some, None, nat_lt, ◌==◌, if◌then◌else◌}
 use Rattle.std.specs.List.{list_any}
 use Rattle.wsm_lists.specs.Values.{Written, value_in}
 use Rattle.wsm_schema.specs.declared.entries.Entry.{Entry}
