@@ -1,3 +1,4 @@
+pub mod AtEnd
 pub mod Examples
 pub mod InOrder
 pub mod Noted

@@ -43,7 +43,8 @@ nothing_more x (w ∷ ws) = None
 -- one name, or two, and nothing more
 abbrev pub one_name : List Bytes → Option Bytes
 one_name [] = None
-one_name (a ∷ ws) = name a >>= λ x. nothing_more x ws
+one_name (a ∷ []) = name a
+one_name (a ∷ b ∷ ws) = None
 
 abbrev pub two_names : List Bytes → Option (Bytes × Bytes)
 two_names [] = None

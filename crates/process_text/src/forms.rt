@@ -65,8 +65,11 @@ fn one_name<'a>(words: &[&'a [u8]]) -> Option<NameWord<'a>>
     match words {
         [] => None,
         [word, rest @ ..] => {
-            let name = NameWord::of(*word)?;
-            if rest.is_empty() { Some(name) } else { None }
+            if rest.is_empty() {
+                NameWord::of(*word)
+            } else {
+                None
+            }
         }
     }
 }
