@@ -6,43 +6,62 @@ use Rattle.case_core.specs.declared.replies.Reply.{Reply}
 use Rattle.case_core.specs.declared.replies.Reply.TheVariants as reply
 use Rattle.process_text.specs.Lines.{Bytes}
 use Rattle.process_text.specs.declared.files.File.{File}
-use Rattle.report_text.specs.Words.{node_text, element_text, caller_text, assigned, read_text, letter}
+use Rattle.report_text.specs.Words.{node_text, listed_element, caller_text, assigned, read_text, letter}
 use Rattle.report_text.specs.declared.runs.CaseEntry.{CaseEntry}
 use Rattle.report_text.specs.declared.runs.KindEntry.{KindEntry}
 use Rattle.type_core.specs.declared.events.KindEvent.{KindEvent}
 use Rattle.type_core.specs.declared.events.KindEvent.TheVariants as kind_event
 use Rattle.type_core.specs.declared.replies.KindReply.{KindReply}
 use Rattle.type_core.specs.declared.replies.KindReply.TheVariants as kind_reply
+use Rattle.wsm_lists.specs.Values.{Written}
 
 -- the choice of an end, where there is one
 abbrev pub choice_text : Option ℕ → Bytes
 choice_text None = []
 choice_text (Some code) = codes " choice " ++ decimal code
 
+abbrev pub end_event_text : File → ℕ → Written → Option ℕ → Bytes
+end_event_text f node writes choice = codes "end " ++ node_text f node ++ (choice_text choice ++ flat_map assigned writes)
+
 abbrev pub event_text : File → Event → Bytes
 event_text f (event.Create version) = codes "create " ++ decimal version.number
 event_text f (event.Start node user roles) = codes "start " ++ node_text f node
-event_text f (event.End node user writes choice) = codes "end " ++ (node_text f node ++ (choice_text choice ++ flat_map assigned writes))
+event_text f (event.End node user writes choice) = end_event_text f node writes choice
 
-abbrev pub code_or_none : Option ℕ → Bytes
-code_or_none None = codes "-"
-code_or_none (Some code) = decimal code
+abbrev pub reply_word : Reply → Bytes
+reply_word reply.Created = codes "created"
+reply_word (reply.Started reads) = codes "started"
+reply_word reply.Ended = codes "ended"
+reply_word reply.Repeated = codes "repeated"
+reply_word reply.Already = codes "already"
+reply_word reply.NoCase = codes "no-case"
+reply_word reply.NoNode = codes "no-node"
+reply_word (reply.NotReady s) = codes "not-ready"
+reply_word (reply.NotAllowed role) = codes "not-allowed"
+reply_word (reply.NotRunning s) = codes "not-running"
+reply_word (reply.NotHolder user) = codes "not-holder"
+reply_word (reply.WrongWrites elements) = codes "wrong-writes"
+reply_word (reply.NoBranch choice) = codes "no-branch"
+reply_word reply.OtherType = codes "other-type"
+
+-- the choice that is none of the node's
+abbrev pub wrong_choice : Option ℕ → Bytes
+wrong_choice None = codes " -"
+wrong_choice (Some code) = codes " " ++ decimal code
+
+-- what stands behind the word
+abbrev pub reply_rest : File → Reply → Bytes
+reply_rest f (reply.Started reads) = flat_map read_text reads
+reply_rest f (reply.NotReady s) = codes " " ++ letter s
+reply_rest f (reply.NotAllowed role) = codes " " ++ decimal role
+reply_rest f (reply.NotRunning s) = codes " " ++ letter s
+reply_rest f (reply.NotHolder user) = codes " " ++ caller_text f user
+reply_rest f (reply.WrongWrites elements) = flat_map listed_element elements
+reply_rest f (reply.NoBranch choice) = wrong_choice choice
+reply_rest f _ = []
 
 abbrev pub reply_text : File → Reply → Bytes
-reply_text f reply.Created = codes "created"
-reply_text f (reply.Started reads) = codes "started" ++ flat_map read_text reads
-reply_text f reply.Ended = codes "ended"
-reply_text f reply.Repeated = codes "repeated"
-reply_text f reply.Already = codes "already"
-reply_text f reply.NoCase = codes "no-case"
-reply_text f reply.NoNode = codes "no-node"
-reply_text f (reply.NotReady s) = codes "not-ready " ++ letter s
-reply_text f (reply.NotAllowed role) = codes "not-allowed " ++ decimal role
-reply_text f (reply.NotRunning s) = codes "not-running " ++ letter s
-reply_text f (reply.NotHolder user) = codes "not-holder " ++ caller_text f user
-reply_text f (reply.WrongWrites elements) = codes "wrong-writes" ++ flat_map (λ d. codes " " ++ element_text d) elements
-reply_text f (reply.NoBranch choice) = codes "no-branch " ++ code_or_none choice
-reply_text f reply.OtherType = codes "other-type"
+reply_text f r = reply_word r ++ reply_rest f r
 
 abbrev pub kind_event_text : KindEvent → Bytes
 kind_event_text (kind_event.Define schema) = codes "define"

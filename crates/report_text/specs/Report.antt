@@ -24,17 +24,17 @@ case_head f = codes "case " ++ (f.case ++ (codes " " ++ (f.kind.name ++ codes "\
 abbrev pub case_text : File → ClosedCase → Bytes
 case_text f c = case_head f ++ (numbered (case_line f) 1 c.journal ++ end_text f c.machine.live)
 
--- the totals: how many cases were finished, and how many calls were made of cases; as yet nothing migrates
+-- the totals: whether the one case is finished, and how many calls were made of it; as yet nothing migrates
 abbrev pub is_done : Option LiveModel → Bool
 is_done None = false
 is_done (Some l) = is_finished l
 
-abbrev pub count_done : Bool → ℕ
-count_done done = if done then 1 else 0
+abbrev pub one_or_none : Bool → Bytes
+one_or_none b = if b then codes "1" else codes "0"
 
 abbrev pub summary : File → Run → Bytes
 summary f r =
-    codes "summary cases=1 finished=" ++ (decimal (count_done (is_done r.case.machine.live))
+    codes "summary cases=1 finished=" ++ (one_or_none (is_done r.case.machine.live)
     ++ (codes " entries=" ++ (decimal (length r.case.journal) ++ codes " migrated=0 blocked=0 overlap=0\n")))
 
 abbrev pub text : File → Run → Bytes

@@ -1,5 +1,5 @@
 -- The words of a report.
-use Rattle.std.specs.Prelude.{ℕ, ◌==◌, List, [], ◌∷◌, ◌++◌, flat_map, slice_get, Option, Some, None, if◌then◌else◌, codes, decimal}
+use Rattle.std.specs.Prelude.{◌≡◌, ℕ, ◌<◌, ◌==◌, Bool, true, ◌||◌, List, [], ◌∷◌, ◌++◌, flat_map, length, take, slice_index, slice_get, Option, Some, None, if◌then◌else◌, codes, decimal}
 use Rattle.std.specs.Fmt.{signed_decimal}
 use Rattle.process_text.specs.Lines.{Bytes}
 use Rattle.process_text.specs.declared.files.File.{File}
@@ -25,23 +25,46 @@ abbrev pub caller_text : File → ℕ → Bytes
 caller_text f n = if n == 0 then codes "-" else (if n == 1 then f.actor else decimal n)
 
 -- in a quoted text, " and \ stand behind a \
-abbrev pub quoted_byte : ℕ → Bytes
-quoted_byte b = if b == 34 then codes "\\\"" else (if b == 92 then codes "\\\\" else b ∷ [])
+abbrev pub is_escaped : ℕ → Bool
+is_escaped b = b == 34 || b == 92
+
+abbrev pub escaped : ℕ → Bytes
+escaped b = if is_escaped b then 92 ∷ b ∷ [] else b ∷ []
+
+-- before this place no byte is escaped, and the one there is
+pub record EndsRun (t : Bytes) (at : ℕ) : Type 0 where
+  pub within : at < length t
+  pub plain : flat_map escaped (take at t) ≡ take at t
+  pub marked : is_escaped (slice_index t at) ≡ true
+
+abbrev pub text_in_quotes : Bytes → Bytes
+text_in_quotes t = codes "\"" ++ (flat_map escaped t ++ codes "\"")
 
 abbrev pub value_text : Value → Bytes
 value_text (value.Int n) = signed_decimal n
-value_text (value.Text t) = codes "\"" ++ (flat_map quoted_byte t ++ codes "\"")
+value_text (value.Text t) = text_in_quotes t
 
 abbrev pub value_or_none : Option Value → Bytes
 value_or_none None = codes "-"
 value_or_none (Some v) = value_text v
 
--- an element and its value, behind a space
+-- an element behind a space, and what it is
+abbrev pub element_is : ℕ → Bytes
+element_is d = codes " " ++ (element_text d ++ codes "=")
+
 abbrev pub assigned : ℕ × Value → Bytes
-assigned w = codes " " ++ (element_text w.0 ++ (codes "=" ++ value_text w.1))
+assigned w = element_is w.0 ++ value_text w.1
 
 abbrev pub read_text : ℕ × Option Value → Bytes
-read_text r = codes " " ++ (element_text r.0 ++ (codes "=" ++ value_or_none r.1))
+read_text r = element_is r.0 ++ value_or_none r.1
+
+-- an element behind a space
+abbrev pub listed_element : ℕ → Bytes
+listed_element d = codes " " ++ element_text d
+
+-- a node behind a space, with what stands behind it
+abbrev pub node_then : File → ℕ → Bytes → Bytes
+node_then f n mark = codes " " ++ (node_text f n ++ mark)
 
 abbrev pub letter : State → Bytes
 letter state.NotActivated = codes "N"
