@@ -6,7 +6,7 @@ ghost use Rattle.wsm_lists.specs.Rows.{Ascends};
 ghost use Rattle.wsm_lists.specs.Values.{value_in};
 ghost use Rattle.wsm_schema.specs.Trail.{no_trail, pushed, value_below, cut_by, cut_entry, written_by};
 ghost use Rattle.wsm_trail.specs.EntryAt.{entry_at, written_to};
-ghost use Rattle.wsm_trail.specs.LastWrites.{write_of};
+ghost use Rattle.wsm_trail.specs.LastWrites.{noted_entries, write_of};
 ghost use Rattle.wsm_trail.specs.TrailWithRoom.{Rises};
 
 use crate::cuts::cut_entry;
@@ -62,9 +62,10 @@ impl Trail {
         self.entries.is_empty()
     }
 
-    /// The position of the entry that is pushed next.
+    /// The position of the entry that is pushed next, above those of all entries.
     pub fn next(&self) -> u32
-        ensures { result ≡ self.now.trail.next }
+        ensures next { result ≡ self.now.trail.next }
+        ensures rises { Rises 1 result self.now.trail.entries }
     {
         self.next
     }
@@ -114,6 +115,13 @@ impl Trail {
             put_write(alloc, &mut values, row.0, self.written_at(row.1, row.0))?;
         }
         Ok(Writes::from_vec(values))
+    }
+
+    /// Where each element was written last.
+    pub fn last_writes(&self) -> &LastWrites
+        ensures { result.now.rows ≡ noted_entries self.now.trail.entries }
+    {
+        &self.last_writes
     }
 
     /// An equal trail, without further room.
