@@ -6,7 +6,7 @@ use crate::values::ElementKind;
 
 /// What orders the rows of a table: a key of two numbers, by the first and then by the second.
 pub trait Keys {
-    type Row: Copy + Drop;
+    type Row: Drop;
 
     ghost key_of: { Self.Row → ℕ × ℕ };
 

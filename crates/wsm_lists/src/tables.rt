@@ -150,6 +150,18 @@ impl<K: Keys> Table<K> {
         }
     }
 
+    /// The rows as a vector, without taking memory.
+    pub fn into_vec(self) -> Vec<K::Row>
+        ensures { result.items ≡ self }
+    {
+        self.rows
+    }
+}
+
+impl<K: Keys> Table<K>
+where
+    K::Row: Copy,
+{
     /// An equal table.
     pub fn copy(&self, alloc: Global) -> Result<Self, NoMemory>
         ensures { IfOk result (λ new. new ≡ self.now) }

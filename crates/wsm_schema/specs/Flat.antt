@@ -1,6 +1,7 @@
 -- A schema's flat form: a card for each node, in document order, and the elements.
 use Rattle.std.specs.Prelude.{◌≡◌, ℕ, Bool, List, [], ◌∷◌, map, filter, find, Option, Some, None, option_map, ◌==◌, is_some, if◌then◌else◌}
-use Rattle.wsm_lists.specs.Keys.{role_in}
+use Rattle.wsm_lists.specs.Keys.{first, role_in}
+use Rattle.wsm_lists.specs.Rows.{row_at}
 use Rattle.wsm_schema.specs.Kinds.{is_loop_end}
 use Rattle.wsm_schema.specs.SchemaModel.{SchemaModel}
 use Rattle.wsm_schema.specs.Places.{places}
@@ -39,8 +40,7 @@ card_at node cards = find (λ c. c.node == node) cards
 
 -- the kind of an element, where it is listed
 abbrev pub kind_in : ℕ → List (ℕ × ElementKind) → Option ElementKind
-kind_in element [] = None
-kind_in element (e ∷ es) = if e.0 == element then Some e.1 else kind_in element es
+kind_in element elements = option_map (λ e. e.1) (row_at first (element, 0) elements)
 
 -- the nodes from the first s on, and those up to the first e
 abbrev pub from_node : ℕ → List ℕ → List ℕ

@@ -23,9 +23,14 @@ pub enum Entry {
         choice: Option<u16>,
     },
     /// The loop that ends with the node goes on once more.
-    Again { node: u32, writes: Writes },
+    Again {
+        node: u32,
+        writes: Writes,
+    },
     /// What was written by an entry that has left the trail.
-    Wrote { writes: Writes },
+    Wrote {
+        writes: Writes,
+    },
 }
 
 impl Entry {

@@ -1,15 +1,20 @@
 // The flat form of a schema: a card for each node, in document order.
-ghost use Rattle.std.specs.Prelude.{◌≡◌, [], ◌∷◌, ◌++◌, IfOk, OnOk, map, Some};
+ghost use Rattle.std.specs.Prelude.{◌≡◌, [], ◌∷◌, ◌++◌, IfOk, OnOk, map, slice_get};
 ghost use Rattle.std.specs.Option.{option_copied};
 ghost use Rattle.wsm_schema.specs.TreeOf.{part_of, parts_of, lanes_of};
 ghost use Rattle.wsm_schema.specs.Tree.{lanes};
-ghost use Rattle.wsm_schema.specs.Places.{place, part_places, parts_places, lanes_places, branch_heads, branch_tails};
+ghost use Rattle.wsm_schema.specs.Places.{part_places, parts_places, lanes_places};
+ghost use Rattle.wsm_schema.specs.Groups.{numbered};
 ghost use Rattle.wsm_schema.specs.Flat.{card_of, flat_of, cards_of, card_at, kind_in, loop_nodes, loop_start, up_to_node, from_node};
 
-use crate::blocks::{Block, Branch, first_node, leaving};
-use crate::card_lists::card;
-use crate::cards::{Card, End, Ends, NodeKind};
-use crate::places::Place;
+use crate::blocks::{Block, Branch, first_node};
+use crate::card_lists::Lists;
+use crate::cards::{Card, End, NodeKind};
+use crate::groups::Groups;
+use crate::places::{
+    Place, activity_place, finish_place, join_place, loop_end_place, loop_start_place, split_place,
+    start_place,
+};
 use crate::schemas::Schema;
 use std::alloc::Global;
 use std::marker::Model;
@@ -19,6 +24,7 @@ use wsm_lists::{ElementKind, Elements, NoMemory, Nodes};
 #[derive(Drop)]
 pub struct Flat {
     cards: Vec<Card>,
+    index: Groups<usize>,
     elements: Elements,
 }
 
@@ -27,7 +33,11 @@ impl Model for Flat {
 
     ghost Value = { FlatModel };
 
+    ghost use Rattle.wsm_schema.specs.Groups.{SameGroups, numbered};
+
     ghost view = { λ a. record { cards = a.cards.items; elements = a.elements } };
+
+    ghost invariant = { λ a. SameGroups (numbered 0 a.cards.items) a.index };
 }
 
 impl Flat {
@@ -35,9 +45,13 @@ impl Flat {
     pub fn of(alloc: Global, schema: &Schema) -> Result<Flat, NoMemory>
         ensures { IfOk result (λ flat. flat ≡ flat_of schema.now) }
     {
+        let elements = schema.elements.copy(alloc)?;
+        let cards = all_cards(alloc, schema)?;
+        let index = Groups::of(numbered(alloc, &cards)?)?;
         Ok(Flat {
-            cards: all_cards(alloc, schema)?,
-            elements: schema.elements.copy(alloc)?,
+            cards,
+            index,
+            elements,
         })
     }
 
@@ -48,11 +62,14 @@ impl Flat {
         &self.cards
     }
 
-    /// The first card of the node.
+    /// The first card of the node, by a binary search.
     pub fn card(&self, node: u32) -> Option<&Card>
         ensures { option_copied result ≡ card_at node self.now.cards }
     {
-        self.cards.iter().find(|c| c.node == node)
+        match self.index.first_with(node) {
+            Some(row) => card_in(&self.cards, row.1),
+            None => None,
+        }
     }
 
     /// The kind of the element, where it is listed.
@@ -71,12 +88,7 @@ impl Flat {
     {
         match self.loop_start(end) {
             None => Ok(Nodes::new(alloc)),
-            Some(start) => Ok(Nodes::from_vec(nodes_between(
-                alloc,
-                &self.cards,
-                start,
-                end,
-            )?)),
+            Some(start) => Ok(Nodes::from_vec(nodes_between(alloc, &self.cards, start, end)?)),
         }
     }
 
@@ -95,6 +107,24 @@ impl Flat {
             None => None,
         }
     }
+}
+
+// The card at a place.
+fn card_in(cards: &[Card], place: usize) -> Option<&Card>
+    ensures { option_copied result ≡ slice_get cards.now place }
+{
+    cards.get(place)
+}
+
+// The nodes of the cards, each with the card's place.
+fn numbered(alloc: Global, cards: &[Card]) -> Result<Vec<(u32, usize)>, NoMemory>
+    ensures { IfOk result (λ new. new.items ≡ numbered 0 cards.now) }
+{
+    let mut all = Vec::new(alloc);
+    for (place, card) in cards.iter().enumerate() {
+        all.push((card.node, place))?;
+    }
+    Ok(all)
 }
 
 // The nodes of the cards from the first `start` up to the first `end` behind it.
@@ -121,58 +151,23 @@ fn nodes_between(alloc: Global, cards: &[Card], start: u32, end: u32) -> Result<
 fn all_cards(alloc: Global, schema: &Schema) -> Result<Vec<Card>, NoMemory>
     ensures { IfOk result (λ all. all.items ≡ cards_of schema.now) }
 {
+    let lists = Lists::of(alloc, schema)?;
     let mut all = Vec::new(alloc);
+    let start = start_place(alloc, schema.start, &schema.body, schema.finish)?;
+    put(alloc, &mut all, &lists, start)?;
     let from = End::plain(schema.start);
-    let next = first_node(&schema.body, schema.finish);
-    let start = Place {
-        node: schema.start,
-        kind: NodeKind::Start,
-        partner: None,
-        ins: Ends::new(alloc),
-        outs: Ends::of_one(alloc, End::plain(next))?,
-    };
-    put(alloc, &mut all, schema, start)?;
-    put_items(alloc, &mut all, schema, &schema.body, from, schema.finish)?;
-    let finish = Place {
-        node: schema.finish,
-        kind: NodeKind::Finish,
-        partner: None,
-        ins: Ends::of_one(alloc, leaving(&schema.body, from))?,
-        outs: Ends::new(alloc),
-    };
-    put(alloc, &mut all, schema, finish)?;
+    put_items(alloc, &mut all, &lists, &schema.body, from, schema.finish)?;
+    let finish = finish_place(alloc, schema.start, &schema.body, schema.finish)?;
+    put(alloc, &mut all, &lists, finish)?;
     Ok(all)
 }
 
 // One more card.
-fn put(alloc: Global, all: &mut Vec<Card>, schema: &Schema, place: Place) -> Result<(), NoMemory>
-    ensures { OnOk result (all.new.items ≡ all.old.items ++ card_of schema.now place ∷ []) }
+fn put(alloc: Global, all: &mut Vec<Card>, lists: &Lists, place: Place) -> Result<(), NoMemory>
+    ensures { OnOk result (all.new.items ≡ all.old.items ++ card_of lists.now place ∷ []) }
 {
-    all.push(card(alloc, schema, place)?)?;
+    all.push(lists.card(alloc, place)?)?;
     Ok(())
-}
-
-// The edges out of a split.
-fn heads(alloc: Global, branches: &[Branch], join: u32) -> Result<Ends, NoMemory>
-    ensures { IfOk result (λ new. new ≡ branch_heads (lanes (lanes_of branches.now)) join) }
-{
-    let mut all = Vec::new(alloc);
-    for branch in branches {
-        all.push(End::labelled(first_node(&branch.items, join), branch.code))?;
-    }
-    Ok(Ends::from_vec(all))
-}
-
-// The edges into a join.
-fn tails(alloc: Global, branches: &[Branch], split: u32) -> Result<Ends, NoMemory>
-    ensures { IfOk result (λ new. new ≡ branch_tails (lanes (lanes_of branches.now)) split) }
-{
-    let mut all = Vec::new(alloc);
-    for branch in branches {
-        let from = End::labelled(split, branch.code);
-        all.push(leaving(&branch.items, from))?;
-    }
-    Ok(Ends::from_vec(all))
 }
 
 // The cards of items, which the edge from `from` enters and which one to `to` leaves.
@@ -180,39 +175,41 @@ fn tails(alloc: Global, branches: &[Branch], split: u32) -> Result<Ends, NoMemor
 fn put_items(
     alloc: Global,
     all: &mut Vec<Card>,
-    schema: &Schema,
+    lists: &Lists,
     items: &[Block],
     from: End,
     to: u32,
 ) -> Result<(), NoMemory>
-    ensures { OnOk result (all.new.items ≡ all.old.items ++ map (card_of schema.now) (parts_places (parts_of items.now) from to)) }
+    ensures { OnOk result (all.new.items ≡ all.old.items ++ map (card_of lists.now) (parts_places (parts_of items.now) from to)) }
 {
     let mut last = from;
     for i in 0..items.len() {
         let next = first_node(&items[i + 1..], to);
-        put_block(alloc, all, schema, &items[i], last, next)?;
+        put_block(alloc, all, lists, &items[i], last, next)?;
         last = End::plain(items[i].last());
     }
     Ok(())
 }
 
-// The cards of all branches of a block.
+// The cards of a block with branches.
 #[cycle(flatten)]
-fn put_branches(
+fn put_gate(
     alloc: Global,
     all: &mut Vec<Card>,
-    schema: &Schema,
+    lists: &Lists,
+    opening: Place,
     branches: &[Branch],
-    split: u32,
-    join: u32,
+    closing: Place,
 ) -> Result<(), NoMemory>
-    ensures { OnOk result (all.new.items ≡ all.old.items ++ map (card_of schema.now) (lanes_places (lanes (lanes_of branches.now)) split join)) }
+    ensures { OnOk result (all.new.items ≡ all.old.items ++ map (card_of lists.now) (opening ∷ (lanes_places (lanes (lanes_of branches.now)) opening.node closing.node ++ closing ∷ []))) }
 {
+    let split = opening.node;
+    put(alloc, all, lists, opening)?;
     for i in 0..branches.len() {
         let from = End::labelled(split, branches[i].code);
-        put_items(alloc, all, schema, &branches[i].items, from, join)?;
+        put_items(alloc, all, lists, &branches[i].items, from, closing.node)?;
     }
-    Ok(())
+    put(alloc, all, lists, closing)
 }
 
 // The cards of a block.
@@ -220,89 +217,42 @@ fn put_branches(
 fn put_block(
     alloc: Global,
     all: &mut Vec<Card>,
-    schema: &Schema,
+    lists: &Lists,
     block: &Block,
     from: End,
     to: u32,
 ) -> Result<(), NoMemory>
-    ensures { OnOk result (all.new.items ≡ all.old.items ++ map (card_of schema.now) (part_places (part_of block.now) from to)) }
+    ensures { OnOk result (all.new.items ≡ all.old.items ++ map (card_of lists.now) (part_places (part_of block.now) from to)) }
 {
     match block {
         Block::Act(node) => {
-            let activity = Place {
-                node: *node,
-                kind: NodeKind::Activity,
-                partner: None,
-                ins: Ends::of_one(alloc, from)?,
-                outs: Ends::of_one(alloc, End::plain(to))?,
-            };
-            put(alloc, all, schema, activity)
+            let activity = activity_place(alloc, *node, from, to)?;
+            put(alloc, all, lists, activity)
         }
         Block::And {
             split,
             join,
             branches,
         } => {
-            let split_place = Place {
-                node: *split,
-                kind: NodeKind::AndSplit,
-                partner: Some(*join),
-                ins: Ends::of_one(alloc, from)?,
-                outs: heads(alloc, branches, *join)?,
-            };
-            put(alloc, all, schema, split_place)?;
-            put_branches(alloc, all, schema, branches, *split, *join)?;
-            let join_place = Place {
-                node: *join,
-                kind: NodeKind::AndJoin,
-                partner: Some(*split),
-                ins: tails(alloc, branches, *split)?,
-                outs: Ends::of_one(alloc, End::plain(to))?,
-            };
-            put(alloc, all, schema, join_place)
+            let opening = split_place(alloc, NodeKind::AndSplit, *split, *join, branches, from)?;
+            let closing = join_place(alloc, NodeKind::AndJoin, *split, *join, branches, to)?;
+            put_gate(alloc, all, lists, opening, branches, closing)
         }
         Block::Xor {
             split,
             join,
             branches,
         } => {
-            let split_place = Place {
-                node: *split,
-                kind: NodeKind::XorSplit,
-                partner: Some(*join),
-                ins: Ends::of_one(alloc, from)?,
-                outs: heads(alloc, branches, *join)?,
-            };
-            put(alloc, all, schema, split_place)?;
-            put_branches(alloc, all, schema, branches, *split, *join)?;
-            let join_place = Place {
-                node: *join,
-                kind: NodeKind::XorJoin,
-                partner: Some(*split),
-                ins: tails(alloc, branches, *split)?,
-                outs: Ends::of_one(alloc, End::plain(to))?,
-            };
-            put(alloc, all, schema, join_place)
+            let opening = split_place(alloc, NodeKind::XorSplit, *split, *join, branches, from)?;
+            let closing = join_place(alloc, NodeKind::XorJoin, *split, *join, branches, to)?;
+            put_gate(alloc, all, lists, opening, branches, closing)
         }
         Block::Loop { start, end, body } => {
-            let start_place = Place {
-                node: *start,
-                kind: NodeKind::LoopStart,
-                partner: Some(*end),
-                ins: Ends::of_one(alloc, from)?,
-                outs: Ends::of_one(alloc, End::plain(first_node(body, *end)))?,
-            };
-            put(alloc, all, schema, start_place)?;
-            let start_end = End::plain(*start);
-            put_items(alloc, all, schema, body, start_end, *end)?;
-            let end_place = Place {
-                node: *end,
-                kind: NodeKind::LoopEnd,
-                partner: Some(*start),
-                ins: Ends::of_one(alloc, leaving(body, start_end))?,
-                outs: Ends::of_one(alloc, End::plain(to))?,
-            };
-            put(alloc, all, schema, end_place)
+            let opening = loop_start_place(alloc, *start, *end, body, from)?;
+            put(alloc, all, lists, opening)?;
+            put_items(alloc, all, lists, body, End::plain(*start), *end)?;
+            let closing = loop_end_place(alloc, *start, *end, body, to)?;
+            put(alloc, all, lists, closing)
         }
     }
 }

@@ -7,6 +7,7 @@ mod cards;
 mod entries;
 mod faults;
 mod flats;
+mod groups;
 mod marks;
 mod places;
 mod ranks;

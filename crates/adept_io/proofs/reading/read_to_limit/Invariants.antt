@@ -1,0 +1,14 @@
+use Rattle.std.proofs.Common.{vec_len, ◌-◌, ◌≤◌, ◌≡◌}
+use Rattle.std.specs.Io.KnownBytes.{Consumes}
+use Rattle.adept_io.proofs.reading.read_to_limit.Given as goal
+
+abbrev pub invariant-loop-bytes : goal.invariant-loop-bytes
+invariant-loop-bytes g l = record {
+  chunk : vec_len l.chunk ≡ 65536;
+  within : vec_len l.bytes ≤ l.limit;
+  consumes : Consumes (g.S.Source.left l.initial.source) (g.S.Source.left l.source) l.bytes.items;
+  never_falls : g.S.Source.faults l.initial.source ≤ g.S.Source.faults l.source;
+}
+
+abbrev pub decreases-loop-bytes : goal.decreases-loop-bytes
+decreases-loop-bytes g l = l.limit - vec_len l.bytes

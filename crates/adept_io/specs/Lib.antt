@@ -1,0 +1,5 @@
+pub mod Counts
+pub mod Memory
+pub mod Read
+pub mod Standard
+pub mod Written

@@ -1,0 +1,7 @@
+pub mod CaseModel
+pub mod Codes
+pub mod Writes
+pub mod Machine
+pub mod Replayed
+pub mod Shown
+pub mod Ages

@@ -1,0 +1,87 @@
+// Cases.
+ghost use Rattle.std.specs.Prelude.{◌≡◌, ◌+◌, ◌≤◌, Some, None, IfOk, OnErr};
+ghost use Rattle.std.specs.Option.{option_copied, option_map};
+ghost use Rattle.case_core.specs.Ages.{age, weight};
+ghost use Rattle.case_core.specs.CaseModel.{not_created};
+ghost use Rattle.case_core.specs.Machine.{next_case};
+
+use crate::events::Event;
+use crate::live::Live;
+use crate::replies::{Reply, both};
+use std::alloc::Global;
+use std::marker::Model;
+use wsm_schema::{NoMemory, State};
+use wsm_sound::{Checked, Version};
+use wsm_trail::Trail;
+
+/// A case of a process type.
+#[derive(Drop)]
+pub struct Case {
+    type_no: u32,
+    live: Option<Live>,
+}
+
+impl Model for Case {
+    ghost use Rattle.case_core.specs.CaseModel.{CaseModel};
+    ghost use Rattle.case_core.specs.Codes.{case_code};
+
+    ghost Value = { CaseModel };
+
+    ghost coded = { case_code };
+
+    ghost view = { λ a. record { type_no = a.type_no; live = a.live } };
+}
+
+impl Case {
+    /// A case of the type that is not created.
+    pub fn new(type_no: u32) -> Case
+        ensures { result ≡ not_created type_no }
+    {
+        Case {
+            type_no,
+            live: None,
+        }
+    }
+
+    /// What the event does to the case, and two equal replies to it, one to keep and one to hand out.
+    pub fn step(&mut self, alloc: Global, event: &Event) -> Result<(Reply, Reply), NoMemory>
+        requires room { age self.old + weight event.now ≤ 4000000000 }
+        ensures case { IfOk result (λ replies. self.new ≡ (next_case self.old event.now).0) }
+        ensures first { IfOk result (λ replies. replies.0 ≡ (next_case self.old event.now).1) }
+        ensures second { IfOk result (λ replies. replies.1 ≡ (next_case self.old event.now).1) }
+        ensures err { OnErr result (self.new ≡ self.old) }
+    {
+        match event {
+            Event::Create(version) => self.create(alloc, version),
+            Event::Start { node, user, roles } => match &mut self.live {
+                None => both(alloc, Reply::NoCase),
+                Some(live) => live.start(alloc, *node, *user, roles),
+            },
+            Event::End {
+                node,
+                user,
+                writes,
+                choice,
+            } => match &mut self.live {
+                None => both(alloc, Reply::NoCase),
+                Some(live) => live.end(alloc, *node, *user, writes, *choice),
+            },
+        }
+    }
+
+    fn create(&mut self, alloc: Global, version: &Version) -> Result<(Reply, Reply), NoMemory>
+        ensures case { IfOk result (λ replies. self.new ≡ (next_case self.old (Event.Create version.now)).0) }
+        ensures first { IfOk result (λ replies. replies.0 ≡ (next_case self.old (Event.Create version.now)).1) }
+        ensures second { IfOk result (λ replies. replies.1 ≡ (next_case self.old (Event.Create version.now)).1) }
+        ensures err { OnErr result (self.new ≡ self.old) }
+    {
+        if self.live.is_some() {
+            return both(alloc, Reply::Already);
+        }
+        if version.type_no() != self.type_no {
+            return both(alloc, Reply::OtherType);
+        }
+        self.live = Some(Live::new(alloc, version)?);
+        Ok((Reply::Created, Reply::Created))
+    }
+}

@@ -1,0 +1,17 @@
+//! Cases: running instances of a process type, and the events that they answer.
+#![tactic(auto)]
+
+mod cases;
+mod events;
+mod items;
+mod live;
+mod replies;
+mod views;
+mod work;
+mod writes;
+
+pub use cases::Case;
+pub use events::{CaseId, Event};
+pub use items::{Item, ItemList};
+pub use replies::Reply;
+pub use views::View;

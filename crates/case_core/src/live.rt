@@ -1,0 +1,166 @@
+// A case that was created.
+ghost use Rattle.std.specs.Prelude.{◌≡◌, ◌+◌, ◌<◌, ◌^◌, IfOk, OnOk, OnErr};
+ghost use Rattle.std.specs.Option.{option_copied};
+ghost use Rattle.case_core.specs.CaseModel.{created_on, state_of, value_now};
+ghost use Rattle.case_core.specs.Machine.{holder_of, reads_now, repeated_trail, with_trail};
+ghost use Rattle.case_core.specs.Replayed.{state_in};
+ghost use Rattle.wsm_schema.specs.Flat.{flat_of, card_at};
+ghost use Rattle.wsm_schema.specs.Trail.{pushed};
+
+use std::alloc::Global;
+use std::marker::Model;
+use std::sync::Arc;
+use wsm_replay::{Replayed, extend, replay};
+use wsm_schema::{Card, Entry, NoMemory, ReadValues, State, Writes, copy_option};
+use wsm_sound::{Checked, Version};
+use wsm_trail::Trail;
+
+/// A case that was created: its version, its schema, its trail, and the replay of the trail on the schema.
+#[derive(Drop)]
+pub struct Live {
+    base: Version,
+    schema: Arc<Checked>,
+    trail: Trail,
+    replayed: Replayed,
+}
+
+impl Model for Live {
+    ghost use Rattle.case_core.specs.CaseModel.{LiveModel, replay_of_case};
+    ghost use Rattle.case_core.specs.Codes.{live_code};
+    ghost use Rattle.wsm_replay.specs.Answer.{answer};
+    ghost use Rattle.wsm_schema.specs.Flat.{cards_of};
+
+    ghost Value = { LiveModel };
+
+    ghost coded = { live_code };
+
+    ghost view = { λ a. record { base = a.base; schema = a.schema.value; trail = a.trail.trail } };
+
+    ghost invariant = { λ a. a.replayed ≡ answer (cards_of a.schema.value) (replay_of_case (record { base = a.base; schema = a.schema.value; trail = a.trail.trail })) };
+}
+
+impl Live {
+    /// A case that begins on a version.
+    pub fn new(alloc: Global, version: &Version) -> Result<Live, NoMemory>
+        ensures { IfOk result (λ live. live ≡ created_on version.now) }
+    {
+        let schema = version.share_schema()?;
+        let trail = Trail::new(alloc);
+        let replayed = replay(alloc, schema.flat(), schema.rank(), &trail)?;
+        Ok(Live {
+            base: version.share()?,
+            schema,
+            trail,
+            replayed,
+        })
+    }
+
+    /// The version that the case stands on.
+    pub fn base(&self) -> &Version
+        ensures { result.now ≡ self.now.base }
+    {
+        &self.base
+    }
+
+    /// The case's schema.
+    pub fn checked(&self) -> &Checked
+        ensures { result.now ≡ self.now.schema }
+    {
+        &self.schema
+    }
+
+    /// What was started and ended.
+    pub fn trail(&self) -> &Trail
+        ensures { result.now.trail ≡ self.now.trail }
+    {
+        &self.trail
+    }
+
+    /// The card of a node.
+    pub fn card(&self, node: u32) -> Option<&Card>
+        ensures { option_copied result ≡ card_at node (flat_of self.now.schema).cards }
+    {
+        self.schema.flat().card(node)
+    }
+
+    /// The state of a node, which is NotActivated where the schema has no such node.
+    pub fn state(&self, node: u32) -> State
+        ensures { result ≡ state_of self.now node }
+    {
+        state_in(&self.replayed, node)
+    }
+
+    /// The user who started a node last, or 0.
+    pub fn holder(&self, node: u32) -> u32
+        ensures { result ≡ holder_of self.now node }
+    {
+        for entry in self.trail.entries() {
+            if let Entry::Start { node: started, user, .. } = &entry.1 {
+                if *started == node {
+                    return *user;
+                }
+            }
+        }
+        0
+    }
+
+    /// The values that a start of the node would read.
+    pub fn reads(&self, alloc: Global, card: &Card) -> Result<ReadValues, NoMemory>
+        ensures { IfOk result (λ reads. reads ≡ reads_now self.now card.now) }
+    {
+        let mut reads = Vec::new(alloc);
+        for edge in card.reads.as_slice() {
+            reads.push((edge.0, copy_option(alloc, self.trail.value(edge.0))?))?;
+        }
+        Ok(ReadValues::from_vec(reads))
+    }
+
+    /// One more entry.
+    pub fn append(&mut self, alloc: Global, entry: Entry) -> Result<(), NoMemory>
+        requires { self.old.trail.next + 1 < 2 ^ 32 }
+        ensures ok { OnOk result (self.new ≡ with_trail self.old (pushed entry self.old.trail)) }
+        ensures err { OnErr result (self.new ≡ self.old) }
+    {
+        let replayed = extend(
+            alloc,
+            self.schema.flat(),
+            self.schema.rank(),
+            &self.trail,
+            &self.replayed,
+            &entry,
+        )?;
+        self.trail.reserve(1)?;
+        self.trail.push(entry);
+        self.replayed = replayed;
+        Ok(())
+    }
+
+    /// The loop that ends with the node goes on once more.
+    pub fn repeat(&mut self, alloc: Global, node: u32, writes: Writes) -> Result<(), NoMemory>
+        requires { self.old.trail.next + 1 < 2 ^ 32 }
+        ensures ok { OnOk result (self.new ≡ with_trail self.old (repeated_trail self.old node writes)) }
+        ensures err { OnErr result (self.new ≡ self.old) }
+    {
+        let body = self.schema.flat().loop_body(alloc, node)?;
+        let mut trail = self.trail.copy(alloc)?;
+        trail.cut(&body);
+        trail.reserve(1)?;
+        trail.push(Entry::Again { node, writes });
+        self.replayed = replay(alloc, self.schema.flat(), self.schema.rank(), &trail)?;
+        self.trail = trail;
+        Ok(())
+    }
+}
+
+// The state of a node in a replay.
+fn state_in(replayed: &Replayed, node: u32) -> State
+    ensures { result ≡ state_in replayed.now node }
+{
+    match replayed {
+        Replayed::Whole(marking) => match marking.find((node, 0)) {
+            Some(spot) => spot.state,
+            None => State::NotActivated,
+        },
+        Replayed::Fails { .. } => State::NotActivated,
+    }
+}

@@ -1,0 +1,147 @@
+// Starts and ends of nodes.
+ghost use Rattle.std.specs.Prelude.{◌≡◌, ◌+◌, ◌<◌, ◌^◌, ◌||◌, IfOk, OnErr};
+ghost use Rattle.case_core.specs.Machine.{start_refusal, end_refusal, start_live, end_live, may_work, repeats, wrong_reply, ended_reply};
+ghost use Rattle.wsm_schema.specs.Replay.{fits_choice};
+ghost use Rattle.wsm_schema.specs.Trail.{is_one_of};
+
+use crate::live::Live;
+use crate::replies::{Reply, both};
+use crate::writes::{by_element, wrong_elements};
+use std::alloc::Global;
+use wsm_schema::{Card, Entry, End, NoMemory, NodeKind, Nodes, RoleList, State, Writes};
+
+impl Live {
+    /// A user with these roles starts the node.
+    pub fn start(
+        &mut self,
+        alloc: Global,
+        node: u32,
+        user: u32,
+        roles: &RoleList,
+    ) -> Result<(Reply, Reply), NoMemory>
+        requires { self.old.trail.next + 1 < 2 ^ 32 }
+        ensures live { IfOk result (λ replies. self.new ≡ (start_live self.old node user roles.now).0) }
+        ensures first { IfOk result (λ replies. replies.0 ≡ (start_live self.old node user roles.now).1) }
+        ensures second { IfOk result (λ replies. replies.1 ≡ (start_live self.old node user roles.now).1) }
+        ensures err { OnErr result (self.new ≡ self.old) }
+    {
+        let card = match self.card(node) {
+            None => return both(alloc, Reply::NoNode),
+            Some(card) => card,
+        };
+        if let Some(refusal) = self.start_refusal(card, node, roles) {
+            return both(alloc, refusal);
+        }
+        let reads = self.reads(alloc, card)?;
+        let replies = both(alloc, Reply::Started(reads.duplicate(alloc)?))?;
+        self.append(alloc, Entry::Start { node, user, reads })?;
+        Ok(replies)
+    }
+
+    // The first reason why the user may not start the node of this card.
+    fn start_refusal(&self, card: &Card, node: u32, roles: &RoleList) -> Option<Reply>
+        ensures { result ≡ start_refusal self.now card.now node roles.now }
+    {
+        let state = self.state(node);
+        if state != State::Activated {
+            return Some(Reply::NotReady(state));
+        }
+        if !may_work(card.role, roles.as_slice()) {
+            return Some(Reply::NotAllowed(card.role));
+        }
+        None
+    }
+
+    /// A user ends the node with these values and this choice.
+    pub fn end(
+        &mut self,
+        alloc: Global,
+        node: u32,
+        user: u32,
+        writes: &Writes,
+        choice: Option<u16>,
+    ) -> Result<(Reply, Reply), NoMemory>
+        requires { self.old.trail.next + 1 < 2 ^ 32 }
+        ensures live { IfOk result (λ replies. self.new ≡ (end_live self.old node user writes.now choice).0) }
+        ensures first { IfOk result (λ replies. replies.0 ≡ (end_live self.old node user writes.now choice).1) }
+        ensures second { IfOk result (λ replies. replies.1 ≡ (end_live self.old node user writes.now choice).1) }
+        ensures err { OnErr result (self.new ≡ self.old) }
+    {
+        let card = match self.card(node) {
+            None => return both(alloc, Reply::NoNode),
+            Some(card) => card,
+        };
+        if let Some(refusal) = self.end_refusal(alloc, card, node, user, writes, choice)? {
+            return both(alloc, refusal);
+        }
+        let repeated = repeats(card, choice);
+        let writes = by_element(alloc, writes)?;
+        if repeated {
+            self.repeat(alloc, node, writes)?;
+            return Ok((Reply::Repeated, Reply::Repeated));
+        }
+        self.append(alloc, Entry::End { node, writes, choice })?;
+        Ok((Reply::Ended, Reply::Ended))
+    }
+
+    // The first reason why the user may not end the node of this card so.
+    fn end_refusal(
+        &self,
+        alloc: Global,
+        card: &Card,
+        node: u32,
+        user: u32,
+        writes: &Writes,
+        choice: Option<u16>,
+    ) -> Result<Option<Reply>, NoMemory>
+        ensures { IfOk result (λ refusal. refusal ≡ end_refusal self.now card.now node user writes.now choice) }
+    {
+        let state = self.state(node);
+        if state != State::Running {
+            return Ok(Some(Reply::NotRunning(state)));
+        }
+        let holder = self.holder(node);
+        if holder != user {
+            return Ok(Some(Reply::NotHolder(holder)));
+        }
+        let wrong = wrong_elements(alloc, self.checked().flat(), card.writes.as_slice(), writes.as_slice())?;
+        if let Some(refusal) = wrong_reply(wrong) {
+            return Ok(Some(refusal));
+        }
+        if !(fits_choice(card, choice) || repeats(card, choice)) {
+            return Ok(Some(Reply::NoBranch(choice)));
+        }
+        Ok(None)
+    }
+}
+
+// Whether somebody with these roles may work on a node of that role.
+fn may_work(role: u32, roles: &[u32]) -> bool
+    ensures { result ≡ may_work role roles.now }
+{
+    role == 0 || is_one_of(role, roles)
+}
+
+/// Whether the number is among these.
+pub fn is_one_of(number: u32, numbers: &[u32]) -> bool
+    ensures { result ≡ is_one_of number numbers.now }
+{
+    numbers.iter().any(|n| *n == number)
+}
+
+// Whether an end with that choice makes a loop go on once more.
+fn repeats(card: &Card, choice: Option<u16>) -> bool
+    ensures { result ≡ repeats card.now choice }
+{
+    card.kind == NodeKind::LoopEnd && choice == Some(1)
+}
+
+// The refusal of an end with wrong elements, where there are some.
+fn wrong_reply(elements: Nodes) -> Option<Reply>
+    ensures { result ≡ wrong_reply elements }
+{
+    if elements.is_empty() {
+        return None;
+    }
+    Some(Reply::WrongWrites(elements))
+}

@@ -1,0 +1,2 @@
+pub mod KindModel
+pub mod Machine

@@ -1,8 +1,0 @@
-use Rattle.std.proofs.Common.{◌≡◌, ◌++◌, drop}
-use Rattle.wsm_schema.specs.TreeOf.{lanes_of}
-use Rattle.wsm_schema.specs.Tree.{lanes}
-use Rattle.wsm_schema.specs.Places.{branch_tails}
-use Rattle.wsm_schema.proofs.flats.tails.Given as goal
-
-abbrev pub invariant-loop-branch : goal.invariant-loop-branch
-invariant-loop-branch l = l.all.items ++ branch_tails (lanes (lanes_of (drop l.branch-index l.branches))) l.split ≡ branch_tails (lanes (lanes_of l.branches)) l.split
