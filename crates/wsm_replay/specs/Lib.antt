@@ -1,3 +1,4 @@
 pub mod Answer
+pub mod Advances
 pub mod SameSpots
 pub mod SpotOf

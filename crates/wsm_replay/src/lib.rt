@@ -10,6 +10,7 @@ ghost use Rattle.wsm_schema.specs.Rank.{IsRank};
 ghost use Rattle.wsm_schema.specs.Replay.{after, replay_of};
 ghost use Rattle.wsm_schema.specs.Rules.{marking_of};
 ghost use Rattle.wsm_trail.specs.LastWrites.{noted_entry};
+ghost use Rattle.wsm_replay.specs.Advances.{Advances};
 ghost use Rattle.wsm_replay.specs.Answer.{answer};
 
 use crate::fits::applicable;
@@ -54,7 +55,8 @@ pub fn advance(
     entry: &Entry,
 ) -> Result<Marking, NoMemory>
     requires { IsRank flat.now.cards rank.now }
-    ensures { IfOk result (λ new. new ≡ marking_of flat.now.cards (after flat.now.cards entry.now now.now)) }
+    ensures marking { IfOk result (λ new. new ≡ marking_of flat.now.cards (after flat.now.cards entry.now now.now)) }
+    ensures replays { IfOk result (Advances flat.now entry.now now.now) }
 {
     let table = after(alloc, flat, rank, now, entry)?;
     marking(alloc, flat, &table)
