@@ -1,8 +1,7 @@
 -- The flat form: cards in document order, each with its edges.
-use Rattle.std.proofs.Common.{◌≡◌, ℕ, List, [], ◌∷◌, map, Option, Some, None, refl, true, false}
+use Rattle.std.proofs.Common.{◌≡◌, [], ◌∷◌, Some, None, refl, false}
 use Rattle.wsm_schema.specs.Places.{place, labelled, plain_end, places}
 use Rattle.wsm_schema.specs.Flat.{flat_of, cards_of, card_at, kind_in, loop_nodes}
-use Rattle.wsm_schema.specs.Sound.{nodes_of}
 use Rattle.wsm_schema.specs.declared.cards.Card.{Card}
 use Rattle.wsm_schema.specs.declared.cards.NodeKind.TheVariants as node
 use Rattle.wsm_lists.specs.declared.values.ElementKind.TheVariants as kind

@@ -1,8 +1,8 @@
 -- Which entries are applicable, and replays.
-use Rattle.std.proofs.Common.{◌≡◌, ℕ, List, [], ◌∷◌, Option, Some, None, refl, pos}
+use Rattle.std.proofs.Common.{◌≡◌, ℕ, List, [], ◌∷◌, Some, None, refl, pos}
 use Rattle.wsm_schema.specs.SchemaModel.{SchemaModel}
 use Rattle.wsm_schema.specs.Flat.{flat_of, cards_of}
-use Rattle.wsm_schema.specs.Rules.{Spots, spot, marking_of}
+use Rattle.wsm_schema.specs.Rules.{spot, marking_of}
 use Rattle.wsm_schema.specs.Replay.{Outcome, whole, fails, replay_of}
 use Rattle.wsm_schema.specs.declared.entries.Entry.{Entry}
 use Rattle.wsm_schema.specs.declared.entries.Entry.TheVariants as entry

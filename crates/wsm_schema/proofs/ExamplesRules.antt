@@ -1,5 +1,5 @@
 -- Signals, the node rule and the settled net.
-use Rattle.std.proofs.Common.{◌≡◌, ℕ, List, [], ◌∷◌, Option, Some, None, refl}
+use Rattle.std.proofs.Common.{◌≡◌, [], ◌∷◌, Some, None, refl}
 use Rattle.wsm_schema.specs.SchemaModel.{SchemaModel}
 use Rattle.wsm_schema.specs.Flat.{cards_of}
 use Rattle.wsm_schema.specs.Rules.{Spots, spot, settle, marking_of, signal_of, judge_of}

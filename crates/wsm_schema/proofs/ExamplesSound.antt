@@ -1,13 +1,13 @@
 -- Sound schemas, and the faults of others.
-use Rattle.std.proofs.Common.{◌≡◌, ℕ, List, [], ◌∷◌, Option, Some, None, refl, true, false}
-use Rattle.wsm_schema.specs.Tree.{Part, Parts, act, gate, loop, nothing, part, no_lane, lane, and_gate, xor_gate}
+use Rattle.std.proofs.Common.{◌≡◌, ℕ, List, [], ◌∷◌, Some, None, refl, Bool, true, false, map}
+use Rattle.wsm_schema.specs.Tree.{act, gate, loop, nothing, part, no_lane, lane, and_gate, xor_gate}
 use Rattle.wsm_schema.specs.SchemaModel.{SchemaModel, plain}
 use Rattle.wsm_schema.specs.Sound.{Sound, block_fault, data_fault}
 use Rattle.wsm_schema.specs.declared.faults.BlockFault.TheVariants.{Limit, Twice, FewBranches, CodeTwice, SyncEnd, SyncPlace, SyncLoop, SyncCycle}
 use Rattle.wsm_schema.specs.declared.faults.DataFault.TheVariants.{Unknown, Missing, ParallelWrite}
 use Rattle.wsm_schema.specs.declared.faults.LimitKind.TheVariants as limit
 use Rattle.wsm_lists.specs.declared.values.ElementKind.TheVariants as kind
-use Rattle.wsm_schema.proofs.ExampleSchemas.{sequence, skip, looped, writing_loop, waiting_for_skipped, parallel}
+use Rattle.wsm_schema.proofs.ExampleSchemas.{sequence, skip, writing_loop, waiting_for_skipped, parallel}
 
 pub a_choice_is_sound : Sound skip
 a_choice_is_sound = record { blocks = refl; on_data = refl }
@@ -72,3 +72,13 @@ writes_side_by_side = refl
 
 pub writes_in_order : data_fault (synced ((4, 5) ∷ []) (with_element ((4, 0) ∷ (5, 0) ∷ []) parallel)) ≡ None
 writes_in_order = refl
+
+-- limits: 17 reads of one node are one too many
+abbrev reads_of : ℕ → List ℕ → List (ℕ × ℕ × Bool)
+reads_of n elements = map (λ d. (n, d, false)) elements
+
+pub too_many_reads : block_fault (record sequence { reads = reads_of 2 (0 ∷ 1 ∷ 2 ∷ 3 ∷ 4 ∷ 5 ∷ 6 ∷ 7 ∷ 8 ∷ 9 ∷ 10 ∷ 11 ∷ 12 ∷ 13 ∷ 14 ∷ 15 ∷ 16 ∷ []) }) ≡ Some (Limit limit.Reads)
+too_many_reads = refl
+
+pub sixteen_reads : block_fault (record sequence { reads = reads_of 2 (0 ∷ 1 ∷ 2 ∷ 3 ∷ 4 ∷ 5 ∷ 6 ∷ 7 ∷ 8 ∷ 9 ∷ 10 ∷ 11 ∷ 12 ∷ 13 ∷ 14 ∷ 15 ∷ []) }) ≡ None
+sixteen_reads = refl

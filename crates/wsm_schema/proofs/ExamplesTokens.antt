@@ -1,6 +1,6 @@
 -- The tokens of a tree, and the tree of tokens.
 use Rattle.std.proofs.Common.{◌≡◌, [], ◌∷◌, refl}
-use Rattle.wsm_schema.specs.Tree.{and_gate, xor_gate}
+use Rattle.wsm_schema.specs.Tree.{xor_gate}
 use Rattle.wsm_schema.specs.Tokens.{tokens, tree_of, an_act, open_gate, open_loop, a_branch, close}
 use Rattle.wsm_schema.proofs.ExampleSchemas.{choice_tree, writing_loop}
 

@@ -1,8 +1,7 @@
 -- Trails, values and the cut.
-use Rattle.std.proofs.Common.{◌≡◌, ℕ, List, [], ◌∷◌, Option, Some, None, refl, pos}
+use Rattle.std.proofs.Common.{◌≡◌, [], ◌∷◌, Some, None, refl, pos}
 use Rattle.wsm_schema.specs.Flat.{cards_of, loop_nodes}
 use Rattle.wsm_schema.specs.Trail.{TrailModel, no_trail, pushed, value_below, cut_by}
-use Rattle.wsm_schema.specs.declared.entries.Entry.{Entry}
 use Rattle.wsm_schema.specs.declared.entries.Entry.TheVariants as entry
 use Rattle.wsm_lists.specs.declared.values.Value.TheVariants as value
 use Rattle.wsm_schema.proofs.ExampleSchemas.{writing_loop}

@@ -8,4 +8,4 @@ pub returns-clause-place : goal.returns-clause-place
 returns-clause-place g c =
     end-from_tests c.args.number c.args.rows.now _
     (IsPartitionPoint-from_clause (λ r. leb r.0 c.args.number) _ _ c.partition_point.ensures.partitioned
-        (IsPartitionedBy-leb (λ r. r.0) c.args.rows.now c.args.number c.requires) (λ a r f h. search (rules, of_calls)))
+    (IsPartitionedBy-leb (λ r. r.0) c.args.rows.now c.args.number c.requires) (λ a r f h. search (rules, of_calls)))

@@ -7,4 +7,4 @@ pub returns-clause-place : goal.returns-clause-place
 returns-clause-place g c =
     start-from_tests c.args.number c.args.rows.now _
     (IsPartitionPoint-from_clause (λ r. ltb r.0 c.args.number) _ _ c.partition_point.ensures.partitioned
-        (IsPartitionedBy-ltb (λ r. r.0) c.args.rows.now c.args.number c.requires) (λ a r f h. search (rules, of_calls)))
+    (IsPartitionedBy-ltb (λ r. r.0) c.args.rows.now c.args.number c.requires) (λ a r f h. search (rules, of_calls)))

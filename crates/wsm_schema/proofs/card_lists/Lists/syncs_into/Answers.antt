@@ -1,5 +1,4 @@
-use Rattle.std.proofs.Common.{◌≡◌, ℕ, List, map, ap, ◌∙◌, refl}
-use Rattle.wsm_schema.specs.Groups.{rows_with, reversed}
+use Rattle.std.proofs.Common.{ℕ, map, ap, ◌∙◌, refl}
 use Rattle.wsm_schema.proofs.Runs.{sources-reversed}
 use Rattle.wsm_schema.proofs.card_lists.Lists.syncs_into.Goals as goal
 
