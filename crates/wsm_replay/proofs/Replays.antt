@@ -1,16 +1,14 @@
 -- A replay over tables with the same spots answers the same.
-use Rattle.std.proofs.Common.{◌≡◌, ℕ, zero, suc, ◌+◌, ◌<◌, ◌≤◌, Bool, true, false, cond, ◌&&◌, eqb, List, [], ◌∷◌, ◌++◌, take, drop, length, get_or, refl, ap, sym, ◌∙◌, inl, inr, Option, Some, None, arith, add-one, drop-cons, drop_of_length-le}
+use Rattle.std.proofs.Common.{◌≡◌, ℕ, suc, ◌+◌, ◌<◌, ◌≤◌, Bool, true, false, ◌&&◌, eqb, List, [], ◌∷◌, drop, length, get_or, refl, ap, sym, ◌∙◌, inl, inr, Option, Some, None, add-one, drop-cons, drop_of_length-le}
 use Rattle.std.specs.List.{fold}
-use Rattle.std.specs.Option.{is_some}
 use Rattle.std.proofs.lemmas.Bool.{cases_Bool, eq-eqb}
 use Rattle.wsm_lists.specs.Rows.{AllRows, put_row}
 use Rattle.wsm_lists.specs.declared.values.Value.{Value}
 use Rattle.wsm_schema.specs.Flat.{FlatModel, card_at}
 use Rattle.wsm_schema.specs.Kinds.{is_loop_end}
 use Rattle.wsm_schema.specs.Rank.{IsRank}
-use Rattle.wsm_schema.specs.Replay.{Outcome, whole, fails, applicable, applicable_start, applicable_end, partner_completed, on_card, is_in_state, after, replay_from, replay_of}
-use Rattle.wsm_schema.specs.Rules.{Spots, spot_in, marking_of, by_node, settle}
-use Rattle.wsm_schema.specs.Trail.{value_below}
+use Rattle.wsm_schema.specs.Replay.{whole, fails, applicable, applicable_start, applicable_end, partner_completed, on_card, is_in_state, after, replay_from}
+use Rattle.wsm_schema.specs.Rules.{Spots, spot_in, marking_of, by_node}
 use Rattle.wsm_schema.specs.declared.cards.Card.{Card}
 use Rattle.wsm_schema.specs.declared.entries.Entry.{Entry}
 use Rattle.wsm_schema.specs.declared.entries.Entry.TheVariants as entry

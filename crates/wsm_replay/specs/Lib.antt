@@ -1,4 +1,3 @@
 pub mod Answer
-pub mod Advances
 pub mod SameSpots
 pub mod SpotOf

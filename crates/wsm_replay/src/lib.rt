@@ -1,6 +1,7 @@
 //! The replay of a trail on a schema, which gives a case its marking.
 #![tactic(auto)]
 
+mod extending;
 mod fits;
 mod settling;
 mod spots;
@@ -12,8 +13,9 @@ ghost use Rattle.wsm_schema.specs.Rank.{IsRank};
 ghost use Rattle.wsm_schema.specs.Replay.{after, replay_of};
 ghost use Rattle.wsm_schema.specs.Rules.{marking_of};
 ghost use Rattle.wsm_trail.specs.LastWrites.{noted_entry};
-ghost use Rattle.wsm_replay.specs.Advances.{Advances};
 ghost use Rattle.wsm_replay.specs.Answer.{answer};
+
+pub use extending::extend;
 
 use crate::fits::applicable;
 use crate::settling::{after, settled};
@@ -57,8 +59,7 @@ pub fn advance(
     entry: &Entry,
 ) -> Result<Marking, NoMemory>
     requires { IsRank flat.now.cards rank.now }
-    ensures marking { IfOk result (λ new. new ≡ marking_of flat.now.cards (after flat.now.cards entry.now now.now)) }
-    ensures replays { IfOk result (Advances flat.now entry.now now.now) }
+    ensures { IfOk result (λ new. new ≡ marking_of flat.now.cards (after flat.now.cards entry.now now.now)) }
 {
     let table = after(alloc, flat, rank, now, entry)?;
     marking(alloc, flat, &table)

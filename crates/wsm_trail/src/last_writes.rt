@@ -1,5 +1,5 @@
 // Where each element was written last.
-ghost use Rattle.std.specs.Prelude.{◌≡◌, ◌+◌, ◌≤◌, ◌<◌, [], length, vec_len, vec_capacity, OnOk};
+ghost use Rattle.std.specs.Prelude.{◌≡◌, ◌+◌, ◌≤◌, ◌<◌, [], length, vec_len, vec_capacity, OnOk, IfOk};
 ghost use Rattle.std.specs.List.{insert};
 ghost use Rattle.std.specs.Option.{is_some};
 ghost use Rattle.wsm_lists.specs.Keys.{first};
@@ -54,6 +54,15 @@ impl LastWrites {
         ensures ascends { Ascends first result.now }
     {
         &self.rows
+    }
+
+    /// The same rows, without further room.
+    pub fn copy(&self, alloc: Global) -> Result<LastWrites, NoMemory>
+        ensures { IfOk result (λ new. new.rows ≡ self.now.rows) }
+    {
+        Ok(LastWrites {
+            rows: Vec::from_slice(alloc, &self.rows)?,
+        })
     }
 
     /// Room for so many more elements.

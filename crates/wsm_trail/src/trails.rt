@@ -6,7 +6,7 @@ ghost use Rattle.wsm_lists.specs.Rows.{Ascends};
 ghost use Rattle.wsm_lists.specs.Values.{value_in};
 ghost use Rattle.wsm_schema.specs.Trail.{no_trail, pushed, value_below, cut_by, cut_entry, written_by};
 ghost use Rattle.wsm_trail.specs.EntryAt.{entry_at, written_to};
-ghost use Rattle.wsm_trail.specs.LastWrites.{write_of};
+ghost use Rattle.wsm_trail.specs.LastWrites.{noted_entries, write_of};
 ghost use Rattle.wsm_trail.specs.TrailWithRoom.{Rises};
 
 use crate::cuts::cut_entry;
@@ -62,9 +62,10 @@ impl Trail {
         self.entries.is_empty()
     }
 
-    /// The position of the entry that is pushed next.
+    /// The position of the entry that is pushed next, above those of all entries.
     pub fn next(&self) -> u32
-        ensures { result ≡ self.now.trail.next }
+        ensures next { result ≡ self.now.trail.next }
+        ensures rises { Rises 1 result self.now.trail.entries }
     {
         self.next
     }
@@ -116,6 +117,24 @@ impl Trail {
         Ok(Writes::from_vec(values))
     }
 
+    /// Where each element was written last.
+    pub fn last_writes(&self) -> &LastWrites
+        ensures { result.now.rows ≡ noted_entries self.now.trail.entries }
+    {
+        &self.last_writes
+    }
+
+    /// An equal trail, without further room.
+    pub fn copy(&self, alloc: Global) -> Result<Trail, NoMemory>
+        ensures { IfOk result (λ new. new.trail ≡ self.now.trail) }
+    {
+        Ok(Trail {
+            entries: copy_entries(alloc, &self.entries)?,
+            next: self.next,
+            last_writes: self.last_writes.copy(alloc)?,
+        })
+    }
+
     /// Room for so many more entries.
     pub fn reserve(&mut self, more: usize) -> Result<(), NoMemory>
         ensures same { self.new.trail ≡ self.old.trail }
@@ -134,6 +153,16 @@ impl Trail {
         ensures kept_writes { self.old.spare_writes ≤ self.new.spare_writes }
     {
         self.last_writes.reserve(more)
+    }
+
+    /// Room for this entry, the next one.
+    pub fn reserve_for(&mut self, entry: &Entry) -> Result<(), NoMemory>
+        ensures same { self.new.trail ≡ self.old.trail }
+        ensures room { OnOk result (0 < self.new.spare) }
+        ensures room_for_writes { OnOk result (length (written_by entry.now) ≤ self.new.spare_writes) }
+    {
+        self.reserve(1)?;
+        self.reserve_writes(written_by(entry).len())
     }
 
     /// One more entry, at the next position. Takes no memory.
@@ -191,4 +220,14 @@ pub fn written_by(entry: &Entry) -> &[(u32, Value)]
         Entry::Again { writes, .. } => writes.as_slice(),
         Entry::Wrote { writes } => writes.as_slice(),
     }
+}
+
+fn copy_entries(alloc: Global, entries: &[(u32, Entry)]) -> Result<Vec<(u32, Entry)>, NoMemory>
+    ensures { IfOk result (λ new. new.items ≡ entries.now) }
+{
+    let mut copies = Vec::new(alloc);
+    for row in entries {
+        copies.push((row.0, row.1.copy(alloc)?))?;
+    }
+    Ok(copies)
 }

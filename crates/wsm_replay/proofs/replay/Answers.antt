@@ -1,12 +1,12 @@
-use Rattle.std.proofs.Common.{◌≡◌, ◌+◌, true, false, [], take, ap, sym, ◌∙◌, arith, subst}
+use Rattle.std.proofs.Common.{◌≡◌, true, false, [], ap, sym, ◌∙◌, arith, subst}
 use Rattle.wsm_schema.specs.Replay.{applicable, replay_from}
 use Rattle.wsm_schema.specs.Rules.{settle}
 use Rattle.wsm_schema.specs.Trail.{value_below}
-use Rattle.wsm_trail.specs.LastWrites.{noted_entry, noted_entries}
+use Rattle.wsm_trail.specs.LastWrites.{noted_entry}
 use Rattle.wsm_replay.specs.Answer.{answer}
 use Rattle.wsm_replay.specs.SameSpots.{SameSpots}
 use Rattle.wsm_replay.proofs.Before.{values_told, noted_next}
-use Rattle.wsm_replay.proofs.Replays.{replay_from-same, replay_goes_on, replay_stops, replay_ends}
+use Rattle.wsm_replay.proofs.Replays.{replay_from-same, replay_goes_on, replay_stops}
 use Rattle.wsm_replay.proofs.replay.Goals as goal
 
 pub loop-position-init : goal.loop-position-init
