@@ -15,11 +15,10 @@ ghost use Rattle.wsm_schema.specs.Rules.{marking_of};
 ghost use Rattle.wsm_trail.specs.LastWrites.{noted_entry};
 ghost use Rattle.wsm_replay.specs.Answer.{answer};
 
-pub use extending::extend;
-
 use crate::fits::applicable;
 use crate::settling::{after, settled};
 use crate::spots::marking;
+pub use extending::extend;
 use std::alloc::Global;
 use wsm_schema::{Entry, Flat, Marking, NoMemory, Rank};
 use wsm_trail::{LastWrites, Trail, written_by};

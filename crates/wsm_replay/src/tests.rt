@@ -5,7 +5,7 @@ ghost use Rattle.wsm_schema.specs.SchemaModel.{plain};
 ghost use Rattle.wsm_schema.specs.Tree.{act, part, nothing};
 
 use crate::spots::spot_in;
-use crate::{Replayed, advance, replay};
+use crate::{Replayed, advance, extend, replay};
 use std::alloc::Global;
 use std::test::Fail;
 use wsm_schema::{Block, Entry, Flat, Marking, NoMemory, Rank, ReadValues, Schema, State, Writes};
@@ -28,6 +28,7 @@ fn in_order(alloc: Global) -> Result<Rank, NoMemory>
     Ok(Rank::from_vec(nodes))
 }
 
+// The marking, where the replay is whole.
 fn whole(replayed: Replayed) -> Option<Marking> {
     match replayed {
         Replayed::Whole(marking) => Some(marking),
@@ -47,14 +48,18 @@ fn a_start_and_then_an_end(rt: HostRuntime) -> Result<(), Fail> {
         user: 7,
         reads: ReadValues::new(alloc),
     });
-    let started = whole(replay(alloc, &flat, &rank, &trail)?).ok_or("fails")?;
-    assert_eq!(rt; spot_in(&started, 2).state, State::Running);
+    let started = replay(alloc, &flat, &rank, &trail)?;
     let end = Entry::End {
         node: 2,
         writes: Writes::new(alloc),
         choice: None,
     };
-    let ended = advance(alloc, &flat, &rank, &started, &end)?;
+    let ended = extend(alloc, &flat, &rank, &trail, &started, &end)?;
+    let started = whole(started).ok_or("the start is not applicable")?;
+    assert_eq!(rt; spot_in(&started, 2).state, State::Running);
+    let ended = whole(ended).ok_or("the end is not applicable")?;
     assert_eq!(rt; spot_in(&ended, 1).state, State::Completed);
+    let advanced = advance(alloc, &flat, &rank, &started, &end)?;
+    assert_eq!(rt; spot_in(&advanced, 2).state, State::Completed);
     Ok(())
 }

@@ -17,6 +17,10 @@ pub replay-requires : goal.replay-requires
 replay-requires c d =
     subst (λ cards. IsRank cards d.in_ok-rank.rank) (ap (λ f. f.cards) (sym d.in_ok-flat.ensures)) (subst (IsRank (cards_of one)) (sym d.in_ok-rank.ensures) in_order)
 
+pub extend-requires-clause-rank : goal.extend-requires-clause-rank
+extend-requires-clause-rank c d =
+    subst (λ cards. IsRank cards d.in_ok-rank.rank) (ap (λ f. f.cards) (sym d.in_ok-flat.ensures)) (subst (IsRank (cards_of one)) (sym d.in_ok-rank.ensures) in_order)
+
 pub advance-requires : goal.advance-requires
 advance-requires c d =
     subst (λ cards. IsRank cards d.in_ok-rank.rank) (ap (λ f. f.cards) (sym d.in_ok-flat.ensures)) (subst (IsRank (cards_of one)) (sym d.in_ok-rank.ensures) in_order)
