@@ -1,16 +1,15 @@
 -- The replay of a trail with one entry more.
-use Rattle.std.proofs.Common.{◌≡◌, ℕ, ◌+◌, ◌≤◌, true, false, eqb, ltb, List, [], ◌∷◌, ◌++◌, append-nil, fold, refl, ap, sym, ◌∙◌, subst, inl, inr, ◌⊎◌, Option, None, arith}
+use Rattle.std.proofs.Common.{◌≡◌, ℕ, ◌+◌, ◌≤◌, true, false, eqb, List, [], ◌∷◌, ◌++◌, append-nil, fold, refl, ap, sym, ◌∙◌, subst, inl, inr, ◌⊎◌, Option, arith}
 use Rattle.std.specs.Option.{is_some}
 use Rattle.std.specs.Bool.{if◌then◌else◌}
 use Rattle.std.proofs.lemmas.Bool.{cases_Bool, both_ways, eqb-true, le-ltb}
 use Rattle.wsm_lists.specs.Rows.{AllRows, put_row}
-use Rattle.wsm_lists.specs.Values.{value_in}
 use Rattle.wsm_lists.specs.declared.values.Value.{Value}
 use Rattle.wsm_schema.specs.Flat.{FlatModel, card_at}
 use Rattle.wsm_schema.specs.Rank.{IsRank}
 use Rattle.wsm_schema.specs.Replay.{Outcome, whole, fails, applicable, after, replay_from, replay_of}
 use Rattle.wsm_schema.specs.Rules.{Spots, spot_in, by_node, marking_of}
-use Rattle.wsm_schema.specs.Trail.{later_or, value_below, written_by}
+use Rattle.wsm_schema.specs.Trail.{value_below}
 use Rattle.wsm_schema.specs.declared.cards.Card.{Card}
 use Rattle.wsm_schema.specs.declared.entries.Entry.{Entry}
 use Rattle.wsm_schema.specs.declared.states.Spot.{Spot}
