@@ -1,19 +1,13 @@
 -- What a case shows: its marking, its values and its work items.
-use Rattle.std.specs.Prelude.{ℕ, Bool, true, false, ◌&&◌, List, [], ◌∷◌, ◌++◌, map, flat_map, fold, Option, Some, None, if◌then◌else◌}
-use Rattle.case_core.specs.CaseModel.{CaseModel, LiveModel, replay_of_case, state_of, value_now}
+use Rattle.std.specs.Prelude.{ℕ, Bool, List, [], ◌∷◌, flat_map, Option, Some, None, if◌then◌else◌}
+pub use Rattle.case_core.specs.CaseModel.{shown_after, shown_spots}
+use Rattle.case_core.specs.CaseModel.{LiveModel, state_of, shown_spots}
 use Rattle.case_core.specs.Machine.{holder_of}
 use Rattle.case_core.specs.declared.items.Item.{Item}
 use Rattle.case_core.specs.declared.items.Item.TheVariants as item
-use Rattle.case_core.specs.declared.views.View.{View}
-use Rattle.case_core.specs.declared.views.View.TheVariants as view
-use Rattle.wsm_lists.specs.Keys.{first}
-use Rattle.wsm_lists.specs.Rows.{put_row}
-use Rattle.wsm_lists.specs.Values.{Written}
 use Rattle.wsm_schema.specs.Flat.{cards_of, card_at}
 use Rattle.wsm_schema.specs.Kinds.{worked_on}
 use Rattle.wsm_schema.specs.Replay.{is_in_state}
-use Rattle.wsm_schema.specs.Replay.{Outcome, whole, fails}
-use Rattle.wsm_schema.specs.Rules.{Spots, marking_of}
 use Rattle.wsm_schema.specs.declared.states.Spot.{Spot}
 use Rattle.wsm_schema.specs.declared.cards.Card.{Card}
 use Rattle.wsm_schema.specs.declared.states.State.{State}
@@ -22,14 +16,6 @@ use Rattle.wsm_schema.specs.declared.states.State.TheVariants as state
 -- a case is finished where its finish node is completed
 abbrev pub is_finished : LiveModel → Bool
 is_finished l = is_in_state (state_of l l.schema.finish) state.Completed
-
--- the spots of a case's nodes, ascending by node; none where the trail does not replay
-abbrev pub shown_after : List Card → Outcome → Spots
-shown_after cards (whole spots) = marking_of cards spots
-shown_after cards (fails position) = []
-
-abbrev pub shown_spots : LiveModel → Spots
-shown_spots l = shown_after (cards_of l.schema) (replay_of_case l)
 
 -- an activated node is offered with its role, and a running one is held by its user
 abbrev pub item_in : LiveModel → Card → State → List Item

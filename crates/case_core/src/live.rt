@@ -11,8 +11,8 @@ ghost use Rattle.wsm_schema.specs.Trail.{cut_by, pushed};
 use std::alloc::Global;
 use std::marker::Model;
 use std::sync::Arc;
-use wsm_replay::{Replayed, extend, replay};
 use wsm_lists::copy_option;
+use wsm_replay::{Replayed, extend, replay, spot_in};
 use wsm_schema::{Card, Entry, NoMemory, Nodes, ReadValues, Spot, State, Value, Writes};
 use wsm_sound::{Checked, Version};
 use wsm_trail::Trail;
@@ -27,6 +27,7 @@ pub struct Live {
 }
 
 impl Model for Live {
+    ghost use Rattle.std.specs.Prelude.{◌≡◌};
     ghost use Rattle.case_core.specs.CaseModel.{LiveModel, replay_of_case};
     ghost use Rattle.case_core.specs.Codes.{live_code};
     ghost use Rattle.wsm_replay.specs.Answer.{answer};
@@ -121,7 +122,12 @@ impl Live {
         ensures { result ≡ holder_of self.now node }
     {
         for entry in self.trail.entries() {
-            if let Entry::Start { node: started, user, .. } = &entry.1 {
+            if let Entry::Start {
+                node: started,
+                user,
+                ..
+            } = &entry.1
+            {
                 if *started == node {
                     return *user;
                 }
@@ -136,7 +142,7 @@ impl Live {
     {
         let mut reads = Vec::new(alloc);
         for edge in card.reads.as_slice() {
-            reads.push((edge.0, copy_option(alloc, self.trail.value(edge.0))?))?;
+            reads.push((edge.0, copy_option(alloc, self.value(edge.0))?))?;
         }
         Ok(ReadValues::from_vec(reads))
     }
@@ -197,10 +203,7 @@ fn state_in(replayed: &Replayed, node: u32) -> State
     ensures { result ≡ state_in replayed.now node }
 {
     match replayed {
-        Replayed::Whole(marking) => match marking.find((node, 0)) {
-            Some(spot) => spot.state,
-            None => State::NotActivated,
-        },
+        Replayed::Whole(marking) => spot_in(marking, node).state,
         Replayed::Fails { .. } => State::NotActivated,
     }
 }

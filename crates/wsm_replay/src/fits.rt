@@ -118,8 +118,8 @@ fn is_of_kind(kind: Option<ElementKind>, value: &Value) -> bool
     }
 }
 
-// Whether an end of the node may go on with that choice.
-fn fits_choice(card: &Card, choice: Option<u16>) -> bool
+/// Whether the choice is one with which an end stays in the trail: none at an activity, the code of a branch at an XOR split, 0 at a loop's end.
+pub fn fits_choice(card: &Card, choice: Option<u16>) -> bool
     ensures { result ≡ fits_choice card.now choice }
 {
     match choice {

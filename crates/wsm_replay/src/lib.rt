@@ -19,6 +19,8 @@ use crate::fits::applicable;
 use crate::settling::{after, settled};
 use crate::spots::marking;
 pub use extending::extend;
+pub use fits::fits_choice;
+pub use spots::spot_in;
 use std::alloc::Global;
 use wsm_schema::{Entry, Flat, Marking, NoMemory, Rank};
 use wsm_trail::{LastWrites, Trail, written_by};
