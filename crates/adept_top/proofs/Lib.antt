@@ -1,1 +1,2 @@
 pub mod LinesWithin
+pub mod StatusesOf

@@ -1,4 +1,6 @@
 // How a run of the program ends.
+ghost use Rattle.std.specs.Prelude.{◌≡◌, None};
+
 use process_text::Refused;
 use report_text::Run;
 
