@@ -1,0 +1,3 @@
+pub mod AgesOfSteps
+pub mod OnlyWrite
+pub mod States

@@ -1,9 +1,10 @@
 -- A case as contracts see it.
-use Rattle.std.specs.Prelude.{◌≡◌, ℕ, List, [], Option, Some, None, refl}
+use Rattle.std.specs.Prelude.{ℕ, List, [], Option, None}
 use Rattle.wsm_schema.specs.SchemaModel.{SchemaModel}
 use Rattle.wsm_schema.specs.Flat.{flat_of, cards_of}
 use Rattle.wsm_schema.specs.Replay.{Outcome, whole, fails, replay_of}
-use Rattle.wsm_schema.specs.Rules.{Spots, spot_in}
+use Rattle.wsm_schema.specs.Rules.{Spots, spot_in, marking_of}
+use Rattle.wsm_schema.specs.declared.cards.Card.{Card}
 use Rattle.wsm_schema.specs.Trail.{TrailModel, no_trail, value_below}
 use Rattle.wsm_schema.specs.declared.states.State.{State}
 use Rattle.wsm_lists.specs.declared.values.Value.{Value}
@@ -32,15 +33,16 @@ created_on version = record { base = version; schema = version.schema; trail = n
 abbrev pub replay_of_case : LiveModel → Outcome
 replay_of_case l = replay_of (flat_of l.schema) l.trail.entries
 
-abbrev pub spots_after : Outcome → Spots
-spots_after (whole spots) = spots
-spots_after (fails position) = []
+-- the spots of a case's nodes, ascending by node; none where the trail does not replay
+abbrev pub shown_after : List Card → Outcome → Spots
+shown_after cards (whole spots) = marking_of cards spots
+shown_after cards (fails position) = []
 
-abbrev pub spots_of : LiveModel → Spots
-spots_of l = spots_after (replay_of_case l)
+abbrev pub shown_spots : LiveModel → Spots
+shown_spots l = shown_after (cards_of l.schema) (replay_of_case l)
 
 abbrev pub state_of : LiveModel → ℕ → State
-state_of l n = (spot_in n (spots_of l)).state
+state_of l n = (spot_in n (shown_spots l)).state
 
 -- the value of an element before the next position
 abbrev pub value_now : LiveModel → ℕ → Option Value

@@ -1,5 +1,5 @@
 -- The codes by which a proof tells trails and cases apart.
-use Rattle.std.specs.Prelude.{◌≡◌, ℕ, zero, suc, ℤ, pos, Bool, true, false, List, [], Option, Some, None, refl}
+use Rattle.std.specs.Prelude.{◌≡◌, ℕ, zero, suc, ℤ, pos, Bool, true, false, List, [], Option, None, refl}
 use Rattle.std.specs.Coded.{Coded, code_by, coded×, coded_ℕ, coded_ℤ, coded_bool, coded_list, coded_option}
 use Rattle.case_core.specs.CaseModel.{CaseModel, LiveModel}
 use Rattle.wsm_lists.specs.declared.values.Value.{Value}
@@ -19,7 +19,7 @@ abbrev value_from : Bool → ℤ → List ℕ → Value
 value_from false n t = value.Int n
 value_from true n t = value.Text t
 
-value_from-parts : (v : Value) → value_from (value_parts v).0 (value_parts v).1.0 (value_parts v).1.1 ≡ v
+pub value_from-parts : (v : Value) → value_from (value_parts v).0 (value_parts v).1.0 (value_parts v).1.1 ≡ v
 value_from-parts (value.Int n) = refl
 value_from-parts (value.Text t) = refl
 
@@ -45,7 +45,7 @@ entry_from (suc (suc (suc n))) node user reads writes choice = entry.Wrote write
 abbrev entry_of : Parts → Entry
 entry_of p = entry_from p.0 p.1.0 p.1.1.0 p.1.1.1.0 p.1.1.1.1.0 p.1.1.1.1.1
 
-entry_of-parts : (e : Entry) → entry_of (entry_parts e) ≡ e
+pub entry_of-parts : (e : Entry) → entry_of (entry_parts e) ≡ e
 entry_of-parts (entry.Start node user reads) = refl
 entry_of-parts (entry.End node writes choice) = refl
 entry_of-parts (entry.Again node writes) = refl

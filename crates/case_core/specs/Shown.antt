@@ -1,18 +1,14 @@
 -- What a case shows: its marking, its values and its work items.
-use Rattle.std.specs.Prelude.{ℕ, Bool, true, false, ◌&&◌, List, [], ◌∷◌, ◌++◌, map, flat_map, fold, Option, Some, None, if◌then◌else◌}
-use Rattle.case_core.specs.CaseModel.{CaseModel, LiveModel, spots_of, state_of, value_now}
+use Rattle.std.specs.Prelude.{ℕ, Bool, List, [], ◌∷◌, flat_map, Option, Some, None, if◌then◌else◌}
+pub use Rattle.case_core.specs.CaseModel.{shown_after, shown_spots}
+use Rattle.case_core.specs.CaseModel.{LiveModel, state_of, shown_spots}
 use Rattle.case_core.specs.Machine.{holder_of}
 use Rattle.case_core.specs.declared.items.Item.{Item}
 use Rattle.case_core.specs.declared.items.Item.TheVariants as item
-use Rattle.case_core.specs.declared.views.View.{View}
-use Rattle.case_core.specs.declared.views.View.TheVariants as view
-use Rattle.wsm_lists.specs.Keys.{first}
-use Rattle.wsm_lists.specs.Rows.{put_row}
-use Rattle.wsm_lists.specs.Values.{Written}
-use Rattle.wsm_schema.specs.Flat.{cards_of}
+use Rattle.wsm_schema.specs.Flat.{cards_of, card_at}
 use Rattle.wsm_schema.specs.Kinds.{worked_on}
 use Rattle.wsm_schema.specs.Replay.{is_in_state}
-use Rattle.wsm_schema.specs.Rules.{marking_of}
+use Rattle.wsm_schema.specs.declared.states.Spot.{Spot}
 use Rattle.wsm_schema.specs.declared.cards.Card.{Card}
 use Rattle.wsm_schema.specs.declared.states.State.{State}
 use Rattle.wsm_schema.specs.declared.states.State.TheVariants as state
@@ -27,15 +23,27 @@ item_in l c state.Activated = item.Offered c.node c.role ∷ []
 item_in l c state.Running = item.Held c.node (holder_of l c.node) ∷ []
 item_in l c _ = []
 
-abbrev pub item_at : LiveModel → Card → List Item
-item_at l c = if worked_on c.kind then item_in l c (state_of l c.node) else []
+abbrev pub item_of : LiveModel → Spot → Option Card → List Item
+item_of l s None = []
+item_of l s (Some c) = if worked_on c.kind then item_in l c s.state else []
 
--- cards in ascending order of their nodes
-abbrev pub card_key : Card → ℕ × ℕ
-card_key c = (c.node, 0)
-
-abbrev pub cards_by_node : List Card → List Card
-cards_by_node cards = fold (λ sorted c. put_row card_key c sorted) [] cards
-
+-- the work items, ascending by node
 abbrev pub items_of : LiveModel → List Item
-items_of l = flat_map (item_at l) (cards_by_node (cards_of l.schema))
+items_of l = flat_map (λ s. item_of l s (card_at s.node (cards_of l.schema))) (shown_spots l)
+
+-- the state of a node of the schema, and who holds it where it is running
+abbrev pub shown_state_of : LiveModel → ℕ → Option Card → Option State
+shown_state_of l n None = None
+shown_state_of l n (Some c) = Some (state_of l n)
+
+abbrev pub shown_state : Option LiveModel → ℕ → Option State
+shown_state None n = None
+shown_state (Some l) n = shown_state_of l n (card_at n (cards_of l.schema))
+
+abbrev pub held_by : LiveModel → ℕ → Option State → Option ℕ
+held_by l n (Some state.Running) = Some (holder_of l n)
+held_by l n _ = None
+
+abbrev pub shown_holder : Option LiveModel → ℕ → Option ℕ
+shown_holder None n = None
+shown_holder (Some l) n = held_by l n (shown_state (Some l) n)

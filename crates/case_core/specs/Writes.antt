@@ -1,5 +1,5 @@
 -- Which of the values that an end brings are wrong, and how right ones are recorded.
-use Rattle.std.specs.Prelude.{ℕ, Bool, true, false, ◌&&◌, not, List, [], ◌∷◌, ◌++◌, map, filter, fold, Option, Some, None, ◌==◌}
+use Rattle.std.specs.Prelude.{ℕ, Bool, false, ◌&&◌, not, List, [], ◌∷◌, ◌++◌, map, filter, fold, Option, Some, None, ◌==◌}
 use Rattle.wsm_lists.specs.declared.values.Value.{Value}
 use Rattle.wsm_lists.specs.Keys.{first}
 use Rattle.wsm_lists.specs.Rows.{put_row}
@@ -10,10 +10,13 @@ use Rattle.wsm_schema.specs.Replay.{is_of_kind}
 use Rattle.wsm_schema.specs.Trail.{is_one_of}
 
 -- the value of the only write
+abbrev pub only : Value → Written → Option Value
+only v [] = Some v
+only v (w ∷ ws) = None
+
 abbrev pub only_value : Written → Option Value
 only_value [] = None
-only_value (w ∷ []) = Some w.1
-only_value (w ∷ v ∷ ws) = None
+only_value (w ∷ ws) = only w.1 ws
 
 abbrev pub writes_to : ℕ → Written → Written
 writes_to d writes = filter (λ w. w.0 == d) writes

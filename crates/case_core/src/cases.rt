@@ -4,6 +4,7 @@ ghost use Rattle.std.specs.Option.{option_copied, option_map};
 ghost use Rattle.case_core.specs.Ages.{age, weight};
 ghost use Rattle.case_core.specs.CaseModel.{not_created};
 ghost use Rattle.case_core.specs.Machine.{next_case};
+ghost use Rattle.case_core.specs.Shown.{shown_state, shown_holder};
 
 use crate::events::Event;
 use crate::live::Live;
@@ -49,6 +50,17 @@ impl Case {
         ensures case { IfOk result (λ replies. self.new ≡ (next_case self.old event.now).0) }
         ensures first { IfOk result (λ replies. replies.0 ≡ (next_case self.old event.now).1) }
         ensures second { IfOk result (λ replies. replies.1 ≡ (next_case self.old event.now).1) }
+        ensures age { IfOk result (λ replies. age self.new ≤ age self.old + weight event.now) }
+        ensures err { OnErr result (self.new ≡ self.old) }
+    {
+        self.answer(alloc, event)
+    }
+
+    fn answer(&mut self, alloc: Global, event: &Event) -> Result<(Reply, Reply), NoMemory>
+        requires room { age self.old + weight event.now ≤ 4000000000 }
+        ensures case { IfOk result (λ replies. self.new ≡ (next_case self.old event.now).0) }
+        ensures first { IfOk result (λ replies. replies.0 ≡ (next_case self.old event.now).1) }
+        ensures second { IfOk result (λ replies. replies.1 ≡ (next_case self.old event.now).1) }
         ensures err { OnErr result (self.new ≡ self.old) }
     {
         match event {
@@ -83,5 +95,68 @@ impl Case {
         }
         self.live = Some(Live::new(alloc, version)?);
         Ok((Reply::Created, Reply::Created))
+    }
+
+    /// The case, where it is created.
+    pub fn live(&self) -> Option<&Live>
+        ensures { option_copied result ≡ self.now.live }
+    {
+        self.live.as_ref()
+    }
+
+    /// What was started and ended. None where the case is not created.
+    pub fn trail(&self) -> Option<&Trail>
+        ensures { option_map (λ t. t.trail) (option_copied result) ≡ option_map (λ l. l.trail) self.now.live }
+    {
+        match &self.live {
+            None => None,
+            Some(live) => Some(live.trail()),
+        }
+    }
+
+    /// The case's schema. None where the case is not created.
+    pub fn checked(&self) -> Option<&Checked>
+        ensures { option_copied result ≡ option_map (λ l. l.schema) self.now.live }
+    {
+        match &self.live {
+            None => None,
+            Some(live) => Some(live.checked()),
+        }
+    }
+
+    /// The version that the case stands on. None where the case is not created.
+    pub fn base(&self) -> Option<&Version>
+        ensures { option_copied result ≡ option_map (λ l. l.base) self.now.live }
+    {
+        match &self.live {
+            None => None,
+            Some(live) => Some(live.base()),
+        }
+    }
+
+    /// The state of a node. None where the case is not created, or its schema has no such node.
+    pub fn state(&self, node: u32) -> Option<State>
+        ensures { result ≡ shown_state self.now.live node }
+    {
+        match &self.live {
+            None => None,
+            Some(live) => match live.card(node) {
+                None => None,
+                Some(_) => Some(live.state(node)),
+            },
+        }
+    }
+
+    /// The user who holds a running node. None where the node is not running.
+    pub fn holder(&self, node: u32) -> Option<u32>
+        ensures { result ≡ shown_holder self.now.live node }
+    {
+        match &self.live {
+            None => None,
+            Some(live) => match self.state(node) {
+                Some(State::Running) => Some(live.holder(node)),
+                _ => None,
+            },
+        }
     }
 }

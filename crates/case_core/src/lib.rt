@@ -13,5 +13,6 @@ mod writes;
 pub use cases::Case;
 pub use events::{CaseId, Event};
 pub use items::{Item, ItemList};
+pub use live::Live;
 pub use replies::Reply;
 pub use views::View;

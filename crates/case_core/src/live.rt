@@ -4,14 +4,16 @@ ghost use Rattle.std.specs.Option.{option_copied};
 ghost use Rattle.case_core.specs.CaseModel.{created_on, state_of, value_now};
 ghost use Rattle.case_core.specs.Machine.{holder_of, reads_now, repeated_trail, with_trail};
 ghost use Rattle.case_core.specs.Replayed.{state_in};
+ghost use Rattle.case_core.specs.Shown.{is_finished, shown_spots};
 ghost use Rattle.wsm_schema.specs.Flat.{flat_of, card_at};
-ghost use Rattle.wsm_schema.specs.Trail.{pushed};
+ghost use Rattle.wsm_schema.specs.Trail.{cut_by, pushed};
 
 use std::alloc::Global;
 use std::marker::Model;
 use std::sync::Arc;
-use wsm_replay::{Replayed, extend, replay};
-use wsm_schema::{Card, Entry, NoMemory, ReadValues, State, Writes, copy_option};
+use wsm_lists::copy_option;
+use wsm_replay::{Replayed, extend, replay, spot_in};
+use wsm_schema::{Card, Entry, NoMemory, Nodes, ReadValues, Spot, State, Value, Writes};
 use wsm_sound::{Checked, Version};
 use wsm_trail::Trail;
 
@@ -25,6 +27,7 @@ pub struct Live {
 }
 
 impl Model for Live {
+    ghost use Rattle.std.specs.Prelude.{◌≡◌};
     ghost use Rattle.case_core.specs.CaseModel.{LiveModel, replay_of_case};
     ghost use Rattle.case_core.specs.Codes.{live_code};
     ghost use Rattle.wsm_replay.specs.Answer.{answer};
@@ -90,12 +93,41 @@ impl Live {
         state_in(&self.replayed, node)
     }
 
+    /// The spots of the case's nodes in ascending order of nodes.
+    pub fn spots(&self) -> &[Spot]
+        ensures { result.now ≡ shown_spots self.now }
+    {
+        match &self.replayed {
+            Replayed::Whole(marking) => marking.as_slice(),
+            Replayed::Fails { .. } => &[],
+        }
+    }
+
+    /// Whether the finish node is completed.
+    pub fn is_finished(&self) -> bool
+        ensures { result ≡ is_finished self.now }
+    {
+        self.state(self.schema.schema().finish) == State::Completed
+    }
+
+    /// The value of an element.
+    pub fn value(&self, element: u32) -> Option<&Value>
+        ensures { option_copied result ≡ value_now self.now element }
+    {
+        self.trail.value(element)
+    }
+
     /// The user who started a node last, or 0.
     pub fn holder(&self, node: u32) -> u32
         ensures { result ≡ holder_of self.now node }
     {
         for entry in self.trail.entries() {
-            if let Entry::Start { node: started, user, .. } = &entry.1 {
+            if let Entry::Start {
+                node: started,
+                user,
+                ..
+            } = &entry.1
+            {
                 if *started == node {
                     return *user;
                 }
@@ -110,7 +142,7 @@ impl Live {
     {
         let mut reads = Vec::new(alloc);
         for edge in card.reads.as_slice() {
-            reads.push((edge.0, copy_option(alloc, self.trail.value(edge.0))?))?;
+            reads.push((edge.0, copy_option(alloc, self.value(edge.0))?))?;
         }
         Ok(ReadValues::from_vec(reads))
     }
@@ -129,7 +161,7 @@ impl Live {
             &self.replayed,
             &entry,
         )?;
-        self.trail.reserve(1)?;
+        self.trail.reserve_for(&entry)?;
         self.trail.push(entry);
         self.replayed = replayed;
         Ok(())
@@ -142,14 +174,28 @@ impl Live {
         ensures err { OnErr result (self.new ≡ self.old) }
     {
         let body = self.schema.flat().loop_body(alloc, node)?;
-        let mut trail = self.trail.copy(alloc)?;
-        trail.cut(&body);
-        trail.reserve(1)?;
-        trail.push(Entry::Again { node, writes });
+        let trail = repeated_trail(alloc, &self.trail, &body, Entry::Again { node, writes })?;
         self.replayed = replay(alloc, self.schema.flat(), self.schema.rank(), &trail)?;
         self.trail = trail;
         Ok(())
     }
+}
+
+// The trail without the entries of a loop's nodes, and with one more entry.
+fn repeated_trail(
+    alloc: Global,
+    trail: &Trail,
+    body: &Nodes,
+    entry: Entry,
+) -> Result<Trail, NoMemory>
+    requires { trail.now.trail.next + 1 < 2 ^ 32 }
+    ensures { IfOk result (λ new. new.trail ≡ pushed entry (cut_by body.now trail.now.trail)) }
+{
+    let mut new = trail.copy(alloc)?;
+    new.cut(body);
+    new.reserve_for(&entry)?;
+    new.push(entry);
+    Ok(new)
 }
 
 // The state of a node in a replay.
@@ -157,10 +203,7 @@ fn state_in(replayed: &Replayed, node: u32) -> State
     ensures { result ≡ state_in replayed.now node }
 {
     match replayed {
-        Replayed::Whole(marking) => match marking.find((node, 0)) {
-            Some(spot) => spot.state,
-            None => State::NotActivated,
-        },
+        Replayed::Whole(marking) => spot_in(marking, node).state,
         Replayed::Fails { .. } => State::NotActivated,
     }
 }

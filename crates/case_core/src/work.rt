@@ -8,7 +8,8 @@ use crate::live::Live;
 use crate::replies::{Reply, both};
 use crate::writes::{by_element, wrong_elements};
 use std::alloc::Global;
-use wsm_schema::{Card, Entry, End, NoMemory, NodeKind, Nodes, RoleList, State, Writes};
+use wsm_replay::fits_choice;
+use wsm_schema::{Card, Entry, NoMemory, NodeKind, Nodes, RoleList, State, Writes};
 
 impl Live {
     /// A user with these roles starts the node.
@@ -80,7 +81,14 @@ impl Live {
             self.repeat(alloc, node, writes)?;
             return Ok((Reply::Repeated, Reply::Repeated));
         }
-        self.append(alloc, Entry::End { node, writes, choice })?;
+        self.append(
+            alloc,
+            Entry::End {
+                node,
+                writes,
+                choice,
+            },
+        )?;
         Ok((Reply::Ended, Reply::Ended))
     }
 
@@ -104,7 +112,12 @@ impl Live {
         if holder != user {
             return Ok(Some(Reply::NotHolder(holder)));
         }
-        let wrong = wrong_elements(alloc, self.checked().flat(), card.writes.as_slice(), writes.as_slice())?;
+        let wrong = wrong_elements(
+            alloc,
+            self.checked().flat(),
+            card.writes.as_slice(),
+            writes.as_slice(),
+        )?;
         if let Some(refusal) = wrong_reply(wrong) {
             return Ok(Some(refusal));
         }

@@ -126,7 +126,11 @@ pub fn by_element(alloc: Global, writes: &Writes) -> Result<Writes, NoMemory>
     Ok(Writes::from_vec(sorted.into_vec()))
 }
 
-fn add_write(alloc: Global, sorted: &mut Table<ByWritten>, write: &(u32, Value)) -> Result<(), NoMemory>
+fn add_write(
+    alloc: Global,
+    sorted: &mut Table<ByWritten>,
+    write: &(u32, Value),
+) -> Result<(), NoMemory>
     ensures { OnOk result (sorted.new ≡ put_row first write.now sorted.old) }
 {
     sorted.set((write.0, write.1.copy(alloc)?))

@@ -14,7 +14,7 @@ pub use listings::Listing;
 pub use roles::Roles;
 pub use std::alloc::AllocError as NoMemory;
 pub use tables::Table;
-pub use values::{ElementKind, ReadValues, ShortText, Value, Writes};
+pub use values::{ElementKind, ReadValues, ShortText, Value, Writes, copy_option};
 
 /// Numbers of nodes, or of elements where it says so.
 pub type Nodes = Listing<u32>;

@@ -1,13 +1,13 @@
 -- Where the numbers are distinct and sync edges go upwards, document order is a rank.
-use Rattle.std.proofs.Common.{◌≡◌, ℕ, zero, suc, ◌+◌, ◌<◌, ◌≤◌, Bool, true, false, cond, ◌||◌, eqb, List, [], ◌∷◌, ◌++◌, map, length, refl, ap, sym, ◌∙◌, subst, inl, inr, ◌⊎◌, arith, Option, Some, None, append_assoc, length-append, append-nil}
-use Rattle.std.proofs.lemmas.Bool.{eqb-true, eq-eqb, cases_Bool, both_ways, or_cases, or_left, or_right, or_parts}
-use Rattle.wsm_schema.specs.Tree.{Part, Parts, Lanes, Gate, act, gate, loop, nothing, part, no_lane, lane}
-use Rattle.wsm_schema.specs.Ends.{first_node, first_of, last_of}
-use Rattle.wsm_schema.specs.Places.{place, part_places, parts_places, lanes_places, places, leaving, branch_tails, branch_heads, labelled, plain_end}
+use Rattle.std.proofs.Common.{◌≡◌, ℕ, suc, true, false, ◌||◌, eqb, List, [], ◌∷◌, ◌++◌, map, length, refl, ap, sym, ◌∙◌, subst, inl, inr, arith, Some, None, append_assoc, append-nil}
+use Rattle.std.proofs.lemmas.Bool.{eq-eqb, cases_Bool, or_left, or_right, or_parts}
+use Rattle.wsm_schema.specs.Tree.{Part, Parts, Lanes, act, gate, loop, nothing, part, no_lane, lane}
+use Rattle.wsm_schema.specs.Ends.{first_node, last_of}
+use Rattle.wsm_schema.specs.Places.{place, part_places, parts_places, lanes_places, places, leaving, branch_tails, labelled, plain_end}
 use Rattle.wsm_schema.specs.SchemaModel.{SchemaModel}
 use Rattle.wsm_lists.specs.Rows.{AllRows}
 use Rattle.wsm_schema.specs.Trail.{is_one_of}
-use Rattle.wsm_schema.specs.Flat.{card_at, card_of, cards_of}
+use Rattle.wsm_schema.specs.Flat.{card_at, card_of}
 use Rattle.wsm_schema.specs.Rank.{IsRank, Behind}
 use Rattle.wsm_schema.specs.Sound.{twice, nodes_of}
 use Rattle.wsm_lists.proofs.Lists.{all-rows-map}

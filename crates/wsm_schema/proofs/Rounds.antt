@@ -1,8 +1,8 @@
 -- As many rounds as there are nodes come to what one pass in the order of a rank gives.
-use Rattle.std.proofs.Common.{◌≡◌, ℕ, zero, suc, ◌+◌, ◌<◌, ◌≤◌, Bool, true, false, cond, not, ◌||◌, ◌&&◌, eqb, List, [], ◌∷◌, ◌++◌, map, length, refl, ap, sym, ◌∙◌, subst, inl, inr, ◌⊎◌, arith, Option, Some, None, append_assoc, length-append}
-use Rattle.std.specs.List.{list_any, find}
+use Rattle.std.proofs.Common.{◌≡◌, ℕ, zero, suc, ◌<◌, Bool, true, false, cond, eqb, List, [], ◌∷◌, ◌++◌, map, length, refl, ap, sym, ◌∙◌, subst, inl, inr, arith, Option, Some, None, append_assoc, length-append}
+use Rattle.std.specs.List.{list_any}
 use Rattle.std.specs.Fn.{iterate}
-use Rattle.std.proofs.lemmas.Bool.{eqb-true, eq-eqb, cases_Bool, both_ways, or_cases, or_parts}
+use Rattle.std.proofs.lemmas.Bool.{eqb-true, eq-eqb, cases_Bool, both_ways}
 use Rattle.wsm_lists.specs.Rows.{AllRows}
 use Rattle.wsm_lists.proofs.Lists.{map-same, all-rows-map}
 use Rattle.wsm_schema.specs.Trail.{is_one_of}
@@ -12,7 +12,6 @@ use Rattle.wsm_schema.specs.Rank.{IsRank}
 use Rattle.wsm_schema.specs.Pass.{ruled_from, ruled_if, pass}
 use Rattle.wsm_schema.specs.Rules.{Spots, spot, spot_in, signal_from, sync_from, source_signal, verdict_at, judge_of, state_by, is_begun, ruled, round, settle}
 use Rattle.wsm_schema.specs.declared.cards.Card.{Card}
-use Rattle.wsm_schema.specs.declared.cards.End.{End}
 use Rattle.wsm_schema.specs.declared.cards.NodeKind.{NodeKind}
 use Rattle.wsm_schema.specs.declared.states.Spot.{Spot}
 use Rattle.wsm_schema.specs.declared.states.Verdict.{Verdict}

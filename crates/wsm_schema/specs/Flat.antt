@@ -1,5 +1,5 @@
 -- A schema's flat form: a card for each node, in document order, and the elements.
-use Rattle.std.specs.Prelude.{◌≡◌, ℕ, Bool, List, [], ◌∷◌, map, filter, find, Option, Some, None, option_map, ◌==◌, is_some, if◌then◌else◌}
+use Rattle.std.specs.Prelude.{ℕ, List, [], ◌∷◌, map, filter, find, Option, Some, None, option_map, ◌==◌, if◌then◌else◌}
 use Rattle.wsm_lists.specs.Keys.{first, role_in}
 use Rattle.wsm_lists.specs.Rows.{row_at}
 use Rattle.wsm_schema.specs.Kinds.{is_loop_end}
@@ -9,6 +9,7 @@ use Rattle.wsm_schema.specs.declared.places.Place.{Place}
 use Rattle.wsm_schema.specs.declared.cards.Card.{Card}
 use Rattle.wsm_lists.specs.declared.values.ElementKind.{ElementKind}
 
+-- a flat form as contracts see it
 pub record FlatModel : Type 0 where
   pub cards : List Card
   pub elements : List (ℕ × ElementKind)
@@ -28,9 +29,11 @@ card_of s p = record {
   role = role_in p.node s.roles;
 }
 
+-- the cards of a schema, in document order
 abbrev pub cards_of : SchemaModel → List Card
 cards_of s = map (card_of s) (places s.start s.body s.finish)
 
+-- the flat form of a schema
 abbrev pub flat_of : SchemaModel → FlatModel
 flat_of s = record { cards = cards_of s; elements = s.elements }
 
@@ -51,14 +54,16 @@ abbrev pub up_to_node : ℕ → List ℕ → List ℕ
 up_to_node e [] = []
 up_to_node e (n ∷ ns) = if n == e then n ∷ [] else n ∷ up_to_node e ns
 
--- the nodes of the loop that ends with e, both ends included, in document order
+-- the start of the loop that ends with a node, by the node's card
 abbrev pub loop_start : Option Card → Option ℕ
 loop_start None = None
 loop_start (Some c) = if is_loop_end c.kind then c.partner else None
 
+-- the nodes from the start of a loop up to its end
 abbrev pub loop_from : Option ℕ → ℕ → List ℕ → List ℕ
 loop_from None e nodes = []
 loop_from (Some s) e nodes = up_to_node e (from_node s nodes)
 
+-- the nodes of the loop that ends with e, both ends included, in document order
 abbrev pub loop_nodes : List Card → ℕ → List ℕ
 loop_nodes cards e = loop_from (loop_start (card_at e cards)) e (map (λ c. c.node) cards)

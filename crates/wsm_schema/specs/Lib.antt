@@ -14,3 +14,4 @@ pub mod Marks
 pub mod Touched
 pub mod Rank
 pub mod Pass
+pub mod Groups

@@ -18,10 +18,12 @@ labelled node code = record { node = node; label = Some code }
 abbrev pub plain_end : ℕ → End
 plain_end node = record { node = node; label = None }
 
+-- the kind of a block's first node
 abbrev pub split_kind : Gate → NodeKind
 split_kind and_gate = AndSplit
 split_kind xor_gate = XorSplit
 
+-- the kind of a block's last node
 abbrev pub join_kind : Gate → NodeKind
 join_kind and_gate = AndJoin
 join_kind xor_gate = XorJoin

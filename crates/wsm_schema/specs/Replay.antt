@@ -1,16 +1,12 @@
 -- Which entries are applicable, and the replay of a trail.
-use Rattle.std.specs.Prelude.{◌≡◌, ℕ, Bool, true, false, ◌&&◌, ◌||◌, not, List, [], ◌∷◌, ◌++◌, map, length, Option, Some, None, is_some, is_none, ◌==◌, if◌then◌else◌}
-use Rattle.std.specs.List.{list_all, list_any}
+use Rattle.std.specs.Prelude.{ℕ, Bool, true, false, ◌&&◌, ◌||◌, not, List, [], ◌∷◌, Option, Some, None, is_some, ◌==◌, if◌then◌else◌}
 use Rattle.wsm_schema.specs.Flat.{FlatModel, card_at, kind_in}
 use Rattle.wsm_schema.specs.Rules.{Spots, spot, spot_in, settle}
 use Rattle.wsm_schema.specs.Kinds.{is_activity, is_xor_split, is_loop_end}
-use Rattle.wsm_schema.specs.declared.states.Spot.{Spot}
 use Rattle.wsm_schema.specs.Trail.{value_below}
 use Rattle.wsm_lists.specs.Values.{Written, same_option_value, has_kind}
 use Rattle.wsm_schema.specs.declared.cards.Card.{Card}
 use Rattle.wsm_schema.specs.declared.cards.End.{End}
-use Rattle.wsm_schema.specs.declared.cards.NodeKind.{NodeKind}
-use Rattle.wsm_schema.specs.declared.cards.NodeKind.TheVariants as node_kind
 use Rattle.wsm_schema.specs.declared.entries.Entry.{Entry}
 use Rattle.wsm_schema.specs.declared.entries.Entry.TheVariants as entry
 use Rattle.wsm_schema.specs.declared.states.State.{State}
@@ -18,6 +14,7 @@ use Rattle.wsm_schema.specs.declared.states.State.TheVariants as state
 use Rattle.wsm_lists.specs.declared.values.Value.{Value}
 use Rattle.wsm_lists.specs.declared.values.ElementKind.{ElementKind}
 
+-- whether two states are one
 abbrev pub is_in_state : State → State → Bool
 is_in_state state.NotActivated state.NotActivated = true
 is_in_state state.Activated state.Activated = true
@@ -33,6 +30,7 @@ fits_reads value (r ∷ rs) (e ∷ es) =
     r.0 == e.0 && same_option_value r.1 (value e.0) && (not e.1 || is_some (value e.0)) && fits_reads value rs es
 fits_reads value _ _ = false
 
+-- whether a value is of the kind that its element has
 abbrev pub is_of_kind : Option ElementKind → Value → Bool
 is_of_kind None v = false
 is_of_kind (Some k) v = has_kind k v
@@ -43,6 +41,7 @@ fits_edges elements [] [] = true
 fits_edges elements (w ∷ ws) (d ∷ ds) = w.0 == d && is_of_kind (kind_in d elements) w.1 && fits_edges elements ws ds
 fits_edges elements _ _ = false
 
+-- whether one of the edges has this label
 abbrev pub has_label : ℕ → List End → Bool
 has_label code [] = false
 has_label code (e ∷ es) = is_label e.label || has_label code es
@@ -56,18 +55,22 @@ abbrev pub fits_choice : Card → Option ℕ → Bool
 fits_choice c None = is_activity c.kind
 fits_choice c (Some code) = (is_xor_split c.kind && has_label code c.outs) || (is_loop_end c.kind && code == 0)
 
+-- whether a node may be started, having read these values
 abbrev pub applicable_start : Card → State → (ℕ → Option Value) → List (ℕ × Option Value) → Bool
 applicable_start c now value reads =
     is_in_state now state.Activated && fits_reads value reads c.reads
 
+-- whether a node may be ended with these writes and this choice
 abbrev pub applicable_end : List (ℕ × ElementKind) → Card → State → Written → Option ℕ → Bool
 applicable_end elements c now writes choice =
     is_in_state now state.Running && fits_edges elements writes c.writes && fits_choice c choice
 
+-- a test of a node's card; a node with no card fails it
 abbrev pub on_card : Option Card → (Card → Bool) → Bool
 on_card None test = false
 on_card (Some c) test = test c
 
+-- whether the start of a loop is Completed
 abbrev pub partner_completed : List Card → Spots → Option ℕ → Bool
 partner_completed cards table None = false
 partner_completed cards table (Some n) = on_card (card_at n cards) (λ _. is_in_state (spot_in n table).state state.Completed)
@@ -94,10 +97,12 @@ pub data Outcome : Type 0 where
   whole : Spots → Outcome
   fails : (position : ℕ) → Outcome
 
+-- the entries one after another
 abbrev pub replay_from : FlatModel → (ℕ → ℕ → Option Value) → List (ℕ × Entry) → Spots → Outcome
 replay_from f value [] table = whole table
 replay_from f value (e ∷ es) table =
     if applicable f table (λ d. value d e.0) e.1 then replay_from f value es (after f.cards e.1 table) else fails e.0
 
+-- the replay of a whole trail, from the net before all entries
 abbrev pub replay_of : FlatModel → List (ℕ × Entry) → Outcome
 replay_of f es = replay_from f (λ d p. value_below d p es) es (settle f.cards [])

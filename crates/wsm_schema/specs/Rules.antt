@@ -1,6 +1,6 @@
 -- Signals of edges, the node rule, and the settled net.
-use Rattle.std.specs.Prelude.{◌≡◌, ℕ, Bool, true, false, ◌&&◌, ◌||◌, not, List, [], ◌∷◌, map, length, Option, Some, None, is_some, option_map, ◌==◌, if◌then◌else◌, find}
-use Rattle.std.specs.List.{list_all, list_any, count_by, fold}
+use Rattle.std.specs.Prelude.{ℕ, Bool, true, false, ◌&&◌, not, List, [], ◌∷◌, map, length, Option, Some, None, is_some, ◌==◌, if◌then◌else◌}
+use Rattle.std.specs.List.{list_all, count_by, fold}
 use Rattle.std.specs.Fn.{iterate}
 use Rattle.wsm_schema.specs.Flat.{card_at}
 use Rattle.wsm_schema.specs.Kinds.{is_xor_split, worked_on}
@@ -29,25 +29,28 @@ signal_of kind Completed choice label = Some (if is_xor_split kind && not (is_ch
 signal_of kind Skipped choice label = Some No
 signal_of kind _ choice label = None
 
+-- whether an edge signals true
 abbrev pub is_yes : Option Flow → Bool
 is_yes (Some Yes) = true
 is_yes _ = false
 
+-- whether an edge signals false
 abbrev pub is_no : Option Flow → Bool
 is_no (Some No) = true
 is_no _ = false
 
--- whether the signals of the edges into a node make it ready, and whether they make it skipped
+-- whether the signals of the control edges into a node make it ready
 abbrev pub is_ready : NodeKind → List (Option Flow) → Bool
 is_ready Start control = true
 is_ready XorJoin control = list_all is_some control && count_by is_yes control == 1
 is_ready _ control = list_all is_yes control
 
+-- whether they make it skipped
 abbrev pub is_skipped : NodeKind → List (Option Flow) → Bool
 is_skipped Start control = false
 is_skipped _ control = list_all is_no control
 
--- a node is not ready before each sync edge into it is signaled
+-- a node that its control edges make ready still waits for a signal of each sync edge into it
 abbrev pub judge_of : NodeKind → List (Option Flow) → List (Option Flow) → Verdict
 judge_of kind control syncs =
     if is_ready kind control then (if list_all is_some syncs then verdict.Ready else verdict.Waiting)
@@ -57,9 +60,11 @@ judge_of kind control syncs =
 abbrev pub Spots : Type 0
 Spots = List Spot
 
+-- the state and the choice of a node
 abbrev pub spot : ℕ → State → Option ℕ → Spot
 spot node state choice = record { node = node; state = state; choice = choice }
 
+-- the spot of a node
 abbrev pub spot_in : ℕ → Spots → Spot
 spot_in node [] = spot node NotActivated None
 spot_in node (s ∷ ss) = if s.node == node then s else spot_in node ss
@@ -69,15 +74,19 @@ abbrev pub source_signal : Option Card → Spot → Option ℕ → Option Flow
 source_signal None s label = None
 source_signal (Some c) s label = signal_of c.kind s.state s.choice label
 
+-- the signal of a control edge
 abbrev pub signal_from : List Card → Spots → End → Option Flow
 signal_from cards table e = source_signal (card_at e.node cards) (spot_in e.node table) e.label
 
+-- the signal of a sync edge
 abbrev pub sync_from : List Card → Spots → ℕ → Option Flow
 sync_from cards table node = source_signal (card_at node cards) (spot_in node table) None
 
+-- what the signals of its edges make of a node
 abbrev pub verdict_at : List Card → Spots → Card → Verdict
 verdict_at cards table c = judge_of c.kind (map (signal_from cards table) c.ins) (map (sync_from cards table) c.syncs_in)
 
+-- the state of a node that was not begun
 abbrev pub state_by : NodeKind → Verdict → State
 state_by kind verdict.Waiting = NotActivated
 state_by kind verdict.Ready = if worked_on kind then Activated else Completed
@@ -99,6 +108,7 @@ ruled cards table c =
 abbrev pub round : List Card → Spots → Spots
 round cards table = map (ruled cards table) cards
 
+-- the settled net
 abbrev pub settle : List Card → Spots → Spots
 settle cards = iterate (round cards) (length cards)
 
@@ -106,5 +116,6 @@ settle cards = iterate (round cards) (length cards)
 abbrev pub by_node : Spot → ℕ × ℕ
 by_node s = (s.node, 0)
 
+-- the marking of a net
 abbrev pub marking_of : List Card → Spots → Spots
 marking_of cards table = fold (λ m c. put_row by_node (spot_in c.node table) m) [] cards

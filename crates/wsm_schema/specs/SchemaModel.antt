@@ -21,6 +21,7 @@ pub record SchemaModel : Type 0 where
 abbrev pub plain : ℕ → ℕ → Parts → SchemaModel
 plain start finish body = record { start = start; finish = finish; body = body; syncs = []; elements = []; reads = []; writes = []; roles = [] }
 
+-- the codes by which a proof tells schemas apart
 abbrev is_text : ElementKind → Bool
 is_text kind.Int = Bool.false
 is_text kind.Text = Bool.true
@@ -42,6 +43,7 @@ read_code = code_by (ℕ × (ℕ × Bool)) (coded× coded_ℕ (coded× coded_ℕ
 abbrev pairs_code : Coded (List (ℕ × ℕ))
 pairs_code = coded_list (coded× coded_ℕ coded_ℕ)
 
+-- a schema by its parts, and its tree by its tokens
 abbrev pub schema_code : Coded SchemaModel
 schema_code =
     code_by (ℕ × (ℕ × (Parts × (List (ℕ × ℕ) × (List (ℕ × ElementKind) × (List (ℕ × ℕ × Bool) × (List (ℕ × ℕ) × List (ℕ × ℕ))))))))

@@ -1,5 +1,5 @@
 -- The clauses of a sound schema, each as its first fault.
-use Rattle.std.specs.Prelude.{◌≡◌, ℕ, zero, suc, ◌+◌, Bool, true, false, ◌&&◌, ◌||◌, not, max, List, [], ◌∷◌, ◌++◌, map, filter, find, flat_map, length, Option, Some, None, is_some, option_map, nat_lt, ◌==◌, if◌then◌else◌}
+use Rattle.std.specs.Prelude.{◌≡◌, ℕ, zero, suc, Bool, true, false, ◌&&◌, ◌||◌, not, max, List, [], ◌∷◌, map, find, flat_map, length, Option, Some, None, option_map, nat_lt, ◌==◌, if◌then◌else◌}
 use Rattle.std.specs.List.{list_all, list_any, count_by}
 use Rattle.std.specs.Option.{option_or}
 use Rattle.std.specs.Fn.{iterate}
@@ -9,14 +9,12 @@ use Rattle.wsm_schema.specs.Flat.{cards_of, card_at}
 use Rattle.wsm_schema.specs.Kinds.{worked_on, is_activity}
 use Rattle.wsm_schema.specs.Trail.{is_one_of}
 use Rattle.wsm_schema.specs.declared.cards.Card.{Card}
-use Rattle.wsm_schema.specs.declared.cards.End.{End}
 use Rattle.wsm_schema.specs.declared.cards.NodeKind.{NodeKind}
 use Rattle.wsm_schema.specs.declared.cards.NodeKind.TheVariants as node_kind
 use Rattle.wsm_schema.specs.declared.faults.BlockFault.{BlockFault}
 use Rattle.wsm_schema.specs.declared.faults.BlockFault.TheVariants.{Limit, Twice, FewBranches, CodeTwice, SyncEnd, SyncPlace, SyncLoop, SyncCycle}
 use Rattle.wsm_schema.specs.declared.faults.DataFault.{DataFault}
 use Rattle.wsm_schema.specs.declared.faults.DataFault.TheVariants.{Unknown, Missing, ParallelWrite}
-use Rattle.wsm_schema.specs.declared.faults.LimitKind.{LimitKind}
 use Rattle.wsm_schema.specs.declared.faults.LimitKind.TheVariants as limit
 
 -- the first answer
@@ -59,6 +57,7 @@ abbrev mutual
   lanes_have no_lane n = false
   lanes_have (lane code ps ls) n = parts_have ps n || lanes_have ls n
 
+-- the codes of branches
 abbrev pub codes_of : Lanes → List ℕ
 codes_of no_lane = []
 codes_of (lane code ps ls) = code ∷ codes_of ls
@@ -78,6 +77,7 @@ abbrev mutual
   lanes_block_fault f no_lane = None
   lanes_block_fault f (lane code ps ls) = option_or (parts_block_fault f ps) (lanes_block_fault f ls)
 
+-- whether all branches are taken
 abbrev pub is_and : Gate → Bool
 is_and and_gate = true
 is_and xor_gate = false
@@ -113,6 +113,7 @@ abbrev mutual
   lanes_loop no_lane n around = around
   lanes_loop (lane code ps ls) n around = if parts_have ps n then parts_loop ps n around else lanes_loop ls n around
 
+-- whether two optional numbers are one
 abbrev pub same_option : Option ℕ → Option ℕ → Bool
 same_option None None = true
 same_option (Some a) (Some b) = a == b
@@ -123,15 +124,19 @@ abbrev pub leads : List (ℕ × ℕ) → ℕ → ℕ → ℕ → Bool
 leads edges zero a b = a == b
 leads edges (suc k) a b = a == b || list_any (λ e. e.0 == a && leads edges k e.1 b) edges
 
+-- the control edges, each with its source and target
 abbrev pub control_edges : List Card → List (ℕ × ℕ)
 control_edges cards = flat_map (λ c. map (λ e. (e.node, c.node)) c.ins) cards
 
+-- the nodes in document order
 abbrev pub nodes_of : List Card → List ℕ
 nodes_of cards = map (λ c. c.node) cards
 
+-- whether a node is an activity
 abbrev pub is_act_in : List Card → ℕ → Bool
 is_act_in cards n = list_any (λ c. c.node == n && is_activity c.kind) cards
 
+-- whether an actor starts and ends a node
 abbrev pub is_worked_on_in : List Card → ℕ → Bool
 is_worked_on_in cards n = list_any (λ c. c.node == n && worked_on c.kind) cards
 
@@ -145,9 +150,11 @@ sync_cycle n edges (s ∷ ss) = if leads edges n s.1 s.0 then Some (SyncCycle s.
 abbrev pub too_many : List ℕ → Bool
 too_many nodes = list_any (λ n. nat_lt 16 (count_by (λ m. m == n) nodes)) nodes
 
+-- an answer where a test holds
 abbrev pub when : {A : Type 0} → Bool → A → Option A
 when test a = if test then Some a else None
 
+-- the first limit that is exceeded
 abbrev pub over_limit : SchemaModel → Option BlockFault
 over_limit s =
     option_or (when (nat_lt 1024 (length (cards_of s))) (Limit limit.Nodes))
@@ -174,20 +181,25 @@ block_fault s =
 abbrev pub Sure : Type 0
 Sure = ℕ → ℕ → Bool
 
+-- nothing is sure
 abbrev pub none_sure : Sure
 none_sure n d = false
 
+-- whether a number is listed
 abbrev pub has_number : ℕ → List ℕ → Bool
 has_number d ds = list_any (λ x. x == d) ds
 
+-- whether a node writes an element
 abbrev pub writes_of : SchemaModel → ℕ → ℕ → Bool
 writes_of s n d = list_any (λ w. w.0 == n && w.1 == d) s.writes
 
+-- what is sure behind several edges: all of it at an AND join, what they share at others
 abbrev pub sure_by : NodeKind → List Bool → Bool
 sure_by node_kind.Start before = false
 sure_by node_kind.AndJoin before = list_any (λ b. b) before
 sure_by _ before = list_all (λ b. b) before
 
+-- what is sure at a node, from its sources and what they write
 abbrev pub sure_at : SchemaModel → Sure → Option Card → ℕ → Bool
 sure_at s sure None d = false
 sure_at s sure (Some c) d = sure_by c.kind (map (λ e. sure e.node d || writes_of s e.node d) c.ins)
@@ -196,9 +208,11 @@ sure_at s sure (Some c) d = sure_by c.kind (map (λ e. sure e.node d || writes_o
 abbrev pub sure_of : SchemaModel → Sure
 sure_of s = let cards = cards_of s in iterate (λ sure n d. sure_at s sure (card_at n cards) d) (length cards) none_sure
 
+-- the first mandatory read of a node that may find no value
 abbrev pub missing_at : Sure → Card → Option DataFault
 missing_at sure c = option_map (λ r. Missing c.node r.0) (find (λ r. r.1 && not (sure c.node r.0)) c.reads)
 
+-- whether a sync edge joins two nodes, either way
 abbrev pub synced : SchemaModel → ℕ → ℕ → Bool
 synced s a b = list_any (λ e. (e.0 == a && e.1 == b) || (e.0 == b && e.1 == a)) s.syncs
 
@@ -209,10 +223,12 @@ parallel_write s a b =
     then option_map (ParallelWrite a.node b.node) (find (λ d. has_number d b.writes) a.writes)
     else None
 
+-- the first two nodes of which that is so
 abbrev pub parallel_writes : SchemaModel → List Card → Option DataFault
 parallel_writes s [] = None
 parallel_writes s (a ∷ cs) = option_or (first_some (parallel_write s a) cs) (parallel_writes s cs)
 
+-- a read or write that names no node that is worked on, or no listed element
 abbrev pub unknown : SchemaModel → ℕ → ℕ → Option DataFault
 unknown s n d = when (not (is_worked_on_in (cards_of s) n && list_any (λ e. e.0 == d) s.elements)) (Unknown n d)
 

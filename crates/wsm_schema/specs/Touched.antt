@@ -1,5 +1,5 @@
 -- The nodes that differ between two schemas, and the region behind them.
-use Rattle.std.specs.Prelude.{◌≡◌, ◌≢◌, ◌⊎◌, ℕ, List, Option, Contains, Some}
+use Rattle.std.specs.Prelude.{◌≡◌, ◌≢◌, ℕ, List, Option, Contains, Some}
 use Rattle.wsm_schema.specs.Flat.{FlatModel, card_at, kind_in}
 use Rattle.wsm_schema.specs.declared.cards.Card.{Card}
 
@@ -14,5 +14,6 @@ pub data Reaches (cards : List Card) : ℕ → ℕ → Type 0 where
   by_control : (m n : ℕ) (c : Card) (label : Option ℕ) → card_at n cards ≡ Some c → Contains c.ins (record { node = m; label = label }) → (a : ℕ) → Reaches cards a m → Reaches cards a n
   by_sync : (m n : ℕ) (c : Card) → card_at n cards ≡ Some c → Contains c.syncs_in m → (a : ℕ) → Reaches cards a m → Reaches cards a n
 
+-- the nodes that touched nodes reach in the second schema
 pub data InRegion (a b : FlatModel) (n : ℕ) : Type 0 where
   in_region : (m : ℕ) → Touched a b m → Reaches b.cards m n → InRegion a b n

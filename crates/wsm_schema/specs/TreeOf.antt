@@ -6,12 +6,14 @@ use Rattle.wsm_schema.specs.declared.blocks.Branch.{Branch}
 use Rattle.wsm_schema.specs.declared.blocks.Block.TheOpen.{Block-F, Branch-F}
 use Rattle.wsm_schema.specs.declared.blocks.Block.TheFolds.{fold-Block, fold-Branch}
 
+-- one layer of a block
 abbrev pub part_step : Block-F Part (ℕ × Parts) → Part
 part_step (Block-F.Act node) = act node
 part_step (Block-F.And split join branches) = gate and_gate split join (lanes branches.items)
 part_step (Block-F.Xor split join branches) = gate xor_gate split join (lanes branches.items)
 part_step (Block-F.Loop start end body) = loop start end (parts body.items)
 
+-- one layer of a branch
 abbrev pub lane_step : Branch-F Part (ℕ × Parts) → ℕ × Parts
 lane_step b = (b.code, parts b.items.items)
 

@@ -2,104 +2,126 @@
 ghost use Rattle.std.specs.Prelude.{◌≡◌, IfOk, map, filter, ◌==◌};
 ghost use Rattle.wsm_lists.specs.Keys.{role_in};
 ghost use Rattle.wsm_schema.specs.Flat.{card_of};
+ghost use Rattle.wsm_schema.specs.Groups.{reversed};
 
 use crate::cards::{Card, CardReads};
+use crate::groups::Groups;
 use crate::places::Place;
 use crate::schemas::Schema;
 use std::alloc::Global;
+use std::marker::Model;
 use wsm_lists::{NoMemory, Nodes};
 
-// The sources of the edges to a node.
-fn sources_of(alloc: Global, edges: &[(u32, u32)], node: u32) -> Result<Vec<u32>, NoMemory>
-    ensures { IfOk result (λ new. new.items ≡ map (λ e. e.0) (filter (λ e. e.1 == node) edges.now)) }
-{
-    edges
-        .iter()
-        .filter(|e| e.1 == node)
-        .map(|e| e.0)
-        .collect(alloc)
+/// A schema whose sync edges are grouped by their targets too.
+#[derive(Drop)]
+pub struct Lists<'a> {
+    schema: &'a Schema,
+    incoming: Groups<u32>,
 }
 
-// The targets of the edges from a node.
-fn targets_of(alloc: Global, edges: &[(u32, u32)], node: u32) -> Result<Vec<u32>, NoMemory>
-    ensures { IfOk result (λ new. new.items ≡ map (λ e. e.1) (filter (λ e. e.0 == node) edges.now)) }
-{
-    edges
-        .iter()
-        .filter(|e| e.0 == node)
-        .map(|e| e.1)
-        .collect(alloc)
+impl<'a> Model for Lists<'a> {
+    ghost use Rattle.wsm_schema.specs.SchemaModel.{SchemaModel, schema_code};
+    ghost use Rattle.wsm_schema.specs.Groups.{SameGroups, reversed};
+
+    ghost Value = { SchemaModel };
+
+    ghost coded = { schema_code };
+
+    ghost view = { λ a. a.schema.now };
+
+    ghost invariant = { λ a. SameGroups (reversed a.schema.now.syncs) a.incoming };
 }
 
-// The reads of a node.
-fn reads_of(
-    alloc: Global,
-    reads: &[(u32, u32, bool)],
-    node: u32,
-) -> Result<Vec<(u32, bool)>, NoMemory>
-    ensures { IfOk result (λ new. new.items ≡ map (λ r. (r.1, r.2)) (filter (λ r. r.0 == node) reads.now)) }
-{
-    reads
-        .iter()
-        .filter(|r| r.0 == node)
-        .map(|r| (r.1, r.2))
-        .collect(alloc)
+impl<'a> Lists<'a> {
+    /// The lists of the schema.
+    pub fn of(alloc: Global, schema: &'a Schema) -> Result<Lists<'a>, NoMemory>
+        ensures { IfOk result (λ new. new ≡ schema.now) }
+    {
+        let edges = reversed(alloc, schema.syncs.as_slice())?;
+        let incoming = Groups::of(edges)?;
+        Ok(Lists { schema, incoming })
+    }
+
+    /// The card of the node that stands at this place of the schema's tree.
+    pub fn card(&self, alloc: Global, place: Place) -> Result<Card, NoMemory>
+        ensures { IfOk result (λ new. new ≡ card_of self.now place) }
+    {
+        let node = place.node;
+        Ok(Card {
+            node,
+            kind: place.kind,
+            partner: place.partner,
+            ins: place.ins,
+            outs: place.outs,
+            syncs_in: self.syncs_into(alloc, node)?,
+            syncs_out: self.syncs_from(alloc, node)?,
+            reads: self.reads_by(alloc, node)?,
+            writes: self.writes_by(alloc, node)?,
+            role: self.role_of(node),
+        })
+    }
+
+    // The nodes from which sync edges lead to a node.
+    fn syncs_into(&self, alloc: Global, node: u32) -> Result<Nodes, NoMemory>
+        ensures { IfOk result (λ new. new ≡ map (λ e. e.0) (filter (λ e. e.1 == node) self.now.syncs)) }
+    {
+        let sources = seconds_of(alloc, self.incoming.rows_with(node))?;
+        Ok(Nodes::from_vec(sources))
+    }
+
+    // The nodes to which sync edges lead from a node.
+    fn syncs_from(&self, alloc: Global, node: u32) -> Result<Nodes, NoMemory>
+        ensures { IfOk result (λ new. new ≡ map (λ e. e.1) (filter (λ e. e.0 == node) self.now.syncs)) }
+    {
+        let schema = self.schema;
+        let targets = seconds_of(alloc, schema.syncs.rows_of(node))?;
+        Ok(Nodes::from_vec(targets))
+    }
+
+    // The elements that a node reads.
+    fn reads_by(&self, alloc: Global, node: u32) -> Result<CardReads, NoMemory>
+        ensures { IfOk result (λ new. new ≡ map (λ r. (r.1, r.2)) (filter (λ r. r.0 == node) self.now.reads)) }
+    {
+        let schema = self.schema;
+        let reads = reads_of(alloc, schema.reads.rows_of(node))?;
+        Ok(CardReads::from_vec(reads))
+    }
+
+    // The elements that a node writes.
+    fn writes_by(&self, alloc: Global, node: u32) -> Result<Nodes, NoMemory>
+        ensures { IfOk result (λ new. new ≡ map (λ w. w.1) (filter (λ w. w.0 == node) self.now.writes)) }
+    {
+        let schema = self.schema;
+        let elements = seconds_of(alloc, schema.writes.rows_of(node))?;
+        Ok(Nodes::from_vec(elements))
+    }
+
+    // The role of a node.
+    fn role_of(&self, node: u32) -> u32
+        ensures { result ≡ role_in node self.now.roles }
+    {
+        let schema = self.schema;
+        schema.roles.role(node)
+    }
 }
 
-// The nodes from which sync edges lead to a node.
-fn syncs_into(alloc: Global, schema: &Schema, node: u32) -> Result<Nodes, NoMemory>
-    ensures { IfOk result (λ new. new ≡ map (λ e. e.0) (filter (λ e. e.1 == node) schema.now.syncs)) }
+// Edges from their targets back to their sources.
+fn reversed(alloc: Global, edges: &[(u32, u32)]) -> Result<Vec<(u32, u32)>, NoMemory>
+    ensures { IfOk result (λ new. new.items ≡ reversed edges.now) }
 {
-    let sources = sources_of(alloc, schema.syncs.as_slice(), node)?;
-    Ok(Nodes::from_vec(sources))
+    edges.iter().map(|e| (e.1, e.0)).collect(alloc)
 }
 
-// The nodes to which sync edges lead from a node.
-fn syncs_from(alloc: Global, schema: &Schema, node: u32) -> Result<Nodes, NoMemory>
-    ensures { IfOk result (λ new. new ≡ map (λ e. e.1) (filter (λ e. e.0 == node) schema.now.syncs)) }
+// The second numbers of rows.
+fn seconds_of(alloc: Global, rows: &[(u32, u32)]) -> Result<Vec<u32>, NoMemory>
+    ensures { IfOk result (λ new. new.items ≡ map (λ r. r.1) rows.now) }
 {
-    let targets = targets_of(alloc, schema.syncs.as_slice(), node)?;
-    Ok(Nodes::from_vec(targets))
+    rows.iter().map(|row| row.1).collect(alloc)
 }
 
-// The elements that a node reads.
-fn reads_by(alloc: Global, schema: &Schema, node: u32) -> Result<CardReads, NoMemory>
-    ensures { IfOk result (λ new. new ≡ map (λ r. (r.1, r.2)) (filter (λ r. r.0 == node) schema.now.reads)) }
+// The elements of reads, and whether each is mandatory.
+fn reads_of(alloc: Global, reads: &[(u32, u32, bool)]) -> Result<Vec<(u32, bool)>, NoMemory>
+    ensures { IfOk result (λ new. new.items ≡ map (λ r. (r.1, r.2)) reads.now) }
 {
-    let reads = reads_of(alloc, schema.reads.as_slice(), node)?;
-    Ok(CardReads::from_vec(reads))
-}
-
-// The elements that a node writes.
-fn writes_by(alloc: Global, schema: &Schema, node: u32) -> Result<Nodes, NoMemory>
-    ensures { IfOk result (λ new. new ≡ map (λ w. w.1) (filter (λ w. w.0 == node) schema.now.writes)) }
-{
-    let elements = targets_of(alloc, schema.writes.as_slice(), node)?;
-    Ok(Nodes::from_vec(elements))
-}
-
-// The role of a node.
-fn role_of(schema: &Schema, node: u32) -> u32
-    ensures { result ≡ role_in node schema.now.roles }
-{
-    schema.roles.role(node)
-}
-
-/// The card of a node that stands at this place of the schema's tree.
-pub fn card(alloc: Global, schema: &Schema, place: Place) -> Result<Card, NoMemory>
-    ensures { IfOk result (λ new. new ≡ card_of schema.now place) }
-{
-    let node = place.node;
-    Ok(Card {
-        node,
-        kind: place.kind,
-        partner: place.partner,
-        ins: place.ins,
-        outs: place.outs,
-        syncs_in: syncs_into(alloc, schema, node)?,
-        syncs_out: syncs_from(alloc, schema, node)?,
-        reads: reads_by(alloc, schema, node)?,
-        writes: writes_by(alloc, schema, node)?,
-        role: role_of(schema, node),
-    })
+    reads.iter().map(|r| (r.1, r.2)).collect(alloc)
 }

@@ -1,14 +1,16 @@
 // The flat form of a schema: a card for each node, in document order.
-ghost use Rattle.std.specs.Prelude.{◌≡◌, [], ◌∷◌, ◌++◌, IfOk, OnOk, map};
+ghost use Rattle.std.specs.Prelude.{◌≡◌, [], ◌∷◌, ◌++◌, IfOk, OnOk, map, slice_get};
 ghost use Rattle.std.specs.Option.{option_copied};
 ghost use Rattle.wsm_schema.specs.TreeOf.{part_of, parts_of, lanes_of};
 ghost use Rattle.wsm_schema.specs.Tree.{lanes};
 ghost use Rattle.wsm_schema.specs.Places.{part_places, parts_places, lanes_places};
+ghost use Rattle.wsm_schema.specs.Groups.{numbered};
 ghost use Rattle.wsm_schema.specs.Flat.{card_of, flat_of, cards_of, card_at, kind_in, loop_nodes, loop_start, up_to_node, from_node};
 
 use crate::blocks::{Block, Branch, first_node};
-use crate::card_lists::card;
+use crate::card_lists::Lists;
 use crate::cards::{Card, End, NodeKind};
+use crate::groups::Groups;
 use crate::places::{
     Place, activity_place, finish_place, join_place, loop_end_place, loop_start_place, split_place,
     start_place,
@@ -22,6 +24,7 @@ use wsm_lists::{ElementKind, Elements, NoMemory, Nodes};
 #[derive(Drop)]
 pub struct Flat {
     cards: Vec<Card>,
+    index: Groups<usize>,
     elements: Elements,
 }
 
@@ -30,7 +33,11 @@ impl Model for Flat {
 
     ghost Value = { FlatModel };
 
+    ghost use Rattle.wsm_schema.specs.Groups.{SameGroups, numbered};
+
     ghost view = { λ a. record { cards = a.cards.items; elements = a.elements } };
+
+    ghost invariant = { λ a. SameGroups (numbered 0 a.cards.items) a.index };
 }
 
 impl Flat {
@@ -38,9 +45,13 @@ impl Flat {
     pub fn of(alloc: Global, schema: &Schema) -> Result<Flat, NoMemory>
         ensures { IfOk result (λ flat. flat ≡ flat_of schema.now) }
     {
+        let elements = schema.elements.copy(alloc)?;
+        let cards = all_cards(alloc, schema)?;
+        let index = Groups::of(numbered(alloc, &cards)?)?;
         Ok(Flat {
-            cards: all_cards(alloc, schema)?,
-            elements: schema.elements.copy(alloc)?,
+            cards,
+            index,
+            elements,
         })
     }
 
@@ -51,11 +62,14 @@ impl Flat {
         &self.cards
     }
 
-    /// The first card of the node.
+    /// The first card of the node, by a binary search.
     pub fn card(&self, node: u32) -> Option<&Card>
         ensures { option_copied result ≡ card_at node self.now.cards }
     {
-        self.cards.iter().find(|c| c.node == node)
+        match self.index.first_with(node) {
+            Some(row) => card_in(&self.cards, row.1),
+            None => None,
+        }
     }
 
     /// The kind of the element, where it is listed.
@@ -95,6 +109,24 @@ impl Flat {
     }
 }
 
+// The card at a place.
+fn card_in(cards: &[Card], place: usize) -> Option<&Card>
+    ensures { option_copied result ≡ slice_get cards.now place }
+{
+    cards.get(place)
+}
+
+// The nodes of the cards, each with the card's place.
+fn numbered(alloc: Global, cards: &[Card]) -> Result<Vec<(u32, usize)>, NoMemory>
+    ensures { IfOk result (λ new. new.items ≡ numbered 0 cards.now) }
+{
+    let mut all = Vec::new(alloc);
+    for (place, card) in cards.iter().enumerate() {
+        all.push((card.node, place))?;
+    }
+    Ok(all)
+}
+
 // The nodes of the cards from the first `start` up to the first `end` behind it.
 fn nodes_between(alloc: Global, cards: &[Card], start: u32, end: u32) -> Result<Vec<u32>, NoMemory>
     ensures { IfOk result (λ new. new.items ≡ up_to_node end (from_node start (map (λ c. c.node) cards.now))) }
@@ -119,21 +151,22 @@ fn nodes_between(alloc: Global, cards: &[Card], start: u32, end: u32) -> Result<
 fn all_cards(alloc: Global, schema: &Schema) -> Result<Vec<Card>, NoMemory>
     ensures { IfOk result (λ all. all.items ≡ cards_of schema.now) }
 {
+    let lists = Lists::of(alloc, schema)?;
     let mut all = Vec::new(alloc);
-    let from = End::plain(schema.start);
     let start = start_place(alloc, schema.start, &schema.body, schema.finish)?;
-    put(alloc, &mut all, schema, start)?;
-    put_items(alloc, &mut all, schema, &schema.body, from, schema.finish)?;
+    put(alloc, &mut all, &lists, start)?;
+    let from = End::plain(schema.start);
+    put_items(alloc, &mut all, &lists, &schema.body, from, schema.finish)?;
     let finish = finish_place(alloc, schema.start, &schema.body, schema.finish)?;
-    put(alloc, &mut all, schema, finish)?;
+    put(alloc, &mut all, &lists, finish)?;
     Ok(all)
 }
 
 // One more card.
-fn put(alloc: Global, all: &mut Vec<Card>, schema: &Schema, place: Place) -> Result<(), NoMemory>
-    ensures { OnOk result (all.new.items ≡ all.old.items ++ card_of schema.now place ∷ []) }
+fn put(alloc: Global, all: &mut Vec<Card>, lists: &Lists, place: Place) -> Result<(), NoMemory>
+    ensures { OnOk result (all.new.items ≡ all.old.items ++ card_of lists.now place ∷ []) }
 {
-    all.push(card(alloc, schema, place)?)?;
+    all.push(lists.card(alloc, place)?)?;
     Ok(())
 }
 
@@ -142,17 +175,17 @@ fn put(alloc: Global, all: &mut Vec<Card>, schema: &Schema, place: Place) -> Res
 fn put_items(
     alloc: Global,
     all: &mut Vec<Card>,
-    schema: &Schema,
+    lists: &Lists,
     items: &[Block],
     from: End,
     to: u32,
 ) -> Result<(), NoMemory>
-    ensures { OnOk result (all.new.items ≡ all.old.items ++ map (card_of schema.now) (parts_places (parts_of items.now) from to)) }
+    ensures { OnOk result (all.new.items ≡ all.old.items ++ map (card_of lists.now) (parts_places (parts_of items.now) from to)) }
 {
     let mut last = from;
     for i in 0..items.len() {
         let next = first_node(&items[i + 1..], to);
-        put_block(alloc, all, schema, &items[i], last, next)?;
+        put_block(alloc, all, lists, &items[i], last, next)?;
         last = End::plain(items[i].last());
     }
     Ok(())
@@ -163,20 +196,20 @@ fn put_items(
 fn put_gate(
     alloc: Global,
     all: &mut Vec<Card>,
-    schema: &Schema,
+    lists: &Lists,
     opening: Place,
     branches: &[Branch],
     closing: Place,
 ) -> Result<(), NoMemory>
-    ensures { OnOk result (all.new.items ≡ all.old.items ++ map (card_of schema.now) (opening ∷ (lanes_places (lanes (lanes_of branches.now)) opening.node closing.node ++ closing ∷ []))) }
+    ensures { OnOk result (all.new.items ≡ all.old.items ++ map (card_of lists.now) (opening ∷ (lanes_places (lanes (lanes_of branches.now)) opening.node closing.node ++ closing ∷ []))) }
 {
     let split = opening.node;
-    put(alloc, all, schema, opening)?;
+    put(alloc, all, lists, opening)?;
     for i in 0..branches.len() {
         let from = End::labelled(split, branches[i].code);
-        put_items(alloc, all, schema, &branches[i].items, from, closing.node)?;
+        put_items(alloc, all, lists, &branches[i].items, from, closing.node)?;
     }
-    put(alloc, all, schema, closing)
+    put(alloc, all, lists, closing)
 }
 
 // The cards of a block.
@@ -184,17 +217,17 @@ fn put_gate(
 fn put_block(
     alloc: Global,
     all: &mut Vec<Card>,
-    schema: &Schema,
+    lists: &Lists,
     block: &Block,
     from: End,
     to: u32,
 ) -> Result<(), NoMemory>
-    ensures { OnOk result (all.new.items ≡ all.old.items ++ map (card_of schema.now) (part_places (part_of block.now) from to)) }
+    ensures { OnOk result (all.new.items ≡ all.old.items ++ map (card_of lists.now) (part_places (part_of block.now) from to)) }
 {
     match block {
         Block::Act(node) => {
             let activity = activity_place(alloc, *node, from, to)?;
-            put(alloc, all, schema, activity)
+            put(alloc, all, lists, activity)
         }
         Block::And {
             split,
@@ -203,7 +236,7 @@ fn put_block(
         } => {
             let opening = split_place(alloc, NodeKind::AndSplit, *split, *join, branches, from)?;
             let closing = join_place(alloc, NodeKind::AndJoin, *split, *join, branches, to)?;
-            put_gate(alloc, all, schema, opening, branches, closing)
+            put_gate(alloc, all, lists, opening, branches, closing)
         }
         Block::Xor {
             split,
@@ -212,14 +245,14 @@ fn put_block(
         } => {
             let opening = split_place(alloc, NodeKind::XorSplit, *split, *join, branches, from)?;
             let closing = join_place(alloc, NodeKind::XorJoin, *split, *join, branches, to)?;
-            put_gate(alloc, all, schema, opening, branches, closing)
+            put_gate(alloc, all, lists, opening, branches, closing)
         }
         Block::Loop { start, end, body } => {
             let opening = loop_start_place(alloc, *start, *end, body, from)?;
-            put(alloc, all, schema, opening)?;
-            put_items(alloc, all, schema, body, End::plain(*start), *end)?;
+            put(alloc, all, lists, opening)?;
+            put_items(alloc, all, lists, body, End::plain(*start), *end)?;
             let closing = loop_end_place(alloc, *start, *end, body, to)?;
-            put(alloc, all, schema, closing)
+            put(alloc, all, lists, closing)
         }
     }
 }

@@ -7,11 +7,14 @@ mod cards;
 mod entries;
 mod faults;
 mod flats;
+mod groups;
 mod marks;
 mod places;
 mod ranks;
 mod schemas;
 mod states;
+#[cfg(test)]
+mod tests;
 
 pub use blocks::{Block, Branch, Branches, Items, copy_items};
 pub use cards::{Card, CardReads, End, Ends, NodeKind};

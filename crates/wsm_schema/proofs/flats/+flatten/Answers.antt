@@ -1,4 +1,4 @@
-use Rattle.std.proofs.Common.{rules, ◌≡◌, ℕ, List, [], ◌∷◌, ◌++◌, map, Option, Some, append_assoc, refl, ap, sym, ◌∙◌}
+use Rattle.std.proofs.Common.{◌≡◌, ℕ, List, [], ◌∷◌, ◌++◌, map, Some, append_assoc, refl, ap, sym, ◌∙◌}
 use Rattle.std.specs.Prelude.{Result, Ok, Err, OnOk}
 use Rattle.std.proofs.lemmas.List.{map-append}
 use Rattle.wsm_schema.specs.Tree.{Part, Parts, loop}
@@ -31,7 +31,7 @@ loop_cards s before opened filled closed p start end body from to opening closin
 
 pub put_block-returns-in_ok-closing-in-Loop : goal.put_block-returns-in_ok-closing-in-Loop
 put_block-returns-in_ok-closing-in-Loop t c =
-    loop_cards c.args.schema.now c.args.all.now.items c.put-in-Loop.new.all.items c.put_items.new.all.items c.put-in-Loop-2.new.all.items (part_of c.args.block.now) c.in-Loop.start c.in-Loop.end (parts_of c.in-Loop.body.items) c.args.from c.args.to
+    loop_cards c.args.lists.now c.args.all.now.items c.put-in-Loop.new.all.items c.put_items.new.all.items c.put-in-Loop-2.new.all.items (part_of c.args.block.now) c.in-Loop.start c.in-Loop.end (parts_of c.in-Loop.body.items) c.args.from c.args.to
     c.in_ok-opening-in-Loop.opening c.in_ok-closing-in-Loop.closing c.put-in-Loop-2.result
     (ap part_of c.in-Loop.is ∙ ap part_of (sym (rolls-Loop c.in-Loop.start c.in-Loop.end c.in-Loop.body)) ∙ rw fold-roll-Block refl)
     (rw (← c.deref-in-Loop.ensures.value) c.in_ok-opening-in-Loop.ensures)

@@ -1,0 +1,5 @@
+pub mod Agreement
+pub mod Before
+pub mod Lengths
+pub mod Replays
+pub mod OneEntryMore

@@ -1,0 +1,151 @@
+-- The replay of a trail with one entry more.
+use Rattle.std.proofs.Common.{◌≡◌, ℕ, ◌+◌, ◌≤◌, true, false, eqb, ltb, List, [], ◌∷◌, ◌++◌, append-nil, fold, refl, ap, sym, ◌∙◌, subst, inl, inr, ◌⊎◌, Option, None, arith}
+use Rattle.std.specs.Option.{is_some}
+use Rattle.std.specs.Bool.{if◌then◌else◌}
+use Rattle.std.proofs.lemmas.Bool.{cases_Bool, both_ways, eqb-true, le-ltb}
+use Rattle.wsm_lists.specs.Rows.{AllRows, put_row}
+use Rattle.wsm_lists.specs.Values.{value_in}
+use Rattle.wsm_lists.specs.declared.values.Value.{Value}
+use Rattle.wsm_schema.specs.Flat.{FlatModel, card_at}
+use Rattle.wsm_schema.specs.Rank.{IsRank}
+use Rattle.wsm_schema.specs.Replay.{Outcome, whole, fails, applicable, after, replay_from, replay_of}
+use Rattle.wsm_schema.specs.Rules.{Spots, spot_in, by_node, marking_of}
+use Rattle.wsm_schema.specs.Trail.{later_or, value_below, written_by}
+use Rattle.wsm_schema.specs.declared.cards.Card.{Card}
+use Rattle.wsm_schema.specs.declared.entries.Entry.{Entry}
+use Rattle.wsm_schema.specs.declared.states.Spot.{Spot}
+use Rattle.wsm_trail.specs.EntryAt.{value_noted}
+use Rattle.wsm_trail.specs.LastWrites.{noted_entries}
+use Rattle.wsm_trail.specs.TrailWithRoom.{Rises}
+use Rattle.wsm_trail.proofs.LastWrite.{value_before}
+use Rattle.wsm_trail.proofs.Numbered.{row_at-put}
+use Rattle.wsm_replay.specs.Answer.{answer}
+use Rattle.wsm_replay.specs.SameSpots.{SameSpots}
+use Rattle.wsm_replay.specs.declared.Replayed.TheVariants as replayed
+use Rattle.wsm_replay.proofs.Agreement.{spot_in-rows, after-same}
+use Rattle.wsm_replay.proofs.Replays.{applicable-same, marking_of-same}
+
+-- ---- a marking has the spots that it was made from
+
+spot_in-node : (n : ℕ) (t : Spots) → (spot_in n t).node ≡ n
+spot_in-node n [] = refl
+spot_in-node n (s ∷ ss) =
+    elim (cases_Bool (eqb s.node n)) [
+      | inl same ↦ rw same (eqb-true s.node n same)
+      | inr other ↦ rw other (spot_in-node n ss)
+    ]
+
+spot_in-put : (n : ℕ) (s : Spot) (m : Spots) → spot_in n (put_row by_node s m) ≡ spot_in n (s ∷ m)
+spot_in-put n s m = spot_in-rows (put_row by_node s m) (s ∷ m) (λ k. row_at-put by_node (k, 0) s m) n
+
+-- the spot of a node after the spot of another, or its own, was put
+put_told : (n k : ℕ) (t m : Spots) → eqb k n ≡ true ⊎ (spot_in n m ≡ spot_in n t) → spot_in n (put_row by_node (spot_in k t) m) ≡ spot_in n t
+put_told n k t m told =
+    spot_in-put n (spot_in k t) m
+    ∙ elim (cases_Bool (eqb k n)) [
+      | inl same ↦ rw (spot_in-node k t, same) (ap (λ j. spot_in j t) (eqb-true k n same))
+      | inr other ↦ rw (spot_in-node k t, other) (from_before told other)
+    ]
+  where
+    from_before : eqb k n ≡ true ⊎ (spot_in n m ≡ spot_in n t) → eqb k n ≡ false → spot_in n m ≡ spot_in n t
+    from_before (inl same) other = absurd (both_ways _ other same)
+    from_before (inr before) other = before
+
+marked : (n : ℕ) (t : Spots) (cs : List Card) (m : Spots) → (spot_in n m ≡ spot_in n t) ⊎ (is_some (card_at n cs) ≡ true) →
+    spot_in n (fold (λ m c. put_row by_node (spot_in c.node t) m) m cs) ≡ spot_in n t
+marked n t [] m (inl told) = told
+marked n t [] m (inr found) = absurd (both_ways _ refl found)
+marked n t (c ∷ cs) m (inl told) = marked n t cs (put_row by_node (spot_in c.node t) m) (inl (put_told n c.node t m (inr told)))
+marked n t (c ∷ cs) m (inr found) =
+    elim (cases_Bool (eqb c.node n)) [
+      | inl same ↦ marked n t cs (put_row by_node (spot_in c.node t) m) (inl (put_told n c.node t m (inl same)))
+      | inr other ↦ marked n t cs (put_row by_node (spot_in c.node t) m) (inr (rw other at found))
+    ]
+
+pub marking_of-spots : (cards : List Card) (t : Spots) → SameSpots cards (marking_of cards t) t
+marking_of-spots cards t n c e = marked n t cards [] (inr (ap is_some e))
+
+-- ---- values before the last position
+
+value-append : (d p next : ℕ) (e : Entry) (es : List (ℕ × Entry)) → p ≤ next → value_below d p (es ++ (next, e) ∷ []) ≡ value_below d p es
+value-append d p next e [] le = rw (le-ltb next p le) refl
+value-append d p next e (x ∷ xs) le =
+    ap (λ v. later_or v (if ltb x.0 p then value_in d (written_by x.1) else None)) (value-append d p next e xs le)
+
+rises-le : (low high : ℕ) (es : List (ℕ × Entry)) → Rises low high es → low ≤ high
+rises-le low high [] h = h
+rises-le low high (e ∷ es) h = let rest = rises-le (e.0 + 1) high es h.1 in omega (arith, h.0, rest)
+
+values_stay : (low next : ℕ) (e : Entry) (all es : List (ℕ × Entry)) → Rises low next es →
+    AllRows (λ x. (d : ℕ) → value_below d x.0 (all ++ (next, e) ∷ []) ≡ value_below d x.0 all) es
+values_stay low next e all [] h = tt
+values_stay low next e all (x ∷ xs) h =
+    let below = rises-le (x.0 + 1) next xs h.1 in
+    ((λ d. value-append d x.0 next e all (omega (arith, below))), values_stay (x.0 + 1) next e all xs h.1)
+
+-- ---- the replay
+
+abbrev pub extended : FlatModel → (ℕ → Option Value) → ℕ × Entry → Outcome → Outcome
+extended f value x (whole t) = if applicable f t value x.1 then whole (after f.cards x.1 t) else fails x.0
+extended f value x (fails p) = fails p
+
+replay_from-append : (f : FlatModel) (v w : ℕ → ℕ → Option Value) (es : List (ℕ × Entry)) (x : ℕ × Entry) (t : Spots) →
+    AllRows (λ e. (d : ℕ) → v d e.0 ≡ w d e.0) es → replay_from f v (es ++ x ∷ []) t ≡ extended f (λ d. v d x.0) x (replay_from f w es t)
+replay_from-append f v w [] x t h = refl
+replay_from-append f v w (e ∷ es) x t h =
+    elim (cases_Bool (applicable f t (λ d. w d e.0) e.1)) [
+      | inl fits ↦ rw (same, fits) (replay_from-append f v w es x (after f.cards e.1 t) h.1)
+      | inr misfits ↦ rw (same, misfits) refl
+    ]
+  where
+    same : applicable f t (λ d. v d e.0) e.1 ≡ applicable f t (λ d. w d e.0) e.1
+    same = ap (λ value. applicable f t value e.1) (λ i d. h.0 d i)
+
+module _ (f : FlatModel) (es : List (ℕ × Entry)) (next : ℕ) (e : Entry) (rises : Rises 1 next es) where
+  -- the values before the entry
+  abbrev values : ℕ → Option Value
+  values d = value_below d next (es ++ (next, e) ∷ [])
+
+  pub replay_of-append : replay_of f (es ++ (next, e) ∷ []) ≡ extended f values (next, e) (replay_of f es)
+  replay_of-append = replay_from-append f _ _ es (next, e) _ (values_stay 1 next e es es rises)
+
+  noted : values ≡ value_noted es (noted_entries es)
+  noted = λ i d. (value-append d next next e es (omega arith) ∙ told d) i
+    where
+      told : (d : ℕ) → value_below d next es ≡ value_noted es (noted_entries es) d
+      told d = subst (λ l. value_below d next l ≡ value_noted l (noted_entries es) d) (append-nil es) (value_before d next next es [] rises (omega arith))
+
+  module _ (rank : List ℕ) (is : IsRank f.cards rank) where
+    -- an entry that is applicable to the marking
+    pub extends_whole : (now : Spots) → replayed.Whole now ≡ answer f.cards (replay_of f es) → applicable f now (value_noted es (noted_entries es)) e ≡ true →
+        replayed.Whole (marking_of f.cards (after f.cards e now)) ≡ answer f.cards (replay_of f (es ++ (next, e) ∷ []))
+    extends_whole now is_whole fits = go (replay_of f es) is_whole ∙ sym (ap (answer f.cards) replay_of-append)
+      where
+        go : (o : Outcome) → replayed.Whole now ≡ answer f.cards o → replayed.Whole (marking_of f.cards (after f.cards e now)) ≡ answer f.cards (extended f values (next, e) o)
+        go (fails p) h = cc
+        go (whole t) h =
+            let now_is : now ≡ marking_of f.cards t = cc in
+            let same : SameSpots f.cards now t = subst (λ m. SameSpots f.cards m t) (sym now_is) (marking_of-spots f.cards t) in
+            let here : applicable f t values e ≡ true = sym (applicable-same f now t same values e) ∙ ap (λ v. applicable f now v e) noted ∙ fits in
+            rw here (ap replayed.Whole (marking_of-same f.cards (after f.cards e now) (after f.cards e t) (after-same f.cards rank is e now t same)))
+
+    -- one that is not
+    pub extends_misfit : (now : Spots) → replayed.Whole now ≡ answer f.cards (replay_of f es) → applicable f now (value_noted es (noted_entries es)) e ≡ false →
+        replayed.Fails next ≡ answer f.cards (replay_of f (es ++ (next, e) ∷ []))
+    extends_misfit now is_whole misfits = go (replay_of f es) is_whole ∙ sym (ap (answer f.cards) replay_of-append)
+      where
+        go : (o : Outcome) → replayed.Whole now ≡ answer f.cards o → replayed.Fails next ≡ answer f.cards (extended f values (next, e) o)
+        go (fails p) h = cc
+        go (whole t) h =
+            let now_is : now ≡ marking_of f.cards t = cc in
+            let same : SameSpots f.cards now t = subst (λ m. SameSpots f.cards m t) (sym now_is) (marking_of-spots f.cards t) in
+            let here : applicable f t values e ≡ false = sym (applicable-same f now t same values e) ∙ ap (λ v. applicable f now v e) noted ∙ misfits in
+            rw here refl
+
+  -- a trail that fails before
+  pub extends_failed : (p : ℕ) → replayed.Fails p ≡ answer f.cards (replay_of f es) → replayed.Fails p ≡ answer f.cards (replay_of f (es ++ (next, e) ∷ []))
+  extends_failed p failed = go (replay_of f es) failed ∙ sym (ap (answer f.cards) replay_of-append)
+    where
+      go : (o : Outcome) → replayed.Fails p ≡ answer f.cards o → replayed.Fails p ≡ answer f.cards (extended f values (next, e) o)
+      go (fails q) h = h
+      go (whole t) h = cc

@@ -1,0 +1,55 @@
+use Rattle.std.proofs.Common.{◌≡◌, true, false, [], ap, sym, ◌∙◌, arith, subst}
+use Rattle.wsm_schema.specs.Replay.{applicable, replay_from}
+use Rattle.wsm_schema.specs.Rules.{settle}
+use Rattle.wsm_schema.specs.Trail.{value_below}
+use Rattle.wsm_trail.specs.LastWrites.{noted_entry}
+use Rattle.wsm_replay.specs.Answer.{answer}
+use Rattle.wsm_replay.specs.SameSpots.{SameSpots}
+use Rattle.wsm_replay.proofs.Before.{values_told, noted_next}
+use Rattle.wsm_replay.proofs.Replays.{replay_from-same, replay_goes_on, replay_stops}
+use Rattle.wsm_replay.proofs.replay.Goals as goal
+
+pub loop-position-init : goal.loop-position-init
+loop-position-init c =
+    let f = c.args.flat.now in
+    let es = c.args.trail.now.trail.entries in
+    let start : SameSpots f.cards c.in_ok-table.table (settle f.cards []) = subst (λ t. SameSpots f.cards c.in_ok-table.table (settle f.cards t)) c.new.ensures c.in_ok-table.ensures in
+    record {
+      rest =
+          replay_from-same f c.args.rank.now c.requires (λ d p. value_below d p es) c.entries-position-items.result.now c.in_ok-table.table (settle f.cards []) start
+          ∙ ap (λ l. answer f.cards (replay_from f (λ d p. value_below d p es) l (settle f.cards []))) c.entries-position-items.ensures.entries;
+      before = c.new-before.ensures;
+    }
+
+pub returns-then-not-applicable : goal.returns-then-not-applicable
+returns-then-not-applicable c =
+    let f = c.args.flat.now in
+    let es = c.args.trail.now.trail.entries in
+    let items = c.entries-position-items.result.now in
+    let i = c.loop-position.position-index in
+    let e = c.loop-position-item.result in
+    let table = c.loop-position.table in
+    let told = values_told es items c.loop-position.before.rows i c.args.trail.now.trail.next e c.entries-position-items.ensures.entries c.entries-position-items.ensures.rises (omega arith) c.loop-position-item.is c.loop-position.invariant.before in
+    let misfits : applicable f table (λ d. value_below d e.0 es) e.1 ≡ false = ap (λ v. applicable f table v e.1) told ∙ sym c.applicable.ensures ∙ c.if-not-applicable.true in
+    ap (answer f.cards) (replay_stops f c.args.rank.now c.requires (λ d p. value_below d p es) items i e table (omega arith) c.loop-position-item.is misfits)
+    ∙ c.loop-position.invariant.rest
+
+pub loop-position-preserved : goal.loop-position-preserved
+loop-position-preserved c =
+    let f = c.args.flat.now in
+    let es = c.args.trail.now.trail.entries in
+    let items = c.entries-position-items.result.now in
+    let i = c.loop-position.position-index in
+    let e = c.loop-position-item.result in
+    let table = c.loop-position.table in
+    let told = values_told es items c.loop-position.before.rows i c.args.trail.now.trail.next e c.entries-position-items.ensures.entries c.entries-position-items.ensures.rises (omega arith) c.loop-position-item.is c.loop-position.invariant.before in
+    let fits : applicable f table (λ d. value_below d e.0 es) e.1 ≡ true = ap (λ v. applicable f table v e.1) told ∙ sym c.applicable.ensures ∙ c.if-not-applicable.false in
+    record {
+      rest =
+          replay_goes_on f c.args.rank.now c.requires (λ d p. value_below d p es) items i e table c.in_ok-table-2.table (omega arith) c.loop-position-item.is fits c.in_ok-table-2.ensures
+          ∙ c.loop-position.invariant.rest;
+      before =
+          c.in_ok-note.ensures
+          ∙ ap (λ m. noted_entry m e) c.loop-position.invariant.before
+          ∙ noted_next items i e (omega arith) c.loop-position-item.is;
+    }

@@ -1,0 +1,7 @@
+use Rattle.std.proofs.Common.{[], drop}
+use Rattle.wsm_schema.specs.Pass.{pass}
+use Rattle.wsm_replay.specs.SameSpots.{SameRows}
+use Rattle.wsm_replay.proofs.settling.passed.Given as goal
+
+abbrev pub invariant-loop-node : goal.invariant-loop-node
+invariant-loop-node l = SameRows (pass l.flat.cards l.old (drop l.node-index l.nodes) l.done) (pass l.flat.cards l.old l.nodes [])

@@ -1,0 +1,75 @@
+//! The replay of a trail on a schema, which gives a case its marking.
+#![tactic(auto)]
+
+mod extending;
+mod fits;
+mod settling;
+mod spots;
+
+ghost use Rattle.std.specs.Prelude.{◌≡◌, IfOk, OnOk};
+ghost use Rattle.wsm_schema.specs.Rank.{IsRank};
+ghost use Rattle.wsm_schema.specs.Replay.{after, replay_of};
+ghost use Rattle.wsm_schema.specs.Rules.{marking_of};
+ghost use Rattle.wsm_trail.specs.LastWrites.{noted_entry};
+ghost use Rattle.wsm_replay.specs.Answer.{answer};
+
+use crate::fits::applicable;
+use crate::settling::{after, settled};
+use crate::spots::marking;
+pub use extending::extend;
+pub use fits::fits_choice;
+pub use spots::spot_in;
+use std::alloc::Global;
+use wsm_schema::{Entry, Flat, Marking, NoMemory, Rank};
+use wsm_trail::{LastWrites, Trail, written_by};
+
+/// The marking after all entries, or the position of the first entry that is not applicable.
+#[derive(Drop)]
+pub enum Replayed {
+    Whole(Marking),
+    Fails { position: u32 },
+}
+
+/// The replay of the trail from the initial marking on, by one pass in rank order after each entry.
+pub fn replay(alloc: Global, flat: &Flat, rank: &Rank, trail: &Trail) -> Result<Replayed, NoMemory>
+    requires { IsRank flat.now.cards rank.now }
+    ensures { IfOk result (λ r. r ≡ answer flat.now.cards (replay_of flat.now trail.now.trail.entries)) }
+{
+    let mut table = settled(alloc, flat, rank, &Marking::new(alloc))?;
+    let mut before = LastWrites::new(alloc);
+    for (position, entry) in trail.entries() {
+        if !applicable(flat, &table, trail, &before, entry) {
+            return Ok(Replayed::Fails {
+                position: *position,
+            });
+        }
+        table = after(alloc, flat, rank, &table, entry)?;
+        note(&mut before, *position, entry)?;
+    }
+    Ok(Replayed::Whole(marking(alloc, flat, &table)?))
+}
+
+/// The marking after one more entry, which is applicable, where `now` is the marking before it. So a replay need not begin anew.
+pub fn advance(
+    alloc: Global,
+    flat: &Flat,
+    rank: &Rank,
+    now: &Marking,
+    entry: &Entry,
+) -> Result<Marking, NoMemory>
+    requires { IsRank flat.now.cards rank.now }
+    ensures { IfOk result (λ new. new ≡ marking_of flat.now.cards (after flat.now.cards entry.now now.now)) }
+{
+    let table = after(alloc, flat, rank, now, entry)?;
+    marking(alloc, flat, &table)
+}
+
+// The last writes after that entry.
+fn note(before: &mut LastWrites, position: u32, entry: &Entry) -> Result<(), NoMemory>
+    ensures { OnOk result (before.new.rows ≡ noted_entry before.old.rows (position, entry.now)) }
+{
+    let writes = written_by(entry);
+    before.reserve(writes.len())?;
+    before.note(position, writes);
+    Ok(())
+}

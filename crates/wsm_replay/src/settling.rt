@@ -1,0 +1,144 @@
+// The settled net, by one pass in the order of a rank.
+ghost use Rattle.std.specs.Prelude.{◌≡◌, [], IfOk, OnOk, map, None};
+ghost use Rattle.wsm_schema.specs.Flat.{card_at};
+ghost use Rattle.wsm_schema.specs.Pass.{pass, ruled_from, ruled_if};
+ghost use Rattle.wsm_schema.specs.Rank.{IsRank};
+ghost use Rattle.wsm_schema.specs.Replay.{after};
+ghost use Rattle.wsm_schema.specs.Rules.{spot_in, source_signal, signal_from, sync_from, verdict_at, settle};
+ghost use Rattle.wsm_replay.specs.SameSpots.{SameSpots, SameRows};
+
+use crate::spots::{spot_in, spot_of};
+use std::alloc::Global;
+use wsm_rules::{Flow, Marking, Spot, Verdict, is_begun, judge, signal, state_by};
+use wsm_schema::{Card, Entry, Flat, NoMemory, Rank};
+
+/// The spots of the nodes after an entry.
+pub fn after(
+    alloc: Global,
+    flat: &Flat,
+    rank: &Rank,
+    table: &Marking,
+    entry: &Entry,
+) -> Result<Marking, NoMemory>
+    requires { IsRank flat.now.cards rank.now }
+    ensures { IfOk result (λ new. SameSpots flat.now.cards new (after flat.now.cards entry.now table.now)) }
+{
+    let mut old = table.copy(alloc)?;
+    match spot_of(entry) {
+        None => Ok(old),
+        Some(spot) => {
+            old.set(spot)?;
+            settled(alloc, flat, rank, &old)
+        }
+    }
+}
+
+/// The spots of the nodes, settled from those of `old`.
+pub fn settled(alloc: Global, flat: &Flat, rank: &Rank, old: &Marking) -> Result<Marking, NoMemory>
+    requires { IsRank flat.now.cards rank.now }
+    ensures { IfOk result (λ new. SameSpots flat.now.cards new (settle flat.now.cards old.now)) }
+{
+    passed(alloc, flat, rank.nodes(), old)
+}
+
+// The node rule at these nodes, one after another.
+fn passed(alloc: Global, flat: &Flat, nodes: &[u32], old: &Marking) -> Result<Marking, NoMemory>
+    ensures { IfOk result (λ new. SameRows new (pass flat.now.cards old.now nodes.now [])) }
+{
+    let mut done = Marking::new(alloc);
+    for node in nodes {
+        put_ruled(alloc, flat, old, &mut done, *node)?;
+    }
+    Ok(done)
+}
+
+// The node rule at one node more.
+fn put_ruled(
+    alloc: Global,
+    flat: &Flat,
+    old: &Marking,
+    done: &mut Marking,
+    node: u32,
+) -> Result<(), NoMemory>
+    ensures { OnOk result (SameRows done.new (ruled_if flat.now.cards old.now done.old (card_at node flat.now.cards))) }
+{
+    match flat.card(node) {
+        None => Ok(()),
+        Some(card) => {
+            let spot = ruled(alloc, flat, old, done, card)?;
+            done.put(spot)?;
+            Ok(())
+        }
+    }
+}
+
+// The node rule at a card, where `old` says which nodes were begun, and `done` what the earlier nodes are.
+fn ruled(
+    alloc: Global,
+    flat: &Flat,
+    old: &Marking,
+    done: &Marking,
+    card: &Card,
+) -> Result<Spot, NoMemory>
+    ensures { IfOk result (λ spot. spot ≡ ruled_from flat.now.cards old.now done.now card.now) }
+{
+    let was = spot_in(old, card.node);
+    if is_begun(card.kind, was.state) {
+        return Ok(was);
+    }
+    let verdict = verdict_at(alloc, flat, done, card)?;
+    Ok(Spot {
+        node: card.node,
+        state: state_by(card.kind, verdict),
+        choice: None,
+    })
+}
+
+fn verdict_at(alloc: Global, flat: &Flat, table: &Marking, card: &Card) -> Result<Verdict, NoMemory>
+    ensures { IfOk result (λ verdict. verdict ≡ verdict_at flat.now.cards table.now card.now) }
+{
+    let control = control_signals(alloc, flat, table, card)?;
+    let syncs = sync_signals(alloc, flat, table, card)?;
+    Ok(judge(card, &control, &syncs))
+}
+
+fn control_signals(
+    alloc: Global,
+    flat: &Flat,
+    table: &Marking,
+    card: &Card,
+) -> Result<Vec<Option<Flow>>, NoMemory>
+    ensures { IfOk result (λ new. new.items ≡ map (signal_from flat.now.cards table.now) card.now.ins) }
+{
+    card.ins
+        .iter()
+        .map(|end| signal_from(flat, table, end.node, end.label))
+        .collect(alloc)
+}
+
+fn sync_signals(
+    alloc: Global,
+    flat: &Flat,
+    table: &Marking,
+    card: &Card,
+) -> Result<Vec<Option<Flow>>, NoMemory>
+    ensures { IfOk result (λ new. new.items ≡ map (sync_from flat.now.cards table.now) card.now.syncs_in) }
+{
+    card.syncs_in
+        .iter()
+        .map(|node| signal_from(flat, table, *node, None))
+        .collect(alloc)
+}
+
+// What an edge from that node signals.
+fn signal_from(flat: &Flat, table: &Marking, node: u32, label: Option<u16>) -> Option<Flow>
+    ensures { result ≡ source_signal (card_at node flat.now.cards) (spot_in node table.now) label }
+{
+    match flat.card(node) {
+        None => None,
+        Some(card) => {
+            let spot = spot_in(table, node);
+            signal(card, spot.state, spot.choice, label)
+        }
+    }
+}

@@ -1,0 +1,13 @@
+-- Document order as a rank.
+use Rattle.std.proofs.Common.{[], ◌∷◌, refl}
+use Rattle.wsm_schema.specs.Flat.{cards_of}
+use Rattle.wsm_schema.specs.Places.{places}
+use Rattle.wsm_schema.specs.Rank.{IsRank}
+use Rattle.wsm_schema.proofs.DocumentOrder.{places-after, cards-behind, document-order}
+use Rattle.wsm_schema.proofs.ExampleSchemas.{skip}
+
+-- the nodes of a choice, from the start to the finish
+pub a_rank : IsRank (cards_of skip) (0 ∷ 2 ∷ 4 ∷ 3 ∷ 5 ∷ 1 ∷ [])
+a_rank =
+    document-order (cards_of skip) refl
+    (cards-behind skip [] (places skip.start skip.body skip.finish) (places-after skip.start skip.body skip.finish) (tt, (tt, (tt, (tt, (tt, (tt, tt)))))))

@@ -1,0 +1,11 @@
+use Rattle.std.proofs.Common.{rules, of_calls}
+use Rattle.std.proofs.Math.Dec.{leb}
+use Rattle.std.proofs.lemmas.List.Sorted.{IsPartitionPoint-from_clause, IsPartitionedBy-leb}
+use Rattle.wsm_schema.proofs.Runs.{end-from_tests}
+use Rattle.wsm_schema.proofs.groups.end_of.Goals as goal
+
+pub returns-clause-place : goal.returns-clause-place
+returns-clause-place g c =
+    end-from_tests c.args.number c.args.rows.now _
+    (IsPartitionPoint-from_clause (λ r. leb r.0 c.args.number) _ _ c.partition_point.ensures.partitioned
+    (IsPartitionedBy-leb (λ r. r.0) c.args.rows.now c.args.number c.requires) (λ a r f h. search (rules, of_calls)))

@@ -1,0 +1,10 @@
+use Rattle.std.proofs.Common.{rules, of_calls, ltb}
+use Rattle.std.proofs.lemmas.List.Sorted.{IsPartitionPoint-from_clause, IsPartitionedBy-ltb}
+use Rattle.wsm_schema.proofs.Runs.{start-from_tests}
+use Rattle.wsm_schema.proofs.groups.start_of.Goals as goal
+
+pub returns-clause-place : goal.returns-clause-place
+returns-clause-place g c =
+    start-from_tests c.args.number c.args.rows.now _
+    (IsPartitionPoint-from_clause (λ r. ltb r.0 c.args.number) _ _ c.partition_point.ensures.partitioned
+    (IsPartitionedBy-ltb (λ r. r.0) c.args.rows.now c.args.number c.requires) (λ a r f h. search (rules, of_calls)))

@@ -1,0 +1,28 @@
+-- Rows grouped by their first number.
+use Rattle.std.specs.Prelude.{◌≡◌, ℕ, ◌+◌, ◌<◌, ◌≤◌, List, [], ◌∷◌, map, filter, ◌==◌}
+use Rattle.std.specs.List.Sorted.{IsPartitionPoint}
+use Rattle.wsm_schema.specs.declared.cards.Card.{Card}
+
+-- the rows of one number
+abbrev pub rows_with : {A : Type 0} → ℕ → List (ℕ × A) → List (ℕ × A)
+rows_with number rows = filter (λ r. r.0 == number) rows
+
+-- two lists with the same rows of each number, in the same order
+pub record SameGroups {A : Type 0} (xs ys : List (ℕ × A)) : Type 0 where
+  pub same : (number : ℕ) → rows_with number ys ≡ rows_with number xs
+
+-- edges from their targets back to their sources
+abbrev pub reversed : List (ℕ × ℕ) → List (ℕ × ℕ)
+reversed edges = map (λ e. (e.1, e.0)) edges
+
+-- the nodes of cards with the cards' places in the list, from a place on
+abbrev pub numbered : ℕ → List Card → List (ℕ × ℕ)
+numbered place [] = []
+numbered place (c ∷ cs) = (c.node, place) ∷ numbered (place + 1) cs
+
+-- where the rows below a number end, and where those up to it end
+abbrev pub IsStart : {A : Type 0} → ℕ → List (ℕ × A) → ℕ → Type 0
+IsStart {A} number = IsPartitionPoint (λ (r : ℕ × A). r.0 < number) (λ (r : ℕ × A). number ≤ r.0)
+
+abbrev pub IsEnd : {A : Type 0} → ℕ → List (ℕ × A) → ℕ → Type 0
+IsEnd {A} number = IsPartitionPoint (λ (r : ℕ × A). r.0 ≤ number) (λ (r : ℕ × A). number < r.0)

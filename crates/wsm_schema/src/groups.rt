@@ -1,0 +1,77 @@
+// Rows grouped by a number.
+ghost use Rattle.std.specs.Prelude.{◌≡◌, ◌≤◌, length, slice_get, IfOk};
+ghost use Rattle.std.specs.Option.{option_copied};
+ghost use Rattle.std.specs.List.Sorted.{IsNonDecreasingBy};
+ghost use Rattle.wsm_schema.specs.Groups.{rows_with, SameGroups, IsStart, IsEnd};
+
+use std::marker::Model;
+use wsm_lists::NoMemory;
+
+/// Rows in the order of their first numbers, found by binary search.
+#[derive(Drop)]
+pub struct Groups<T: Drop> {
+    rows: Vec<(u32, T)>,
+}
+
+impl<T: Drop> Model for Groups<T> {
+    ghost use Rattle.std.specs.Prelude.{ℕ, List};
+    ghost use Rattle.std.specs.List.Sorted.{IsNonDecreasingBy};
+
+    ghost Value = { List (ℕ × T) };
+
+    ghost view = { λ a. a.rows.items };
+
+    ghost invariant = { λ a. IsNonDecreasingBy (λ r. r.0) a.rows.items };
+}
+
+impl<T: Drop> Groups<T> {
+    /// These rows, where those of one number stay in their order.
+    pub fn of(mut rows: Vec<(u32, T)>) -> Result<Self, NoMemory>
+        ensures { IfOk result (λ new. SameGroups rows.items new) }
+    {
+        rows.sort_by_key(|row| row.0)?;
+        Ok(Groups { rows })
+    }
+
+    /// The rows of a number.
+    pub fn rows_with(&self, number: u32) -> &[(u32, T)]
+        ensures { result.now ≡ rows_with number self.now }
+    {
+        run_of(&self.rows, number)
+    }
+
+    /// The first row of a number.
+    pub fn first_with(&self, number: u32) -> Option<&(u32, T)>
+        ensures { option_copied result ≡ slice_get (rows_with number self.now) 0 }
+    {
+        self.rows_with(number).first()
+    }
+}
+
+// The rows of a number.
+fn run_of<T>(rows: &[(u32, T)], number: u32) -> &[(u32, T)]
+    requires { IsNonDecreasingBy (λ r. r.0) rows.now }
+    ensures { result.now ≡ rows_with number rows.now }
+{
+    let from = start_of(rows, number);
+    let to = end_of(rows, number);
+    &rows[from..to]
+}
+
+// Where the rows of smaller numbers end, by a binary search.
+fn start_of<T>(rows: &[(u32, T)], number: u32) -> usize
+    requires { IsNonDecreasingBy (λ r. r.0) rows.now }
+    ensures bound { result ≤ length rows.now }
+    ensures place { IsStart number rows.now result }
+{
+    rows.partition_point(|row| row.0 < number)
+}
+
+// Where the rows of this number and of smaller ones end, by a binary search.
+fn end_of<T>(rows: &[(u32, T)], number: u32) -> usize
+    requires { IsNonDecreasingBy (λ r. r.0) rows.now }
+    ensures bound { result ≤ length rows.now }
+    ensures place { IsEnd number rows.now result }
+{
+    rows.partition_point(|row| row.0 <= number)
+}

@@ -1,0 +1,29 @@
+-- The entry at a position, and what it wrote.
+use Rattle.std.specs.Prelude.{ℕ, List, Option, Some, None, option_map}
+use Rattle.wsm_lists.specs.Keys.{first}
+use Rattle.wsm_lists.specs.Rows.{row_at}
+use Rattle.wsm_lists.specs.Values.{value_in}
+use Rattle.wsm_lists.specs.declared.values.Value.{Value}
+use Rattle.wsm_schema.specs.Trail.{written_by}
+use Rattle.wsm_schema.specs.declared.entries.Entry.{Entry}
+
+-- what the row of a number holds
+abbrev pub item_at : {A : Type 0} → ℕ → List (ℕ × A) → Option A
+item_at number rows = option_map (λ r. r.1) (row_at first (number, 0) rows)
+
+abbrev pub entry_at : ℕ → List (ℕ × Entry) → Option Entry
+entry_at position entries = item_at position entries
+
+-- what an entry wrote to an element
+abbrev pub written_to : ℕ → Option Entry → Option Value
+written_to element None = None
+written_to element (Some e) = value_in element (written_by e)
+
+-- the entry at a position, where there is one
+abbrev pub entry_of : List (ℕ × Entry) → Option ℕ → Option Entry
+entry_of entries None = None
+entry_of entries (Some position) = entry_at position entries
+
+-- the value of an element, where `rows` tell the position of its last write
+abbrev pub value_noted : List (ℕ × Entry) → List (ℕ × ℕ) → ℕ → Option Value
+value_noted entries rows element = written_to element (entry_of entries (item_at element rows))

@@ -1,0 +1,4 @@
+pub mod TrailWithRoom
+pub mod EntryAt
+pub mod Cuts
+pub mod LastWrites

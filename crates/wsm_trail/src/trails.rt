@@ -1,0 +1,233 @@
+// Trails.
+ghost use Rattle.std.specs.Prelude.{◌≡◌, ◌+◌, ◌<◌, ◌≤◌, ◌^◌, ℕ, [], ◌++◌, ◌↔◌, IsTrue, length, OnOk, IfOk, Some, None, if◌then◌else◌};
+ghost use Rattle.std.specs.Option.{option_copied};
+ghost use Rattle.wsm_lists.specs.Keys.{first};
+ghost use Rattle.wsm_lists.specs.Rows.{Ascends};
+ghost use Rattle.wsm_lists.specs.Values.{value_in};
+ghost use Rattle.wsm_schema.specs.Trail.{no_trail, pushed, value_below, cut_by, cut_entry, written_by};
+ghost use Rattle.wsm_trail.specs.EntryAt.{entry_at, written_to};
+ghost use Rattle.wsm_trail.specs.LastWrites.{noted_entries, write_of};
+ghost use Rattle.wsm_trail.specs.TrailWithRoom.{Rises};
+
+use crate::cuts::cut_entry;
+use crate::last_writes::LastWrites;
+use crate::lookups::find;
+use std::alloc::Global;
+use std::marker::Model;
+use wsm_schema::{Entry, NoMemory, Nodes, Value, Writes};
+
+/// Entries at rising positions from 1 on, and the position that comes next.
+#[derive(Drop)]
+pub struct Trail {
+    entries: Vec<(u32, Entry)>,
+    next: u32,
+    last_writes: LastWrites,
+}
+
+impl Model for Trail {
+    ghost use Rattle.std.specs.Prelude.{◌≡◌, ◌-◌, vec_len, vec_capacity};
+    ghost use Rattle.wsm_trail.specs.LastWrites.{noted_entries};
+    ghost use Rattle.wsm_trail.specs.TrailWithRoom.{TrailWithRoom, Rises};
+
+    ghost Value = { TrailWithRoom };
+
+    ghost view = { λ a. record { trail = record { entries = a.entries.items; next = a.next }; spare = vec_capacity a.entries - vec_len a.entries; spare_writes = a.last_writes.spare } };
+
+    ghost invariant = { λ a. Rises 1 a.next a.entries.items × (a.last_writes.rows ≡ noted_entries a.entries.items) };
+}
+
+impl Trail {
+    /// The trail without entries, whose next position is 1.
+    pub fn new(alloc: Global) -> Trail
+        ensures { result.trail ≡ no_trail }
+    {
+        Trail {
+            entries: Vec::new(alloc),
+            next: 1,
+            last_writes: LastWrites::new(alloc),
+        }
+    }
+
+    /// The number of entries.
+    pub fn len(&self) -> usize
+        ensures { result ≡ length self.now.trail.entries }
+    {
+        self.entries.len()
+    }
+
+    /// Whether there are no entries.
+    pub fn is_empty(&self) -> bool
+        ensures { IsTrue result ↔ (self.now.trail.entries ≡ []) }
+    {
+        self.entries.is_empty()
+    }
+
+    /// The position of the entry that is pushed next, above those of all entries.
+    pub fn next(&self) -> u32
+        ensures next { result ≡ self.now.trail.next }
+        ensures rises { Rises 1 result self.now.trail.entries }
+    {
+        self.next
+    }
+
+    /// All entries, each with its position.
+    pub fn entries(&self) -> &[(u32, Entry)]
+        ensures entries { result.now ≡ self.now.trail.entries }
+        ensures rises { Rises 1 self.now.trail.next result.now }
+    {
+        &self.entries
+    }
+
+    /// The entry at that position, by a binary search.
+    pub fn entry(&self, position: u32) -> Option<&Entry>
+        ensures { option_copied result ≡ entry_at position self.now.trail.entries }
+    {
+        find(&self.entries, position)
+    }
+
+    /// The value of the element's last write, by two binary searches.
+    pub fn value(&self, element: u32) -> Option<&Value>
+        ensures { option_copied result ≡ value_below element self.now.trail.next self.now.trail.entries }
+    {
+        match self.last_writes.position(element) {
+            Some(position) => self.written_at(position, element),
+            None => None,
+        }
+    }
+
+    // What the entry at that position wrote to the element.
+    fn written_at(&self, position: u32, element: u32) -> Option<&Value>
+        ensures { option_copied result ≡ written_to element (entry_at position self.now.trail.entries) }
+    {
+        match self.entry(position) {
+            Some(entry) => entry.written(element),
+            None => None,
+        }
+    }
+
+    /// The value of the last write of each element that was written.
+    pub fn values(&self, alloc: Global) -> Result<Writes, NoMemory>
+        ensures ascends { IfOk result (Ascends first) }
+        ensures values { IfOk result (λ values. (element : ℕ) → value_in element values ≡ value_below element self.now.trail.next self.now.trail.entries) }
+    {
+        let mut values = Vec::new(alloc);
+        for row in self.last_writes.as_slice() {
+            put_write(alloc, &mut values, row.0, self.written_at(row.1, row.0))?;
+        }
+        Ok(Writes::from_vec(values))
+    }
+
+    /// Where each element was written last.
+    pub fn last_writes(&self) -> &LastWrites
+        ensures { result.now.rows ≡ noted_entries self.now.trail.entries }
+    {
+        &self.last_writes
+    }
+
+    /// An equal trail, without further room.
+    pub fn copy(&self, alloc: Global) -> Result<Trail, NoMemory>
+        ensures { IfOk result (λ new. new.trail ≡ self.now.trail) }
+    {
+        Ok(Trail {
+            entries: copy_entries(alloc, &self.entries)?,
+            next: self.next,
+            last_writes: self.last_writes.copy(alloc)?,
+        })
+    }
+
+    /// Room for so many more entries.
+    pub fn reserve(&mut self, more: usize) -> Result<(), NoMemory>
+        ensures same { self.new.trail ≡ self.old.trail }
+        ensures room { OnOk result (more ≤ self.new.spare) }
+        ensures kept { self.old.spare ≤ self.new.spare }
+        ensures kept_writes { self.new.spare_writes ≡ self.old.spare_writes }
+    {
+        self.entries.try_reserve(more)
+    }
+
+    /// Room for so many more writes in entries to come.
+    pub fn reserve_writes(&mut self, more: usize) -> Result<(), NoMemory>
+        ensures same { self.new.trail ≡ self.old.trail }
+        ensures room { OnOk result (more ≤ self.new.spare_writes) }
+        ensures kept { self.new.spare ≡ self.old.spare }
+        ensures kept_writes { self.old.spare_writes ≤ self.new.spare_writes }
+    {
+        self.last_writes.reserve(more)
+    }
+
+    /// Room for this entry, the next one.
+    pub fn reserve_for(&mut self, entry: &Entry) -> Result<(), NoMemory>
+        ensures same { self.new.trail ≡ self.old.trail }
+        ensures room { OnOk result (0 < self.new.spare) }
+        ensures room_for_writes { OnOk result (length (written_by entry.now) ≤ self.new.spare_writes) }
+    {
+        self.reserve(1)?;
+        self.reserve_writes(written_by(entry).len())
+    }
+
+    /// One more entry, at the next position. Takes no memory.
+    pub fn push(&mut self, entry: Entry)
+        requires room { 0 < self.old.spare }
+        requires room_for_writes { length (written_by entry) ≤ self.old.spare_writes }
+        requires position { self.old.trail.next + 1 < 2 ^ 32 }
+        ensures trail { self.new.trail ≡ pushed entry self.old.trail }
+        ensures spare { self.new.spare + 1 ≡ self.old.spare }
+        ensures spare_writes { self.old.spare_writes ≤ self.new.spare_writes + length (written_by entry) }
+    {
+        let position = self.next;
+        self.last_writes.note(position, written_by(&entry));
+        self.entries.push_reserved((position, entry));
+        self.next = position + 1;
+    }
+
+    /// The trail without what was started and ended in a loop with these nodes: of that only the writes stay, at their positions. Takes no memory.
+    pub fn cut(&mut self, body: &Nodes)
+        ensures trail { self.new.trail ≡ cut_by body.now self.old.trail }
+        ensures spare { self.old.spare ≤ self.new.spare }
+        ensures spare_writes { self.new.spare_writes ≡ self.old.spare_writes }
+    {
+        let alloc = *self.entries.allocator();
+        let nodes = body.as_slice();
+        let stays = |row: &mut (u32, Entry)| -> bool
+            ensures { cut_entry nodes.entry.now row.entry.now.0 row.entry.now.1 ≡ (if result then Some row.exit.now else None) }
+        { cut_entry(alloc, &mut row.1, nodes) };
+        self.entries.retain_mut(stays);
+    }
+}
+
+// One more write, where there is a value.
+fn put_write(
+    alloc: Global,
+    writes: &mut Vec<(u32, Value)>,
+    element: u32,
+    value: Option<&Value>,
+) -> Result<(), NoMemory>
+    ensures { OnOk result (writes.new.items ≡ writes.old.items ++ write_of element (option_copied value.entry)) }
+{
+    if let Some(value) = value {
+        writes.push((element, value.copy(alloc)?))?;
+    }
+    Ok(())
+}
+
+/// What the entry wrote.
+pub fn written_by(entry: &Entry) -> &[(u32, Value)]
+    ensures { result.now ≡ written_by entry.now }
+{
+    match entry {
+        Entry::Start { .. } => &[],
+        Entry::End { writes, .. } => writes.as_slice(),
+        Entry::Again { writes, .. } => writes.as_slice(),
+        Entry::Wrote { writes } => writes.as_slice(),
+    }
+}
+
+fn copy_entries(alloc: Global, entries: &[(u32, Entry)]) -> Result<Vec<(u32, Entry)>, NoMemory>
+    ensures { IfOk result (λ new. new.items ≡ entries.now) }
+{
+    let mut copies = Vec::new(alloc);
+    for row in entries {
+        copies.push((row.0, row.1.copy(alloc)?))?;
+    }
+    Ok(copies)
+}
