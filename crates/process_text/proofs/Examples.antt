@@ -1,10 +1,9 @@
 -- Files and refusals, computed from the definitions alone.
-use Rattle.std.specs.Prelude.{◌≡◌, ℕ, List, [], ◌∷◌, ◌++◌, Option, Some, None, refl, codes, map}
+use Rattle.std.specs.Prelude.{◌≡◌, ℕ, [], ◌∷◌, ◌++◌, Some, None, refl, codes}
 use Rattle.wsm_schema.specs.SchemaModel.{plain}
 use Rattle.wsm_schema.specs.Tree as tree
 use Rattle.process_text.specs.Lines.{Bytes, words_of}
 use Rattle.process_text.specs.Meaning.{file}
-use Rattle.process_text.specs.declared.files.File.{File}
 use Rattle.process_text.specs.declared.files.Line.{Line}
 use Rattle.process_text.specs.declared.files.Act.{Act}
 use Rattle.process_text.specs.declared.files.Act.TheVariants as act

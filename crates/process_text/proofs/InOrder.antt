@@ -1,8 +1,8 @@
--- In the schema of a file the document order is a rank: its nodes are distinct, and it has no sync edges.
-use Rattle.std.proofs.Common.{◌≡◌, ℕ, suc, ◌+◌, ◌<◌, ◌≤◌, Bool, true, false, List, [], ◌∷◌, ◌++◌, map, length, refl, ap, sym, ◌∙◌, subst, inl, inr, arith, Option, Some, None, IfSome, length-append, eqb}
-use Rattle.std.proofs.lemmas.Bool.{cases_Bool, eqb-true}
-use Rattle.std.specs.Prelude.{if◌then◌else◌, is_some}
-use Rattle.wsm_lists.specs.Rows.{AllRows}
+-- What holds of each file: the document order of its schema is a rank, since its nodes are distinct and it has no sync edges,
+-- and it has no more lines than a phase may have.
+use Rattle.std.proofs.Common.{◌≡◌, ℕ, suc, ◌+◌, ◌<◌, ◌≤◌, Bool, true, false, List, [], ◌∷◌, ◌++◌, map, length, refl, ap, sym, subst, inl, inr, arith, Option, Some, None, IfSome, length-append, eqb}
+use Rattle.std.proofs.lemmas.Bool.{cases_Bool, eqb-true, ltb-true, and_parts}
+use Rattle.std.specs.Prelude.{if◌then◌else◌, is_some, ◌&&◌, nat_lt}
 use Rattle.wsm_schema.specs.Tree.{Part, act, parts}
 use Rattle.wsm_schema.specs.SchemaModel.{SchemaModel, plain}
 use Rattle.wsm_schema.specs.Trail.{is_one_of}
@@ -15,11 +15,13 @@ use Rattle.wsm_schema.specs.declared.places.Place.{Place as SchemaPlace}
 use Rattle.wsm_schema.proofs.DocumentOrder.{places-after, cards-behind, SyncsBehind, document-order}
 use Rattle.wsm_sound.specs.Ordered.{IsInOrder}
 use Rattle.process_text.specs.Lines.{Bytes, lines_of, words_of}
-use Rattle.process_text.specs.Names.{noted}
+use Rattle.process_text.specs.Names.{noted, number_of}
 use Rattle.process_text.specs.Forms.{Declaration, a_type, an_actor, a_case, a_phase, TypeLine, activity, type_end, Deed, to_create, to_start, to_end, ScriptLine, ◌>>=◌, is_header, declaration_line, type_line, script_line}
-use Rattle.process_text.specs.Meaning.{no_contents, opening, outside, no_items, is_kind, is_its, declared, typed, with_line, done, scripted, step_in, step, read_lines, file_of, finished_in, finished, file_at_end, file}
+use Rattle.process_text.specs.Meaning.{opening, outside, no_items, is_its, declared, typed, with_line, done, scripted, step_in, step, read_lines, file_of, finished_in, file_at_end, file}
 use Rattle.process_text.specs.declared.files.File.{File}
 use Rattle.process_text.specs.declared.files.TypeDecl.{TypeDecl}
+use Rattle.process_text.specs.declared.files.Act.{Act}
+use Rattle.process_text.specs.declared.files.Act.TheVariants as act_line
 use Rattle.process_text.specs.declared.states.State.{State}
 use Rattle.process_text.specs.declared.states.Contents.{Contents}
 use Rattle.process_text.specs.declared.states.Draft.{Draft}
@@ -58,7 +60,7 @@ distinct s n [] from ins outs seen big acts below finish = rw finish refl
 distinct s n (p ∷ ps) from ins outs seen big acts below finish =
     subst (λ (q : Part). twice seen (nodes_of (map (card_of s) (parts_places (parts (q ∷ ps)) from 1 ++ place 1 Finish None ins outs ∷ []))) ≡ None) (sym acts.0)
     (rw (not_among n seen below)
-        (distinct s (suc n) ps (plain_end n) ins outs (n ∷ seen) (omega arith) acts.1 (omega arith, below_more n seen below) (not_finish n seen big finish)))
+    (distinct s (suc n) ps (plain_end n) ins outs (n ∷ seen) (omega arith) acts.1 (omega arith, below_more n seen below) (not_finish n seen big finish)))
   where
     not_finish : (n : ℕ) (seen : List ℕ) → 1 < n → is_one_of 1 seen ≡ false → is_one_of 1 (n ∷ seen) ≡ false
     not_finish n seen big finish =
@@ -87,58 +89,74 @@ abbrev InOrderOr : Option TypeDecl → List Bytes → Type 0
 InOrderOr None nodes = length nodes ≡ 2
 InOrderOr (Some kind) nodes = IsInOrder kind.schema
 
-abbrev Right : Place → Contents → Type 0
-Right Head c = InOrderOr c.kind c.nodes
-Right Outside c = InOrderOr c.kind c.nodes
-Right (InType d) c = (length c.nodes ≡ 2 + length d.items) × ActsFrom 2 d.items
-Right InPhase c = InOrderKind c.kind
+abbrev HasOrder : Place → Contents → Type 0
+HasOrder Head c = InOrderOr c.kind c.nodes
+HasOrder Outside c = InOrderOr c.kind c.nodes
+HasOrder (InType d) c = (length c.nodes ≡ 2 + length d.items) × ActsFrom 2 d.items
+HasOrder InPhase c = InOrderKind c.kind
+
+record IsRight (p : Place) (c : Contents) : Type 0 where
+  order : HasOrder p c
+  within : length c.lines ≤ 60000
 
 abbrev RightState : State → Type 0
-RightState s = Right s.place s.contents
+RightState s = IsRight s.place s.contents
 
 bind-right : {A B : Type 0} (P : B → Type 0) (o : Option A) (f : A → Option B) → ((a : A) → IfSome (f a) P) → IfSome (o >>= f) P
 bind-right P None f h = tt
 bind-right P (Some a) f h = h a
 
-if-right : {A : Type 0} (P : A → Type 0) (test : Bool) (a : A) → P a → IfSome (if test then Some a else None) P
-if-right P true a h = h
+if-right : {A : Type 0} (P : A → Type 0) (test : Bool) (a : A) → (test ≡ true → P a) → IfSome (if test then Some a else None) P
+if-right P true a h = h refl
 if-right P false a h = tt
 
-type-right : (name : Bytes) (c : Contents) (kind : Option TypeDecl) → InOrderOr kind c.nodes →
+type-right : (name : Bytes) (c : Contents) (kind : Option TypeDecl) → InOrderOr kind c.nodes → length c.lines ≤ 60000 →
     IfSome (if is_some kind then None else Some (record { place = InType (no_items name); contents = c })) RightState
-type-right name c None h = (h, tt)
-type-right name c (Some kind) h = tt
+type-right name c None order within = record { order = (order, tt); within = within }
+type-right name c (Some kind) order within = tt
 
 kind-right : (kind : Option TypeDecl) (nodes : List Bytes) → InOrderOr kind nodes → InOrderKind kind
 kind-right None nodes h = tt
 kind-right (Some kind) nodes h = h
 
-declared-right : (d : Declaration) (c : Contents) → Right Outside c → IfSome (declared d c) RightState
-declared-right (a_type name) c h = type-right name c c.kind h
-declared-right (an_actor name) c h = if-right RightState _ (outside (record c { actor = Some name })) h
-declared-right (a_case name kind) c h = if-right RightState _ (outside (record c { case = Some name })) h
-declared-right a_phase c h = if-right RightState _ (record { place = InPhase; contents = c }) (kind-right c.kind c.nodes h)
+declared-right : (d : Declaration) (c : Contents) → IsRight Outside c → IfSome (declared d c) RightState
+declared-right (a_type name) c h = type-right name c c.kind h.order h.within
+declared-right (an_actor name) c h = if-right RightState _ (outside (record c { actor = Some name })) (λ _. record { order = h.order; within = h.within })
+declared-right (a_case name kind) c h = if-right RightState _ (outside (record c { case = Some name })) (λ _. record { order = h.order; within = h.within })
+declared-right a_phase c h =
+    if-right RightState _ (record { place = InPhase; contents = c }) (λ _. record { order = kind-right c.kind c.nodes h.order; within = h.within })
 
-typed-right : (l : TypeLine) (d : Draft) (c : Contents) → Right (InType d) c → IfSome (typed l d c) RightState
+typed-right : (l : TypeLine) (d : Draft) (c : Contents) → IsRight (InType d) c → IfSome (typed l d c) RightState
 typed-right (activity node) d c h =
     if-right RightState _ (record {
       place = InType (record d { items = d.items ++ act (length c.nodes) ∷ [] });
       contents = record c { nodes = c.nodes ++ node ∷ [] };
-    }) (omega (arith, h.0, length-append c.nodes (node ∷ []), length-append d.items (act (length c.nodes) ∷ [])), one_more 2 (length c.nodes) d.items h.0 h.1)
-typed-right type_end d c h = activities-in_order d.items h.1
+    }) (λ _. record {
+      order = (omega (arith, h.order.0, length-append c.nodes (node ∷ []), length-append d.items (act (length c.nodes) ∷ [])), one_more 2 (length c.nodes) d.items h.order.0 h.order.1);
+      within = h.within;
+    })
+typed-right type_end d c h = record { order = activities-in_order d.items h.order.1; within = h.within }
 
-done-right : (deed : Deed) (at : ℕ) (c : Contents) → InOrderKind c.kind → InOrderKind (done deed at c).kind
-done-right to_create at c h = h
-done-right (to_start n) at c h = h
-done-right (to_end n) at c h = h
+with_line-within : (at : ℕ) (a : Act) (c : Contents) → length c.lines < 60000 → length (with_line at a c).lines ≤ 60000
+with_line-within at a c less = omega (arith, less, length-append c.lines (record { at = at; order = length c.lines + 1; act = a } ∷ []))
 
-step_in-right : (p : Place) (at : ℕ) (ws : List Bytes) (c : Contents) → Right p c → IfSome (step_in p at ws c) RightState
-step_in-right Head at ws c h = if-right RightState (is_header ws) (outside c) h
+done-right : (deed : Deed) (at : ℕ) (c : Contents) → InOrderKind c.kind → length c.lines < 60000 → IsRight InPhase (done deed at c)
+done-right to_create at c h less = record { order = h; within = with_line-within at act_line.Create c less }
+done-right (to_start n) at c h less =
+    record { order = h; within = with_line-within at (act_line.Start (number_of (noted c.nodes n) n)) (record c { nodes = noted c.nodes n }) less }
+done-right (to_end n) at c h less =
+    record { order = h; within = with_line-within at (act_line.End (number_of (noted c.nodes n) n)) (record c { nodes = noted c.nodes n }) less }
+
+scripted-right : (l : ScriptLine) (at : ℕ) (c : Contents) → IsRight InPhase c → IfSome (scripted l at c) RightState
+scripted-right l at c h =
+    if-right RightState _ (record { place = InPhase; contents = done l.deed at c })
+    (λ (fits : (is_its l.actor c.actor && is_its l.case c.case && nat_lt (length c.lines) 60000) ≡ true). done-right l.deed at c h.order (ltb-true _ _ (and_parts _ _ fits).1))
+
+step_in-right : (p : Place) (at : ℕ) (ws : List Bytes) (c : Contents) → IsRight p c → IfSome (step_in p at ws c) RightState
+step_in-right Head at ws c h = if-right RightState (is_header ws) (outside c) (λ _. record { order = h.order; within = h.within })
 step_in-right Outside at ws c h = bind-right RightState (declaration_line ws) (λ d. declared d c) (λ d. declared-right d c h)
 step_in-right (InType d) at ws c h = bind-right RightState (type_line ws) (λ l. typed l d c) (λ l. typed-right l d c h)
-step_in-right InPhase at ws c h =
-    bind-right RightState (script_line ws) (λ l. scripted l at c)
-    (λ l. if-right RightState _ (record { place = InPhase; contents = done l.deed at c }) (done-right l.deed at c h))
+step_in-right InPhase at ws c h = bind-right RightState (script_line ws) (λ l. scripted l at c) (λ l. scripted-right l at c h)
 
 read_lines-right : (o : Option State) (at : ℕ) (ls : List Bytes) → IfSome o RightState → IfSome (read_lines o at ls) RightState
 read_lines-right None at ls h = tt
@@ -146,29 +164,37 @@ read_lines-right (Some s) at [] h = h
 read_lines-right (Some s) at (l ∷ ls) h = read_lines-right (step s at (words_of l)) (at + 1) ls (step_in-right s.place at (words_of l) s.contents h)
 
 -- ---- the file
-abbrev InOrderFile : File → Type 0
-InOrderFile f = IsInOrder f.kind.schema
+record IsRightFile (f : File) : Type 0 where
+  order : IsInOrder f.kind.schema
+  within : length f.lines ≤ 60000
 
-file_of-right : (c : Contents) (kind : Option TypeDecl) (actor case : Option Bytes) → InOrderKind kind → IfSome (file_of c kind actor case) InOrderFile
-file_of-right c None actor case h = tt
-file_of-right c (Some kind) None case h = tt
-file_of-right c (Some kind) (Some actor) None h = tt
-file_of-right c (Some kind) (Some actor) (Some case) h = h
+file_of-right : (c : Contents) (kind : Option TypeDecl) (actor case : Option Bytes) → InOrderKind kind → length c.lines ≤ 60000 → IfSome (file_of c kind actor case) IsRightFile
+file_of-right c None actor case order within = tt
+file_of-right c (Some kind) None case order within = tt
+file_of-right c (Some kind) (Some actor) None order within = tt
+file_of-right c (Some kind) (Some actor) (Some case) order within = record { order = order; within = within }
 
-finished-right : (p : Place) (c : Contents) → Right p c → IfSome (finished_in p c) InOrderFile
+finished-right : (p : Place) (c : Contents) → IsRight p c → IfSome (finished_in p c) IsRightFile
 finished-right Head c h = tt
 finished-right Outside c h = tt
 finished-right (InType d) c h = tt
-finished-right InPhase c h = file_of-right c c.kind c.actor c.case h
+finished-right InPhase c h = file_of-right c c.kind c.actor c.case h.order h.within
 
-at_end-right : (o : Option State) (left : Bytes) → IfSome o RightState → IfSome (file_at_end o left) InOrderFile
+at_end-right : (o : Option State) (left : Bytes) → IfSome o RightState → IfSome (file_at_end o left) IsRightFile
 at_end-right None [] h = tt
 at_end-right (Some s) [] h = finished-right s.place s.contents h
 at_end-right o (b ∷ bs) h = tt
 
-file-right : (bytes : Bytes) → IfSome (file bytes) InOrderFile
-file-right bytes = at_end-right (read_lines (Some opening) 1 (lines_of bytes).ended) (lines_of bytes).left (read_lines-right (Some opening) 1 (lines_of bytes).ended refl)
+file-right : (bytes : Bytes) (f : File) → file bytes ≡ Some f → IsRightFile f
+file-right bytes f is =
+    subst (λ (o : Option File). IfSome o IsRightFile) is
+    (at_end-right (read_lines (Some opening) 1 (lines_of bytes).ended) (lines_of bytes).left
+    (read_lines-right (Some opening) 1 (lines_of bytes).ended (record { order = refl; within = omega arith })))
 
 -- the schema of each file is in order
 pub file-in_order : (bytes : Bytes) (f : File) → file bytes ≡ Some f → IsInOrder f.kind.schema
-file-in_order bytes f is = subst (λ (o : Option File). IfSome o InOrderFile) is (file-right bytes)
+file-in_order bytes f is = (file-right bytes f is).order
+
+-- a file has at most as many lines as a phase may have
+pub file-within : (bytes : Bytes) (f : File) → file bytes ≡ Some f → length f.lines ≤ 60000
+file-within bytes f is = (file-right bytes f is).within

@@ -1,9 +1,9 @@
 -- The words and the first line.
-use Rattle.std.proofs.Common.{◌≡◌, ℕ, suc, ◌+◌, ◌-◌, Bool, true, false, List, [], ◌∷◌, take, drop, length, ◌++◌, ◌≤◌, append-nil, take_all, refl, ap, sym, ◌∙◌, eqb, inl, inr, arith, cond, ◌<◌, rules, ◌==◌}
+use Rattle.std.proofs.Common.{◌≡◌, ℕ, suc, ◌-◌, false, [], ◌∷◌, take, drop, length, ◌++◌, ◌≤◌, append-nil, take_all, refl, ap, sym, ◌∙◌, inl, inr, arith, ◌<◌, ◌==◌}
 use Rattle.std.specs.List.{slice_split}
 use Rattle.std.proofs.lemmas.Bool.{cases_Bool}
 use Rattle.std.proofs.lemmas.List.{take-append-drop}
-use Rattle.process_text.specs.Lines.{Bytes, words_of, onto_words, CutLines, lines_of, onto_lines, one_left, front_line, line_end}
+use Rattle.process_text.specs.Lines.{Bytes, words_of, CutLines, lines_of, onto_lines, one_left, front_line, line_end}
 
 -- the words are what std's `split` gives
 pub split-words_of : (bs : Bytes) → slice_split (λ b. b == 32) bs ≡ words_of bs

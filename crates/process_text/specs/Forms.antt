@@ -1,5 +1,5 @@
 -- The form of a line, from its words alone: one set of forms for each place where a line may stand.
-use Rattle.std.specs.Prelude.{ℕ, Bool, true, false, ◌&&◌, List, [], ◌∷◌, Option, Some, None, option_map, if◌then◌else◌, codes}
+use Rattle.std.specs.Prelude.{Bool, false, ◌&&◌, List, [], ◌∷◌, Option, Some, None, option_map, if◌then◌else◌, codes}
 use Rattle.process_text.specs.Lines.{Bytes}
 use Rattle.process_text.specs.Word.{is_name, is}
 

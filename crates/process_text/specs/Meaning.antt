@@ -1,8 +1,8 @@
 -- What the lines of a process file mean, one after another, and the file that bytes stand for.
-use Rattle.std.specs.Prelude.{ℕ, ◌+◌, Bool, true, false, ◌&&◌, ◌||◌, not, nat_lt, List, [], ◌∷◌, ◌++◌, length, Option, Some, None, option_map, is_some, is_none, if◌then◌else◌, bytes_eq, codes}
+use Rattle.std.specs.Prelude.{ℕ, ◌+◌, Bool, false, ◌&&◌, not, nat_lt, List, [], ◌∷◌, ◌++◌, length, Option, Some, None, is_some, if◌then◌else◌, bytes_eq, codes}
 use Rattle.wsm_schema.specs.SchemaModel.{plain}
 use Rattle.wsm_schema.specs.Tree as tree
-use Rattle.process_text.specs.Lines.{Bytes, CutLines, lines_of, words_of}
+use Rattle.process_text.specs.Lines.{Bytes, lines_of, words_of}
 use Rattle.process_text.specs.Names.{is_listed, noted, number_of}
 use Rattle.process_text.specs.Forms.{Declaration, a_type, an_actor, a_case, a_phase, TypeLine, activity, type_end, Deed, to_create, to_start, to_end, ScriptLine, ◌>>=◌, is_header, declaration_line, type_line, script_line}
 use Rattle.process_text.specs.declared.files.File.{File}

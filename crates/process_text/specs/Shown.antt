@@ -1,5 +1,5 @@
 -- Words and forms as contracts see them: without where they lie in memory.
-use Rattle.std.specs.Prelude.{ℕ, List, map}
+use Rattle.std.specs.Prelude.{List, map}
 use Rattle.std.specs.Borrow.{Bor}
 use Rattle.process_text.specs.Lines.{Bytes}
 use Rattle.process_text.specs.Forms as form

@@ -15,10 +15,12 @@ use wsm_schema::Schema;
 
 /// The number of the node `start`, and of the node `finish`.
 const START: u32 = 0;
+
 const FINISH: u32 = 1;
 
 /// How many activities a type may have, and how many lines a phase may.
 const MAX_ACTIVITIES: usize = 1022;
+
 const MAX_LINES: usize = 60_000;
 
 fn is_its(word: NameWord<'_>, name: &Option<Name64>) -> bool

@@ -51,6 +51,7 @@ pub fn read_file(alloc: Global, bytes: &[u8]) -> Result<File, FileRefusal>
     requires { length bytes.now ≤ 16777216 }
     ensures file { IfOk result (λ read. file bytes.now ≡ Some read) }
     ensures in_order { IfOk result (λ read. IsInOrder read.kind.schema) }
+    ensures within { IfOk result (λ read. length read.lines ≤ 60000) }
     ensures refused { IfErr result (λ refusal. Refuses bytes.now refusal) }
 {
     match file_of(alloc, bytes)? {

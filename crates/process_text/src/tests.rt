@@ -5,7 +5,8 @@ use std::test::Fail;
 #[test]
 fn reads_a_file_of_two_activities(rt: HostRuntime) -> Result<(), Fail> {
     let alloc = rt.alloc();
-    let bytes = b"adept 1\ntype t\nact A\nact B\nend\nactor ann\ncase c t\nphase\nann create c\nann start c A\nann end c Z\n";
+    let bytes =
+        b"adept 1\ntype t\nact A\nact B\nend\nactor ann\ncase c t\nphase\nann create c\nann start c A\nann end c Z\n";
     match read_file(alloc, bytes.as_slice()) {
         Err(_) => assert!(rt; false),
         Ok(file) => {

@@ -8,4 +8,4 @@ pub returns : goal.returns
 returns c =
     subst (λ (ws : List (List ℕ)). IfOk c.collect.result (λ v. map (λ w. w.now) v.items ≡ ws)) (split-words_of c.args.line.now)
     (map_from_collect _ c.collect.ensures.ran
-        (YieldsList-from_slice_split _ _ c.args.line.now c.split.ensures.rest c.split.ensures.done c.split.ensures.closure (λ x b q k. search (rules, tests))))
+    (YieldsList-from_slice_split _ _ c.args.line.now c.split.ensures.rest c.split.ensures.done c.split.ensures.closure (λ x b q k. search (rules, tests))))

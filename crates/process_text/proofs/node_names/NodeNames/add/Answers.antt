@@ -1,4 +1,3 @@
-use Rattle.std.proofs.Common.{sym}
 use Rattle.process_text.proofs.Noted.{inserted_last}
 use Rattle.process_text.proofs.node_names.NodeNames.add.Goals as goal
 

@@ -1,5 +1,5 @@
-use Rattle.std.proofs.Common.{◌≡◌, ◌++◌, [], ◌∷◌, List, ℕ, map, sym, subst, rules, length, IfOk, OnOk, true, false}
-use Rattle.process_text.specs.Names.{is_listed, noted, number_of}
+use Rattle.std.proofs.Common.{◌≡◌, List, ℕ, sym, subst, rules, IfOk, OnOk, false}
+use Rattle.process_text.specs.Names.{is_listed}
 use Rattle.process_text.proofs.Noted.{found_noted, found_number, absent_listed, absent_noted, absent_number, on_ok}
 use Rattle.process_text.proofs.node_names.NodeNames.note.Goals as goal
 
