@@ -1,11 +1,18 @@
 -- Reports, computed from the definitions alone: from the bytes of a process file to the bytes of its report.
-use Rattle.std.specs.Prelude.{◌≡◌, List, [], Option, Some, None, refl, codes, decimal}
+use Rattle.std.specs.Prelude.{◌≡◌, pos, negsuc, List, [], ◌∷◌, ◌++◌, Option, Some, None, refl, codes}
 use Rattle.std.specs.Fmt.{digits}
+use Rattle.case_core.specs.declared.events.Event.TheVariants as event
+use Rattle.case_core.specs.declared.replies.Reply.TheVariants as reply
 use Rattle.process_text.specs.Lines.{Bytes}
 use Rattle.process_text.specs.Meaning.{file}
 use Rattle.process_text.specs.declared.files.File.{File}
+use Rattle.report_text.specs.Journals.{case_line, reply_text}
 use Rattle.report_text.specs.Report.{text}
 use Rattle.report_text.specs.Serial.{serial}
+use Rattle.report_text.specs.Words.{value_text}
+use Rattle.wsm_lists.specs.declared.values.Value.TheVariants as value
+use Rattle.wsm_schema.specs.SchemaModel.{plain}
+use Rattle.wsm_schema.specs.Tree.{nothing}
 
 -- the report of a file's serial run
 abbrev report : Option File → Bytes
@@ -34,3 +41,22 @@ offered = refl
 pub not_created : report (file (codes "adept 1\ntype t\nact A\nact B\nend\nactor ann\ncase c t\nphase\n")) ≡ codes "adept report 1\ntype t\n1 - define -> defined\ncase c t\nstate none\nsummary cases=1 finished=0 entries=0 migrated=0 blocked=0 overlap=0\n"
 unfolding digits
 not_created = refl
+
+-- ---- what no file of this form reaches: values, choices, and refusals with data
+abbrev a_file : File
+a_file = record { nodes = codes "start" ∷ codes "finish" ∷ codes "A" ∷ []; kind = record { name = codes "t"; schema = plain 0 1 nothing }; actor = codes "ann"; case = codes "c"; lines = [] }
+
+pub text_with_quotes : value_text (value.Text (codes "a\"b\\c")) ≡ codes "\"a\\\"b\\\\c\""
+text_with_quotes = refl
+
+pub end_with_values : case_line a_file 12 (record { caller = 0; event = event.End 2 1 ((0, value.Int (pos 0)) ∷ (3, value.Text []) ∷ []) (Some 4); reply = reply.WrongWrites (0 ∷ 7 ∷ []) }) ≡ codes "12 - end A choice 4 0=0 3=\"\" -> wrong-writes 0 7\n"
+unfolding digits
+end_with_values = refl
+
+pub start_with_reads : case_line a_file 1 (record { caller = 5; event = event.Start 9 5 []; reply = reply.Started ((1, Some (value.Int (negsuc 9))) ∷ (2, None) ∷ []) }) ≡ codes "1 5 start 9 -> started 1=-10 2=-\n"
+unfolding digits
+start_with_reads = refl
+
+pub no_branch : reply_text a_file (reply.NoBranch None) ++ reply_text a_file (reply.NotHolder 1) ++ reply_text a_file (reply.NotAllowed 3) ≡ codes "no-branch -not-holder annnot-allowed 3"
+unfolding digits
+no_branch = refl

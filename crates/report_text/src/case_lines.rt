@@ -25,7 +25,13 @@ pub fn put_case_journal<K: Sink>(sink: &mut K, ok: bool, file: &File, journal: &
     well
 }
 
-fn put_case_line<K: Sink>(sink: &mut K, ok: bool, file: &File, place: u64, entry: &CaseEntry) -> bool
+fn put_case_line<K: Sink>(
+    sink: &mut K,
+    ok: bool,
+    file: &File,
+    place: u64,
+    entry: &CaseEntry,
+) -> bool
     ensures { Gives K.written K.faults ok result sink.old sink.new (case_line file.now place entry.now) }
 {
     let ok = put_line_start(sink, ok, file, place, entry.caller);
@@ -41,7 +47,11 @@ fn put_event<K: Sink>(sink: &mut K, ok: bool, file: &File, event: &Event) -> boo
     let mut number = Buffer::new();
     match event {
         Event::Create(version) => {
-            put_pieces(sink, ok, &[b"create ", number.format(version.number()).as_bytes()])
+            put_pieces(
+                sink,
+                ok,
+                &[b"create ", number.format(version.number()).as_bytes()],
+            )
         }
         Event::Start { node, .. } => put_on_node(sink, ok, b"start ", file, *node),
         Event::End {

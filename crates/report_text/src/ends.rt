@@ -105,7 +105,7 @@ fn put_values<K: Sink>(sink: &mut K, ok: bool, live: &Live, elements: &[(u32, El
 fn put_value_now<K: Sink>(sink: &mut K, ok: bool, live: &Live, element: &(u32, ElementKind)) -> bool
     ensures { Gives K.written K.faults ok result sink.old sink.new (value_now_text live.now element.now) }
 {
-    match live.trail().value(element.0) {
+    match live.value(element.0) {
         None => ok,
         Some(value) => put_assigned(sink, ok, element.0, value),
     }
@@ -134,15 +134,13 @@ fn put_items<K: Sink>(sink: &mut K, ok: bool, file: &File, live: &Live, spots: &
 fn put_spot<K: Sink>(sink: &mut K, ok: bool, file: &File, live: &Live, spot: &Spot) -> bool
     ensures { Gives K.written K.faults ok result sink.old sink.new (spot_text file.now live.now spot.now) }
 {
-    match live.card(spot.node) {
-        None => ok,
-        Some(card) => {
-            if is_worked_on(card.kind) {
-                put_work(sink, ok, file, live, card, spot.state)
-            } else {
-                ok
-            }
-        }
+    let Some(card) = live.card(spot.node) else {
+        return ok;
+    };
+    if is_worked_on(card.kind) {
+        put_work(sink, ok, file, live, card, spot.state)
+    } else {
+        ok
     }
 }
 

@@ -21,7 +21,13 @@ pub fn put_kind_journal<K: Sink>(sink: &mut K, ok: bool, file: &File, journal: &
     well
 }
 
-fn put_kind_line<K: Sink>(sink: &mut K, ok: bool, file: &File, place: u64, entry: &KindEntry) -> bool
+fn put_kind_line<K: Sink>(
+    sink: &mut K,
+    ok: bool,
+    file: &File,
+    place: u64,
+    entry: &KindEntry,
+) -> bool
     ensures { Gives K.written K.faults ok result sink.old sink.new (kind_line file.now place entry.now) }
 {
     let ok = put_line_start(sink, ok, file, place, entry.caller);
@@ -38,7 +44,11 @@ pub fn put_line_start<K: Sink>(sink: &mut K, ok: bool, file: &File, place: u64, 
 {
     let mut buffer = Buffer::new();
     let ok = put_number(sink, ok, place);
-    put_pieces(sink, ok, &[b" ", caller_word(file, caller, &mut buffer), b" "])
+    put_pieces(
+        sink,
+        ok,
+        &[b" ", caller_word(file, caller, &mut buffer), b" "],
+    )
 }
 
 fn put_kind_event<K: Sink>(sink: &mut K, ok: bool, event: &KindEvent) -> bool
@@ -57,7 +67,11 @@ fn put_kind_reply<K: Sink>(sink: &mut K, ok: bool, reply: &KindReply) -> bool
     match reply {
         KindReply::Defined => put(sink, ok, b"defined"),
         KindReply::Is(version) => {
-            put_pieces(sink, ok, &[b"is ", number.format(version.number()).as_bytes()])
+            put_pieces(
+                sink,
+                ok,
+                &[b"is ", number.format(version.number()).as_bytes()],
+            )
         }
         KindReply::Already => put(sink, ok, b"already"),
         KindReply::NoType => put(sink, ok, b"no-type"),

@@ -43,7 +43,13 @@ pub fn letter(state: State) -> &'static [u8]
 }
 
 /// A node behind a space, and the mark that stands behind it.
-pub fn put_node<K: Sink>(sink: &mut K, ok: bool, file: &File, node: u32, mark: &'static [u8]) -> bool
+pub fn put_node<K: Sink>(
+    sink: &mut K,
+    ok: bool,
+    file: &File,
+    node: u32,
+    mark: &'static [u8],
+) -> bool
     ensures { Gives K.written K.faults ok result sink.old sink.new (node_then file.now node mark.now) }
 {
     let mut buffer = Buffer::new();

@@ -14,8 +14,8 @@ returns g c =
     let live = c.args.live.now in
     let file = c.args.file.now in
     let same : flat_map (spot_text file live) c.spots.result.now ≡ flat_map (item_text file) (items_of live) =
-        ap (flat_map (spot_text file live)) c.spots.ensures
-        ∙ sym (flat_map-flat_map (item_text file) (λ s. item_of live s (card_at s.node (cards_of live.schema))) (shown_spots live)) in
+    ap (flat_map (spot_text file live)) c.spots.ensures
+    ∙ sym (flat_map-flat_map (item_text file) (λ s. item_of live s (card_at s.node (cards_of live.schema))) (shown_spots live)) in
     let P : Bytes → Type 0 = λ items. Gives g.K.Sink.written g.K.Sink.faults c.args.ok c.put.result c.args.sink.now c.put.new.sink (codes "items" ++ (items ++ codes "\n")) in
     subst P same
     (gives_then _ _ _ _ _ _ _ _ _ _ c.put-ok.ensures

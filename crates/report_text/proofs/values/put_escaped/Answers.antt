@@ -15,7 +15,7 @@ loop-at-preserved g c =
     let rest = c.loop-at.rest.now in
     let run = flat_map escaped (take (c.in-Some.at + 1) rest) in
     let behind : c.split_at-in-Some.result.1.now ≡ drop (c.in-Some.at + 1) rest =
-        c.split_at-in-Some.ensures.back ∙ ap (drop 1) c.split_at.ensures.back ∙ drop-drop 1 c.in-Some.at rest in
+    c.split_at-in-Some.ensures.back ∙ ap (drop 1) c.split_at.ensures.back ∙ drop-drop 1 c.in-Some.at rest in
     record {
       sent = c.loop-at.invariant.sent ++ run;
       gives = gives_then _ _ _ _ _ _ _ _ _ _ c.loop-at.invariant.gives c.put_run-well.ensures;
