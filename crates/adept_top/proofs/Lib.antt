@@ -1,2 +1,1 @@
-pub mod LinesWithin
 pub mod StatusesOf

@@ -1,5 +1,5 @@
 -- The statuses at bytes that are not too long.
-use Rattle.std.proofs.Common.{◌≡◌, ℕ, ◌≤◌, List, length, refl, Option, Some, None}
+use Rattle.std.proofs.Common.{◌≡◌, ℕ, ◌≤◌, List, length, refl, Some, None}
 use Rattle.std.proofs.lemmas.Bool.{le-ltb}
 use Rattle.adept_top.specs.Statuses.{most_bytes, status_of}
 use Rattle.process_text.specs.Meaning.{file}

@@ -1,10 +1,6 @@
 use Rattle.std.proofs.Common.{◌≡◌, ◌⊎◌, subst, sym}
-use Rattle.adept_top.proofs.LinesWithin.{lines_within}
 use Rattle.adept_top.proofs.StatusesOf.{status_of-file}
 use Rattle.adept_top.proofs.playing.play_bytes.Goals as goal
-
-pub play_file-requires-clause-within : goal.play_file-requires-clause-within
-play_file-requires-clause-within g c = lines_within c.args.bytes.now c.in-Ok.file c.in-Ok.ensures.file
 
 pub returns-in-Ok-clause-statuses : goal.returns-in-Ok-clause-statuses
 returns-in-Ok-clause-statuses g c =
