@@ -1,0 +1,195 @@
+-- The timed marks of a trail that replays whole are the solution and the facts.
+use Rattle.std.proofs.Common.{◌≡◌, ℕ, zero, suc, ◌+◌, ◌<◌, ◌≤◌, Bool, true, false, cond, ◌||◌, eqb, List, [], ◌∷◌, refl, ap, sym, ◌∙◌, subst, inl, inr, ◌⊎◌, arith, Option, Some, None}
+use Rattle.std.specs.Prelude.{nat_lt, if◌then◌else◌, find, option_map, is_some}
+use Rattle.std.specs.List.{fold}
+use Rattle.std.proofs.lemmas.Bool.{cases_Bool, both_ways, ltb-true, ltb-false, lt-ltb, le-ltb, eq-eqb}
+use Rattle.wsm_schema.specs.Flat.{FlatModel, card_at}
+use Rattle.wsm_schema.specs.Kinds.{worked_on}
+use Rattle.wsm_lists.specs.Rows.{AllRows, put_row}
+use Rattle.wsm_schema.specs.Rules.{Spots, spot, spot_in, state_by, is_yes, is_no, settle}
+use Rattle.wsm_schema.specs.Replay.{after, replay_of}
+use Rattle.wsm_schema.specs.Replay.{whole, fails}
+use Rattle.wsm_lists.proofs.Lists.{all-rows-map}
+use Rattle.wsm_schema.specs.Trail.{value_below}
+use Rattle.wsm_schema.specs.Marks.{history_from, history_of, first_at, is_up, is_out, mark_of, marks_of, position_of, choice_of, is_start_of, is_end_of, is_again_of, says_something, mark_key, Facts, facts_of, list_marks}
+use Rattle.wsm_schema.specs.declared.cards.Card.{Card}
+use Rattle.wsm_schema.specs.declared.cards.NodeKind.{NodeKind}
+use Rattle.wsm_schema.specs.declared.entries.Entry.{Entry}
+use Rattle.wsm_schema.specs.declared.states.Flow.{Flow}
+use Rattle.wsm_schema.specs.declared.states.Flow.TheVariants.{Yes, No}
+use Rattle.wsm_schema.specs.declared.marks.Mark.{Mark}
+use Rattle.wsm_schema.specs.declared.states.State.{State}
+use Rattle.wsm_schema.specs.declared.states.State.TheVariants as state
+use Rattle.wsm_lists.specs.declared.values.Value.{Value}
+use Rattle.wsm_marks.specs.Timed.{Timed, Marking, flow, time, before, early, verdict_of, spot_before, IsBelow, InTime}
+use Rattle.wsm_marks.specs.Fits.{Orderly, Told, Tells, Fresh, Quiet, fits, first_misfit, last_position, Ends}
+use Rattle.wsm_marks.proofs.Causality.{TimedNet, works_before, before_none}
+use Rattle.wsm_marks.proofs.EntrySteps.{slide, in_time-later, in_time-after, below-after, before-later}
+use Rattle.wsm_marks.proofs.FirstFailure.{below-first, in_time-first, replay-ends}
+use Rattle.wsm_marks.proofs.Telling.{told, fresh}
+
+-- which test of a state belongs to which flow
+abbrev pub shows : Flow → State → Bool
+shows Yes s = is_up s
+shows No s = is_out s
+
+abbrev pub is_flow : Flow → Option Flow → Bool
+is_flow Yes o = is_yes o
+is_flow No o = is_no o
+
+-- since when a node is ready, or skipped
+abbrev pub since : Flow → Timed → Option ℕ
+since Yes None = None
+since Yes (Some (t, Yes)) = Some t
+since Yes (Some (t, No)) = None
+since No None = None
+since No (Some (t, Yes)) = None
+since No (Some (t, No)) = Some t
+
+fresh-shows : (y : Flow) (k : NodeKind) (o : Option Flow) → shows y (state_by k (verdict_of o)) ≡ is_flow y o
+fresh-shows Yes k None = refl
+fresh-shows Yes k (Some No) = refl
+fresh-shows Yes k (Some Yes) = elim (cases_Bool (worked_on k)) [ | inl works ↦ rw works refl | inr silent ↦ rw silent refl ]
+fresh-shows No k None = refl
+fresh-shows No k (Some No) = refl
+fresh-shows No k (Some Yes) = elim (cases_Bool (worked_on k)) [ | inl works ↦ rw works refl | inr silent ↦ rw silent refl ]
+
+flow_since : (y : Flow) (q : ℕ) (x : Timed) → is_flow y (before q x) ≡ early q (since y x)
+flow_since Yes q None = ap is_yes (before_none q)
+flow_since No q None = ap is_no (before_none q)
+flow_since Yes q (Some (t, Yes)) = elim (cases_Bool (nat_lt t q)) [ | inl soon ↦ rw soon refl | inr late ↦ rw late refl ]
+flow_since Yes q (Some (t, No)) = elim (cases_Bool (nat_lt t q)) [ | inl soon ↦ rw soon refl | inr late ↦ rw late refl ]
+flow_since No q (Some (t, Yes)) = elim (cases_Bool (nat_lt t q)) [ | inl soon ↦ rw soon refl | inr late ↦ rw late refl ]
+flow_since No q (Some (t, No)) = elim (cases_Bool (nat_lt t q)) [ | inl soon ↦ rw soon refl | inr late ↦ rw late refl ]
+
+is_flow-of_yes : (y : Flow) (o : Option Flow) → o ≡ Some Yes → is_flow y o ≡ shows y state.Completed
+is_flow-of_yes Yes o h = ap is_yes h
+is_flow-of_yes No o h = ap is_no h
+
+running-shows : (y : Flow) → shows y state.Running ≡ shows y state.Completed
+running-shows Yes = refl
+running-shows No = refl
+
+module _ (g : FlatModel) (rank : List ℕ) (f : Facts) (m : Marking) (net : TimedNet g.cards rank f m) (y : Flow) (n : ℕ) (c : Card) (is_card : card_at n g.cards ≡ Some c) where
+  -- a node shows ready, or skipped, before q exactly where it is since an earlier time
+  shows-since : (q : ℕ) → InTime g.cards q f m → (t : Spots) → IsBelow g.cards q f m t → shows y (spot_in n t).state ≡ early q (since y (m n))
+  shows-since q in_time t is_below =
+      elim (cases_Bool (early q (f.ended n))) [
+        | inl over ↦
+            let w = works_before g.cards q f m in_time n c is_card (in_time.end n over) in
+            rw (is_below.at n c is_card, over) (sym (is_flow-of_yes y (before q (m n)) w.1) ∙ flow_since y q (m n))
+        | inr open_yet ↦
+            elim (cases_Bool (early q (f.started n))) [
+              | inl begun ↦
+                  let w = works_before g.cards q f m in_time n c is_card begun in
+                  rw (is_below.at n c is_card, open_yet, begun) (running-shows y ∙ sym (is_flow-of_yes y (before q (m n)) w.1) ∙ flow_since y q (m n))
+              | inr no_start ↦ rw (is_below.at n c is_card, open_yet, no_start) (fresh-shows y c.kind (before q (m n)) ∙ flow_since y q (m n))
+            ]
+      ]
+
+  -- nothing comes between two numbers with the same facts before them
+  since-quiet : (a b : ℕ) → nat_lt 0 a ≡ true → a ≤ b → Quiet f a b → InTime g.cards a f m → (t : Spots) → IsBelow g.cards a f m t → early b (since y (m n)) ≡ early a (since y (m n))
+  since-quiet a b pos le quiet in_time t is_below =
+      sym (shows-since b (in_time-later g.cards f m a b le quiet in_time) t (slide g rank f m net a b pos le quiet in_time t is_below)) ∙ shows-since a in_time t is_below
+
+  -- between two neighbouring numbers there is one time
+  only_time : (o : Option ℕ) (p : ℕ) → early p o ≡ false → early (suc p) o ≡ true → o ≡ Some p
+  only_time None p before_p at_p = absurd (both_ways _ refl at_p)
+  only_time (Some t) p before_p at_p = let t_is : t ≡ p = omega (arith, ltb-false t p before_p, ltb-true t (suc p) at_p) in ap (λ x. Some x) t_is
+
+  never : (o : Option ℕ) (p : ℕ) → ((q : ℕ) → nat_lt p q ≡ true → early q o ≡ false) → o ≡ None
+  never None p h = refl
+  never (Some t) p h = absurd (both_ways _ (h (suc (t + p)) (lt-ltb p (suc (t + p)) (omega arith))) (lt-ltb t (suc (t + p)) (omega arith)))
+
+  pub first-since : (value : ℕ → ℕ → Option Value) (last : ℕ) (es : List (ℕ × Entry)) → Told f last es → (t : Spots) → IsBelow g.cards (suc last) f m t → InTime g.cards (suc last) f m →
+      first_misfit g f m value es ≡ None → early last (since y (m n)) ≡ false → first_at (shows y) n (history_from g.cards es last t) ≡ since y (m n)
+  first-since value last [] told t is_below in_time fit none =
+      let pos : nat_lt 0 (suc last) ≡ true = lt-ltb 0 (suc last) (omega arith) in
+      elim (cases_Bool (shows y (spot_in n t).state)) [
+        | inl here ↦ rw here (sym (only_time _ last none (sym (shows-since (suc last) in_time t is_below) ∙ here)))
+        | inr other ↦ rw other (sym (never _ last (λ q lt. let less : last < q = ltb-true last q lt in
+            since-quiet (suc last) q pos (omega arith) (told q lt) in_time t is_below ∙ sym (shows-since (suc last) in_time t is_below) ∙ other)))
+      ]
+  first-since value last (e ∷ es) told t is_below in_time fit none =
+      let tells : Tells f last e.0 e.1 = told.0 in
+      let later : last < e.0 = ltb-true last e.0 tells.later in
+      let le : suc last ≤ e.0 = omega arith in
+      let pos : nat_lt 0 (suc last) ≡ true = lt-ltb 0 (suc last) (omega arith) in
+      let pos_e : nat_lt 0 e.0 ≡ true = lt-ltb 0 e.0 (omega arith) in
+      let here : IsBelow g.cards e.0 f m t = slide g rank f m net (suc last) e.0 pos le tells.quiet in_time t is_below in
+      let timely : InTime g.cards e.0 f m = in_time-later g.cards f m (suc last) e.0 le tells.quiet in_time in
+      elim (cases_Bool (shows y (spot_in n t).state)) [
+        | inl now ↦ rw now (sym (only_time _ last none (sym (shows-since (suc last) in_time t is_below) ∙ now)))
+        | inr other ↦
+            elim (cases_Bool (fits g f m (λ d. value d e.0) e.0 e.1)) [
+              | inl fine ↦
+                  let next : early e.0 (since y (m n)) ≡ false =
+                  since-quiet (suc last) e.0 pos le tells.quiet in_time t is_below ∙ sym (shows-since (suc last) in_time t is_below) ∙ other in
+                  let rest : first_misfit g f m value es ≡ None = rw fine at fit in
+                  rw other (first-since value e.0 es told.1 (after g.cards e.1 t)
+                  (below-after g rank f m net e.0 pos_e t here timely (λ d. value d e.0) last e.1 tells fine)
+                  (in_time-after g rank f m net e.0 pos_e t here timely (λ d. value d e.0) last e.1 tells fine)
+                  rest next)
+              | inr misfit ↦ let p : Some e.0 ≡ None = rw misfit at fit in absurd (cc)
+            ]
+      ]
+
+-- each card's node has a card
+some_card : (cards : List Card) (c : Card) → (d : Card) × (card_at c.node (c ∷ cards) ≡ Some d)
+some_card cards c = (c, rw (eq-eqb c.node c.node refl) refl)
+
+has_behind : (n : ℕ) (c : Card) (cards : List Card) → (d : Card) × (card_at n cards ≡ Some d) → (d : Card) × (card_at n (c ∷ cards) ≡ Some d)
+has_behind n c cards h =
+    elim (cases_Bool (eqb c.node n)) [
+      | inl same ↦ (c, rw same refl)
+      | inr other ↦ (h.0, rw other h.1)
+    ]
+
+each_has_card : (cards : List Card) → AllRows (λ c. (d : Card) × (card_at c.node cards ≡ Some d)) cards
+each_has_card [] = tt
+each_has_card (c ∷ cs) = (some_card cs c, all-rows-map _ _ (λ x h. has_behind x.node c cs h) cs (each_has_card cs))
+
+not_before_zero : (o : Option ℕ) → early 0 o ≡ false
+not_before_zero None = refl
+not_before_zero (Some t) = le-ltb t 0 (omega arith)
+
+-- the mark of a node by the solution and the facts
+abbrev pub mark_by : Marking → List (ℕ × Entry) → ℕ → Mark
+mark_by m es n = record {
+  ready_at = since Yes (m n);
+  skipped_at = since No (m n);
+  started = (facts_of es).started n;
+  ended = (facts_of es).ended n;
+  choice = (facts_of es).choice n;
+  again = position_of (is_again_of n) es;
+}
+
+module _ (g : FlatModel) (rank : List ℕ) (es : List (ℕ × Entry)) (m : Marking) (net : TimedNet g.cards rank (facts_of es) m) (orderly : Orderly es) where
+  pub whole-fits : (t : Spots) → replay_of g es ≡ whole t → first_misfit g (facts_of es) m (λ d p. value_below d p es) es ≡ None
+  whole-fits t w = go (first_misfit g (facts_of es) m (λ d p. value_below d p es) es) (replay-ends g rank (facts_of es) m net es (told es orderly) (fresh es orderly))
+    where
+      go : (o : Option ℕ) → Ends g.cards (facts_of es) m (suc (last_position 0 es)) o (replay_of g es) → o ≡ None
+      go None h = refl
+      go (Some p) h = let q : whole t ≡ fails p = sym w ∙ h in absurd (cc)
+
+  -- D20: the marks are the solution and the facts
+  pub marks-are : (t : Spots) → replay_of g es ≡ whole t → (n : ℕ) (c : Card) → card_at n g.cards ≡ Some c → mark_of g es n ≡ mark_by m es n
+  marks-are t w n c e =
+      let f : Facts = facts_of es in
+      let is_first : Fresh f = fresh es orderly in
+      let at : (y : Flow) → first_at (shows y) n (history_of g es) ≡ since y (m n) =
+      λ y. first-since g rank f m net y n c e (λ d p. value_below d p es) 0 es (told es orderly) (settle g.cards []) (below-first g rank f m net is_first) (in_time-first g rank f m net is_first)
+      (whole-fits t w) (not_before_zero (since y (m n))) in
+      let r : first_at is_up n (history_of g es) ≡ since Yes (m n) = at Yes in
+      let s : first_at is_out n (history_of g es) ≡ since No (m n) = at No in
+      λ i. record { ready_at = r i; skipped_at = s i; started = f.started n; ended = f.ended n; choice = f.choice n; again = position_of (is_again_of n) es }
+
+  fold-same : {A B : Type 0} (P : B → Type 0) (h k : A → B → A) → ((a : A) (b : B) → P b → h a b ≡ k a b) → (bs : List B) → AllRows P bs → (a : A) → fold h a bs ≡ fold k a bs
+  fold-same P h k same [] all a = refl
+  fold-same P h k same (b ∷ bs) all a = ap (λ x. fold h x bs) (same a b all.0) ∙ fold-same P h k same bs all.1 (k a b)
+
+  pub marks-listed : (t : Spots) → replay_of g es ≡ whole t → marks_of g es ≡ list_marks (mark_by m es) g.cards
+  marks-listed t w =
+      fold-same (λ c. (d : Card) × (card_at c.node g.cards ≡ Some d)) _ _
+      (λ ms c has. ap (λ k. if says_something k then put_row mark_key (c.node, k) ms else ms) (marks-are t w c.node has.0 has.1))
+      g.cards (each_has_card g.cards) []
