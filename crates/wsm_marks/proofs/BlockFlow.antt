@@ -1,30 +1,28 @@
 -- Block flow: what the edge that leaves a part signals, by what the edge that enters it does.
-use Rattle.std.proofs.Common.{◌≡◌, ℕ, zero, suc, ◌<◌, ◌≤◌, Bool, true, false, cond, not, ◌||◌, ◌&&◌, eqb, List, [], ◌∷◌, ◌++◌, map, refl, ap, sym, ◌∙◌, subst, inl, inr, ◌⊎◌, arith, Option, Some, None}
-use Rattle.std.specs.Prelude.{nat_lt, is_some, count_by, ◌==◌, filter}
+use Rattle.std.proofs.Common.{◌≡◌, ℕ, ◌≤◌, Bool, true, false, cond, ◌&&◌, eqb, List, [], ◌∷◌, map, refl, ap, sym, ◌∙◌, subst, inl, inr, ◌⊎◌, arith, Option, Some, None}
+use Rattle.std.specs.Prelude.{nat_lt, is_some, count_by, ◌==◌}
 use Rattle.std.specs.List.{list_all}
-use Rattle.std.proofs.lemmas.Bool.{cases_Bool, both_ways, ltb-true, ltb-false, lt-ltb, le-ltb, and_left, and_right, and_parts, eqb-true, eq-eqb}
-use Rattle.wsm_schema.specs.Tree.{Part, Parts, Lanes, Gate, act, gate, loop, nothing, part, no_lane, lane, and_gate, xor_gate}
-use Rattle.wsm_schema.specs.Ends.{first_node, first_of, last_of}
+use Rattle.std.proofs.lemmas.Bool.{cases_Bool, both_ways, ltb-true, ltb-false, le-ltb, and_left, and_right, and_parts, eqb-true, eq-eqb}
+use Rattle.wsm_schema.specs.Tree.{Part, Parts, Lanes, act, gate, loop, nothing, part, no_lane, lane, and_gate, xor_gate}
+use Rattle.wsm_schema.specs.Ends.{first_node, last_of}
 use Rattle.wsm_schema.specs.declared.places.Place.{Place}
 use Rattle.wsm_schema.specs.Places.{place, part_places, parts_places, lanes_places, leaving, branch_tails, branch_heads, labelled, plain_end}
 use Rattle.wsm_schema.specs.SchemaModel.{SchemaModel}
 use Rattle.wsm_schema.specs.Flat.{card_at, card_of, cards_of}
 use Rattle.wsm_schema.specs.Kinds.{worked_on, is_xor_split}
 use Rattle.wsm_lists.specs.Rows.{AllRows}
-use Rattle.wsm_schema.specs.Rules.{is_yes, is_no, is_chosen, is_ready, is_skipped, judge_of}
-use Rattle.wsm_schema.specs.declared.cards.Card.{Card}
+use Rattle.wsm_schema.specs.Rules.{is_yes, is_no, is_chosen}
 use Rattle.wsm_schema.specs.declared.cards.End.{End}
 use Rattle.wsm_schema.specs.declared.cards.NodeKind.{NodeKind}
 use Rattle.wsm_schema.specs.declared.cards.NodeKind.TheVariants as kind
 use Rattle.wsm_schema.specs.declared.states.Flow.{Flow}
 use Rattle.wsm_schema.specs.declared.states.Flow.TheVariants.{Yes, No}
-use Rattle.wsm_schema.specs.declared.states.Verdict.{Verdict}
 use Rattle.wsm_schema.specs.declared.states.Verdict.TheVariants as verdict
-use Rattle.wsm_marks.specs.Timed.{Timed, Marking, flow, time, greater, latest, eq_of, timed_by, sig_of, sig_by, sig_at, ended_signal, Solves}
-use Rattle.wsm_marks.proofs.Threshold.{all_no-count}
 use Rattle.wsm_schema.specs.Replay.{has_label}
-use Rattle.wsm_lists.proofs.Lists.{rows-parts}
 use Rattle.wsm_schema.specs.Marks.{Facts}
+use Rattle.wsm_lists.proofs.Lists.{rows-parts}
+use Rattle.wsm_marks.specs.Schemas.{FullLanes, FullPart, FullParts}
+use Rattle.wsm_marks.specs.Timed.{Marking, Solves, Timed, eq_of, flow, greater, latest, sig_at, sig_by, sig_of, time, timed_by}
 
 -- behind nothing comes nothing, behind a False the same False, behind a True nothing or a later True
 pub data Later : Timed → Timed → Type 0 where
@@ -109,6 +107,12 @@ and-join _ _ ys ss (yes_yes t u le) h =
     open-join t (latest (Some (u, Yes) ∷ ys)) (latest ss) (list_all is_yes (map flow ys)) (list_all is_some (map flow ss)) (λ r. omega (arith, greater-left u (latest ys)))
 
 -- ---- an XOR join: nothing, all False, or behind an ended split
+all_no-count : (xs : List (Option Flow)) → list_all is_no xs ≡ true → count_by is_yes xs ≡ 0
+all_no-count [] h = refl
+all_no-count (None ∷ xs) h = absurd (both_ways _ refl h)
+all_no-count (Some Yes ∷ xs) h = absurd (both_ways _ refl h)
+all_no-count (Some No ∷ xs) h = all_no-count xs h
+
 xor-none : (ys ss : List Timed) → eq_of kind.XorJoin (None ∷ ys) ss ≡ None
 xor-none ys ss = refl
 
@@ -156,23 +160,7 @@ worked-sig k (Some (t, Yes)) (Some u) choice label works plain sane =
     let same : t ≡ r.0 = ap time r.1 in
     rw (works, plain) (yes_yes t u (omega (arith, same, r.2)))
 
--- ---- trees whose blocks have a branch
-abbrev mutual
-  pub FullPart : Part → Type 0
-  FullPart (act n) = Unit {0}
-  FullPart (gate kind split join no_lane) = ⊥
-  FullPart (gate kind split join (lane code ps ls)) = FullParts ps × FullLanes ls
-  FullPart (loop start end body) = FullParts body
-
-  pub FullParts : Parts → Type 0
-  FullParts nothing = Unit {0}
-  FullParts (part p ps) = FullPart p × FullParts ps
-
-  pub FullLanes : Lanes → Type 0
-  FullLanes no_lane = Unit {0}
-  FullLanes (lane code ps ls) = FullParts ps × FullLanes ls
-
-module _ (s : SchemaModel) (f : Facts) (m : Marking) (solves : Solves (cards_of s) f m) where
+module _ (s : SchemaModel) (f : Facts) (m : Marking) where
   abbrev pub sig : End → Timed
   sig x = sig_at (cards_of s) f m x.label x.node
 
@@ -185,15 +173,8 @@ module _ (s : SchemaModel) (f : Facts) (m : Marking) (solves : Solves (cards_of 
   abbrev sync_signals : Place → List Timed
   sync_signals p = map (sig_at (cards_of s) f m None) (card_of s p).syncs_in
 
-  mark-is : (p : Place) → Sane p → m p.node ≡ eq_of p.kind (map sig p.ins) (sync_signals p)
-  mark-is p sane = solves.meets p.node (card_of s p) sane.placed
-
   pub sig-is : (p : Place) → Sane p → (label : Option ℕ) → sig_at (cards_of s) f m label p.node ≡ sig_of p.kind (m p.node) (f.ended p.node) (f.choice p.node) label
   sig-is p sane label = ap (λ o. sig_by o (m p.node) (f.ended p.node) (f.choice p.node) label) sane.placed
-
-  node-one : (n : ℕ) (k : NodeKind) (partner : Option ℕ) (from : End) (outs : List End) → Sane (place n k partner (from ∷ []) outs) → OneEdge k → Later (sig from) (m n)
-  node-one n k partner from outs sane i =
-      subst (Later (sig from)) (sym (mark-is (place n k partner (from ∷ []) outs) sane)) (one-edge k (sig from) (sync_signals (place n k partner (from ∷ []) outs)) i)
 
   node-works : (n : ℕ) (k : NodeKind) (partner : Option ℕ) (ins outs : List End) → Sane (place n k partner ins outs) → worked_on k ≡ true → is_xor_split k ≡ false → (label : Option ℕ) →
       Later (m n) (sig_at (cards_of s) f m label n)
@@ -264,48 +245,56 @@ module _ (s : SchemaModel) (f : Facts) (m : Marking) (solves : Solves (cards_of 
           ]) h)
           (chosen-goes u c.0 (lane code ps ls) split join (λ k same_k. entry (Some (t, Yes)) (Some u) e1 e2 k ∙ (rw (c.1, same_k) refl)) c.2 h)
 
-  -- ---- the signal that leaves stands behind the one that enters
-  mutual
-    pub part-flow : (p : Part) (from : End) (to : ℕ) → FullPart p → AllRows Sane (part_places p from to) → Later (sig from) (sig (plain_end (last_of p)))
-    part-flow (act n) from to full sane =
-        later-trans _ _ _ (node-one n kind.Activity None from (plain_end to ∷ []) sane.0 tt) (node-works n kind.Activity None (from ∷ []) (plain_end to ∷ []) sane.0 refl refl None)
-    part-flow (gate g split join no_lane) from to full sane = absurd full
-    part-flow (gate and_gate split join (lane code ps ls)) from to full sane =
-        let r = rows-parts Sane (lanes_places (lane code ps ls) split join) _ sane.1 in
-        let q = rows-parts Sane (parts_places ps (labelled split code) join) _ r.0 in
-        let first = parts-flow ps (labelled split code) join full.0 q.0 in
-        let others = lanes-flow ls split join full.1 q.1 in
-        let entry = λ (c : ℕ). node-silent split kind.AndSplit (Some join) (from ∷ []) (branch_heads (lane code ps ls) join) sane.0 refl (Some c) in
-        let rows : AllRows (Later (m split)) (map sig (branch_tails (lane code ps ls) split)) = rows-later (m split) (lane code ps ls) split entry (first, others) in
-        let end : Place = place join kind.AndJoin (Some split) (branch_tails (lane code ps ls) split) (plain_end to ∷ []) in
-        later-trans _ _ _ (node-one split kind.AndSplit (Some join) from (branch_heads (lane code ps ls) join) sane.0 tt)
-        (subst (Later (m split)) (sym (node-silent join kind.AndJoin (Some split) (branch_tails (lane code ps ls) split) (plain_end to ∷ []) r.1.0 refl None ∙ mark-is end r.1.0))
-        (and-join (m split) (sig (leaving ps (labelled split code))) (map sig (branch_tails ls split)) (sync_signals end) rows.0 rows.1))
-    part-flow (gate xor_gate split join (lane code ps ls)) from to full sane =
-        let r = rows-parts Sane (lanes_places (lane code ps ls) split join) _ sane.1 in
-        let q = rows-parts Sane (parts_places ps (labelled split code) join) _ r.0 in
-        let first = parts-flow ps (labelled split code) join full.0 q.0 in
-        let others = lanes-flow ls split join full.1 q.1 in
-        let end : Place = place join kind.XorJoin (Some split) (branch_tails (lane code ps ls) split) (plain_end to ∷ []) in
-        later-trans _ _ _ (node-one split kind.XorSplit (Some join) from (branch_heads (lane code ps ls) join) sane.0 tt)
-        (subst (Later (m split)) (sym (node-silent join kind.XorJoin (Some split) (branch_tails (lane code ps ls) split) (plain_end to ∷ []) r.1.0 refl None ∙ mark-is end r.1.0))
-        (xor-flow (m split) (f.ended split) split join code (Some join) ps ls (from ∷ []) (sync_signals end) sane.0 refl refl (first, others)))
-    part-flow (loop start end body) from to full sane =
-        let r = rows-parts Sane (parts_places body (plain_end start) end) _ sane.1 in
-        let inside = parts-flow body (plain_end start) end full r.0 in
-        later-trans _ _ _ (node-one start kind.LoopStart (Some end) from (plain_end (first_node body end) ∷ []) sane.0 tt)
-        (later-trans _ _ _ (subst (λ x. Later x (sig (leaving body (plain_end start)))) (node-silent start kind.LoopStart (Some end) (from ∷ []) (plain_end (first_node body end) ∷ []) sane.0 refl None) inside)
-        (later-trans _ _ _ (node-one end kind.LoopEnd (Some start) (leaving body (plain_end start)) (plain_end to ∷ []) r.1.0 tt)
-        (node-works end kind.LoopEnd (Some start) (leaving body (plain_end start) ∷ []) (plain_end to ∷ []) r.1.0 refl refl None)))
+  module _ (solves : Solves (cards_of s) f m) where
+    mark-is : (p : Place) → Sane p → m p.node ≡ eq_of p.kind (map sig p.ins) (sync_signals p)
+    mark-is p sane = solves.meets p.node (card_of s p) sane.placed
 
-    pub parts-flow : (ps : Parts) (from : End) (to : ℕ) → FullParts ps → AllRows Sane (parts_places ps from to) → Later (sig from) (sig (leaving ps from))
-    parts-flow nothing from to full sane = later-same (sig from)
-    parts-flow (part p ps) from to full sane =
-        let r = rows-parts Sane (part_places p from (first_node ps to)) _ sane in
-        later-trans _ _ _ (part-flow p from (first_node ps to) full.0 r.0) (parts-flow ps (plain_end (last_of p)) to full.1 r.1)
+    node-one : (n : ℕ) (k : NodeKind) (partner : Option ℕ) (from : End) (outs : List End) → Sane (place n k partner (from ∷ []) outs) → OneEdge k → Later (sig from) (m n)
+    node-one n k partner from outs sane i =
+        subst (Later (sig from)) (sym (mark-is (place n k partner (from ∷ []) outs) sane)) (one-edge k (sig from) (sync_signals (place n k partner (from ∷ []) outs)) i)
 
-    pub lanes-flow : (ls : Lanes) (split join : ℕ) → FullLanes ls → AllRows Sane (lanes_places ls split join) → LanesLater ls split
-    lanes-flow no_lane split join full sane = tt
-    lanes-flow (lane code ps ls) split join full sane =
-        let r = rows-parts Sane (parts_places ps (labelled split code) join) _ sane in
-        (parts-flow ps (labelled split code) join full.0 r.0, lanes-flow ls split join full.1 r.1)
+    -- ---- the signal that leaves stands behind the one that enters
+    mutual
+      pub part-flow : (p : Part) (from : End) (to : ℕ) → FullPart p → AllRows Sane (part_places p from to) → Later (sig from) (sig (plain_end (last_of p)))
+      part-flow (act n) from to full sane =
+          later-trans _ _ _ (node-one n kind.Activity None from (plain_end to ∷ []) sane.0 tt) (node-works n kind.Activity None (from ∷ []) (plain_end to ∷ []) sane.0 refl refl None)
+      part-flow (gate g split join no_lane) from to full sane = absurd full
+      part-flow (gate and_gate split join (lane code ps ls)) from to full sane =
+          let r = rows-parts Sane (lanes_places (lane code ps ls) split join) _ sane.1 in
+          let q = rows-parts Sane (parts_places ps (labelled split code) join) _ r.0 in
+          let first = parts-flow ps (labelled split code) join full.0 q.0 in
+          let others = lanes-flow ls split join full.1 q.1 in
+          let entry = λ (c : ℕ). node-silent split kind.AndSplit (Some join) (from ∷ []) (branch_heads (lane code ps ls) join) sane.0 refl (Some c) in
+          let rows : AllRows (Later (m split)) (map sig (branch_tails (lane code ps ls) split)) = rows-later (m split) (lane code ps ls) split entry (first, others) in
+          let end : Place = place join kind.AndJoin (Some split) (branch_tails (lane code ps ls) split) (plain_end to ∷ []) in
+          later-trans _ _ _ (node-one split kind.AndSplit (Some join) from (branch_heads (lane code ps ls) join) sane.0 tt)
+          (subst (Later (m split)) (sym (node-silent join kind.AndJoin (Some split) (branch_tails (lane code ps ls) split) (plain_end to ∷ []) r.1.0 refl None ∙ mark-is end r.1.0))
+          (and-join (m split) (sig (leaving ps (labelled split code))) (map sig (branch_tails ls split)) (sync_signals end) rows.0 rows.1))
+      part-flow (gate xor_gate split join (lane code ps ls)) from to full sane =
+          let r = rows-parts Sane (lanes_places (lane code ps ls) split join) _ sane.1 in
+          let q = rows-parts Sane (parts_places ps (labelled split code) join) _ r.0 in
+          let first = parts-flow ps (labelled split code) join full.0 q.0 in
+          let others = lanes-flow ls split join full.1 q.1 in
+          let end : Place = place join kind.XorJoin (Some split) (branch_tails (lane code ps ls) split) (plain_end to ∷ []) in
+          later-trans _ _ _ (node-one split kind.XorSplit (Some join) from (branch_heads (lane code ps ls) join) sane.0 tt)
+          (subst (Later (m split)) (sym (node-silent join kind.XorJoin (Some split) (branch_tails (lane code ps ls) split) (plain_end to ∷ []) r.1.0 refl None ∙ mark-is end r.1.0))
+          (xor-flow (m split) (f.ended split) split join code (Some join) ps ls (from ∷ []) (sync_signals end) sane.0 refl refl (first, others)))
+      part-flow (loop start end body) from to full sane =
+          let r = rows-parts Sane (parts_places body (plain_end start) end) _ sane.1 in
+          let inside = parts-flow body (plain_end start) end full r.0 in
+          later-trans _ _ _ (node-one start kind.LoopStart (Some end) from (plain_end (first_node body end) ∷ []) sane.0 tt)
+          (later-trans _ _ _ (subst (λ x. Later x (sig (leaving body (plain_end start)))) (node-silent start kind.LoopStart (Some end) (from ∷ []) (plain_end (first_node body end) ∷ []) sane.0 refl None) inside)
+          (later-trans _ _ _ (node-one end kind.LoopEnd (Some start) (leaving body (plain_end start)) (plain_end to ∷ []) r.1.0 tt)
+          (node-works end kind.LoopEnd (Some start) (leaving body (plain_end start) ∷ []) (plain_end to ∷ []) r.1.0 refl refl None)))
+
+      pub parts-flow : (ps : Parts) (from : End) (to : ℕ) → FullParts ps → AllRows Sane (parts_places ps from to) → Later (sig from) (sig (leaving ps from))
+      parts-flow nothing from to full sane = later-same (sig from)
+      parts-flow (part p ps) from to full sane =
+          let r = rows-parts Sane (part_places p from (first_node ps to)) _ sane in
+          later-trans _ _ _ (part-flow p from (first_node ps to) full.0 r.0) (parts-flow ps (plain_end (last_of p)) to full.1 r.1)
+
+      pub lanes-flow : (ls : Lanes) (split join : ℕ) → FullLanes ls → AllRows Sane (lanes_places ls split join) → LanesLater ls split
+      lanes-flow no_lane split join full sane = tt
+      lanes-flow (lane code ps ls) split join full sane =
+          let r = rows-parts Sane (parts_places ps (labelled split code) join) _ sane in
+          (parts-flow ps (labelled split code) join full.0 r.0, lanes-flow ls split join full.1 r.1)

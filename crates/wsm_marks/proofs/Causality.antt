@@ -1,50 +1,31 @@
 -- The marking before a number is the settled net of the facts before it.
-use Rattle.std.proofs.Common.{◌≡◌, ℕ, zero, suc, ◌+◌, ◌<◌, ◌≤◌, Bool, true, false, cond, not, ◌&&◌, ◌||◌, eqb, List, [], ◌∷◌, ◌++◌, map, length, refl, ap, sym, ◌∙◌, subst, inl, inr, ◌⊎◌, arith, Option, Some, None, length-append}
+use Rattle.std.proofs.Common.{◌≡◌, ℕ, true, false, List, ◌∷◌, map, length, refl, ap, sym, ◌∙◌, subst, inl, inr, arith, Option, Some, None, length-append}
 use Rattle.std.specs.Prelude.{nat_lt, if◌then◌else◌}
 use Rattle.std.proofs.lemmas.Bool.{cases_Bool, both_ways}
-use Rattle.wsm_lists.specs.Rows.{AllRows}
 use Rattle.wsm_schema.specs.Flat.{card_at}
 use Rattle.wsm_schema.specs.Kinds.{worked_on, is_xor_split}
 use Rattle.wsm_schema.specs.Rank.{IsRank}
 use Rattle.wsm_schema.specs.Pass.{ruled_from}
-use Rattle.wsm_schema.specs.Rules.{Spots, spot, spot_in, signal_of, source_signal, signal_from, sync_from, judge_of, verdict_at, state_by, is_begun, is_chosen, settle}
+use Rattle.wsm_schema.specs.Rules.{Spots, spot, spot_in, signal_of, source_signal, signal_from, sync_from, judge_of, verdict_at, state_by, is_begun, settle}
 use Rattle.wsm_schema.specs.declared.cards.Card.{Card}
 use Rattle.wsm_schema.specs.declared.cards.End.{End}
 use Rattle.wsm_schema.specs.declared.cards.NodeKind.{NodeKind}
 use Rattle.wsm_schema.specs.declared.cards.NodeKind.TheVariants as kind
-use Rattle.wsm_schema.specs.declared.states.Flow.{Flow}
 use Rattle.wsm_schema.specs.declared.states.Flow.TheVariants.{Yes, No}
 use Rattle.wsm_schema.specs.declared.states.Spot.{Spot}
 use Rattle.wsm_schema.specs.declared.states.State.TheVariants as state
-use Rattle.wsm_schema.specs.declared.states.Verdict.{Verdict}
-use Rattle.wsm_schema.specs.declared.states.Verdict.TheVariants as verdict
-use Rattle.wsm_lists.proofs.Lists.{map-same, all_rows}
-use Rattle.wsm_schema.proofs.Rounds.{member-splits, card_at-node, spot_in-map, rule_begins_none, settled, Meets}
-use Rattle.wsm_marks.specs.Timed.{Timed, Marking, time, before, early, verdict_of, sig_of, sig_by, sig_at, eq_of, eq_at, ended_signal, Solves, begun_or, spot_before, below, IsBelow, InTime, Kept}
-use Rattle.wsm_marks.proofs.Signals.{before-in_time}
-use Rattle.wsm_marks.proofs.Threshold.{threshold}
-use Rattle.wsm_marks.proofs.RankInduction.{in_rank}
+use Rattle.wsm_schema.proofs.Rounds.{member-splits, spot_in-map, rule_begins_none, settled, Meets}
 use Rattle.wsm_schema.specs.Marks.{Facts}
-
-pub before_none : (q : ℕ) → before q None ≡ None
-before_none q = elim (cases_Bool (nat_lt 0 q)) [ | inl soon ↦ rw soon refl | inr late ↦ rw late refl ]
-
-pub same_card : (cards : List Card) (n : ℕ) (c d : Card) → card_at n cards ≡ Some c → card_at n cards ≡ Some d → c ≡ d
-same_card cards n c d e h = let p : Some c ≡ Some d = sym e ∙ h in cc
-
--- what is ready before q
-pub is_ready_mark : (q : ℕ) (x : Timed) → before q x ≡ Some Yes → (t : ℕ) × (x ≡ Some (t, Yes)) × (nat_lt t q ≡ true)
-is_ready_mark q None h = let p : None ≡ Some Yes = sym (before_none q) ∙ h in absurd (cc)
-is_ready_mark q (Some (t, No)) h =
-    elim (cases_Bool (nat_lt t q)) [
-      | inl soon ↦ let p : Some No ≡ Some Yes = rw soon at h in absurd (cc)
-      | inr late ↦ let p : None ≡ Some Yes = rw late at h in absurd (cc)
-    ]
-is_ready_mark q (Some (t, Yes)) h =
-    elim (cases_Bool (nat_lt t q)) [
-      | inl soon ↦ (t, refl, soon)
-      | inr late ↦ let p : None ≡ Some Yes = rw late at h in absurd (cc)
-    ]
+use Rattle.wsm_lists.proofs.Lists.{all_rows, map-same}
+use Rattle.wsm_schema.proofs.Rounds.{card_at-node}
+use Rattle.wsm_marks.specs.Solving.{solution}
+use Rattle.wsm_marks.specs.Timed.{InTime, IsBelow, Kept, Marking, Solves, Timed, before, begun_or, below, early, ended_signal, sig_at, sig_by, sig_of, spot_before, time, verdict_of}
+use Rattle.wsm_marks.proofs.Cards.{same_card}
+use Rattle.wsm_marks.proofs.Lists.{map-map}
+use Rattle.wsm_marks.proofs.RankInduction.{in_rank}
+use Rattle.wsm_marks.proofs.Signals.{before_none, is_ready_mark}
+use Rattle.wsm_marks.proofs.Solutions.{solution-solves}
+use Rattle.wsm_marks.proofs.Threshold.{threshold}
 
 silent-not_split : (k : NodeKind) → worked_on k ≡ false → is_xor_split k ≡ false
 silent-not_split kind.XorSplit h = absurd (both_ways _ h refl)
@@ -126,14 +107,14 @@ module _ (cards : List Card) (q : ℕ) (f : Facts) (m : Marking) where
       go None e = sym (before_none q)
       go (Some c) e = ap (λ s. source_signal (Some c) s label) (spot_in-below n c e) ∙ signal-before in_time n c e label
 
-pub map-map : {X Y Z : Type 0} (g : Y → Z) (h : X → Y) (xs : List X) → map (λ x. g (h x)) xs ≡ map g (map h xs)
-map-map g h [] = refl
-map-map g h (x ∷ xs) = ap (λ ys. g (h x) ∷ ys) (map-map g h xs)
-
 -- what a causality proof is about
 pub record TimedNet (cards : List Card) (rank : List ℕ) (f : Facts) (m : Marking) : Type 0 where
   pub ranked : IsRank cards rank
   pub solves : Solves cards f m
+
+-- the solution of a net that has a rank
+pub solved_net : (cards : List Card) (rank : List ℕ) → IsRank cards rank → (f : Facts) → TimedNet cards rank f (solution cards rank f)
+solved_net cards rank is f = record { ranked = is; solves = solution-solves cards rank is f }
 
 module _ (cards : List Card) (rank : List ℕ) (f : Facts) (m : Marking) (net : TimedNet cards rank f m) where
   verdict-before : (q : ℕ) → nat_lt 0 q ≡ true → InTime cards q f m → (n : ℕ) (c : Card) → card_at n cards ≡ Some c → verdict_at cards (below cards q f m) c ≡ verdict_of (before q (m n))

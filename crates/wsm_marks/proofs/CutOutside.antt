@@ -1,5 +1,5 @@
 -- A cut changes no mark outside the loop's body, nor at its start.
-use Rattle.std.proofs.Common.{◌≡◌, ℕ, zero, suc, Bool, true, false, cond, not, ◌&&◌, eqb, List, [], ◌∷◌, map, refl, ap, sym, ◌∙◌, subst, inl, inr, ◌⊎◌, Option, Some, None}
+use Rattle.std.proofs.Common.{◌≡◌, ℕ, Bool, true, false, cond, eqb, List, [], ◌∷◌, map, refl, ap, sym, ◌∙◌, subst, inl, inr, ◌⊎◌, Option, Some, None}
 use Rattle.std.specs.Prelude.{nat_lt, is_some, count_by, ◌==◌}
 use Rattle.std.specs.List.{list_all}
 use Rattle.std.proofs.lemmas.Bool.{cases_Bool, both_ways, eqb-true, and_left, and_parts}
@@ -15,18 +15,17 @@ use Rattle.wsm_schema.specs.declared.cards.NodeKind.{NodeKind}
 use Rattle.wsm_schema.specs.declared.cards.NodeKind.TheVariants as kind
 use Rattle.wsm_schema.specs.declared.states.Flow.{Flow}
 use Rattle.wsm_schema.specs.declared.states.Flow.TheVariants.{Yes, No}
-use Rattle.wsm_schema.specs.declared.states.Verdict.{Verdict}
 use Rattle.wsm_schema.specs.declared.states.Verdict.TheVariants as verdict
-use Rattle.wsm_lists.proofs.Lists.{all-rows-map, both_rows, rows-map}
-use Rattle.wsm_schema.proofs.Rounds.{card_at-node}
-use Rattle.wsm_marks.specs.Timed.{Timed, Marking, flow, time, before, early, latest, awaited, timed_by, eq_of, eq_at, sig_of, sig_by, sig_at, ended_signal, verdict_of, Solves, InTime}
-use Rattle.wsm_marks.specs.Loops.{Inner, LoopOf, Cleared}
-use Rattle.wsm_marks.proofs.Threshold.{threshold}
-use Rattle.wsm_marks.proofs.Causality.{TimedNet, works_before, not_ended-signal, before_none, map-map}
-use Rattle.wsm_marks.proofs.EntrySteps.{is_yes-some}
-use Rattle.wsm_marks.proofs.RankInduction.{Known, rank_induction}
-use Rattle.wsm_marks.proofs.Solutions.{eq_of-same}
 use Rattle.wsm_schema.specs.Marks.{Facts}
+use Rattle.wsm_lists.proofs.Lists.{both_rows, rows-map}
+use Rattle.wsm_marks.specs.Loops.{Cleared, Inner, LoopOf}
+use Rattle.wsm_marks.specs.Timed.{InTime, Marking, Solves, Timed, before, early, flow, sig_at, sig_by, sig_of, timed_by, verdict_of}
+use Rattle.wsm_marks.proofs.Causality.{TimedNet, not_ended-signal, works_before}
+use Rattle.wsm_marks.proofs.Lists.{map-map}
+use Rattle.wsm_marks.proofs.RankInduction.{Known, rank_induction}
+use Rattle.wsm_marks.proofs.Signals.{before_none, is_yes-some}
+use Rattle.wsm_marks.proofs.Solutions.{eq_of-same}
+use Rattle.wsm_marks.proofs.Threshold.{threshold}
 
 -- a node that is not ended, and not skipped, says nothing, or that it is ready
 no-signal : (k : NodeKind) (x : Timed) (choice label : Option ℕ) → worked_on k ≡ true → is_no (flow x) ≡ false → sig_of k x None choice label ≡ None
@@ -162,8 +161,8 @@ module _ (cards : List Card) (rank : List ℕ) (f : Facts) (m : Marking) (net : 
       go (Some c) e h = (c, e, yes-source n c e label (is_yes-some _ h))
 
   -- a node of the body that is ready stands behind a loop start that is
-  pub back : (n : ℕ) (c : Card) → card_at n cards ≡ Some c → is_one_of n body ≡ true → before q (m n) ≡ Some Yes → before q (m l) ≡ Some Yes
-  back = rank_induction cards rank net.ranked (λ n. is_one_of n body ≡ true → before q (m n) ≡ Some Yes → before q (m l) ≡ Some Yes) step
+  pub ready-back : (n : ℕ) (c : Card) → card_at n cards ≡ Some c → is_one_of n body ≡ true → before q (m n) ≡ Some Yes → before q (m l) ≡ Some Yes
+  ready-back = rank_induction cards rank net.ranked (λ n. is_one_of n body ≡ true → before q (m n) ≡ Some Yes → before q (m l) ≡ Some Yes) step
     where
       step : (n : ℕ) (c : Card) → card_at n cards ≡ Some c →
           AllRows (λ x. Known cards (λ k. is_one_of k body ≡ true → before q (m k) ≡ Some Yes → before q (m l) ≡ Some Yes) x.node) c.ins →

@@ -1,32 +1,35 @@
 -- A trail cut by a loop whose end is running, with the Again of that end, replays whole.
-use Rattle.std.proofs.Common.{◌≡◌, ℕ, zero, suc, ◌<◌, ◌≤◌, Bool, true, false, cond, ◌||◌, ◌&&◌, eqb, List, [], ◌∷◌, ◌++◌, refl, ap, sym, ◌∙◌, subst, inl, inr, ◌⊎◌, arith, Option, Some, None}
-use Rattle.std.specs.Prelude.{nat_lt, find, filter_map, option_map, if◌then◌else◌}
+use Rattle.std.proofs.Common.{◌≡◌, ℕ, suc, ◌<◌, Bool, true, false, eqb, List, [], ◌∷◌, ◌++◌, refl, ap, sym, ◌∙◌, subst, inl, inr, ◌⊎◌, arith, Option, Some, None}
+use Rattle.std.specs.Prelude.{nat_lt, find, option_map, if◌then◌else◌}
 use Rattle.std.specs.List.{cons_option}
 use Rattle.std.proofs.lemmas.Bool.{cases_Bool, both_ways, ltb-true, lt-ltb, le-ltb, eqb-true}
 use Rattle.wsm_schema.specs.Flat.{FlatModel, card_at}
-use Rattle.wsm_schema.specs.Kinds.{worked_on, is_loop_end}
+use Rattle.wsm_schema.specs.Kinds.{is_loop_end}
 use Rattle.wsm_lists.specs.Rows.{AllRows}
-use Rattle.wsm_schema.specs.Rules.{Spots, is_yes, is_no}
-use Rattle.wsm_schema.specs.Replay.{replay_of, fits_reads, fits_edges, fits_choice, on_card}
-use Rattle.wsm_schema.specs.Replay.{whole, fails}
+use Rattle.wsm_schema.specs.Rules.{Spots, is_no}
+use Rattle.wsm_schema.specs.Replay.{replay_of}
+use Rattle.wsm_schema.specs.Replay.{whole}
 use Rattle.wsm_lists.specs.Values.{Written, value_in}
-use Rattle.wsm_schema.specs.Trail.{is_one_of, written_by, value_below, later_or, wrote, cut_entry}
-use Rattle.wsm_schema.specs.Marks.{is_start_of, is_end_of, position_of, choice_of, Facts, facts_of}
+use Rattle.wsm_schema.specs.Trail.{is_one_of, written_by, value_below, later_or, cut_entry}
+use Rattle.wsm_schema.specs.Marks.{is_start_of, is_end_of, choice_of, Facts, facts_of}
 use Rattle.wsm_schema.specs.declared.cards.Card.{Card}
 use Rattle.wsm_schema.specs.declared.entries.Entry.{Entry}
 use Rattle.wsm_schema.specs.declared.entries.Entry.TheVariants as entry
-use Rattle.wsm_schema.specs.declared.states.Flow.TheVariants.{Yes, No}
+use Rattle.wsm_schema.specs.declared.states.Flow.TheVariants.{Yes}
 use Rattle.wsm_lists.specs.declared.values.Value.{Value}
-use Rattle.wsm_marks.specs.Timed.{Marking, flow, before, early, InTime}
-use Rattle.wsm_marks.specs.Fits.{Rises, InOrder, Orderly, Quiet, Told, fits, first_misfit, partner_done, last_position, Ends}
-use Rattle.wsm_marks.specs.Loops.{LoopOf, Cleared, cut_entries, is_inside}
-use Rattle.wsm_marks.proofs.Causality.{TimedNet, is_ready_mark}
-use Rattle.wsm_marks.proofs.EntrySteps.{on_card-same, in_time-later}
-use Rattle.wsm_marks.proofs.FirstFailure.{replay-ends}
-use Rattle.wsm_marks.proofs.Telling.{Entries, AllBelow, told, fresh}
-use Rattle.wsm_marks.proofs.WholeTrails.{find-last}
+use Rattle.wsm_lists.proofs.Lists.{both_rows}
+use Rattle.wsm_marks.specs.Fits.{Ends, InOrder, Orderly, RisesAfter, first_misfit, fits, last_position, partner_done}
+use Rattle.wsm_marks.specs.Loops.{Cleared, LoopOf, cut_entries, is_inside}
+use Rattle.wsm_marks.specs.Timed.{Entries, InTime, Marking, before, early, flow}
+use Rattle.wsm_marks.proofs.Cards.{on_card-same}
+use Rattle.wsm_marks.proofs.Causality.{TimedNet}
+use Rattle.wsm_marks.proofs.CutOutside.{cut_outside, ready-back}
+use Rattle.wsm_marks.proofs.EntrySteps.{in_time-later}
+use Rattle.wsm_marks.proofs.FirstFailure.{fits-rows, replay-ends, rows-fit}
+use Rattle.wsm_marks.proofs.Lists.{rows-last}
 use Rattle.wsm_marks.proofs.MarksOfTrails.{whole-fits}
-use Rattle.wsm_marks.proofs.CutOutside.{cut_outside, back}
+use Rattle.wsm_marks.proofs.Signals.{is_ready_mark}
+use Rattle.wsm_marks.proofs.Telling.{AllBelow, find-last, orderly-fresh, orderly-told, told-end}
 
 -- what a cut makes of an entry: it stays, it goes, or its writes stay
 data Cut (body : List ℕ) (p : ℕ) (x : Entry) : Option (ℕ × Entry) → Type 0 where
@@ -141,53 +144,28 @@ module _ (body : List ℕ) where
       go _ (goes inside none) ih = ih
       go _ (leaves inside) ih = (wrote_it e h.0, ih)
 
-  rises-lower : (a b : ℕ) → a < b → (es : Entries) → Rises b es → Rises a es
+  rises-lower : (a b : ℕ) → a < b → (es : Entries) → RisesAfter b es → RisesAfter a es
   rises-lower a b lt [] h = tt
   rises-lower a b lt (e ∷ es) h = (lt-ltb a e.0 (omega (arith, ltb-true b e.0 h.0)), h.1)
 
-  rises-cut : (last : ℕ) (es : Entries) → Rises last es → Rises last (cut_entries body es)
+  rises-cut : (last : ℕ) (es : Entries) → RisesAfter last es → RisesAfter last (cut_entries body es)
   rises-cut last [] h = tt
   rises-cut last (e ∷ es) h = go (cut_entry body e.0 e.1) (cut_view body e.0 e.1) (rises-cut e.0 es h.1)
     where
-      go : (o : Option (ℕ × Entry)) → Cut body e.0 e.1 o → Rises e.0 (cut_entries body es) → Rises last (cons_option o (cut_entries body es))
+      go : (o : Option (ℕ × Entry)) → Cut body e.0 e.1 o → RisesAfter e.0 (cut_entries body es) → RisesAfter last (cons_option o (cut_entries body es))
       go _ (stays out) ih = (h.0, ih)
       go _ (goes inside none) ih = rises-lower last e.0 (ltb-true last e.0 h.0) (cut_entries body es) ih
       go _ (leaves inside) ih = (h.0, ih)
 
-rises-last : (last p : ℕ) (x : Entry) (es : Entries) → nat_lt last p ≡ true → Rises last es → AllBelow p es → Rises last (es ++ (p, x) ∷ [])
+rises-last : (last p : ℕ) (x : Entry) (es : Entries) → nat_lt last p ≡ true → RisesAfter last es → AllBelow p es → RisesAfter last (es ++ (p, x) ∷ [])
 rises-last last p x [] lt h b = (lt, tt)
 rises-last last p x (e ∷ es) lt h b = (h.0, rises-last e.0 p x es b.0 h.1 b.1)
 
-rises-below : (last q : ℕ) (es : Entries) → Rises last es → nat_lt (last_position last es) q ≡ true → AllBelow q es × (nat_lt last q ≡ true)
+rises-below : (last q : ℕ) (es : Entries) → RisesAfter last es → nat_lt (last_position last es) q ≡ true → AllBelow q es × (nat_lt last q ≡ true)
 rises-below last q [] h lt = (tt, lt)
 rises-below last q (e ∷ es) h lt =
     let r = rises-below e.0 q es h.1 lt in
     ((r.1, r.0), lt-ltb last q (omega (arith, ltb-true last e.0 h.0, ltb-true e.0 q r.1)))
-
-rows-last : {X : Type 0} (P : X → Type 0) (xs : List X) (x : X) → AllRows P xs → P x → AllRows P (xs ++ x ∷ [])
-rows-last P [] x h it = (it, tt)
-rows-last P (y ∷ ys) x h it = (h.0, rows-last P ys x h.1 it)
-
-pub told-end : (f : Facts) (last : ℕ) (es : Entries) → Told f last es → (q : ℕ) → nat_lt (last_position last es) q ≡ true → Quiet f (suc (last_position last es)) q
-told-end f last [] h q lt = h q lt
-told-end f last (e ∷ es) h q lt = told-end f e.0 es h.1 q lt
-
--- every entry fits exactly where there is no first misfit
-pub fits-rows : (g : FlatModel) (f : Facts) (m : Marking) (value : ℕ → ℕ → Option Value) (es : Entries) → first_misfit g f m value es ≡ None → AllRows (λ e. fits g f m (λ d. value d e.0) e.0 e.1 ≡ true) es
-fits-rows g f m value [] h = tt
-fits-rows g f m value (e ∷ es) h =
-    elim (cases_Bool (fits g f m (λ d. value d e.0) e.0 e.1)) [
-      | inl fit ↦ (fit, fits-rows g f m value es (rw fit at h))
-      | inr misfit ↦ let p : Some e.0 ≡ None = rw misfit at h in absurd (cc)
-    ]
-
-pub rows-fit : (g : FlatModel) (f : Facts) (m : Marking) (value : ℕ → ℕ → Option Value) (es : Entries) → AllRows (λ e. fits g f m (λ d. value d e.0) e.0 e.1 ≡ true) es → first_misfit g f m value es ≡ None
-rows-fit g f m value [] h = refl
-rows-fit g f m value (e ∷ es) h = rw h.0 (rows-fit g f m value es h.1)
-
-both-below : (P : ℕ × Entry → Type 0) (q : ℕ) (es : Entries) → AllRows P es → AllBelow q es → AllRows (λ e. P e × (nat_lt e.0 q ≡ true)) es
-both-below P q [] p b = tt
-both-below P q (e ∷ es) p b = ((p.0, b.0), both-below P q es p.1 b.1)
 
 module _ (g : FlatModel) (rank : List ℕ) (body : List ℕ) (l e : ℕ) (loop : LoopOf g.cards body l e) (es : Entries) (p : ℕ) (w : Written) (m m' : Marking)
     (net : TimedNet g.cards rank (facts_of es) m) (net' : TimedNet g.cards rank (facts_of (repeated body es p e w)) m') (orderly : Orderly es) (next : nat_lt (last_position 0 es) p ≡ true) where
@@ -250,7 +228,7 @@ module _ (g : FlatModel) (rank : List ℕ) (body : List ℕ) (l e : ℕ) (loop :
         (rows-last _ (cut_entries body es) (p, entry.Again e w)
         (rows-cut body (λ x. (fits g f m (λ d. value_below d x.0 es) x.0 x.1 ≡ true) × (nat_lt x.0 p ≡ true)) (λ x. fits g f' m' (λ d. value_below d x.0 es') x.0 x.1 ≡ true)
         (λ x out h. ap (λ v. fits g f' m' v x.0 x.1) (λ i d. value-same x.0 h.1 d i) ∙ sym (fits-same (λ d. value_below d x.0 es) x out) ∙ h.0)
-        (λ x h. refl) es (both-below _ p es (fits-rows g f m (λ d q. value_below d q es) es fit) all_below))
+        (λ x h. refl) es (both_rows _ (λ x. nat_lt x.0 p ≡ true) _ (λ x a b. (a, b)) es (fits-rows g f m (λ d q. value_below d q es) es fit) all_below))
         again)
 
   -- the repeat of a loop whose end is running
@@ -259,17 +237,17 @@ module _ (g : FlatModel) (rank : List ℕ) (body : List ℕ) (l e : ℕ) (loop :
   cut-whole t is_whole c d at_e ends partner at_l begun open_end =
       let fit : first_misfit g f m (λ x q. value_below x q es) es ≡ None = whole-fits g rank es m net orderly t is_whole in
       let pos : nat_lt 0 p ≡ true = (rises-below 0 p es orderly.rises next).1 in
-      let at_end : InTime g.cards (suc (last_position 0 es)) f m = in_time_end fit (replay-ends g rank f m net es (told es orderly) (fresh es orderly)) in
+      let at_end : InTime g.cards (suc (last_position 0 es)) f m = in_time_end fit (replay-ends g rank f m net es (orderly-told es orderly) (orderly-fresh es orderly)) in
       let in_time : InTime g.cards p f m =
-      in_time-later g.cards f m (suc (last_position 0 es)) p (omega (arith, ltb-true (last_position 0 es) p next)) (told-end f 0 es (told es orderly) p next) at_end in
+      in_time-later g.cards f m (suc (last_position 0 es)) p (omega (arith, ltb-true (last_position 0 es) p next)) (told-end f 0 es (orderly-told es orderly) p next) at_end in
       let ready_e : before p (m e) ≡ Some Yes = (in_time.start e begun).3 in
-      let ready_l : before p (m l) ≡ Some Yes = back g.cards rank f m net p pos in_time body l e loop e c at_e loop.has_end ready_e in
+      let ready_l : before p (m l) ≡ Some Yes = ready-back g.cards rank f m net p pos in_time body l e loop e c at_e loop.has_end ready_e in
       let mark_e = is_ready_mark p (m e) ready_e in
       let mark_l = is_ready_mark p (m l) ready_l in
       let same = cut_outside g.cards rank net.ranked f f' m m' net.solves net'.solves body l e loop cleared_so open_end (ap (λ x. is_no (flow x)) mark_e.1) (ap (λ x. is_no (flow x)) mark_l.1) in
       let ready_l' : before p (m' l) ≡ Some Yes = ap (before p) (sym (same l d at_l (inr refl))) ∙ ready_l in
       let again : fits g f' m' (λ x. value_below x p es') p (entry.Again e w) ≡ true = rw (at_e, ends, partner, at_l, loop.silent d at_l, ready_l') refl in
-      finish (fits-cut same fit again) (replay-ends g rank f' m' net' es' (told es' orderly-cut) (fresh es' orderly-cut))
+      finish (fits-cut same fit again) (replay-ends g rank f' m' net' es' (orderly-told es' orderly-cut) (orderly-fresh es' orderly-cut))
     where
       in_time_end : first_misfit g f m (λ x q. value_below x q es) es ≡ None → Ends g.cards f m (suc (last_position 0 es)) (first_misfit g f m (λ x q. value_below x q es) es) (replay_of g es) → InTime g.cards (suc (last_position 0 es)) f m
       in_time_end fit h = (subst (λ o. Ends g.cards f m (suc (last_position 0 es)) o (replay_of g es)) fit h).3

@@ -1,11 +1,11 @@
 -- One entry of a replay, and the numbers between two entries.
-use Rattle.std.proofs.Common.{◌≡◌, ℕ, zero, suc, ◌<◌, ◌≤◌, Bool, true, false, cond, ◌&&◌, ◌||◌, eqb, List, [], ◌∷◌, map, refl, ap, sym, ◌∙◌, subst, inl, inr, ◌⊎◌, arith, Option, Some, None}
+use Rattle.std.proofs.Common.{◌≡◌, ℕ, suc, ◌≤◌, true, false, cond, ◌&&◌, ◌||◌, eqb, List, ◌∷◌, refl, ap, sym, ◌∙◌, inl, inr, arith, Option, Some, None}
 use Rattle.std.specs.Prelude.{nat_lt, if◌then◌else◌}
-use Rattle.std.proofs.lemmas.Bool.{cases_Bool, both_ways, eqb-true, eq-eqb, ltb-true, ltb-false, lt-ltb, le-ltb, or_cases, or_left, and_parts}
+use Rattle.std.proofs.lemmas.Bool.{cases_Bool, both_ways, eqb-true, ltb-true, lt-ltb, or_cases, or_left, and_parts}
 use Rattle.wsm_schema.specs.Flat.{FlatModel, card_at}
 use Rattle.wsm_schema.specs.Kinds.{worked_on, is_loop_end}
-use Rattle.wsm_schema.specs.Rules.{Spots, spot, spot_in, state_by, is_begun, is_yes, settle}
-use Rattle.wsm_schema.specs.Replay.{is_in_state, on_card, partner_completed, applicable, after, fits_reads, fits_edges, fits_choice}
+use Rattle.wsm_schema.specs.Rules.{Spots, spot, spot_in, state_by, is_begun, is_yes}
+use Rattle.wsm_schema.specs.Replay.{is_in_state, partner_completed, applicable, after, fits_reads, fits_edges, fits_choice}
 use Rattle.wsm_schema.specs.Marks.{is_start_of, is_end_of, Facts}
 use Rattle.wsm_schema.specs.declared.cards.Card.{Card}
 use Rattle.wsm_schema.specs.declared.cards.NodeKind.{NodeKind}
@@ -14,30 +14,15 @@ use Rattle.wsm_schema.specs.declared.entries.Entry.TheVariants as entry
 use Rattle.wsm_schema.specs.declared.states.Flow.{Flow}
 use Rattle.wsm_schema.specs.declared.states.Flow.TheVariants.{Yes, No}
 use Rattle.wsm_schema.specs.declared.states.Spot.{Spot}
-use Rattle.wsm_schema.specs.declared.states.State.{State}
 use Rattle.wsm_schema.specs.declared.states.State.TheVariants as state
 use Rattle.wsm_lists.specs.declared.values.Value.{Value}
-use Rattle.wsm_marks.specs.Timed.{Timed, Marking, flow, time, before, early, verdict_of, begun_or, spot_before, below, IsBelow, InTime, Kept}
-use Rattle.wsm_marks.specs.Fits.{InOrder, Quiet, Tells, partner_done, fits}
-use Rattle.wsm_marks.proofs.Causality.{TimedNet, causality, kept-below, works_before, is_ready_mark, before_none}
-
-pub not_before_itself : (p : ℕ) → nat_lt p p ≡ false
-not_before_itself p = le-ltb p p (omega arith)
-
-pub lt-suc_self : (p : ℕ) → nat_lt p (suc p) ≡ true
-lt-suc_self p = lt-ltb p (suc p) (omega arith)
-
-pub or_false : (b : Bool) → (b || false) ≡ b
-or_false true = refl
-or_false false = refl
-
--- what holds before a number holds before each later one
-pub before-later : (a b : ℕ) → a ≤ b → (x : Timed) (y : Flow) → before a x ≡ Some y → before b x ≡ Some y
-before-later a b le x y h =
-    elim (cases_Bool (nat_lt (time x) a)) [
-      | inl soon ↦ let later : nat_lt (time x) b ≡ true = lt-ltb (time x) b (omega (arith, ltb-true (time x) a soon)) in rw later (rw soon at h)
-      | inr late ↦ let p : None ≡ Some y = rw late at h in absurd (cc)
-    ]
+use Rattle.std.proofs.Math.Bool.{or-false}
+use Rattle.wsm_marks.specs.Fits.{InOrder, Quiet, Tells, fits, partner_done}
+use Rattle.wsm_marks.specs.Timed.{InTime, IsBelow, Kept, Marking, before, begun_or, early, verdict_of}
+use Rattle.wsm_marks.proofs.Cards.{on_card-same, on_card-true}
+use Rattle.wsm_marks.proofs.Causality.{TimedNet, causality, kept-below, works_before}
+use Rattle.wsm_marks.proofs.Lists.{lt-suc_self, not_before_itself}
+use Rattle.wsm_marks.proofs.Signals.{before-later, is_yes-some}
 
 begun_or-quiet : (f : Facts) (a b : ℕ) → Quiet f a b → (n : ℕ) (s : Spot) → begun_or b f n s ≡ begun_or a f n s
 begun_or-quiet f a b quiet n s = rw (quiet.ends n, quiet.starts n) refl
@@ -47,19 +32,6 @@ in_time-later cards f m a b le quiet in_time = record {
   start = λ n h. let s = in_time.start n (sym (quiet.starts n) ∙ h) in (s.0, s.1, s.2, before-later a b le (m n) Yes s.3);
   end = λ n h. quiet.starts n ∙ in_time.end n (sym (quiet.ends n) ∙ h);
 }
-
-pub on_card-same : (o : Option Card) (g h : Card → Bool) → ((c : Card) → o ≡ Some c → g c ≡ h c) → on_card o g ≡ on_card o h
-on_card-same None g h e = refl
-on_card-same (Some c) g h e = e c refl
-
-pub on_card-true : (o : Option Card) (test : Card → Bool) → on_card o test ≡ true → (c : Card) × (o ≡ Some c) × (test c ≡ true)
-on_card-true None test h = absurd (both_ways _ refl h)
-on_card-true (Some c) test h = (c, refl, h)
-
-pub is_yes-some : (o : Option Flow) → is_yes o ≡ true → o ≡ Some Yes
-is_yes-some None h = absurd (both_ways _ refl h)
-is_yes-some (Some Yes) h = refl
-is_yes-some (Some No) h = absurd (both_ways _ refl h)
 
 fresh-activated : (k : NodeKind) (o : Option Flow) → is_in_state (state_by k (verdict_of o)) state.Activated ≡ (worked_on k && is_yes o)
 fresh-activated k None = elim (cases_Bool (worked_on k)) [ | inl works ↦ rw works refl | inr silent ↦ rw silent refl ]
@@ -161,8 +133,8 @@ module _ (g : FlatModel) (rank : List ℕ) (f : Facts) (m : Marking) (net : Time
       other-kept : (x : Entry) → Tells f last p x → (k : ℕ) (c : Card) → card_at k g.cards ≡ Some c → is_start_of k x ≡ false → is_end_of k x ≡ false → (s : Spot) →
           (if is_begun c.kind (spot_in k t).state then spot_in k t else s) ≡ begun_or (suc p) f k s
       other-kept x tells k c e no_start no_end s =
-          let st : early (suc p) (f.started k) ≡ early p (f.started k) = tells.starts k ∙ ap (λ b. early p (f.started k) || b) no_start ∙ or_false _ in
-          let en : early (suc p) (f.ended k) ≡ early p (f.ended k) = tells.ends k ∙ ap (λ b. early p (f.ended k) || b) no_end ∙ or_false _ in
+          let st : early (suc p) (f.started k) ≡ early p (f.started k) = tells.starts k ∙ ap (λ b. early p (f.started k) || b) no_start ∙ or-false _ in
+          let en : early (suc p) (f.ended k) ≡ early p (f.ended k) = tells.ends k ∙ ap (λ b. early p (f.ended k) || b) no_end ∙ or-false _ in
           let kept = kept-below g.cards rank f m net p in_time t is_below in
           rw (en, st) (kept.is k c e s)
 
@@ -173,7 +145,7 @@ module _ (g : FlatModel) (rank : List ℕ) (f : Facts) (m : Marking) (net : Time
               let at_k : node ≡ k = eqb-true node k same in
               let own : f.started k ≡ Some p = ap f.started (sym at_k) ∙ tells.order in
               let st : early (suc p) (f.started k) ≡ true = ap (early (suc p)) own ∙ lt-suc_self p in
-              let en : early (suc p) (f.ended k) ≡ false = tells.ends k ∙ or_false _ ∙ not_over k (own_start k own) in
+              let en : early (suc p) (f.ended k) ≡ false = tells.ends k ∙ or-false _ ∙ not_over k (own_start k own) in
               rw (same, en, st) (ap (λ j. spot j state.Running None) at_k)
           | inr other ↦ rw other (other-kept (entry.Start node user reads) tells k c e other refl s)
         ];
@@ -198,6 +170,6 @@ module _ (g : FlatModel) (rank : List ℕ) (f : Facts) (m : Marking) (net : Time
       below-after (entry.End node writes choice) tells fit =
           causality g.cards rank f m net (suc p) (lt-ltb 0 (suc p) (omega arith)) (in_time-after _ tells fit) _ (end-kept node writes choice tells)
       below-after (entry.Again node writes) tells fit =
-          slide p (suc p) pos (omega arith) (record { starts = λ n. tells.starts n ∙ or_false _; ends = λ n. tells.ends n ∙ or_false _ }) in_time t is_below
+          slide p (suc p) pos (omega arith) (record { starts = λ n. tells.starts n ∙ or-false _; ends = λ n. tells.ends n ∙ or-false _ }) in_time t is_below
       below-after (entry.Wrote writes) tells fit =
-          slide p (suc p) pos (omega arith) (record { starts = λ n. tells.starts n ∙ or_false _; ends = λ n. tells.ends n ∙ or_false _ }) in_time t is_below
+          slide p (suc p) pos (omega arith) (record { starts = λ n. tells.starts n ∙ or-false _; ends = λ n. tells.ends n ∙ or-false _ }) in_time t is_below

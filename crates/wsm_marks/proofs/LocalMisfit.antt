@@ -1,40 +1,26 @@
 -- A trail that fits one net misfits another only in the region where they differ.
-use Rattle.std.proofs.Common.{◌≡◌, ℕ, Bool, true, false, cond, ◌||◌, ◌&&◌, List, [], ◌∷◌, refl, ap, sym, ◌∙◌, subst, inl, inr, ◌⊎◌, Option, Some, None}
+use Rattle.std.proofs.Common.{◌≡◌, ℕ, Bool, true, false, ◌&&◌, List, [], ◌∷◌, refl, ap, sym, ◌∙◌, inl, inr, Option, Some, None}
 use Rattle.std.specs.Prelude.{if◌then◌else◌}
-use Rattle.std.proofs.lemmas.Bool.{cases_Bool, both_ways}
+use Rattle.std.proofs.lemmas.Bool.{cases_Bool}
 use Rattle.wsm_schema.specs.Flat.{FlatModel, card_at}
-use Rattle.wsm_schema.specs.Kinds.{worked_on, is_loop_end}
+use Rattle.wsm_schema.specs.Kinds.{is_loop_end}
 use Rattle.wsm_schema.specs.Rank.{IsRank}
 use Rattle.wsm_lists.specs.Rows.{AllRows}
-use Rattle.wsm_schema.specs.Rules.{is_yes}
-use Rattle.wsm_schema.specs.Replay.{on_card, fits_reads, fits_edges, fits_choice}
+use Rattle.wsm_schema.specs.Replay.{on_card, fits_edges, fits_choice}
 use Rattle.wsm_lists.specs.Values.{Written}
 use Rattle.wsm_schema.specs.declared.cards.Card.{Card}
 use Rattle.wsm_schema.specs.declared.entries.Entry.{Entry}
 use Rattle.wsm_schema.specs.declared.entries.Entry.TheVariants as entry
 use Rattle.wsm_lists.specs.declared.values.Value.{Value}
-use Rattle.wsm_marks.specs.Timed.{Marking, before, early, Solves}
-use Rattle.wsm_marks.specs.Fits.{fits, first_misfit, partner_done}
-use Rattle.wsm_marks.proofs.EntrySteps.{on_card-same}
-use Rattle.wsm_marks.proofs.Remark.{Closed, Bordered, closed-bordered, remark}
 use Rattle.wsm_schema.specs.Marks.{Facts}
-
--- whether an entry is of a node of a region
-abbrev pub is_of : (ℕ → Bool) → Entry → Bool
-is_of inside (entry.Start node user reads) = inside node
-is_of inside (entry.End node writes choice) = inside node
-is_of inside (entry.Again node writes) = inside node
-is_of inside (entry.Wrote writes) = false
-
--- the first misfit of an entry of the region
-abbrev pub misfit_in : (ℕ → Bool) → FlatModel → Facts → Marking → (ℕ → ℕ → Option Value) → List (ℕ × Entry) → Option ℕ
-misfit_in inside g f m value [] = None
-misfit_in inside g f m value (e ∷ es) =
-    if is_of inside e.1 then (if fits g f m (λ d. value d e.0) e.0 e.1 then misfit_in inside g f m value es else Some e.0)
-    else misfit_in inside g f m value es
+use Rattle.wsm_marks.specs.Fits.{first_misfit, fits, partner_done}
+use Rattle.wsm_marks.specs.Regions.{Closed, is_of, misfit_in}
+use Rattle.wsm_marks.specs.Timed.{Entries, Marking, Solves}
+use Rattle.wsm_marks.proofs.Cards.{on_card-same}
+use Rattle.wsm_marks.proofs.Remark.{closed-bordered, remark}
 
 module _ (g1 g2 : FlatModel) (f : Facts) (m1 m2 : Marking) (inside : ℕ → Bool) (rank : List ℕ) (is : IsRank g2.cards rank) (s1 : Solves g1.cards f m1) (s2 : Solves g2.cards f m2)
-    (closed : Closed g1.cards f m1 g2.cards f m2 inside)
+    (closed : Closed g1.cards f g2.cards f inside)
     (kinds : (n : ℕ) (c : Card) → card_at n g2.cards ≡ Some c → inside n ≡ false → (w : Written) → fits_edges g1.elements w c.writes ≡ fits_edges g2.elements w c.writes)
     (partners : (n k : ℕ) (c : Card) → card_at n g2.cards ≡ Some c → inside n ≡ false → is_loop_end c.kind ≡ true → c.partner ≡ Some k → inside k ≡ false) where
   same_mark : (n : ℕ) (c : Card) → card_at n g2.cards ≡ Some c → inside n ≡ false → m1 n ≡ m2 n
@@ -61,7 +47,7 @@ module _ (g1 g2 : FlatModel) (f : Facts) (m1 m2 : Marking) (inside : ℕ → Boo
       ])
   fits-outside value p (entry.Wrote writes) out = refl
 
-  pub misfit-local : (value : ℕ → ℕ → Option Value) (es : List (ℕ × Entry)) → AllRows (λ e. fits g1 f m1 (λ d. value d e.0) e.0 e.1 ≡ true) es → first_misfit g2 f m2 value es ≡ misfit_in inside g2 f m2 value es
+  pub misfit-local : (value : ℕ → ℕ → Option Value) (es : Entries) → AllRows (λ e. fits g1 f m1 (λ d. value d e.0) e.0 e.1 ≡ true) es → first_misfit g2 f m2 value es ≡ misfit_in inside g2 f m2 value es
   misfit-local value [] h = refl
   misfit-local value (e ∷ es) h =
       elim (cases_Bool (is_of inside e.1)) [

@@ -1,15 +1,17 @@
 -- A loop in a tree: what stands before it, in it and behind it, and where the edges come from.
-use Rattle.std.proofs.Common.{◌≡◌, ℕ, Bool, true, false, ◌||◌, List, [], ◌∷◌, ◌++◌, refl, ap, sym, ◌∙◌, subst, inl, inr, ◌⊎◌, Option, Some, None, append_assoc, append-nil}
+use Rattle.std.proofs.Common.{◌≡◌, ℕ, Bool, true, List, [], ◌∷◌, ◌++◌, refl, ap, sym, ◌∙◌, subst, inl, inr, ◌⊎◌, Some, None, append_assoc, append-nil}
 use Rattle.std.proofs.lemmas.Bool.{both_ways}
 use Rattle.wsm_schema.specs.Tree.{Part, Parts, Lanes, Gate, act, gate, loop, nothing, part, no_lane, lane, and_gate, xor_gate}
-use Rattle.wsm_schema.specs.Ends.{first_node, first_of, last_of}
+use Rattle.wsm_schema.specs.Ends.{first_node, last_of}
 use Rattle.wsm_schema.specs.declared.places.Place.{Place}
 use Rattle.wsm_schema.specs.Places.{place, part_places, parts_places, lanes_places, places, leaving, branch_tails, branch_heads, labelled, plain_end, split_kind, join_kind}
 use Rattle.wsm_schema.specs.Kinds.{is_loop_end}
 use Rattle.wsm_lists.specs.Rows.{AllRows}
 use Rattle.wsm_schema.specs.declared.cards.End.{End}
 use Rattle.wsm_schema.specs.declared.cards.NodeKind.TheVariants.{LoopEnd, Start, Finish}
+use Rattle.std.proofs.lemmas.Option.{same_Some}
 use Rattle.wsm_lists.proofs.Lists.{rows-append, rows-parts}
+use Rattle.wsm_marks.proofs.Cards.{nodes}
 
 -- all nodes, and all sources of edges, are in a set
 abbrev pub NodesIn : (ℕ → Bool) → List Place → Type 0
@@ -36,9 +38,6 @@ no_join : (k : Gate) → is_loop_end (join_kind k) ≡ true → ⊥
 no_join and_gate h = both_ways _ refl h
 no_join xor_gate h = both_ways _ refl h
 
-some_same : (a b : ℕ) → Some a ≡ Some b → a ≡ b
-some_same a b h = cc
-
 mutual
   pub part-pairs : (A : ℕ → Bool) (p : Part) (from : End) (to : ℕ) → NodesIn A (part_places p from to) → PairsIn A (part_places p from to)
   part-pairs A (act n) from to nodes = (λ h k e. absurd (both_ways _ refl h), tt)
@@ -48,7 +47,7 @@ mutual
   part-pairs A (loop start end body) from to nodes =
       let n = rows-parts _ (parts_places body (plain_end start) end) _ nodes.1 in
       (λ h k e. absurd (both_ways _ refl h), rows-append _ (parts_places body (plain_end start) end) _ (parts-pairs A body (plain_end start) end n.0)
-      (λ h k e. ap A (sym (some_same start k e)) ∙ nodes.0, tt))
+      (λ h k e. ap A (sym (same_Some start k e)) ∙ nodes.0, tt))
 
   pub parts-pairs : (A : ℕ → Bool) (ps : Parts) (from : End) (to : ℕ) → NodesIn A (parts_places ps from to) → PairsIn A (parts_places ps from to)
   parts-pairs A nothing from to nodes = tt
@@ -184,8 +183,8 @@ module _ (l e : ℕ) where
             Found (part_places (loop start end body) from to) from.node (plain_end end ∷ [])
         go (inl x) find = widen _ start (leaving body (plain_end start) ∷ []) (find x) (place start _ _ (from ∷ []) _ ∷ []) _ from.node (plain_end end ∷ [])
             (λ A a n. (((a, tt), tt), n.0)) (λ A a n r ends. ((ends, tt), (r.0, tt)))
-            (λ A n r. ((λ h k i. absurd (both_ways _ refl h), tt), (λ h k i. ap A (sym (some_same start k i)) ∙ n.0, tt)))
-        go (inr (inl x)) find = here x.0 (some_same start l x.2)
+            (λ A n r. ((λ h k i. absurd (both_ways _ refl h), tt), (λ h k i. ap A (sym (same_Some start k i)) ∙ n.0, tt)))
+        go (inr (inl x)) find = here x.0 (same_Some start l x.2)
         go (inr (inr x)) find = absurd x
 
     parts-find : (ps : Parts) (from : End) (to : ℕ) → HasEnd (parts_places ps from to) → Found (parts_places ps from to) from.node (leaving ps from ∷ [])

@@ -1,11 +1,11 @@
 -- A loop of a schema's tree is one that a cut may take.
-use Rattle.std.proofs.Common.{◌≡◌, ℕ, Bool, true, false, not, ◌||◌, eqb, List, [], ◌∷◌, ◌++◌, map, refl, ap, sym, ◌∙◌, subst, inl, inr, ◌⊎◌, Option, Some, None}
+use Rattle.std.proofs.Common.{◌≡◌, ℕ, Bool, true, false, not, ◌||◌, eqb, List, [], ◌∷◌, ◌++◌, map, refl, ap, sym, ◌∙◌, subst, inl, inr, ◌⊎◌, Some}
 use Rattle.std.specs.Prelude.{filter}
-use Rattle.std.proofs.lemmas.Bool.{cases_Bool, both_ways, eqb-true, eqb-false, eq-eqb, ne_eqb, or_cases, or_left, or_right, not-true, not_from_false}
-use Rattle.wsm_schema.specs.Tree.{Part, Parts, Lanes, Gate, act, gate, loop, nothing, part, no_lane, lane, and_gate, xor_gate}
-use Rattle.wsm_schema.specs.Ends.{first_node, first_of, last_of}
+use Rattle.std.proofs.lemmas.Bool.{cases_Bool, both_ways, eqb-true, eqb-false, eq-eqb, or_cases, or_left, or_right, not-true, not_from_false}
+use Rattle.wsm_schema.specs.Tree.{Part, Parts, Lanes, act, gate, loop, nothing, part, no_lane, lane, and_gate, xor_gate}
+use Rattle.wsm_schema.specs.Ends.{first_node, last_of}
 use Rattle.wsm_schema.specs.declared.places.Place.{Place}
-use Rattle.wsm_schema.specs.Places.{place, part_places, parts_places, lanes_places, places, leaving, branch_tails, branch_heads, labelled, plain_end, split_kind, join_kind}
+use Rattle.wsm_schema.specs.Places.{place, part_places, parts_places, lanes_places, places, leaving, labelled, plain_end}
 use Rattle.wsm_schema.specs.SchemaModel.{SchemaModel}
 use Rattle.wsm_schema.specs.Flat.{card_at, card_of, cards_of}
 use Rattle.wsm_schema.specs.Kinds.{worked_on, is_loop_end}
@@ -15,12 +15,13 @@ use Rattle.wsm_schema.specs.declared.cards.Card.{Card}
 use Rattle.wsm_schema.specs.declared.cards.End.{End}
 use Rattle.wsm_schema.specs.declared.cards.NodeKind.{NodeKind}
 use Rattle.wsm_schema.specs.declared.cards.NodeKind.TheVariants as kind
-use Rattle.wsm_lists.proofs.Lists.{all-rows-map, all_rows, both_rows, rows-append, rows-map, rows-parts}
-use Rattle.wsm_schema.proofs.Rounds.{card_at-node, all-rows-card_at}
-use Rattle.wsm_marks.specs.Timed.{HasEdge}
-use Rattle.wsm_marks.specs.Loops.{Inner, LoopOf}
-use Rattle.wsm_marks.proofs.BlockFlow.{FullPart, FullParts, FullLanes}
-use Rattle.wsm_marks.proofs.LoopInTree.{NodesIn, EndsIn, InsIn, IsPaired, PairsIn, parts-closed, Found}
+use Rattle.wsm_lists.proofs.Lists.{all-rows-map, both_rows, rows-append, rows-map, rows-parts}
+use Rattle.wsm_schema.proofs.Rounds.{all-rows-card_at, card_at-node}
+use Rattle.wsm_marks.specs.Loops.{HasEdge, Inner, LoopOf}
+use Rattle.wsm_marks.specs.Schemas.{Distinct, FullLanes, FullPart, FullParts, Regular, SyncsApart}
+use Rattle.wsm_marks.proofs.Cards.{nodes, not_among, self-among}
+use Rattle.wsm_marks.proofs.Lists.{eqb-swap, rows-swap}
+use Rattle.wsm_marks.proofs.LoopInTree.{EndsIn, Found, InsIn, IsPaired, PairsIn, parts-closed}
 
 -- ---- each place has an edge into it, and none but the first is a start
 abbrev NotStart : NodeKind → Type 0
@@ -72,14 +73,7 @@ inner-of kind.Start xs n h = absurd n
 inner-of _ [] n h = absurd h
 inner-of _ (x ∷ xs) n h = tt
 
--- ---- distinct numbers
-abbrev pub Distinct : List Place → Type 0
-Distinct [] = Unit {0}
-Distinct (p ∷ ps) = AllRows (λ q. eqb p.node q.node ≡ false) ps × Distinct ps
-
-eqb-swap : (a b : ℕ) → eqb a b ≡ false → eqb b a ≡ false
-eqb-swap a b h = ne_eqb b a (λ e. eqb-false a b h (sym e))
-
+-- ---- distinct nodes
 distinct-parts : (xs ys : List Place) → Distinct (xs ++ ys) → Distinct xs × Distinct ys × AllRows (λ x. AllRows (λ y. eqb x.node y.node ≡ false) ys) xs
 distinct-parts [] ys h = (tt, h, tt)
 distinct-parts (x ∷ xs) ys h =
@@ -87,24 +81,7 @@ distinct-parts (x ∷ xs) ys h =
     let d = distinct-parts xs ys h.1 in
     ((r.0, d.0), d.1, (r.1, d.2))
 
-swap : (R : Place → Place → Type 0) (xs ys : List Place) → AllRows (λ x. AllRows (R x) ys) xs → AllRows (λ y. AllRows (λ x. R x y) xs) ys
-swap R [] ys h = all_rows (λ y. Unit {0}) (λ y. tt) ys
-swap R (x ∷ xs) ys h = both_rows (R x) (λ y. AllRows (λ z. R z y) xs) (λ y. AllRows (λ z. R z y) (x ∷ xs)) (λ y a b. (a, b)) ys h.0 (swap R xs ys h.1)
-
-abbrev pub nodes : List Place → List ℕ
-nodes ps = map (λ p. p.node) ps
-
-not_among : (n : ℕ) (ps : List Place) → AllRows (λ p. eqb p.node n ≡ false) ps → is_one_of n (nodes ps) ≡ false
-not_among n [] h = refl
-not_among n (p ∷ ps) h = rw h.0 (not_among n ps h.1)
-
-self-among : (ps : List Place) → AllRows (λ p. is_one_of p.node (nodes ps) ≡ true) ps
-self-among [] = tt
-self-among (p ∷ ps) =
-    (or_left (eqb p.node p.node) (is_one_of p.node (nodes ps)) (eq-eqb p.node p.node refl),
-      all-rows-map _ _ (λ q h. or_right (eqb p.node q.node) (is_one_of q.node (nodes ps)) h) ps (self-among ps))
-
-module _ (s : SchemaModel) (l e : ℕ) (found : Found l e (places s.start s.body s.finish) e []) (full : FullParts s.body) (distinct : Distinct (places s.start s.body s.finish)) where
+module _ (s : SchemaModel) (l e : ℕ) (found : Found l e (places s.start s.body s.finish) e []) where
   abbrev pub inner_places : List Place
   inner_places = parts_places found.body (plain_end l) e
 
@@ -114,11 +91,11 @@ module _ (s : SchemaModel) (l e : ℕ) (found : Found l e (places s.start s.body
   abbrev pub start_place : Place
   start_place = place l kind.LoopStart (Some e) (found.from ∷ []) (plain_end (first_node found.body e) ∷ [])
 
-  abbrev pub own : List Place
-  own = part_places (loop l e found.body) found.from found.to
+  abbrev pub own_places : List Place
+  own_places = part_places (loop l e found.body) found.from found.to
 
   abbrev pub body_nodes : List ℕ
-  body_nodes = nodes own
+  body_nodes = nodes own_places
 
   abbrev In : ℕ → Bool
   In n = is_one_of n body_nodes
@@ -126,119 +103,116 @@ module _ (s : SchemaModel) (l e : ℕ) (found : Found l e (places s.start s.body
   abbrev Away : ℕ → Bool
   Away n = not (In n)
 
-  parted : Distinct found.pre × Distinct (own ++ found.post) × AllRows (λ x. AllRows (λ y. eqb x.node y.node ≡ false) (own ++ found.post)) found.pre
-  parted = distinct-parts found.pre (own ++ found.post) (subst Distinct found.split distinct)
+  module _ (regular : Regular s) where
+    parted : Distinct found.pre × Distinct (own_places ++ found.post) × AllRows (λ x. AllRows (λ y. eqb x.node y.node ≡ false) (own_places ++ found.post)) found.pre
+    parted = distinct-parts found.pre (own_places ++ found.post) (subst Distinct found.split regular.distinct)
 
-  parted_own : Distinct own × Distinct found.post × AllRows (λ x. AllRows (λ y. eqb x.node y.node ≡ false) found.post) own
-  parted_own = distinct-parts own found.post parted.1
+    parted_own : Distinct own_places × Distinct found.post × AllRows (λ x. AllRows (λ y. eqb x.node y.node ≡ false) found.post) own_places
+    parted_own = distinct-parts own_places found.post parted.1
 
-  pub pre_away : AllRows (λ p. In p.node ≡ false) found.pre
-  pre_away = all-rows-map _ _ (λ p h. not_among p.node own (all-rows-map _ _ (λ q x. eqb-swap p.node q.node x) own (rows-parts _ own found.post h).0)) found.pre parted.2
+    pub pre_away : AllRows (λ p. In p.node ≡ false) found.pre
+    pre_away = all-rows-map _ _ (λ p h. not_among p.node own_places (all-rows-map _ _ (λ q x. eqb-swap p.node q.node x) own_places (rows-parts _ own_places found.post h).0)) found.pre parted.2
 
-  post_away : AllRows (λ p. In p.node ≡ false) found.post
-  post_away = all-rows-map _ _ (λ p h. not_among p.node own h) found.post (swap (λ x y. eqb x.node y.node ≡ false) own found.post parted_own.2)
+    post_away : AllRows (λ p. In p.node ≡ false) found.post
+    post_away = all-rows-map _ _ (λ p h. not_among p.node own_places h) found.post (rows-swap (λ x y. eqb x.node y.node ≡ false) own_places found.post parted_own.2)
 
-  own_in : AllRows (λ p. In p.node ≡ true) own
-  own_in = self-among own
+    own_in : AllRows (λ p. In p.node ≡ true) own_places
+    own_in = self-among own_places
 
-  pub tail_apart : AllRows (λ p. eqb p.node l ≡ false) (inner_places ++ end_place ∷ [])
-  tail_apart = all-rows-map _ _ (λ p h. eqb-swap l p.node h) (inner_places ++ end_place ∷ []) parted_own.0.0
+    pub tail_apart : AllRows (λ p. eqb p.node l ≡ false) (inner_places ++ end_place ∷ [])
+    tail_apart = all-rows-map _ _ (λ p h. eqb-swap l p.node h) (inner_places ++ end_place ∷ []) parted_own.0.0
 
-  pub inner_apart : AllRows (λ p. eqb p.node e ≡ false) inner_places
-  inner_apart = all-rows-map _ _ (λ p h. h.0) inner_places (distinct-parts inner_places (end_place ∷ []) parted_own.0.1).2
+    pub inner_apart : AllRows (λ p. eqb p.node e ≡ false) inner_places
+    inner_apart = all-rows-map _ _ (λ p h. h.0) inner_places (distinct-parts inner_places (end_place ∷ []) parted_own.0.1).2
 
-  -- a property of all cards, by the places before, at the start, in the loop, and behind
-  by_places : (Q : Card → Type 0) → ((p : Place) → In p.node ≡ false → IsPaired Away p → EndsIn (λ n. Away n || eqb n e) p.ins → Q (card_of s p)) →
-      ((Away found.from.node || eqb found.from.node e) ≡ true → Q (card_of s start_place)) → AllRows (λ p. Q (card_of s p)) (inner_places ++ end_place ∷ []) →
-      (n : ℕ) (c : Card) → card_at n (cards_of s) ≡ Some c → Q c
-  by_places Q outside at_start at_tail n c at =
-      let away = λ (p : Place) (h : In p.node ≡ false). not_from_false (In p.node) h in
-      let pairs = found.paired Away (all-rows-map _ _ away found.pre pre_away) (all-rows-map _ _ away found.post post_away) in
-      let away_e = λ (p : Place) (h : In p.node ≡ false). or_left (Away p.node) (eqb p.node e) (away p h) in
-      let A : ℕ → Bool = λ k. Away k || eqb k e in
-      let e_in : A e ≡ true = or_right (Away e) (eqb e e) (eq-eqb e e refl) in
-      let ins = found.closed A e_in (all-rows-map _ _ away_e found.pre pre_away) (all-rows-map _ _ away_e found.post post_away) e_in in
-      let join = λ (ps : List Place) (a : AllRows (λ p. In p.node ≡ false) ps) (b : PairsIn Away ps) (d : InsIn A ps).
-      both_rows (λ p. (In p.node ≡ false) × IsPaired Away p) (λ p. EndsIn A p.ins) (λ p. Q (card_of s p)) (λ p x y. outside p x.0 x.1 y) ps
-      (both_rows (λ p. In p.node ≡ false) (IsPaired Away) (λ p. (In p.node ≡ false) × IsPaired Away p) (λ p x y. (x, y)) ps a b) d in
-      let rows : AllRows (λ p. Q (card_of s p)) (found.pre ++ (own ++ found.post)) =
-      rows-append _ found.pre (own ++ found.post) (join found.pre pre_away pairs.0 ins.0) (rows-append _ own found.post (at_start ins.1, at_tail) (join found.post post_away pairs.1 ins.2)) in
-      all-rows-card_at Q n (cards_of s) c (rows-map Q (card_of s) (places s.start s.body s.finish) (subst (λ ps. AllRows (λ p. Q (card_of s p)) ps) (sym found.split) rows)) at
+    -- a property of all cards, by the places before, at the start, in the loop, and behind
+    by_places : (Q : Card → Type 0) → ((p : Place) → In p.node ≡ false → IsPaired Away p → EndsIn (λ n. Away n || eqb n e) p.ins → Q (card_of s p)) →
+        ((Away found.from.node || eqb found.from.node e) ≡ true → Q (card_of s start_place)) → AllRows (λ p. Q (card_of s p)) (inner_places ++ end_place ∷ []) →
+        (n : ℕ) (c : Card) → card_at n (cards_of s) ≡ Some c → Q c
+    by_places Q outside at_start at_tail n c at =
+        let away = λ (p : Place) (h : In p.node ≡ false). not_from_false (In p.node) h in
+        let pairs = found.paired Away (all-rows-map _ _ away found.pre pre_away) (all-rows-map _ _ away found.post post_away) in
+        let away_e = λ (p : Place) (h : In p.node ≡ false). or_left (Away p.node) (eqb p.node e) (away p h) in
+        let A : ℕ → Bool = λ k. Away k || eqb k e in
+        let e_in : A e ≡ true = or_right (Away e) (eqb e e) (eq-eqb e e refl) in
+        let ins = found.closed A e_in (all-rows-map _ _ away_e found.pre pre_away) (all-rows-map _ _ away_e found.post post_away) e_in in
+        let join = λ (ps : List Place) (a : AllRows (λ p. In p.node ≡ false) ps) (b : PairsIn Away ps) (d : InsIn A ps).
+        both_rows (λ p. (In p.node ≡ false) × IsPaired Away p) (λ p. EndsIn A p.ins) (λ p. Q (card_of s p)) (λ p x y. outside p x.0 x.1 y) ps
+        (both_rows (λ p. In p.node ≡ false) (IsPaired Away) (λ p. (In p.node ≡ false) × IsPaired Away p) (λ p x y. (x, y)) ps a b) d in
+        let rows : AllRows (λ p. Q (card_of s p)) (found.pre ++ (own_places ++ found.post)) =
+        rows-append _ found.pre (own_places ++ found.post) (join found.pre pre_away pairs.0 ins.0) (rows-append _ own_places found.post (at_start ins.1, at_tail) (join found.post post_away pairs.1 ins.2)) in
+        all-rows-card_at Q n (cards_of s) c (rows-map Q (card_of s) (places s.start s.body s.finish) (subst (λ ps. AllRows (λ p. Q (card_of s p)) ps) (sym found.split) rows)) at
 
-  abbrev Out : ℕ → Type 0
-  Out n = (In n ≡ false) ⊎ (n ≡ l)
+    abbrev Out : ℕ → Type 0
+    Out n = (In n ≡ false) ⊎ (n ≡ l)
 
-  away_or_end : (n : ℕ) → (Away n || eqb n e) ≡ true → (In n ≡ false) ⊎ (n ≡ e)
-  away_or_end n h = elim (or_cases (Away n) (eqb n e) h) [ | inl a ↦ inl (not-true (In n) a) | inr b ↦ inr (eqb-true n e b) ]
+    away_or_end : (n : ℕ) → (Away n || eqb n e) ≡ true → (In n ≡ false) ⊎ (n ≡ e)
+    away_or_end n h = elim (or_cases (Away n) (eqb n e) h) [ | inl a ↦ inl (not-true (In n) a) | inr b ↦ inr (eqb-true n e b) ]
 
-  pub l_in : In l ≡ true
-  l_in = own_in.0
+    pub l_in : In l ≡ true
+    l_in = own_in.0
 
-  e_in : In e ≡ true
-  e_in = (rows-parts (λ p. In p.node ≡ true) inner_places (end_place ∷ []) own_in.1).1.0
+    e_in : In e ≡ true
+    e_in = (rows-parts (λ p. In p.node ≡ true) inner_places (end_place ∷ []) own_in.1).1.0
 
-  -- a node of the loop but its start is not outside
-  not_out : (p : Place) → In p.node ≡ true → eqb p.node l ≡ false → Out p.node → ⊥
-  not_out p a b (inl h) = both_ways _ h a
-  not_out p a b (inr h) = eqb-false p.node l b h
+    -- a node of the loop but its start is not outside
+    not_out : (p : Place) → In p.node ≡ true → eqb p.node l ≡ false → Out p.node → ⊥
+    not_out p a b (inl h) = both_ways _ h a
+    not_out p a b (inr h) = eqb-false p.node l b h
 
-  tail_rows : (Q : Place → Type 0) → ((p : Place) → In p.node ≡ true → eqb p.node l ≡ false → Q p) → AllRows Q (inner_places ++ end_place ∷ [])
-  tail_rows Q h = both_rows (λ p. In p.node ≡ true) (λ p. eqb p.node l ≡ false) Q h (inner_places ++ end_place ∷ []) own_in.1 tail_apart
+    tail_rows : (Q : Place → Type 0) → ((p : Place) → In p.node ≡ true → eqb p.node l ≡ false → Q p) → AllRows Q (inner_places ++ end_place ∷ [])
+    tail_rows Q h = both_rows (λ p. In p.node ≡ true) (λ p. eqb p.node l ≡ false) Q h (inner_places ++ end_place ∷ []) own_in.1 tail_apart
 
-  tail_ins : AllRows (λ p. EndsIn In p.ins) (inner_places ++ end_place ∷ [])
-  tail_ins =
-      let c = parts-closed In found.body (plain_end l) e l_in (rows-parts (λ p. In p.node ≡ true) inner_places (end_place ∷ []) own_in.1).0 in
-      rows-append _ inner_places (end_place ∷ []) c.0 ((c.1, tt), tt)
+    tail_ins : AllRows (λ p. EndsIn In p.ins) (inner_places ++ end_place ∷ [])
+    tail_ins =
+        let c = parts-closed In found.body (plain_end l) e l_in (rows-parts (λ p. In p.node ≡ true) inner_places (end_place ∷ []) own_in.1).0 in
+        rows-append _ inner_places (end_place ∷ []) c.0 ((c.1, tt), tt)
 
-  tail_inner : AllRows (λ p. Inner p.kind p.ins) (inner_places ++ end_place ∷ [])
-  tail_inner =
-      let entered : AllRows Entered (found.pre ++ (own ++ found.post)) = subst (AllRows Entered) found.split (places-edged s.start s.finish s.body full) in
-      let own_entered : AllRows Entered own = (rows-parts Entered own found.post (rows-parts Entered found.pre (own ++ found.post) entered).1).0 in
-      both_rows (λ p. NotStart p.kind) Entered (λ p. Inner p.kind p.ins) (λ p a b. inner-of p.kind p.ins a b) (inner_places ++ end_place ∷ [])
-      (rows-append _ inner_places (end_place ∷ []) (parts-no_start found.body (plain_end l) e) (tt, tt)) own_entered.1
+    tail_inner : AllRows (λ p. Inner p.kind p.ins) (inner_places ++ end_place ∷ [])
+    tail_inner =
+        let entered : AllRows Entered (found.pre ++ (own_places ++ found.post)) = subst (AllRows Entered) found.split (places-edged s.start s.finish s.body regular.full) in
+        let own_entered : AllRows Entered own_places = (rows-parts Entered own_places found.post (rows-parts Entered found.pre (own_places ++ found.post) entered).1).0 in
+        both_rows (λ p. NotStart p.kind) Entered (λ p. Inner p.kind p.ins) (λ p a b. inner-of p.kind p.ins a b) (inner_places ++ end_place ∷ [])
+        (rows-append _ inner_places (end_place ∷ []) (parts-no_start found.body (plain_end l) e) (tt, tt)) own_entered.1
 
-  -- what is asked of the sync edges: none goes into the loop, out of it, or to its start
-  abbrev pub SyncsApart : Type 0
-  SyncsApart = AllRows (λ x. (In x.0 ≡ In x.1) × (eqb x.1 l ≡ false)) s.syncs
+    syncs_out : (n : ℕ) → Out n → (xs : List (ℕ × ℕ)) → AllRows (λ x. (In x.0 ≡ In x.1) × (eqb x.1 l ≡ false)) xs → AllRows (λ k. In k ≡ false) (map (λ x. x.0) (filter (λ x. eqb x.1 n) xs))
+    syncs_out n out [] h = tt
+    syncs_out n out (x ∷ xs) h =
+        elim (cases_Bool (eqb x.1 n)) [
+          | inl same ↦ rw same (h.0.0 ∙ here (eqb-true x.1 n same) out h.0.1, syncs_out n out xs h.1)
+          | inr other ↦ rw other (syncs_out n out xs h.1)
+        ]
+      where
+        here : x.1 ≡ n → Out n → eqb x.1 l ≡ false → In x.1 ≡ false
+        here same (inl away) other = ap In same ∙ away
+        here same (inr is_l) other = absurd (eqb-false x.1 l other (same ∙ is_l))
 
-  syncs_out : (n : ℕ) → Out n → (xs : List (ℕ × ℕ)) → AllRows (λ x. (In x.0 ≡ In x.1) × (eqb x.1 l ≡ false)) xs → AllRows (λ k. In k ≡ false) (map (λ x. x.0) (filter (λ x. eqb x.1 n) xs))
-  syncs_out n out [] h = tt
-  syncs_out n out (x ∷ xs) h =
-      elim (cases_Bool (eqb x.1 n)) [
-        | inl same ↦ rw same (h.0.0 ∙ here (eqb-true x.1 n same) out h.0.1, syncs_out n out xs h.1)
-        | inr other ↦ rw other (syncs_out n out xs h.1)
-      ]
-    where
-      here : x.1 ≡ n → Out n → eqb x.1 l ≡ false → In x.1 ≡ false
-      here same (inl away) other = ap In same ∙ away
-      here same (inr is_l) other = absurd (eqb-false x.1 l other (same ∙ is_l))
-
-  pub loop-of : SyncsApart → LoopOf (cards_of s) body_nodes l e
-  loop-of syncs = record {
-    has_end = e_in;
-    silent = λ c at. by_places (λ d. eqb d.node l ≡ true → worked_on d.kind ≡ false)
-    (λ p away pair ins same. absurd (both_ways _ away (ap In (eqb-true p.node l same) ∙ l_in))) (λ from_in same. refl)
-    (tail_rows _ (λ p a b same. absurd (both_ways _ b same))) l c at (eq-eqb c.node l (card_at-node l (cards_of s) c at));
-    works = λ c at. by_places (λ d. eqb d.node e ≡ true → worked_on d.kind ≡ true)
-    (λ p away pair ins same. absurd (both_ways _ away (ap In (eqb-true p.node e same) ∙ e_in)))
-    (λ from_in same. absurd (eqb-false e l (rows-parts (λ p. eqb p.node l ≡ false) inner_places (end_place ∷ []) tail_apart).1.0 (sym (eqb-true l e same))))
-    (rows-append (λ p. eqb p.node e ≡ true → worked_on p.kind ≡ true) inner_places (end_place ∷ []) (all-rows-map _ _ (λ p h same. absurd (both_ways _ h same)) inner_places inner_apart) (λ same. refl, tt))
-    e c at (eq-eqb c.node e (card_at-node e (cards_of s) c at));
-    inner = λ n c at inside other. by_places (λ d. In d.node ≡ true → eqb d.node l ≡ false → Inner d.kind d.ins)
-    (λ p away pair ins a b. absurd (both_ways _ away a)) (λ from_in a b. absurd (both_ways _ b (eq-eqb l l refl)))
-    (all-rows-map _ _ (λ p h a b. h) (inner_places ++ end_place ∷ []) tail_inner) n c at
-    (ap In (card_at-node n (cards_of s) c at) ∙ inside) (ap (λ k. eqb k l) (card_at-node n (cards_of s) c at) ∙ other);
-    within = λ n c at inside other. by_places (λ d. In d.node ≡ true → eqb d.node l ≡ false → AllRows (λ x. In x.node ≡ true) d.ins)
-    (λ p away pair ins a b. absurd (both_ways _ away a)) (λ from_in a b. absurd (both_ways _ b (eq-eqb l l refl)))
-    (all-rows-map _ _ (λ p h a b. h) (inner_places ++ end_place ∷ []) tail_ins) n c at
-    (ap In (card_at-node n (cards_of s) c at) ∙ inside) (ap (λ k. eqb k l) (card_at-node n (cards_of s) c at) ∙ other);
-    ins = λ n c at out. by_places (λ d. Out d.node → AllRows (λ x. (In x.node ≡ false) ⊎ (x.node ≡ e)) d.ins)
-    (λ p away pair ins o. all-rows-map _ _ (λ x h. away_or_end x.node h) p.ins ins) (λ from_in o. (away_or_end found.from.node from_in, tt))
-    (tail_rows _ (λ p a b o. absurd (not_out p a b o))) n c at (subst Out (sym (card_at-node n (cards_of s) c at)) out);
-    syncs = λ n c at out. by_places (λ d. Out d.node → AllRows (λ k. In k ≡ false) d.syncs_in)
-    (λ p away pair ins o. syncs_out p.node o s.syncs syncs) (λ from_in o. syncs_out l o s.syncs syncs)
-    (tail_rows _ (λ p a b o. absurd (not_out p a b o))) n c at (subst Out (sym (card_at-node n (cards_of s) c at)) out);
-    partners = λ n k c at out ends partner. not-true (In k) (by_places (λ d. In d.node ≡ false → is_loop_end d.kind ≡ true → (j : ℕ) → d.partner ≡ Some j → Away j ≡ true)
-    (λ p away pair ins o x j y. pair x j y) (λ from_in o x j y. absurd (both_ways _ o l_in))
-    (tail_rows _ (λ p a b o x j y. absurd (both_ways _ o a))) n c at (ap In (card_at-node n (cards_of s) c at) ∙ out) ends k partner);
-  }
+    pub loop-of : SyncsApart s.syncs body_nodes l → LoopOf (cards_of s) body_nodes l e
+    loop-of syncs = record {
+      has_end = e_in;
+      silent = λ c at. by_places (λ d. eqb d.node l ≡ true → worked_on d.kind ≡ false)
+      (λ p away pair ins same. absurd (both_ways _ away (ap In (eqb-true p.node l same) ∙ l_in))) (λ from_in same. refl)
+      (tail_rows _ (λ p a b same. absurd (both_ways _ b same))) l c at (eq-eqb c.node l (card_at-node l (cards_of s) c at));
+      works = λ c at. by_places (λ d. eqb d.node e ≡ true → worked_on d.kind ≡ true)
+      (λ p away pair ins same. absurd (both_ways _ away (ap In (eqb-true p.node e same) ∙ e_in)))
+      (λ from_in same. absurd (eqb-false e l (rows-parts (λ p. eqb p.node l ≡ false) inner_places (end_place ∷ []) tail_apart).1.0 (sym (eqb-true l e same))))
+      (rows-append (λ p. eqb p.node e ≡ true → worked_on p.kind ≡ true) inner_places (end_place ∷ []) (all-rows-map _ _ (λ p h same. absurd (both_ways _ h same)) inner_places inner_apart) (λ same. refl, tt))
+      e c at (eq-eqb c.node e (card_at-node e (cards_of s) c at));
+      inner = λ n c at inside other. by_places (λ d. In d.node ≡ true → eqb d.node l ≡ false → Inner d.kind d.ins)
+      (λ p away pair ins a b. absurd (both_ways _ away a)) (λ from_in a b. absurd (both_ways _ b (eq-eqb l l refl)))
+      (all-rows-map _ _ (λ p h a b. h) (inner_places ++ end_place ∷ []) tail_inner) n c at
+      (ap In (card_at-node n (cards_of s) c at) ∙ inside) (ap (λ k. eqb k l) (card_at-node n (cards_of s) c at) ∙ other);
+      within = λ n c at inside other. by_places (λ d. In d.node ≡ true → eqb d.node l ≡ false → AllRows (λ x. In x.node ≡ true) d.ins)
+      (λ p away pair ins a b. absurd (both_ways _ away a)) (λ from_in a b. absurd (both_ways _ b (eq-eqb l l refl)))
+      (all-rows-map _ _ (λ p h a b. h) (inner_places ++ end_place ∷ []) tail_ins) n c at
+      (ap In (card_at-node n (cards_of s) c at) ∙ inside) (ap (λ k. eqb k l) (card_at-node n (cards_of s) c at) ∙ other);
+      ins = λ n c at out. by_places (λ d. Out d.node → AllRows (λ x. (In x.node ≡ false) ⊎ (x.node ≡ e)) d.ins)
+      (λ p away pair ins o. all-rows-map _ _ (λ x h. away_or_end x.node h) p.ins ins) (λ from_in o. (away_or_end found.from.node from_in, tt))
+      (tail_rows _ (λ p a b o. absurd (not_out p a b o))) n c at (subst Out (sym (card_at-node n (cards_of s) c at)) out);
+      syncs = λ n c at out. by_places (λ d. Out d.node → AllRows (λ k. In k ≡ false) d.syncs_in)
+      (λ p away pair ins o. syncs_out p.node o s.syncs syncs) (λ from_in o. syncs_out l o s.syncs syncs)
+      (tail_rows _ (λ p a b o. absurd (not_out p a b o))) n c at (subst Out (sym (card_at-node n (cards_of s) c at)) out);
+      partners = λ n k c at out ends partner. not-true (In k) (by_places (λ d. In d.node ≡ false → is_loop_end d.kind ≡ true → (j : ℕ) → d.partner ≡ Some j → Away j ≡ true)
+      (λ p away pair ins o x j y. pair x j y) (λ from_in o x j y. absurd (both_ways _ o l_in))
+      (tail_rows _ (λ p a b o x j y. absurd (both_ways _ o a))) n c at (ap In (card_at-node n (cards_of s) c at) ∙ out) ends k partner);
+    }

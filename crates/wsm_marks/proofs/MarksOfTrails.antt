@@ -1,32 +1,32 @@
 -- The timed marks of a trail that replays whole are the solution and the facts.
-use Rattle.std.proofs.Common.{◌≡◌, ℕ, zero, suc, ◌+◌, ◌<◌, ◌≤◌, Bool, true, false, cond, ◌||◌, eqb, List, [], ◌∷◌, refl, ap, sym, ◌∙◌, subst, inl, inr, ◌⊎◌, arith, Option, Some, None}
-use Rattle.std.specs.Prelude.{nat_lt, if◌then◌else◌, find, option_map, is_some}
-use Rattle.std.specs.List.{fold}
-use Rattle.std.proofs.lemmas.Bool.{cases_Bool, both_ways, ltb-true, ltb-false, lt-ltb, le-ltb, eq-eqb}
+use Rattle.std.proofs.Common.{◌≡◌, ℕ, suc, ◌+◌, ◌<◌, ◌≤◌, Bool, true, false, List, [], ◌∷◌, refl, ap, sym, ◌∙◌, inl, inr, arith, Option, Some, None}
+use Rattle.std.specs.Prelude.{nat_lt, if◌then◌else◌}
+use Rattle.std.proofs.lemmas.Bool.{cases_Bool, both_ways, ltb-true, ltb-false, lt-ltb, le-ltb}
 use Rattle.wsm_schema.specs.Flat.{FlatModel, card_at}
 use Rattle.wsm_schema.specs.Kinds.{worked_on}
-use Rattle.wsm_lists.specs.Rows.{AllRows, put_row}
-use Rattle.wsm_schema.specs.Rules.{Spots, spot, spot_in, state_by, is_yes, is_no, settle}
+use Rattle.wsm_lists.specs.Rows.{put_row}
+use Rattle.wsm_schema.specs.Rules.{Spots, spot_in, state_by, is_yes, is_no, settle}
 use Rattle.wsm_schema.specs.Replay.{after, replay_of}
 use Rattle.wsm_schema.specs.Replay.{whole, fails}
-use Rattle.wsm_lists.proofs.Lists.{all-rows-map}
 use Rattle.wsm_schema.specs.Trail.{value_below}
-use Rattle.wsm_schema.specs.Marks.{history_from, history_of, first_at, is_up, is_out, mark_of, marks_of, position_of, choice_of, is_start_of, is_end_of, is_again_of, says_something, mark_key, Facts, facts_of, list_marks}
+use Rattle.wsm_schema.specs.Marks.{history_from, history_of, first_at, is_up, is_out, mark_of, marks_of, position_of, is_again_of, says_something, mark_key, Facts, facts_of, list_marks}
 use Rattle.wsm_schema.specs.declared.cards.Card.{Card}
 use Rattle.wsm_schema.specs.declared.cards.NodeKind.{NodeKind}
-use Rattle.wsm_schema.specs.declared.entries.Entry.{Entry}
 use Rattle.wsm_schema.specs.declared.states.Flow.{Flow}
 use Rattle.wsm_schema.specs.declared.states.Flow.TheVariants.{Yes, No}
-use Rattle.wsm_schema.specs.declared.marks.Mark.{Mark}
 use Rattle.wsm_schema.specs.declared.states.State.{State}
 use Rattle.wsm_schema.specs.declared.states.State.TheVariants as state
 use Rattle.wsm_lists.specs.declared.values.Value.{Value}
-use Rattle.wsm_marks.specs.Timed.{Timed, Marking, flow, time, before, early, verdict_of, spot_before, IsBelow, InTime}
-use Rattle.wsm_marks.specs.Fits.{Orderly, Told, Tells, Fresh, Quiet, fits, first_misfit, last_position, Ends}
-use Rattle.wsm_marks.proofs.Causality.{TimedNet, works_before, before_none}
-use Rattle.wsm_marks.proofs.EntrySteps.{slide, in_time-later, in_time-after, below-after, before-later}
+use Rattle.wsm_marks.specs.Fits.{Ends, Fresh, Orderly, Quiet, Tells, Told, first_misfit, fits, last_position}
+use Rattle.wsm_marks.specs.MarkBy.{mark_by, since}
+use Rattle.wsm_marks.specs.Timed.{Entries, InTime, IsBelow, Marking, Timed, before, early, verdict_of}
+use Rattle.wsm_marks.proofs.Cards.{each_has_card}
+use Rattle.wsm_marks.proofs.Causality.{TimedNet, works_before}
+use Rattle.wsm_marks.proofs.EntrySteps.{below-after, in_time-after, in_time-later, slide}
 use Rattle.wsm_marks.proofs.FirstFailure.{below-first, in_time-first, replay-ends}
-use Rattle.wsm_marks.proofs.Telling.{told, fresh}
+use Rattle.wsm_marks.proofs.Lists.{fold-same}
+use Rattle.wsm_marks.proofs.Signals.{before_none}
+use Rattle.wsm_marks.proofs.Telling.{orderly-fresh, orderly-told}
 
 -- which test of a state belongs to which flow
 abbrev pub shows : Flow → State → Bool
@@ -36,15 +36,6 @@ shows No s = is_out s
 abbrev pub is_flow : Flow → Option Flow → Bool
 is_flow Yes o = is_yes o
 is_flow No o = is_no o
-
--- since when a node is ready, or skipped
-abbrev pub since : Flow → Timed → Option ℕ
-since Yes None = None
-since Yes (Some (t, Yes)) = Some t
-since Yes (Some (t, No)) = None
-since No None = None
-since No (Some (t, Yes)) = None
-since No (Some (t, No)) = Some t
 
 fresh-shows : (y : Flow) (k : NodeKind) (o : Option Flow) → shows y (state_by k (verdict_of o)) ≡ is_flow y o
 fresh-shows Yes k None = refl
@@ -101,7 +92,7 @@ module _ (g : FlatModel) (rank : List ℕ) (f : Facts) (m : Marking) (net : Time
   never None p h = refl
   never (Some t) p h = absurd (both_ways _ (h (suc (t + p)) (lt-ltb p (suc (t + p)) (omega arith))) (lt-ltb t (suc (t + p)) (omega arith)))
 
-  pub first-since : (value : ℕ → ℕ → Option Value) (last : ℕ) (es : List (ℕ × Entry)) → Told f last es → (t : Spots) → IsBelow g.cards (suc last) f m t → InTime g.cards (suc last) f m →
+  pub first-since : (value : ℕ → ℕ → Option Value) (last : ℕ) (es : Entries) → Told f last es → (t : Spots) → IsBelow g.cards (suc last) f m t → InTime g.cards (suc last) f m →
       first_misfit g f m value es ≡ None → early last (since y (m n)) ≡ false → first_at (shows y) n (history_from g.cards es last t) ≡ since y (m n)
   first-since value last [] told t is_below in_time fit none =
       let pos : nat_lt 0 (suc last) ≡ true = lt-ltb 0 (suc last) (omega arith) in
@@ -134,39 +125,13 @@ module _ (g : FlatModel) (rank : List ℕ) (f : Facts) (m : Marking) (net : Time
             ]
       ]
 
--- each card's node has a card
-some_card : (cards : List Card) (c : Card) → (d : Card) × (card_at c.node (c ∷ cards) ≡ Some d)
-some_card cards c = (c, rw (eq-eqb c.node c.node refl) refl)
-
-has_behind : (n : ℕ) (c : Card) (cards : List Card) → (d : Card) × (card_at n cards ≡ Some d) → (d : Card) × (card_at n (c ∷ cards) ≡ Some d)
-has_behind n c cards h =
-    elim (cases_Bool (eqb c.node n)) [
-      | inl same ↦ (c, rw same refl)
-      | inr other ↦ (h.0, rw other h.1)
-    ]
-
-each_has_card : (cards : List Card) → AllRows (λ c. (d : Card) × (card_at c.node cards ≡ Some d)) cards
-each_has_card [] = tt
-each_has_card (c ∷ cs) = (some_card cs c, all-rows-map _ _ (λ x h. has_behind x.node c cs h) cs (each_has_card cs))
-
 not_before_zero : (o : Option ℕ) → early 0 o ≡ false
 not_before_zero None = refl
 not_before_zero (Some t) = le-ltb t 0 (omega arith)
 
--- the mark of a node by the solution and the facts
-abbrev pub mark_by : Marking → List (ℕ × Entry) → ℕ → Mark
-mark_by m es n = record {
-  ready_at = since Yes (m n);
-  skipped_at = since No (m n);
-  started = (facts_of es).started n;
-  ended = (facts_of es).ended n;
-  choice = (facts_of es).choice n;
-  again = position_of (is_again_of n) es;
-}
-
-module _ (g : FlatModel) (rank : List ℕ) (es : List (ℕ × Entry)) (m : Marking) (net : TimedNet g.cards rank (facts_of es) m) (orderly : Orderly es) where
+module _ (g : FlatModel) (rank : List ℕ) (es : Entries) (m : Marking) (net : TimedNet g.cards rank (facts_of es) m) (orderly : Orderly es) where
   pub whole-fits : (t : Spots) → replay_of g es ≡ whole t → first_misfit g (facts_of es) m (λ d p. value_below d p es) es ≡ None
-  whole-fits t w = go (first_misfit g (facts_of es) m (λ d p. value_below d p es) es) (replay-ends g rank (facts_of es) m net es (told es orderly) (fresh es orderly))
+  whole-fits t w = go (first_misfit g (facts_of es) m (λ d p. value_below d p es) es) (replay-ends g rank (facts_of es) m net es (orderly-told es orderly) (orderly-fresh es orderly))
     where
       go : (o : Option ℕ) → Ends g.cards (facts_of es) m (suc (last_position 0 es)) o (replay_of g es) → o ≡ None
       go None h = refl
@@ -176,17 +141,13 @@ module _ (g : FlatModel) (rank : List ℕ) (es : List (ℕ × Entry)) (m : Marki
   pub marks-are : (t : Spots) → replay_of g es ≡ whole t → (n : ℕ) (c : Card) → card_at n g.cards ≡ Some c → mark_of g es n ≡ mark_by m es n
   marks-are t w n c e =
       let f : Facts = facts_of es in
-      let is_first : Fresh f = fresh es orderly in
+      let is_first : Fresh f = orderly-fresh es orderly in
       let at : (y : Flow) → first_at (shows y) n (history_of g es) ≡ since y (m n) =
-      λ y. first-since g rank f m net y n c e (λ d p. value_below d p es) 0 es (told es orderly) (settle g.cards []) (below-first g rank f m net is_first) (in_time-first g rank f m net is_first)
+      λ y. first-since g rank f m net y n c e (λ d p. value_below d p es) 0 es (orderly-told es orderly) (settle g.cards []) (below-first g rank f m net is_first) (in_time-first g rank f m net is_first)
       (whole-fits t w) (not_before_zero (since y (m n))) in
       let r : first_at is_up n (history_of g es) ≡ since Yes (m n) = at Yes in
       let s : first_at is_out n (history_of g es) ≡ since No (m n) = at No in
       λ i. record { ready_at = r i; skipped_at = s i; started = f.started n; ended = f.ended n; choice = f.choice n; again = position_of (is_again_of n) es }
-
-  fold-same : {A B : Type 0} (P : B → Type 0) (h k : A → B → A) → ((a : A) (b : B) → P b → h a b ≡ k a b) → (bs : List B) → AllRows P bs → (a : A) → fold h a bs ≡ fold k a bs
-  fold-same P h k same [] all a = refl
-  fold-same P h k same (b ∷ bs) all a = ap (λ x. fold h x bs) (same a b all.0) ∙ fold-same P h k same bs all.1 (k a b)
 
   pub marks-listed : (t : Spots) → replay_of g es ≡ whole t → marks_of g es ≡ list_marks (mark_by m es) g.cards
   marks-listed t w =

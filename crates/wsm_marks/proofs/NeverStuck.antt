@@ -1,20 +1,20 @@
 -- Where no node is activated or running, each node is completed or skipped.
-use Rattle.std.proofs.Common.{◌≡◌, ℕ, zero, suc, ◌+◌, ◌<◌, ◌≤◌, Bool, true, false, cond, not, ◌||◌, ◌&&◌, eqb, List, [], ◌∷◌, ◌++◌, map, refl, ap, sym, ◌∙◌, subst, inl, inr, ◌⊎◌, arith, Option, Some, None}
-use Rattle.std.specs.Prelude.{nat_lt, is_some, count_by, ◌==◌}
+use Rattle.std.proofs.Common.{◌≡◌, ℕ, suc, Bool, true, false, cond, ◌&&◌, eqb, List, [], ◌∷◌, map, refl, ap, sym, ◌∙◌, subst, inl, inr, ◌⊎◌, Option, Some, None}
+use Rattle.std.specs.Prelude.{is_some, count_by, ◌==◌}
 use Rattle.std.specs.List.{list_all}
-use Rattle.std.proofs.lemmas.Bool.{cases_Bool, both_ways, and_left, and_right, and_parts, and_from, eqb-true, eq-eqb, or_cases}
+use Rattle.std.proofs.lemmas.Bool.{cases_Bool, both_ways, and_parts, and_from, eqb-true, eq-eqb}
 use Rattle.std.proofs.lemmas.List.Sums.{length-filter}
-use Rattle.wsm_schema.specs.Tree.{Part, Parts, Lanes, Gate, act, gate, loop, nothing, part, no_lane, lane, and_gate, xor_gate}
-use Rattle.wsm_schema.specs.Ends.{first_node, first_of, last_of}
+use Rattle.wsm_schema.specs.Tree.{Part, Parts, Lanes, act, gate, loop, nothing, part, no_lane, lane, and_gate, xor_gate}
+use Rattle.wsm_schema.specs.Ends.{first_node, last_of}
 use Rattle.wsm_schema.specs.declared.places.Place.{Place}
 use Rattle.wsm_schema.specs.Places.{place, places, part_places, parts_places, lanes_places, leaving, branch_tails, branch_heads, labelled, plain_end}
 use Rattle.wsm_schema.specs.SchemaModel.{SchemaModel}
 use Rattle.wsm_schema.specs.Flat.{card_at, card_of, cards_of}
-use Rattle.wsm_schema.specs.Kinds.{worked_on, is_xor_split}
+use Rattle.wsm_schema.specs.Kinds.{worked_on}
 use Rattle.wsm_schema.specs.Rank.{IsRank}
 use Rattle.wsm_schema.specs.Replay.{has_label}
 use Rattle.wsm_lists.specs.Rows.{AllRows}
-use Rattle.wsm_schema.specs.Rules.{is_yes, is_no, is_chosen, is_ready, is_skipped, judge_of}
+use Rattle.wsm_schema.specs.Rules.{is_yes, is_no}
 use Rattle.wsm_schema.specs.declared.cards.Card.{Card}
 use Rattle.wsm_schema.specs.declared.cards.End.{End}
 use Rattle.wsm_schema.specs.declared.cards.NodeKind.{NodeKind}
@@ -22,31 +22,31 @@ use Rattle.wsm_schema.specs.declared.cards.NodeKind.TheVariants as kind
 use Rattle.wsm_schema.specs.declared.states.Flow.{Flow}
 use Rattle.wsm_schema.specs.declared.states.Flow.TheVariants.{Yes, No}
 use Rattle.wsm_schema.specs.declared.states.Verdict.TheVariants as verdict
-use Rattle.wsm_lists.proofs.Lists.{all-rows-map, both_rows, rows-append, rows-map, rows-parts}
-use Rattle.wsm_schema.proofs.Rounds.{all-rows-card_at}
-use Rattle.wsm_marks.specs.Timed.{Timed, Marking, flow, time, latest, awaited, eq_of, eq_at, timed_by, sig_of, sig_by, sig_at, ended_signal, Solves}
-use Rattle.wsm_marks.proofs.RankInduction.{Known, rank_induction}
-use Rattle.wsm_marks.proofs.BlockFlow.{Later, none_none, no_no, yes_none, yes_yes, no-is, none-is, all_no, not_some, FullPart, FullParts, FullLanes, sig, Sane, sig-is, node-silent, LanesLater, rows-later, parts-flow, lanes-flow}
 use Rattle.wsm_schema.specs.Marks.{Facts}
+use Rattle.wsm_lists.proofs.Lists.{both_rows, rows-append, rows-map, rows-parts}
+use Rattle.wsm_schema.proofs.Rounds.{all-rows-card_at}
+use Rattle.wsm_marks.specs.Schemas.{ApartLanes, ApartPart, ApartParts, FullLanes, FullPart, FullParts, HasCard, Regular}
+use Rattle.wsm_marks.specs.Timed.{Idle, Marking, Solves, Timed, eq_of, flow, is_marked, sig_at, sig_by, sig_of, timed_by}
+use Rattle.wsm_marks.proofs.BlockFlow.{LanesLater, Later, Sane, all_no, lanes-flow, no_no, node-silent, none-is, not_some, rows-later, sig, sig-is, yes_none, yes_yes}
+use Rattle.wsm_marks.proofs.Lists.{eqb-swap}
+use Rattle.wsm_marks.proofs.RankInduction.{Known, rank_induction}
+use Rattle.wsm_marks.proofs.Sources.{sources-have_cards}
 
-abbrev pub known : Timed → Bool
-known x = is_some (flow x)
-
-abbrev all_known : List Timed → Bool
-all_known ys = list_all is_some (map flow ys)
+abbrev all_marked : List Timed → Bool
+all_marked ys = list_all is_some (map flow ys)
 
 -- all False or all True; for an XOR join all False or one True
 abbrev pub Settled : NodeKind → List Timed → Type 0
 Settled kind.Start ys = Unit {0}
-Settled kind.XorJoin ys = all_known ys ≡ true → (list_all is_no (map flow ys) ≡ true) ⊎ (count_by is_yes (map flow ys) ≡ 1)
-Settled _ ys = all_known ys ≡ true → (list_all is_no (map flow ys) ≡ true) ⊎ (list_all is_yes (map flow ys) ≡ true)
+Settled kind.XorJoin ys = all_marked ys ≡ true → (list_all is_no (map flow ys) ≡ true) ⊎ (count_by is_yes (map flow ys) ≡ 1)
+Settled _ ys = all_marked ys ≡ true → (list_all is_no (map flow ys) ≡ true) ⊎ (list_all is_yes (map flow ys) ≡ true)
 
-no-decides : (r : Bool) (a b : ℕ) → known (timed_by (cond r verdict.Ready verdict.Skipped) a b) ≡ true
+no-decides : (r : Bool) (a b : ℕ) → is_marked (timed_by (cond r verdict.Ready verdict.Skipped) a b) ≡ true
 no-decides true a b = refl
 no-decides false a b = refl
 
 -- a node all of whose edges are signaled is ready or skipped
-settled-decides : (k : NodeKind) (ys ss : List Timed) → Settled k ys → all_known ys ≡ true → all_known ss ≡ true → known (eq_of k ys ss) ≡ true
+settled-decides : (k : NodeKind) (ys ss : List Timed) → Settled k ys → all_marked ys ≡ true → all_marked ss ≡ true → is_marked (eq_of k ys ss) ≡ true
 settled-decides kind.Start ys ss s a b = rw b refl
 settled-decides kind.XorJoin ys ss s a b =
     elim (s a) [
@@ -59,92 +59,87 @@ settled-decides _ ys ss s a b =
       | inr yes_all ↦ rw (yes_all, b) refl
     ]
 
-one-settled : (x : Timed) → all_known (x ∷ []) ≡ true → (list_all is_no (map flow (x ∷ [])) ≡ true) ⊎ (list_all is_yes (map flow (x ∷ [])) ≡ true)
+one-settled : (x : Timed) → all_marked (x ∷ []) ≡ true → (list_all is_no (map flow (x ∷ [])) ≡ true) ⊎ (list_all is_yes (map flow (x ∷ [])) ≡ true)
 one-settled None h = absurd (both_ways _ refl h)
 one-settled (Some (t, Yes)) h = inr refl
 one-settled (Some (t, No)) h = inl refl
 
-all_yes : (t : ℕ) (ys : List Timed) → AllRows (Later (Some (t, Yes))) ys → all_known ys ≡ true → list_all is_yes (map flow ys) ≡ true
+all_yes : (t : ℕ) (ys : List Timed) → AllRows (Later (Some (t, Yes))) ys → all_marked ys ≡ true → list_all is_yes (map flow ys) ≡ true
 all_yes t [] h a = refl
-all_yes t (y ∷ ys) h a = let p = and_parts (known y) _ a in and_from (is_yes (flow y)) _ (here y h.0 p.0) (all_yes t ys h.1 p.1)
+all_yes t (y ∷ ys) h a = let p = and_parts (is_marked y) _ a in and_from (is_yes (flow y)) _ (here y h.0 p.0) (all_yes t ys h.1 p.1)
   where
-    here : (y : Timed) → Later (Some (t, Yes)) y → known y ≡ true → is_yes (flow y) ≡ true
+    here : (y : Timed) → Later (Some (t, Yes)) y → is_marked y ≡ true → is_yes (flow y) ≡ true
     here _ (yes_none _) k = absurd (both_ways _ refl k)
     here _ (yes_yes _ u le) k = refl
 
-no_none : (y : Timed) (ys : List Timed) → y ≡ None → all_known (y ∷ ys) ≡ true → ⊥
-no_none y ys e a = both_ways _ (ap known e) (and_parts (known y) _ a).0
+no_none : (y : Timed) (ys : List Timed) → y ≡ None → all_marked (y ∷ ys) ≡ true → ⊥
+no_none y ys e a = both_ways _ (ap is_marked e) (and_parts (is_marked y) _ a).0
 
-and-settled : (x : Timed) (ys : List Timed) → AllRows (Later x) ys → all_known ys ≡ true → (list_all is_no (map flow ys) ≡ true) ⊎ (list_all is_yes (map flow ys) ≡ true)
+and-settled : (x : Timed) (ys : List Timed) → AllRows (Later x) ys → all_marked ys ≡ true → (list_all is_no (map flow ys) ≡ true) ⊎ (list_all is_yes (map flow ys) ≡ true)
 and-settled None [] h a = inl refl
 and-settled None (y ∷ ys) h a = absurd (no_none y ys (none-is y h.0) a)
 and-settled (Some (t, No)) ys h a = inl (all_no t ys h)
 and-settled (Some (t, Yes)) ys h a = inr (all_yes t ys h a)
 
--- codes of branches are distinct
-abbrev mutual
-  pub ApartPart : Part → Type 0
-  ApartPart (act n) = Unit {0}
-  ApartPart (gate g split join ls) = ApartLanes ls join
-  ApartPart (loop start end body) = ApartParts body
+goes-yes : (u : ℕ) (y : Timed) → Later (Some (u, Yes)) y → is_marked y ≡ true → (c : ℕ) (os : List (Option Flow)) → count_by is_yes os ≡ c → count_by is_yes (flow y ∷ os) ≡ suc c
+goes-yes u _ (yes_none _) k c os h = absurd (both_ways _ refl k)
+goes-yes u _ (yes_yes _ v le) k c os h = sym (length-filter is_yes (Some Yes ∷ os)) ∙ ap (λ n. suc n) (length-filter is_yes os ∙ h)
 
-  pub ApartParts : Parts → Type 0
-  ApartParts nothing = Unit {0}
-  ApartParts (part p ps) = ApartPart p × ApartParts ps
+goes-no : (u : ℕ) (y : Timed) → Later (Some (u, No)) y → (c : ℕ) (os : List (Option Flow)) → count_by is_yes os ≡ c → count_by is_yes (flow y ∷ os) ≡ c
+goes-no u _ (no_no _) c os h = h
 
-  pub ApartLanes : Lanes → ℕ → Type 0
-  ApartLanes no_lane join = Unit {0}
-  ApartLanes (lane code ps ls) join = (has_label code (branch_heads ls join) ≡ false) × (ApartParts ps × ApartLanes ls join)
+sig_of-marked : (k : NodeKind) (x : Timed) (en choice label : Option ℕ) → is_marked x ≡ true → (worked_on k ≡ true → (t : ℕ) → x ≡ Some (t, Yes) → (u : ℕ) × (en ≡ Some u)) → is_marked (sig_of k x en choice label) ≡ true
+sig_of-marked k None en choice label h idle = absurd (both_ways _ refl h)
+sig_of-marked k (Some (t, No)) en choice label h idle = refl
+sig_of-marked k (Some (t, Yes)) en choice label h idle =
+    elim (cases_Bool (worked_on k)) [
+      | inl works ↦ let r = idle works t refl in rw (works, r.1) refl
+      | inr silent ↦ rw silent refl
+    ]
 
-module _ (s : SchemaModel) (f : Facts) (m : Marking) (solves : Solves (cards_of s) f m) where
+all-marked : {X : Type 0} (g : X → Timed) (xs : List X) → AllRows (λ x. is_marked (g x) ≡ true) xs → all_marked (map g xs) ≡ true
+all-marked g [] h = refl
+all-marked g (x ∷ xs) h = and_from (is_marked (g x)) _ h.0 (all-marked g xs h.1)
+
+module _ (s : SchemaModel) (f : Facts) (m : Marking) where
   abbrev exits : Lanes → ℕ → List Timed
-  exits ls split = map (sig s f m solves) (branch_tails ls split)
-
-  goes-yes : (u : ℕ) (y : Timed) → Later (Some (u, Yes)) y → known y ≡ true → (c : ℕ) (os : List (Option Flow)) → count_by is_yes os ≡ c → count_by is_yes (flow y ∷ os) ≡ suc c
-  goes-yes u _ (yes_none _) k c os h = absurd (both_ways _ refl k)
-  goes-yes u _ (yes_yes _ v le) k c os h = sym (length-filter is_yes (Some Yes ∷ os)) ∙ ap (λ n. suc n) (length-filter is_yes os ∙ h)
-
-  goes-no : (u : ℕ) (y : Timed) → Later (Some (u, No)) y → (c : ℕ) (os : List (Option Flow)) → count_by is_yes os ≡ c → count_by is_yes (flow y ∷ os) ≡ c
-  goes-no u _ (no_no _) c os h = h
+  exits ls split = map (sig s f m) (branch_tails ls split)
 
   -- as many branches go on as have the chosen code
   chosen-count : (u choice : ℕ) (ls : Lanes) (split join : ℕ) →
-      ((code : ℕ) → eqb choice code ≡ true → sig s f m solves (labelled split code) ≡ Some (u, Yes)) → ((code : ℕ) → eqb choice code ≡ false → sig s f m solves (labelled split code) ≡ Some (u, No)) →
-      LanesLater s f m solves ls split → ApartLanes ls join → all_known (exits ls split) ≡ true →
+      ((code : ℕ) → eqb choice code ≡ true → sig s f m (labelled split code) ≡ Some (u, Yes)) → ((code : ℕ) → eqb choice code ≡ false → sig s f m (labelled split code) ≡ Some (u, No)) →
+      LanesLater s f m ls split → ApartLanes ls join → all_marked (exits ls split) ≡ true →
       count_by is_yes (map flow (exits ls split)) ≡ cond (has_label choice (branch_heads ls join)) 1 0
   chosen-count u choice no_lane split join it other h apart a = refl
   chosen-count u choice (lane code ps ls) split join it other h apart a =
-      let p = and_parts (known (sig s f m solves (leaving ps (labelled split code)))) _ a in
+      let p = and_parts (is_marked (sig s f m (leaving ps (labelled split code)))) _ a in
       let rest = chosen-count u choice ls split join it other h.1 apart.1.1 p.1 in
       elim (cases_Bool (eqb code choice)) [
         | inl same ↦
             let e : code ≡ choice = eqb-true code choice same in
             let none : has_label choice (branch_heads ls join) ≡ false = ap (λ c. has_label c (branch_heads ls join)) (sym e) ∙ apart.0 in
             let zero_rest : count_by is_yes (map flow (exits ls split)) ≡ 0 = rw none at rest in
-            rw same (goes-yes u _ (subst (λ y. Later y (sig s f m solves (leaving ps (labelled split code)))) (it code (eq-eqb choice code (sym e))) h.0) p.0 0 (map flow (exits ls split)) zero_rest)
+            rw same (goes-yes u _ (subst (λ y. Later y (sig s f m (leaving ps (labelled split code)))) (it code (eq-eqb choice code (sym e))) h.0) p.0 0 (map flow (exits ls split)) zero_rest)
         | inr no_same ↦
-            let apart_codes : eqb choice code ≡ false = swap_eqb code choice no_same in
-            rw no_same (goes-no u _ (subst (λ y. Later y (sig s f m solves (leaving ps (labelled split code)))) (other code apart_codes) h.0) (cond (has_label choice (branch_heads ls join)) 1 0) (map flow (exits ls split)) rest)
+            let apart_codes : eqb choice code ≡ false = eqb-swap code choice no_same in
+            rw no_same (goes-no u _ (subst (λ y. Later y (sig s f m (leaving ps (labelled split code)))) (other code apart_codes) h.0) (cond (has_label choice (branch_heads ls join)) 1 0) (map flow (exits ls split)) rest)
       ]
-    where
-      swap_eqb : (a b : ℕ) → eqb a b ≡ false → eqb b a ≡ false
-      swap_eqb a b h = elim (cases_Bool (eqb b a)) [ | inl same ↦ absurd (both_ways _ h (eq-eqb a b (sym (eqb-true b a same)))) | inr so ↦ so ]
 
-  xor-settled : (split join code : ℕ) (partner : Option ℕ) (ps : Parts) (ls : Lanes) (ins : List End) → Sane s f m solves (place split kind.XorSplit partner ins (branch_heads (lane code ps ls) join)) →
-      LanesLater s f m solves (lane code ps ls) split → ApartLanes (lane code ps ls) join → all_known (exits (lane code ps ls) split) ≡ true →
+  xor-settled : (split join code : ℕ) (partner : Option ℕ) (ps : Parts) (ls : Lanes) (ins : List End) → Sane s f m (place split kind.XorSplit partner ins (branch_heads (lane code ps ls) join)) →
+      LanesLater s f m (lane code ps ls) split → ApartLanes (lane code ps ls) join → all_marked (exits (lane code ps ls) split) ≡ true →
       (list_all is_no (map flow (exits (lane code ps ls) split)) ≡ true) ⊎ (count_by is_yes (map flow (exits (lane code ps ls) split)) ≡ 1)
   xor-settled split join code partner ps ls ins sane h apart a = go (m split) (f.ended split) refl refl
     where
-      entry : (y : Timed) (q : Option ℕ) → m split ≡ y → f.ended split ≡ q → (c : ℕ) → sig s f m solves (labelled split c) ≡ sig_of kind.XorSplit y q (f.choice split) (Some c)
-      entry y q e1 e2 c = sig-is s f m solves (place split kind.XorSplit partner ins (branch_heads (lane code ps ls) join)) sane (Some c)
+      entry : (y : Timed) (q : Option ℕ) → m split ≡ y → f.ended split ≡ q → (c : ℕ) → sig s f m (labelled split c) ≡ sig_of kind.XorSplit y q (f.choice split) (Some c)
+      entry y q e1 e2 c = sig-is s f m (place split kind.XorSplit partner ins (branch_heads (lane code ps ls) join)) sane (Some c)
           ∙ ap (λ z. sig_of kind.XorSplit z (f.ended split) (f.choice split) (Some c)) e1 ∙ ap (λ z. sig_of kind.XorSplit y z (f.choice split) (Some c)) e2
-      none_out : ((c : ℕ) → sig s f m solves (labelled split c) ≡ None) → ⊥
-      none_out none = no_none (sig s f m solves (leaving ps (labelled split code))) (exits ls split)
-          (none-is _ (subst (λ y. Later y (sig s f m solves (leaving ps (labelled split code)))) (none code) h.0)) a
+      none_out : ((c : ℕ) → sig s f m (labelled split c) ≡ None) → ⊥
+      none_out none = no_none (sig s f m (leaving ps (labelled split code))) (exits ls split)
+          (none-is _ (subst (λ y. Later y (sig s f m (leaving ps (labelled split code)))) (none code) h.0)) a
       go : (y : Timed) (q : Option ℕ) → m split ≡ y → f.ended split ≡ q → (list_all is_no (map flow (exits (lane code ps ls) split)) ≡ true) ⊎ (count_by is_yes (map flow (exits (lane code ps ls) split)) ≡ 1)
       go None None e1 e2 = absurd (none_out (entry None None e1 e2))
       go None (Some u) e1 e2 = let r = sane.ended u e2 in absurd (not_some (r.0, Yes) (sym e1 ∙ r.1))
-      go (Some (t, No)) q e1 e2 = inl (all_no t (exits (lane code ps ls) split) (rows-later s f m solves (Some (t, No)) (lane code ps ls) split (entry (Some (t, No)) q e1 e2) h))
+      go (Some (t, No)) q e1 e2 = inl (all_no t (exits (lane code ps ls) split) (rows-later s f m (Some (t, No)) (lane code ps ls) split (entry (Some (t, No)) q e1 e2) h))
       go (Some (t, Yes)) None e1 e2 = absurd (none_out (entry (Some (t, Yes)) None e1 e2))
       go (Some (t, Yes)) (Some u) e1 e2 =
           let c = sane.chosen refl u e2 in
@@ -154,77 +149,58 @@ module _ (s : SchemaModel) (f : Facts) (m : Marking) (solves : Solves (cards_of 
 
   -- ---- each place of a tree
   abbrev pub SettledPlace : Place → Type 0
-  SettledPlace p = Settled p.kind (map (sig s f m solves) p.ins)
+  SettledPlace p = Settled p.kind (map (sig s f m) p.ins)
 
-  mutual
-    part-settled : (p : Part) (from : End) (to : ℕ) → FullPart p → ApartPart p → AllRows (Sane s f m solves) (part_places p from to) → AllRows SettledPlace (part_places p from to)
-    part-settled (act n) from to full apart sane = (one-settled (sig s f m solves from), tt)
-    part-settled (gate g split join no_lane) from to full apart sane = absurd full
-    part-settled (gate and_gate split join (lane code ps ls)) from to full apart sane =
-        let r = rows-parts (Sane s f m solves) (lanes_places (lane code ps ls) split join) _ sane.1 in
-        let later = lanes-flow s f m solves (lane code ps ls) split join full r.0 in
-        let entry = λ (c : ℕ). node-silent s f m solves split kind.AndSplit (Some join) (from ∷ []) (branch_heads (lane code ps ls) join) sane.0 refl (Some c) in
-        (one-settled (sig s f m solves from), rows-append SettledPlace (lanes_places (lane code ps ls) split join) _ (lanes-settled (lane code ps ls) split join full apart r.0)
-        (and-settled (m split) (exits (lane code ps ls) split) (rows-later s f m solves (m split) (lane code ps ls) split entry later), tt))
-    part-settled (gate xor_gate split join (lane code ps ls)) from to full apart sane =
-        let r = rows-parts (Sane s f m solves) (lanes_places (lane code ps ls) split join) _ sane.1 in
-        let later = lanes-flow s f m solves (lane code ps ls) split join full r.0 in
-        (one-settled (sig s f m solves from), rows-append SettledPlace (lanes_places (lane code ps ls) split join) _ (lanes-settled (lane code ps ls) split join full apart r.0)
-        (xor-settled split join code (Some join) ps ls (from ∷ []) sane.0 later apart, tt))
-    part-settled (loop start end body) from to full apart sane =
-        let r = rows-parts (Sane s f m solves) (parts_places body (plain_end start) end) _ sane.1 in
-        (one-settled (sig s f m solves from), rows-append SettledPlace (parts_places body (plain_end start) end) _ (parts-settled body (plain_end start) end full apart r.0) (one-settled (sig s f m solves (leaving body (plain_end start))), tt))
+  sig-marked : Idle (cards_of s) f m → (label : Option ℕ) (n : ℕ) → HasCard (cards_of s) n → Known (cards_of s) (λ k. is_marked (m k) ≡ true) n → is_marked (sig_at (cards_of s) f m label n) ≡ true
+  sig-marked idle label n has h =
+      ap (λ o. is_marked (sig_by o (m n) (f.ended n) (f.choice n) label)) has.1
+      ∙ sig_of-marked has.0.kind (m n) (f.ended n) (f.choice n) label (h has.0 has.1) (idle n has.0 has.1)
 
-    parts-settled : (ps : Parts) (from : End) (to : ℕ) → FullParts ps → ApartParts ps → AllRows (Sane s f m solves) (parts_places ps from to) → AllRows SettledPlace (parts_places ps from to)
-    parts-settled nothing from to full apart sane = tt
-    parts-settled (part p ps) from to full apart sane =
-        let r = rows-parts (Sane s f m solves) (part_places p from (first_node ps to)) _ sane in
-        rows-append SettledPlace (part_places p from (first_node ps to)) _ (part-settled p from (first_node ps to) full.0 apart.0 r.0) (parts-settled ps (plain_end (last_of p)) to full.1 apart.1 r.1)
+  module _ (solves : Solves (cards_of s) f m) where
+    mutual
+      part-settled : (p : Part) (from : End) (to : ℕ) → FullPart p → ApartPart p → AllRows (Sane s f m) (part_places p from to) → AllRows SettledPlace (part_places p from to)
+      part-settled (act n) from to full apart sane = (one-settled (sig s f m from), tt)
+      part-settled (gate g split join no_lane) from to full apart sane = absurd full
+      part-settled (gate and_gate split join (lane code ps ls)) from to full apart sane =
+          let r = rows-parts (Sane s f m) (lanes_places (lane code ps ls) split join) _ sane.1 in
+          let later = lanes-flow s f m solves (lane code ps ls) split join full r.0 in
+          let entry = λ (c : ℕ). node-silent s f m split kind.AndSplit (Some join) (from ∷ []) (branch_heads (lane code ps ls) join) sane.0 refl (Some c) in
+          (one-settled (sig s f m from), rows-append SettledPlace (lanes_places (lane code ps ls) split join) _ (lanes-settled (lane code ps ls) split join full apart r.0)
+          (and-settled (m split) (exits (lane code ps ls) split) (rows-later s f m (m split) (lane code ps ls) split entry later), tt))
+      part-settled (gate xor_gate split join (lane code ps ls)) from to full apart sane =
+          let r = rows-parts (Sane s f m) (lanes_places (lane code ps ls) split join) _ sane.1 in
+          let later = lanes-flow s f m solves (lane code ps ls) split join full r.0 in
+          (one-settled (sig s f m from), rows-append SettledPlace (lanes_places (lane code ps ls) split join) _ (lanes-settled (lane code ps ls) split join full apart r.0)
+          (xor-settled split join code (Some join) ps ls (from ∷ []) sane.0 later apart, tt))
+      part-settled (loop start end body) from to full apart sane =
+          let r = rows-parts (Sane s f m) (parts_places body (plain_end start) end) _ sane.1 in
+          (one-settled (sig s f m from), rows-append SettledPlace (parts_places body (plain_end start) end) _ (parts-settled body (plain_end start) end full apart r.0) (one-settled (sig s f m (leaving body (plain_end start))), tt))
 
-    lanes-settled : (ls : Lanes) (split join : ℕ) → FullLanes ls → ApartLanes ls join → AllRows (Sane s f m solves) (lanes_places ls split join) → AllRows SettledPlace (lanes_places ls split join)
-    lanes-settled no_lane split join full apart sane = tt
-    lanes-settled (lane code ps ls) split join full apart sane =
-        let r = rows-parts (Sane s f m solves) (parts_places ps (labelled split code) join) _ sane in
-        rows-append SettledPlace (parts_places ps (labelled split code) join) _ (parts-settled ps (labelled split code) join full.0 apart.1.0 r.0) (lanes-settled ls split join full.1 apart.1.1 r.1)
+      parts-settled : (ps : Parts) (from : End) (to : ℕ) → FullParts ps → ApartParts ps → AllRows (Sane s f m) (parts_places ps from to) → AllRows SettledPlace (parts_places ps from to)
+      parts-settled nothing from to full apart sane = tt
+      parts-settled (part p ps) from to full apart sane =
+          let r = rows-parts (Sane s f m) (part_places p from (first_node ps to)) _ sane in
+          rows-append SettledPlace (part_places p from (first_node ps to)) _ (part-settled p from (first_node ps to) full.0 apart.0 r.0) (parts-settled ps (plain_end (last_of p)) to full.1 apart.1 r.1)
 
-  places-settled : FullParts s.body → ApartParts s.body → AllRows (Sane s f m solves) (places s.start s.body s.finish) → AllRows SettledPlace (places s.start s.body s.finish)
-  places-settled full apart sane =
-      let r = rows-parts (Sane s f m solves) (parts_places s.body (plain_end s.start) s.finish) _ sane.1 in
-      (tt, rows-append SettledPlace (parts_places s.body (plain_end s.start) s.finish) _ (parts-settled s.body (plain_end s.start) s.finish full apart r.0) (one-settled (sig s f m solves (leaving s.body (plain_end s.start))), tt))
+      lanes-settled : (ls : Lanes) (split join : ℕ) → FullLanes ls → ApartLanes ls join → AllRows (Sane s f m) (lanes_places ls split join) → AllRows SettledPlace (lanes_places ls split join)
+      lanes-settled no_lane split join full apart sane = tt
+      lanes-settled (lane code ps ls) split join full apart sane =
+          let r = rows-parts (Sane s f m) (parts_places ps (labelled split code) join) _ sane in
+          rows-append SettledPlace (parts_places ps (labelled split code) join) _ (parts-settled ps (labelled split code) join full.0 apart.1.0 r.0) (lanes-settled ls split join full.1 apart.1.1 r.1)
 
-  abbrev pub HasCard : ℕ → Type 0
-  HasCard n = (c : Card) × (card_at n (cards_of s) ≡ Some c)
+    places-settled : FullParts s.body → ApartParts s.body → AllRows (Sane s f m) (places s.start s.body s.finish) → AllRows SettledPlace (places s.start s.body s.finish)
+    places-settled full apart sane =
+        let r = rows-parts (Sane s f m) (parts_places s.body (plain_end s.start) s.finish) _ sane.1 in
+        (tt, rows-append SettledPlace (parts_places s.body (plain_end s.start) s.finish) _ (parts-settled s.body (plain_end s.start) s.finish full apart r.0) (one-settled (sig s f m (leaving s.body (plain_end s.start))), tt))
 
-  -- no worked-on node is activated or running
-  abbrev pub Idle : Type 0
-  Idle = (n : ℕ) (c : Card) → card_at n (cards_of s) ≡ Some c → worked_on c.kind ≡ true → (t : ℕ) → m n ≡ Some (t, Yes) → (u : ℕ) × (f.ended n ≡ Some u)
-
-  sig_of-known : (k : NodeKind) (x : Timed) (en choice label : Option ℕ) → known x ≡ true → (worked_on k ≡ true → (t : ℕ) → x ≡ Some (t, Yes) → (u : ℕ) × (en ≡ Some u)) → known (sig_of k x en choice label) ≡ true
-  sig_of-known k None en choice label h idle = absurd (both_ways _ refl h)
-  sig_of-known k (Some (t, No)) en choice label h idle = refl
-  sig_of-known k (Some (t, Yes)) en choice label h idle =
-      elim (cases_Bool (worked_on k)) [
-        | inl works ↦ let r = idle works t refl in rw (works, r.1) refl
-        | inr silent ↦ rw silent refl
-      ]
-
-  sig-known : Idle → (label : Option ℕ) (n : ℕ) → HasCard n → Known (cards_of s) (λ k. known (m k) ≡ true) n → known (sig_at (cards_of s) f m label n) ≡ true
-  sig-known idle label n has h =
-      ap (λ o. known (sig_by o (m n) (f.ended n) (f.choice n) label)) has.1
-      ∙ sig_of-known has.0.kind (m n) (f.ended n) (f.choice n) label (h has.0 has.1) (idle n has.0 has.1)
-
-  all-known : {X : Type 0} (g : X → Timed) (xs : List X) → AllRows (λ x. known (g x) ≡ true) xs → all_known (map g xs) ≡ true
-  all-known g [] h = refl
-  all-known g (x ∷ xs) h = and_from (known (g x)) _ h.0 (all-known g xs h.1)
-
-  pub never-stuck : (rank : List ℕ) → IsRank (cards_of s) rank → FullParts s.body → ApartParts s.body → AllRows (Sane s f m solves) (places s.start s.body s.finish) →
-      ((n : ℕ) (c : Card) → card_at n (cards_of s) ≡ Some c → AllRows (λ x. HasCard x.node) c.ins × AllRows HasCard c.syncs_in) → Idle →
-      (n : ℕ) (c : Card) → card_at n (cards_of s) ≡ Some c → known (m n) ≡ true
-  never-stuck rank is full apart sane sourced idle =
-      rank_induction (cards_of s) rank is (λ n. known (m n) ≡ true) (λ n c e ins syncs.
-        let so = sourced n c e in
-        let control = all-known (sig s f m solves) c.ins (both_rows _ _ (λ x. known (sig s f m solves x) ≡ true) (λ x a b. sig-known idle x.label x.node a b) c.ins so.0 ins) in
-        let sync = all-known (sig_at (cards_of s) f m None) c.syncs_in (both_rows _ _ (λ x. known (sig_at (cards_of s) f m None x) ≡ true) (λ x a b. sig-known idle None x a b) c.syncs_in so.1 syncs) in
-        let settled = all-rows-card_at (λ d. Settled d.kind (map (sig s f m solves) d.ins)) n (cards_of s) c
-        (rows-map (λ d. Settled d.kind (map (sig s f m solves) d.ins)) (card_of s) (places s.start s.body s.finish) (places-settled full apart sane)) e in
-        ap known (solves.meets n c e) ∙ settled-decides c.kind (map (sig s f m solves) c.ins) (map (sig_at (cards_of s) f m None) c.syncs_in) settled control sync)
+    -- where nobody may start or end a node, each node is ready or skipped
+    pub never-stuck : (rank : List ℕ) → IsRank (cards_of s) rank → Regular s → AllRows (Sane s f m) (places s.start s.body s.finish) → Idle (cards_of s) f m →
+        (n : ℕ) (c : Card) → card_at n (cards_of s) ≡ Some c → is_marked (m n) ≡ true
+    never-stuck rank is regular sane idle =
+        rank_induction (cards_of s) rank is (λ n. is_marked (m n) ≡ true) (λ n c e ins syncs.
+          let so = sources-have_cards s regular n c e in
+          let control = all-marked (sig s f m) c.ins (both_rows _ _ (λ x. is_marked (sig s f m x) ≡ true) (λ x a b. sig-marked idle x.label x.node a b) c.ins so.0 ins) in
+          let sync = all-marked (sig_at (cards_of s) f m None) c.syncs_in (both_rows _ _ (λ x. is_marked (sig_at (cards_of s) f m None x) ≡ true) (λ x a b. sig-marked idle None x a b) c.syncs_in so.1 syncs) in
+          let settled = all-rows-card_at (λ d. Settled d.kind (map (sig s f m) d.ins)) n (cards_of s) c
+          (rows-map (λ d. Settled d.kind (map (sig s f m) d.ins)) (card_of s) (places s.start s.body s.finish) (places-settled regular.full regular.apart sane)) e in
+          ap is_marked (solves.meets n c e) ∙ settled-decides c.kind (map (sig s f m) c.ins) (map (sig_at (cards_of s) f m None) c.syncs_in) settled control sync)

@@ -1,13 +1,13 @@
 -- Induction along a rank.
-use Rattle.std.proofs.Common.{◌≡◌, ℕ, zero, suc, ◌<◌, ◌≤◌, Bool, true, false, ◌||◌, List, [], ◌∷◌, ◌++◌, length, refl, ap, sym, ◌∙◌, subst, arith, Option, Some, None, append_assoc, length-append}
-use Rattle.std.proofs.lemmas.Bool.{both_ways}
+use Rattle.std.proofs.Common.{◌≡◌, ℕ, zero, suc, ◌<◌, true, List, ◌∷◌, ◌++◌, length, ap, ◌∙◌, subst, arith, Some, append_assoc, length-append}
 use Rattle.wsm_lists.specs.Rows.{AllRows}
 use Rattle.wsm_schema.specs.Trail.{is_one_of}
 use Rattle.wsm_schema.specs.Flat.{card_at}
 use Rattle.wsm_schema.specs.Rank.{IsRank}
 use Rattle.wsm_schema.specs.declared.cards.Card.{Card}
+use Rattle.wsm_schema.proofs.Rounds.{member-splits}
 use Rattle.wsm_lists.proofs.Lists.{all-rows-map}
-use Rattle.wsm_schema.proofs.Rounds.{member-splits, card_at-node, all-rows-card_at}
+use Rattle.wsm_schema.proofs.Rounds.{all-rows-card_at, card_at-node}
 
 -- P holds at a node, if that is one of the net
 abbrev pub Known : List Card → (ℕ → Type 0) → ℕ → Type 0

@@ -1,22 +1,18 @@
 -- A pass over a region of the rank alone gives the solution, where outside the region it is known.
-use Rattle.std.proofs.Common.{◌≡◌, ℕ, Bool, true, false, cond, ◌||◌, eqb, List, [], ◌∷◌, ◌++◌, refl, ap, sym, ◌∙◌, subst, inl, inr, ◌⊎◌, Option, Some, None, append_assoc, append-nil}
+use Rattle.std.proofs.Common.{◌≡◌, ℕ, Bool, true, false, eqb, List, [], ◌∷◌, ◌++◌, refl, ap, sym, ◌∙◌, subst, inl, inr, ◌⊎◌, Some, append_assoc, append-nil}
 use Rattle.std.specs.Prelude.{if◌then◌else◌}
 use Rattle.std.proofs.lemmas.Bool.{cases_Bool, both_ways, eqb-true, eq-eqb}
 use Rattle.wsm_schema.specs.Flat.{card_at}
 use Rattle.wsm_schema.specs.Rank.{IsRank}
-use Rattle.wsm_lists.specs.Rows.{AllRows}
 use Rattle.wsm_schema.specs.Trail.{is_one_of}
 use Rattle.wsm_schema.specs.declared.cards.Card.{Card}
-use Rattle.wsm_lists.proofs.Lists.{all-rows-map}
-use Rattle.wsm_schema.proofs.Rounds.{card_at-node}
-use Rattle.wsm_marks.specs.Timed.{Timed, Marking, eq_at, Solves}
-use Rattle.wsm_marks.proofs.RankInduction.{Known, in_rank}
-use Rattle.wsm_marks.proofs.Solutions.{put_mark, put_eq, put-other, one_of-append, eq_at-same}
 use Rattle.wsm_schema.specs.Marks.{Facts}
-
-abbrev pub relax : List Card → Facts → (ℕ → Bool) → List ℕ → Marking → Marking
-relax cards f inside [] m = m
-relax cards f inside (n ∷ ns) m = relax cards f inside ns (if inside n then put_eq cards f n (card_at n cards) m else m)
+use Rattle.wsm_lists.proofs.Lists.{all-rows-map}
+use Rattle.wsm_marks.specs.Solving.{put_eq, solve_inside}
+use Rattle.wsm_marks.specs.Timed.{Marking, Solves, eq_at}
+use Rattle.wsm_marks.proofs.Lists.{one_of-last}
+use Rattle.wsm_marks.proofs.RankInduction.{Known, in_rank}
+use Rattle.wsm_marks.proofs.Solutions.{eq_at-same, put-other}
 
 module _ (cards : List Card) (rank : List ℕ) (is : IsRank cards rank) (f : Facts) (new : Marking) (solves : Solves cards f new) (inside : ℕ → Bool) where
   -- right outside the region, and among the first nodes of the rank
@@ -47,7 +43,7 @@ module _ (cards : List Card) (rank : List ℕ) (is : IsRank cards rank) (f : Fac
       let which : (n ≡ k) ⊎ ((inside k ≡ false) ⊎ (is_one_of k front ≡ true)) =
       elim known [
         | inl out ↦ inr (inl out)
-        | inr in_k ↦ elim (one_of-append k front n in_k) [ | inl there ↦ inr (inr there) | inr last ↦ inl last ]
+        | inr in_k ↦ elim (one_of-last k front n in_k) [ | inl there ↦ inr (inr there) | inr last ↦ inl last ]
       ] in
       elim (cases_Bool (inside n)) [
         | inl it ↦ rw it (put-right front rest n m at right k c e which)
@@ -57,10 +53,10 @@ module _ (cards : List Card) (rank : List ℕ) (is : IsRank cards rank) (f : Fac
         ])
       ]
 
-  relax-right : (front rest : List ℕ) (m : Marking) → rank ≡ front ++ rest → Right front m → (k : ℕ) (c : Card) → card_at k cards ≡ Some c → is_one_of k rank ≡ true → relax cards f inside rest m k ≡ new k
+  relax-right : (front rest : List ℕ) (m : Marking) → rank ≡ front ++ rest → Right front m → (k : ℕ) (c : Card) → card_at k cards ≡ Some c → is_one_of k rank ≡ true → solve_inside cards f inside rest m k ≡ new k
   relax-right front [] m at right k c e in_k = right k c e (inr (subst (λ l. is_one_of k l ≡ true) (at ∙ append-nil front) in_k))
   relax-right front (n ∷ ns) m at right k c e in_k = relax-right (front ++ n ∷ []) ns _ (at ∙ sym (append_assoc front (n ∷ []) ns)) (right-next front ns n m at right) k c e in_k
 
-  pub relax-is : (old : Marking) → ((k : ℕ) (c : Card) → card_at k cards ≡ Some c → inside k ≡ false → old k ≡ new k) → (k : ℕ) (c : Card) → card_at k cards ≡ Some c → relax cards f inside rank old k ≡ new k
+  pub relax-is : (old : Marking) → ((k : ℕ) (c : Card) → card_at k cards ≡ Some c → inside k ≡ false → old k ≡ new k) → (k : ℕ) (c : Card) → card_at k cards ≡ Some c → solve_inside cards f inside rank old k ≡ new k
   relax-is old outside k c e =
       relax-right [] rank old refl (λ j d found known. elim known [ | inl out ↦ outside j d found out | inr h ↦ absurd (both_ways _ refl h) ]) k c e (in_rank cards rank is k c e)

@@ -1,15 +1,15 @@
 -- Outside a region two solutions are one.
-use Rattle.std.proofs.Common.{◌≡◌, ℕ, Bool, true, false, List, [], ◌∷◌, map, refl, ap, sym, ◌∙◌, subst, Option, Some, None}
+use Rattle.std.proofs.Common.{◌≡◌, ℕ, Bool, false, List, refl, ap, sym, ◌∙◌, Option, Some, None}
 use Rattle.wsm_schema.specs.Flat.{card_at}
 use Rattle.wsm_schema.specs.Rank.{IsRank}
 use Rattle.wsm_lists.specs.Rows.{AllRows}
 use Rattle.wsm_schema.specs.declared.cards.Card.{Card}
-use Rattle.wsm_schema.specs.declared.cards.End.{End}
+use Rattle.wsm_schema.specs.Marks.{Facts}
 use Rattle.wsm_lists.proofs.Lists.{all-rows-map, both_rows}
-use Rattle.wsm_marks.specs.Timed.{Timed, Marking, eq_of, eq_at, sig_at, sig_by, Solves}
+use Rattle.wsm_marks.specs.Regions.{Closed}
+use Rattle.wsm_marks.specs.Timed.{Marking, Solves, sig_at, sig_by}
 use Rattle.wsm_marks.proofs.RankInduction.{Known, rank_induction}
 use Rattle.wsm_marks.proofs.Solutions.{eq_of-same}
-use Rattle.wsm_schema.specs.Marks.{Facts}
 
 module _ (cards1 : List Card) (f1 : Facts) (m1 : Marking) (cards2 : List Card) (f2 : Facts) (m2 : Marking) (inside : ℕ → Bool) where
   -- a source outside has one mark in both
@@ -34,15 +34,7 @@ module _ (cards1 : List Card) (f1 : Facts) (m1 : Marking) (cards2 : List Card) (
         (both_rows (λ x. Known cards2 Agrees x) (SameSignal None) _ (λ x known same. same known) c.syncs_in syncs (border.syncs n c e out))
         ∙ sym (s2.meets n c e))
 
-  -- a region that is closed along edges, with cards and facts the same outside
-  pub record Closed : Type 0 where
-    pub cards : (n : ℕ) → inside n ≡ false → card_at n cards1 ≡ card_at n cards2
-    pub ended : (n : ℕ) → inside n ≡ false → f1.ended n ≡ f2.ended n
-    pub choice : (n : ℕ) → inside n ≡ false → f1.choice n ≡ f2.choice n
-    pub ins : (n : ℕ) (c : Card) → card_at n cards2 ≡ Some c → inside n ≡ false → AllRows (λ e. inside e.node ≡ false) c.ins
-    pub syncs : (n : ℕ) (c : Card) → card_at n cards2 ≡ Some c → inside n ≡ false → AllRows (λ k. inside k ≡ false) c.syncs_in
-
-  pub same_outside : Closed → (label : Option ℕ) (n : ℕ) → inside n ≡ false → SameSignal label n
+  pub same_outside : Closed cards1 f1 cards2 f2 inside → (label : Option ℕ) (n : ℕ) → inside n ≡ false → SameSignal label n
   same_outside closed label n out known =
       ap (λ o. sig_by o (m1 n) (f1.ended n) (f1.choice n) label) (closed.cards n out)
       ∙ go (card_at n cards2) known
@@ -51,7 +43,7 @@ module _ (cards1 : List Card) (f1 : Facts) (m1 : Marking) (cards2 : List Card) (
       go None h = refl
       go (Some c) h = rw (h c refl out, closed.ended n out, closed.choice n out) refl
 
-  pub closed-bordered : Closed → Bordered
+  pub closed-bordered : Closed cards1 f1 cards2 f2 inside → Bordered
   closed-bordered closed = record {
     card = λ n c e out. closed.cards n out ∙ e;
     ins = λ n c e out. all-rows-map _ _ (λ x o. same_outside closed x.label x.node o) c.ins (closed.ins n c e out);

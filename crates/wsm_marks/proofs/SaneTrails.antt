@@ -1,12 +1,11 @@
 -- What block flow asks of the places holds on a trail that replays whole.
-use Rattle.std.proofs.Common.{◌≡◌, ℕ, zero, suc, ◌<◌, ◌≤◌, Bool, true, false, cond, ◌||◌, ◌&&◌, eqb, List, [], ◌∷◌, ◌++◌, map, refl, ap, sym, ◌∙◌, subst, inl, inr, ◌⊎◌, arith, Option, Some, None}
+use Rattle.std.proofs.Common.{◌≡◌, ℕ, ◌≤◌, Bool, true, ◌&&◌, eqb, List, [], ◌∷◌, refl, ap, sym, ◌∙◌, subst, inl, inr, arith, Option, Some, None}
 use Rattle.std.specs.Prelude.{nat_lt, find, option_map}
-use Rattle.std.proofs.lemmas.Bool.{cases_Bool, both_ways, ltb-true, and_parts, or_cases, eqb-true, eq-eqb}
+use Rattle.std.proofs.lemmas.Bool.{cases_Bool, both_ways, ltb-true, and_parts, or_cases, eqb-true}
 use Rattle.wsm_schema.specs.SchemaModel.{SchemaModel}
-use Rattle.wsm_schema.specs.declared.places.Place.{Place}
 use Rattle.wsm_schema.specs.Places.{places}
-use Rattle.wsm_schema.specs.Flat.{FlatModel, flat_of, card_at, card_of, cards_of}
-use Rattle.wsm_schema.specs.Kinds.{worked_on, is_xor_split, is_loop_end, is_activity}
+use Rattle.wsm_schema.specs.Flat.{flat_of, card_at, card_of, cards_of}
+use Rattle.wsm_schema.specs.Kinds.{is_xor_split, is_loop_end, is_activity}
 use Rattle.wsm_schema.specs.Rank.{IsRank}
 use Rattle.wsm_lists.specs.Rows.{AllRows}
 use Rattle.wsm_schema.specs.Rules.{Spots}
@@ -19,43 +18,38 @@ use Rattle.wsm_schema.specs.declared.cards.NodeKind.{NodeKind}
 use Rattle.wsm_schema.specs.declared.cards.NodeKind.TheVariants as kind
 use Rattle.wsm_schema.specs.declared.entries.Entry.{Entry}
 use Rattle.wsm_schema.specs.declared.entries.Entry.TheVariants as entry
-use Rattle.wsm_schema.specs.declared.states.Flow.TheVariants.{Yes, No}
-use Rattle.wsm_lists.specs.declared.values.Value.{Value}
-use Rattle.wsm_lists.proofs.Lists.{all-rows-map, both_rows}
-use Rattle.wsm_marks.specs.Timed.{Marking, before, early, Solves}
-use Rattle.wsm_marks.specs.Fits.{InOrder, Orderly, Rises, fits, first_misfit}
-use Rattle.wsm_marks.proofs.Causality.{is_ready_mark, same_card}
-use Rattle.wsm_marks.proofs.Causality.{TimedNet}
-use Rattle.wsm_marks.proofs.EntrySteps.{started-by, ended-by, on_card-true}
-use Rattle.wsm_marks.proofs.CutTrails.{fits-rows}
+use Rattle.wsm_schema.specs.declared.states.Flow.TheVariants.{Yes}
+use Rattle.std.proofs.lemmas.Option.{same_Some}
+use Rattle.wsm_lists.proofs.Lists.{all-rows-map}
+use Rattle.wsm_marks.specs.Fits.{InOrder, Orderly, RisesAfter, fits}
+use Rattle.wsm_marks.specs.Schemas.{Distinct, Regular}
+use Rattle.wsm_marks.specs.Solving.{solution}
+use Rattle.wsm_marks.specs.Timed.{Entries, Idle, Marking, early, is_marked}
+use Rattle.wsm_marks.proofs.BlockFlow.{Sane}
+use Rattle.wsm_marks.proofs.Cards.{on_card-true, placed-rows, same_card}
+use Rattle.wsm_marks.proofs.Causality.{solved_net}
+use Rattle.wsm_marks.proofs.EntrySteps.{ended-by, started-by}
+use Rattle.wsm_marks.proofs.FirstFailure.{fits-rows}
 use Rattle.wsm_marks.proofs.MarksOfTrails.{whole-fits}
+use Rattle.wsm_marks.proofs.NeverStuck.{never-stuck}
+use Rattle.wsm_marks.proofs.Signals.{is_ready_mark}
 use Rattle.wsm_marks.proofs.WholeTrails.{whole-orderly}
-use Rattle.wsm_marks.proofs.Solutions.{solution, solution-solves}
-use Rattle.wsm_marks.proofs.BlockFlow.{FullParts, Sane}
-use Rattle.wsm_marks.proofs.LoopOfSchema.{Distinct}
-use Rattle.wsm_marks.proofs.NeverStuck.{ApartParts, HasCard, Idle, known, never-stuck}
 
 -- an entry that is found has what all have
-found-row : (P : ℕ × Entry → Type 0) (test : Entry → Bool) (es : List (ℕ × Entry)) (d : ℕ × Entry) → AllRows P es → find (λ e. test e.1) es ≡ Some d → P d × (test d.1 ≡ true)
+found-row : (P : ℕ × Entry → Type 0) (test : Entry → Bool) (es : Entries) (d : ℕ × Entry) → AllRows P es → find (λ e. test e.1) es ≡ Some d → P d × (test d.1 ≡ true)
 found-row P test [] d h e = absurd (cc)
 found-row P test (x ∷ xs) d h e =
     elim (cases_Bool (test x.1)) [
-      | inl it ↦ let q : Some x ≡ Some d = rw it at e in let same : x ≡ d = some_same x d q in (subst P same h.0, subst (λ y. test y.1 ≡ true) same it)
+      | inl it ↦ let q : Some x ≡ Some d = rw it at e in let same : x ≡ d = same_Some x d q in (subst P same h.0, subst (λ y. test y.1 ≡ true) same it)
       | inr other ↦ found-row P test xs d h.1 (rw other at e)
     ]
-  where
-    some_same : (a b : ℕ × Entry) → Some a ≡ Some b → a ≡ b
-    some_same a b h = cc
 
-position-found : (test : Entry → Bool) (es : List (ℕ × Entry)) (p : ℕ) → position_of test es ≡ Some p → (x : Entry) × (find (λ e. test e.1) es ≡ Some (p, x))
+position-found : (test : Entry → Bool) (es : Entries) (p : ℕ) → position_of test es ≡ Some p → (x : Entry) × (find (λ e. test e.1) es ≡ Some (p, x))
 position-found test es p h = go (find (λ e. test e.1) es) h
   where
     go : (o : Option (ℕ × Entry)) → option_map (λ e. e.0) o ≡ Some p → (x : Entry) × (o ≡ Some (p, x))
     go None h = absurd (cc)
-    go (Some e) h = let same : e.0 ≡ p = some_num e.0 p h in (e.1, ap (λ n. Some (n, e.1)) same)
-      where
-        some_num : (a b : ℕ) → Some a ≡ Some b → a ≡ b
-        some_num a b h = cc
+    go (Some e) h = let same : e.0 ≡ p = same_Some e.0 p h in (e.1, ap (λ n. Some (n, e.1)) same)
 
 early-some : (q : ℕ) (o : Option ℕ) → early q o ≡ true → (t : ℕ) × (o ≡ Some t) × (nat_lt t q ≡ true)
 early-some q None h = absurd (both_ways _ refl h)
@@ -77,12 +71,7 @@ split-choice c (Some code) x h =
     no_loop kind.XorSplit x h = both_ways _ refl h
     no_loop _ x h = both_ways _ refl x
 
-placed-rows : (s : SchemaModel) (ps : List Place) → Distinct ps → AllRows (λ p. card_at p.node (map (card_of s) ps) ≡ Some (card_of s p)) ps
-placed-rows s [] d = tt
-placed-rows s (p ∷ ps) d =
-    (rw (eq-eqb p.node p.node refl) refl, both_rows (λ q. eqb p.node q.node ≡ false) (λ q. card_at q.node (map (card_of s) ps) ≡ Some (card_of s q)) _ (λ q a b. rw a b) ps d.0 (placed-rows s ps d.1))
-
-module _ (s : SchemaModel) (es : List (ℕ × Entry)) (m : Marking) (solves : Solves (cards_of s) (facts_of es) m) (orderly : Orderly es)
+module _ (s : SchemaModel) (es : Entries) (m : Marking) (orderly : Orderly es)
     (fit : AllRows (λ e. fits (flat_of s) (facts_of es) m (λ d. value_below d e.0 es) e.0 e.1 ≡ true) es) where
   -- a node that was ended was ready before
   ended-ready : (n u : ℕ) → (facts_of es).ended n ≡ Some u → (t : ℕ) × (m n ≡ Some (t, Yes)) × (t ≤ u)
@@ -117,7 +106,7 @@ module _ (s : SchemaModel) (es : List (ℕ × Entry)) (m : Marking) (solves : So
           let r = split-choice c choice split choice_fits in
           (r.0, ap (facts_of es).choice (sym same) ∙ o.1 ∙ r.1, r.2)
 
-  pub all-sane : Distinct (places s.start s.body s.finish) → AllRows (Sane s (facts_of es) m solves) (places s.start s.body s.finish)
+  pub all-sane : Distinct (places s.start s.body s.finish) → AllRows (Sane s (facts_of es) m) (places s.start s.body s.finish)
   all-sane distinct =
       all-rows-map _ _ (λ p placed. record {
         placed = placed;
@@ -126,18 +115,12 @@ module _ (s : SchemaModel) (es : List (ℕ × Entry)) (m : Marking) (solves : So
       }) (places s.start s.body s.finish) (placed-rows s (places s.start s.body s.finish) distinct)
 
 -- on a trail that replays whole, where each worked-on node that is ready was ended, each node is ready or skipped
-pub whole-never_stuck : (s : SchemaModel) (rank : List ℕ) (is : IsRank (cards_of s) rank) → FullParts s.body → ApartParts s.body → Distinct (places s.start s.body s.finish) →
-    (es : List (ℕ × Entry)) (t : Spots) → Rises 0 es → replay_of (flat_of s) es ≡ whole t →
-    ((n : ℕ) (c : Card) → card_at n (cards_of s) ≡ Some c →
-      AllRows (λ x. HasCard s (facts_of es) (solution (cards_of s) rank is (facts_of es)) (solution-solves (cards_of s) rank is (facts_of es)) x.node) c.ins
-      × AllRows (HasCard s (facts_of es) (solution (cards_of s) rank is (facts_of es)) (solution-solves (cards_of s) rank is (facts_of es))) c.syncs_in) →
-    Idle s (facts_of es) (solution (cards_of s) rank is (facts_of es)) (solution-solves (cards_of s) rank is (facts_of es)) →
-    (n : ℕ) (c : Card) → card_at n (cards_of s) ≡ Some c → known (solution (cards_of s) rank is (facts_of es) n) ≡ true
-whole-never_stuck s rank is full apart distinct es t rises w sourced idle =
+pub whole-never_stuck : (s : SchemaModel) → Regular s → (rank : List ℕ) → IsRank (cards_of s) rank → (es : Entries) (t : Spots) → RisesAfter 0 es → replay_of (flat_of s) es ≡ whole t →
+    Idle (cards_of s) (facts_of es) (solution (cards_of s) rank (facts_of es)) → (n : ℕ) (c : Card) → card_at n (cards_of s) ≡ Some c → is_marked (solution (cards_of s) rank (facts_of es) n) ≡ true
+whole-never_stuck s regular rank is es t rises is_whole idle =
     let f = facts_of es in
-    let m = solution (cards_of s) rank is f in
-    let solves = solution-solves (cards_of s) rank is f in
-    let orderly : Orderly es = whole-orderly (flat_of s) es t rises w in
-    let net : TimedNet (cards_of s) rank f m = record { ranked = is; solves = solves } in
-    let fit = fits-rows (flat_of s) f m (λ d q. value_below d q es) es (whole-fits (flat_of s) rank es m net orderly t w) in
-    never-stuck s f m solves rank is full apart (all-sane s es m solves orderly fit distinct) sourced idle
+    let m = solution (cards_of s) rank f in
+    let orderly : Orderly es = whole-orderly (flat_of s) es t rises is_whole in
+    let net = solved_net (cards_of s) rank is f in
+    let fit = fits-rows (flat_of s) f m (λ d q. value_below d q es) es (whole-fits (flat_of s) rank es m net orderly t is_whole) in
+    never-stuck s f m net.solves rank is regular (all-sane s es m orderly fit regular.distinct) idle

@@ -1,18 +1,19 @@
 -- The equations of a net have one solution.
-use Rattle.std.proofs.Common.{◌≡◌, ℕ, zero, suc, ◌<◌, ◌≤◌, Bool, true, false, cond, ◌||◌, eqb, List, [], ◌∷◌, ◌++◌, map, length, refl, ap, sym, ◌∙◌, subst, inl, inr, ◌⊎◌, arith, Option, Some, None, append_assoc, append-nil}
-use Rattle.std.specs.Prelude.{if◌then◌else◌, ◌==◌}
-use Rattle.std.proofs.lemmas.Bool.{cases_Bool, both_ways, eqb-true, eq-eqb, or_cases, or_left}
+use Rattle.std.proofs.Common.{◌≡◌, ℕ, true, false, eqb, List, [], ◌∷◌, ◌++◌, map, refl, ap, sym, ◌∙◌, subst, inl, inr, Option, Some, None, append_assoc, append-nil}
+use Rattle.std.proofs.lemmas.Bool.{cases_Bool, both_ways, eqb-true, eq-eqb}
 use Rattle.wsm_lists.specs.Rows.{AllRows}
 use Rattle.wsm_schema.specs.Trail.{is_one_of}
 use Rattle.wsm_schema.specs.Flat.{card_at}
 use Rattle.wsm_schema.specs.Rank.{IsRank}
 use Rattle.wsm_schema.specs.declared.cards.Card.{Card}
 use Rattle.wsm_schema.specs.declared.cards.End.{End}
-use Rattle.wsm_lists.proofs.Lists.{map-same, all-rows-map}
 use Rattle.wsm_schema.proofs.Rounds.{member-splits}
-use Rattle.wsm_marks.specs.Timed.{Timed, Marking, eq_of, eq_at, sig_at, sig_by, Solves}
-use Rattle.wsm_marks.proofs.RankInduction.{Known, Inherits, in_rank, rank_induction}
 use Rattle.wsm_schema.specs.Marks.{Facts}
+use Rattle.wsm_lists.proofs.Lists.{all-rows-map, map-same}
+use Rattle.wsm_marks.specs.Solving.{put_eq, solution, solve}
+use Rattle.wsm_marks.specs.Timed.{Marking, Solves, Timed, eq_at, eq_of, sig_at, sig_by}
+use Rattle.wsm_marks.proofs.Lists.{one_of-front, one_of-last}
+use Rattle.wsm_marks.proofs.RankInduction.{Known, in_rank, rank_induction}
 
 pub eq_of-same : (c : Card) (g h : End → Timed) (k l : ℕ → Timed) → AllRows (λ e. g e ≡ h e) c.ins → AllRows (λ n. k n ≡ l n) c.syncs_in →
     eq_of c.kind (map g c.ins) (map k c.syncs_in) ≡ eq_of c.kind (map h c.ins) (map l c.syncs_in)
@@ -39,36 +40,9 @@ unique cards rank is f m m' s s' =
     rank_induction cards rank is (λ n. m n ≡ m' n) (λ n c e ins syncs. s.meets n c e ∙ eq_at-same cards f m m' c ins syncs ∙ sym (s'.meets n c e))
 
 -- ---- one pass in the order of a rank
-abbrev pub put_mark : ℕ → Timed → Marking → Marking
-put_mark n x m k = if n == k then x else m k
-
-abbrev pub put_eq : List Card → Facts → ℕ → Option Card → Marking → Marking
-put_eq cards f n None m = m
-put_eq cards f n (Some c) m = put_mark n (eq_at cards f m c) m
-
-abbrev pub solve : List Card → Facts → List ℕ → Marking → Marking
-solve cards f [] m = m
-solve cards f (n ∷ ns) m = solve cards f ns (put_eq cards f n (card_at n cards) m)
-
 pub put-other : (cards : List Card) (f : Facts) (n k : ℕ) (o : Option Card) (m : Marking) → eqb n k ≡ false → put_eq cards f n o m k ≡ m k
 put-other cards f n k None m h = refl
 put-other cards f n k (Some c) m h = rw h refl
-
-pub one_of-append : (k : ℕ) (xs : List ℕ) (n : ℕ) → is_one_of k (xs ++ n ∷ []) ≡ true → (is_one_of k xs ≡ true) ⊎ (n ≡ k)
-one_of-append k [] n h = elim (cases_Bool (eqb n k)) [ | inl same ↦ inr (eqb-true n k same) | inr other ↦ absurd (both_ways _ (rw other refl) h) ]
-one_of-append k (x ∷ xs) n h =
-    elim (cases_Bool (eqb x k)) [
-      | inl same ↦ inl (or_left (eqb x k) (is_one_of k xs) same)
-      | inr other ↦ elim (one_of-append k xs n (rw other at h)) [ | inl there ↦ inl (rw other there) | inr last ↦ inr last ]
-    ]
-
-one_of-front : (k : ℕ) (xs ys : List ℕ) → is_one_of k xs ≡ true → is_one_of k (xs ++ ys) ≡ true
-one_of-front k [] ys h = absurd (both_ways _ refl h)
-one_of-front k (x ∷ xs) ys h =
-    elim (cases_Bool (eqb x k)) [
-      | inl same ↦ or_left (eqb x k) _ same
-      | inr other ↦ rw other (one_of-front k xs ys (rw other at h))
-    ]
 
 module _ (cards : List Card) (rank : List ℕ) (is : IsRank cards rank) (f : Facts) where
   abbrev Solved : List ℕ → Marking → Type 0
@@ -83,7 +57,7 @@ module _ (cards : List Card) (rank : List ℕ) (is : IsRank cards rank) (f : Fac
         | inl same ↦ absurd (both_ways _ fresh (subst (λ x. is_one_of x front ≡ true) (sym (eqb-true n s same)) in_front))
         | inr other ↦ sym (put-other cards f n s (card_at n cards) m other)
       ] in
-      elim (one_of-append k front n in_k) [
+      elim (one_of-last k front n in_k) [
         | inl there ↦
             let s = member-splits k front there in
             let at_k : rank ≡ s.0 ++ (k ∷ (s.1 ++ (n ∷ rest))) = at ∙ ap (λ x. x ++ (n ∷ rest)) s.2 ∙ append_assoc s.0 (k ∷ s.1) (n ∷ rest) in
@@ -105,8 +79,5 @@ module _ (cards : List Card) (rank : List ℕ) (is : IsRank cards rank) (f : Fac
   solved-all front [] m at solved = subst (λ l. Solved l m) (sym (at ∙ append-nil front)) solved
   solved-all front (n ∷ ns) m at solved = solved-all (front ++ n ∷ []) ns _ (at ∙ sym (append_assoc front (n ∷ []) ns)) (solved-next front ns n m at solved)
 
-  abbrev pub solution : Marking
-  solution = solve cards f rank (λ _. None)
-
-  pub solution-solves : Solves cards f solution
+  pub solution-solves : Solves cards f (solution cards rank f)
   solution-solves = record { meets = λ n c e. solved-all [] rank (λ _. None) refl (λ k h. absurd (both_ways _ refl h)) n (in_rank cards rank is n c e) c e }

@@ -1,17 +1,16 @@
 -- The node rule before a number is the node's equation before it.
-use Rattle.std.proofs.Common.{◌≡◌, ℕ, zero, suc, Bool, true, false, cond, ◌&&◌, List, [], ◌∷◌, map, refl, ap, sym, ◌∙◌, inl, inr, ◌⊎◌, arith, Option, Some, None}
-use Rattle.std.specs.Prelude.{nat_lt, is_some, count_by, ◌==◌}
+use Rattle.std.proofs.Common.{◌≡◌, ℕ, Bool, true, false, cond, List, map, refl, ap, sym, inl, inr, Some, None}
+use Rattle.std.specs.Prelude.{nat_lt, is_some}
 use Rattle.std.specs.List.{list_all}
-use Rattle.std.proofs.lemmas.Bool.{cases_Bool, both_ways, and_left, and_right, and_parts}
-use Rattle.wsm_marks.specs.Timed.{Timed, flow, time, before, greater, latest, awaited, timed_by, eq_of, verdict_of}
-use Rattle.wsm_marks.proofs.Signals.{greater-lt, greater-late_left, greater-late_right, before-in_time, before-late, map-in_time, all-late}
+use Rattle.std.proofs.lemmas.Bool.{cases_Bool, both_ways, and_left}
 use Rattle.wsm_schema.specs.Rules.{is_yes, is_no, is_ready, is_skipped, judge_of}
 use Rattle.wsm_schema.specs.declared.cards.NodeKind.{NodeKind}
 use Rattle.wsm_schema.specs.declared.cards.NodeKind.TheVariants as kind
-use Rattle.wsm_schema.specs.declared.states.Flow.{Flow}
 use Rattle.wsm_schema.specs.declared.states.Flow.TheVariants.{Yes, No}
 use Rattle.wsm_schema.specs.declared.states.Verdict.{Verdict}
 use Rattle.wsm_schema.specs.declared.states.Verdict.TheVariants as verdict
+use Rattle.wsm_marks.specs.Timed.{Timed, awaited, before, eq_of, flow, greater, latest, timed_by, verdict_of}
+use Rattle.wsm_marks.proofs.Signals.{all-late, before-in_time, before-late, before_none, greater-late_left, greater-late_right, greater-lt, map-in_time}
 
 -- the control edges in time
 ready-in_time : (q : ℕ) (k : NodeKind) (cs : List Timed) → nat_lt (latest (awaited k cs)) q ≡ true → is_ready k (map (before q) cs) ≡ is_ready k (map flow cs)
@@ -36,9 +35,6 @@ skipped-late q pos _ cs h = all-late is_no refl q pos cs h
 -- a control edge late: nothing holds
 late-waits : (v : Verdict) (a b q : ℕ) → nat_lt a q ≡ false → verdict_of (before q (timed_by v a b)) ≡ verdict.Waiting
 late-waits verdict.Waiting a b q h = ap verdict_of (before_none q)
-  where
-    before_none : (q : ℕ) → before q None ≡ None
-    before_none q = elim (cases_Bool (nat_lt 0 q)) [ | inl soon ↦ rw soon refl | inr late ↦ rw late refl ]
 late-waits verdict.Ready a b q h = ap verdict_of (before-late q (Some (greater a b, Yes)) (greater-late_left a b q h))
 late-waits verdict.Skipped a b q h = ap verdict_of (before-late q (Some (a, No)) h)
 
@@ -72,9 +68,3 @@ threshold q pos k cs ss =
           ]
       | inr late ↦ rw (ready-late q pos k cs late, skipped-late q pos k cs late) (sym (late-waits v a (latest ss) q late))
     ]
-
-pub all_no-count : (xs : List (Option Flow)) → list_all is_no xs ≡ true → count_by is_yes xs ≡ 0
-all_no-count [] h = refl
-all_no-count (None ∷ xs) h = absurd (both_ways _ refl h)
-all_no-count (Some Yes ∷ xs) h = absurd (both_ways _ refl h)
-all_no-count (Some No ∷ xs) h = all_no-count xs h

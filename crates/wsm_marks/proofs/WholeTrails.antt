@@ -1,8 +1,8 @@
 -- A trail that replays whole is orderly: at most one Start and one End for each node, in that order.
-use Rattle.std.proofs.Common.{◌≡◌, ℕ, zero, suc, ◌<◌, ◌≤◌, Bool, true, false, cond, ◌||◌, ◌&&◌, eqb, List, [], ◌∷◌, ◌++◌, length, refl, ap, sym, ◌∙◌, subst, inl, inr, ◌⊎◌, arith, Option, Some, None, append_assoc, append-nil}
-use Rattle.std.specs.Prelude.{nat_lt, find, if◌then◌else◌}
+use Rattle.std.proofs.Common.{◌≡◌, ℕ, zero, suc, ◌<◌, Bool, true, false, ◌||◌, ◌&&◌, eqb, List, [], ◌∷◌, ◌++◌, length, refl, ap, sym, ◌∙◌, subst, inl, inr, arith, Option, Some, None, append_assoc}
+use Rattle.std.specs.Prelude.{if◌then◌else◌}
 use Rattle.std.specs.Fn.{iterate}
-use Rattle.std.proofs.lemmas.Bool.{cases_Bool, both_ways, ltb-true, lt-ltb, eqb-true, eq-eqb, or_cases, or_left, or_parts, and_parts}
+use Rattle.std.proofs.lemmas.Bool.{cases_Bool, both_ways, ltb-true, eqb-true, eq-eqb, or_cases, or_left, and_parts}
 use Rattle.wsm_schema.specs.Flat.{FlatModel, card_at}
 use Rattle.wsm_schema.specs.Kinds.{worked_on}
 use Rattle.wsm_lists.specs.Rows.{AllRows}
@@ -21,12 +21,13 @@ use Rattle.wsm_schema.specs.declared.states.State.TheVariants as state
 use Rattle.wsm_schema.specs.declared.states.Verdict.{Verdict}
 use Rattle.wsm_schema.specs.declared.states.Verdict.TheVariants as verdict
 use Rattle.wsm_lists.specs.declared.values.Value.{Value}
-use Rattle.wsm_schema.proofs.Rounds.{iterate-last, spot_in-round, keeps_rounds, KeepsBegun, card_at-node}
-use Rattle.wsm_marks.specs.Timed.{early}
-use Rattle.wsm_marks.specs.Fits.{Rises, InOrder, Orderly}
-use Rattle.wsm_marks.proofs.Causality.{same_card}
-use Rattle.wsm_marks.proofs.EntrySteps.{or_false, lt-suc_self, on_card-true}
-use Rattle.wsm_marks.proofs.Telling.{Entries, AllBelow, all_below-later, all_below-last, has, behind}
+use Rattle.wsm_schema.proofs.Rounds.{iterate-last, spot_in-round, keeps_rounds, KeepsBegun}
+use Rattle.std.proofs.Math.Bool.{or-false}
+use Rattle.wsm_marks.specs.Fits.{InOrder, Orderly, RisesAfter}
+use Rattle.wsm_marks.specs.Timed.{Entries, below}
+use Rattle.wsm_marks.proofs.Cards.{on_card-true, same_card}
+use Rattle.wsm_marks.proofs.Lists.{lt-suc_self, rows-last}
+use Rattle.wsm_marks.proofs.Telling.{AllBelow, all_below-later, early-behind, find-behind, find-last, has-last, has_entry}
 
 is_activated : (s : State) → is_in_state s state.Activated ≡ true → s ≡ state.Activated
 is_activated state.Activated h = refl
@@ -36,36 +37,22 @@ is_running : (s : State) → is_in_state s state.Running ≡ true → s ≡ stat
 is_running state.Running h = refl
 is_running _ h = absurd (both_ways _ refl h)
 
--- ---- a trail with one more entry
-has-last : (test : Entry → Bool) (es : Entries) (e : ℕ × Entry) → has test (es ++ e ∷ []) ≡ (has test es || test e.1)
-has-last test [] e = or_false (test e.1)
-has-last test (d ∷ ds) e = elim (cases_Bool (test d.1)) [ | inl it ↦ rw it refl | inr other ↦ rw other (has-last test ds e) ]
-
-pub find-last : (test : Entry → Bool) (es : Entries) (e : ℕ × Entry) → test e.1 ≡ false → find (λ x. test x.1) (es ++ e ∷ []) ≡ find (λ x. test x.1) es
-find-last test [] e h = rw h refl
-find-last test (d ∷ ds) e h = elim (cases_Bool (test d.1)) [ | inl it ↦ rw it refl | inr other ↦ rw other (find-last test ds e h) ]
-
-find-behind : (test : Entry → Bool) (es rest : Entries) → has test es ≡ false → find (λ x. test x.1) (es ++ rest) ≡ find (λ x. test x.1) rest
-find-behind test [] rest h = refl
-find-behind test (d ∷ ds) rest h =
-    let p = or_parts (test d.1) (has test ds) h in rw p.0 (find-behind test ds rest p.1)
-
 -- ---- what a trail has begun
 abbrev begun_in : Entries → ℕ → Spot → Spot
 begun_in es n s =
-    if has (is_end_of n) es then spot n state.Completed ((facts_of es).choice n)
-    else (if has (is_start_of n) es then spot n state.Running None else s)
+    if has_entry (is_end_of n) es then spot n state.Completed ((facts_of es).choice n)
+    else (if has_entry (is_start_of n) es then spot n state.Running None else s)
 
 begun_in-last : (es : Entries) (e : ℕ × Entry) (n : ℕ) (s : Spot) → is_start_of n e.1 ≡ false → is_end_of n e.1 ≡ false → begun_in (es ++ e ∷ []) n s ≡ begun_in es n s
 begun_in-last es e n s no_start no_end =
-    let st : has (is_start_of n) (es ++ e ∷ []) ≡ has (is_start_of n) es = has-last (is_start_of n) es e ∙ ap (λ b. has (is_start_of n) es || b) no_start ∙ or_false _ in
-    let en : has (is_end_of n) (es ++ e ∷ []) ≡ has (is_end_of n) es = has-last (is_end_of n) es e ∙ ap (λ b. has (is_end_of n) es || b) no_end ∙ or_false _ in
+    let st : has_entry (is_start_of n) (es ++ e ∷ []) ≡ has_entry (is_start_of n) es = has-last (is_start_of n) es e ∙ ap (λ b. has_entry (is_start_of n) es || b) no_start ∙ or-false _ in
+    let en : has_entry (is_end_of n) (es ++ e ∷ []) ≡ has_entry (is_end_of n) es = has-last (is_end_of n) es e ∙ ap (λ b. has_entry (is_end_of n) es || b) no_end ∙ or-false _ in
     rw (en, st, find-last (is_end_of n) es e no_end) refl
 
 module _ (cards : List Card) where
   record Shown (es : Entries) (t : Spots) : Type 0 where
     is : (n : ℕ) (c : Card) → card_at n cards ≡ Some c → (s : Spot) → (if is_begun c.kind (spot_in n t).state then spot_in n t else s) ≡ begun_in es n s
-    works : (n : ℕ) (c : Card) → card_at n cards ≡ Some c → has (is_start_of n) es ≡ true → worked_on c.kind ≡ true
+    works : (n : ℕ) (c : Card) → card_at n cards ≡ Some c → has_entry (is_start_of n) es ≡ true → worked_on c.kind ≡ true
 
   -- only worked-on nodes are activated
   abbrev Calm : Spots → Type 0
@@ -114,30 +101,30 @@ module _ (cards : List Card) where
 
   -- a node that is Activated was not begun, one that is Running was started and not ended
   not_begun : (es : Entries) (t : Spots) → Shown es t → (n : ℕ) (c : Card) → card_at n cards ≡ Some c → (spot_in n t).state ≡ state.Activated →
-      (has (is_start_of n) es ≡ false) × (has (is_end_of n) es ≡ false)
+      (has_entry (is_start_of n) es ≡ false) × (has_entry (is_end_of n) es ≡ false)
   not_begun es t shown n c e h =
       let s : Spot = spot n state.NotActivated None in
       let b : is_begun c.kind (spot_in n t).state ≡ false = ap (is_begun c.kind) h in
       let p : s ≡ begun_in es n s = rw b at (shown.is n c e s) in
-      elim (cases_Bool (has (is_end_of n) es)) [
+      elim (cases_Bool (has_entry (is_end_of n) es)) [
         | inl over ↦ let q : state.NotActivated ≡ state.Completed = ap {A = Spot} (λ x. x.state) (rw over at p) in absurd (cc)
         | inr open_yet ↦
-            elim (cases_Bool (has (is_start_of n) es)) [
+            elim (cases_Bool (has_entry (is_start_of n) es)) [
               | inl begun ↦ let q : state.NotActivated ≡ state.Running = ap {A = Spot} (λ x. x.state) (rw (open_yet, begun) at p) in absurd (cc)
               | inr fresh ↦ (fresh, open_yet)
             ]
       ]
 
   only_begun : (es : Entries) (t : Spots) → Shown es t → (n : ℕ) (c : Card) → card_at n cards ≡ Some c → (spot_in n t).state ≡ state.Running →
-      (has (is_start_of n) es ≡ true) × (has (is_end_of n) es ≡ false)
+      (has_entry (is_start_of n) es ≡ true) × (has_entry (is_end_of n) es ≡ false)
   only_begun es t shown n c e h =
       let s : Spot = spot n state.NotActivated None in
       let b : is_begun c.kind (spot_in n t).state ≡ true = ap (is_begun c.kind) h in
       let p : spot_in n t ≡ begun_in es n s = rw b at (shown.is n c e s) in
-      elim (cases_Bool (has (is_end_of n) es)) [
+      elim (cases_Bool (has_entry (is_end_of n) es)) [
         | inl over ↦ let q : state.Running ≡ state.Completed = sym h ∙ ap {A = Spot} (λ x. x.state) (rw over at p) in absurd (cc)
         | inr open_yet ↦
-            elim (cases_Bool (has (is_start_of n) es)) [
+            elim (cases_Bool (has_entry (is_start_of n) es)) [
               | inl begun ↦ (begun, open_yet)
               | inr fresh ↦ let q : state.Running ≡ state.NotActivated = sym h ∙ ap {A = Spot} (λ x. x.state) (rw (open_yet, fresh) at p) in absurd (cc)
             ]
@@ -147,23 +134,23 @@ module _ (cards : List Card) where
   shown-other : (es : Entries) (e : ℕ × Entry) (t : Spots) → ((n : ℕ) → is_start_of n e.1 ≡ false) → ((n : ℕ) → is_end_of n e.1 ≡ false) → Shown es t → Shown (es ++ e ∷ []) t
   shown-other es e t no_start no_end shown = record {
     is = λ n c h s. shown.is n c h s ∙ sym (begun_in-last es e n s (no_start n) (no_end n));
-    works = λ n c h b. shown.works n c h (sym (has-last (is_start_of n) es e ∙ ap (λ x. has (is_start_of n) es || x) (no_start n) ∙ or_false _) ∙ b);
+    works = λ n c h b. shown.works n c h (sym (has-last (is_start_of n) es e ∙ ap (λ x. has_entry (is_start_of n) es || x) (no_start n) ∙ or-false _) ∙ b);
   }
 
   shown-start : (es : Entries) (p node user : ℕ) (reads : List (ℕ × Option Value)) (t : Spots) (d : Card) → card_at node cards ≡ Some d → worked_on d.kind ≡ true →
-      has (is_end_of node) es ≡ false → Shown es t → Shown (es ++ (p, entry.Start node user reads) ∷ []) (spot node state.Running None ∷ t)
+      has_entry (is_end_of node) es ≡ false → Shown es t → Shown (es ++ (p, entry.Start node user reads) ∷ []) (spot node state.Running None ∷ t)
   shown-start es p node user reads t d at_d works no_end shown =
       let e : ℕ × Entry = (p, entry.Start node user reads) in
       record {
         is = λ k c h s. elim (cases_Bool (eqb node k)) [
           | inl same ↦
               let at_k : node ≡ k = eqb-true node k same in
-              let st : has (is_start_of k) (es ++ e ∷ []) ≡ true = has-last (is_start_of k) es e ∙ ap (λ b. has (is_start_of k) es || b) same ∙ or_true _ in
-              let en : has (is_end_of k) (es ++ e ∷ []) ≡ false = has-last (is_end_of k) es e ∙ or_false _ ∙ ap (λ j. has (is_end_of j) es) (sym at_k) ∙ no_end in
+              let st : has_entry (is_start_of k) (es ++ e ∷ []) ≡ true = has-last (is_start_of k) es e ∙ ap (λ b. has_entry (is_start_of k) es || b) same ∙ or_true _ in
+              let en : has_entry (is_end_of k) (es ++ e ∷ []) ≡ false = has-last (is_end_of k) es e ∙ or-false _ ∙ ap (λ j. has_entry (is_end_of j) es) (sym at_k) ∙ no_end in
               rw (same, en, st) (ap (λ j. spot j state.Running None) at_k)
           | inr other ↦ rw other (shown.is k c h s ∙ sym (begun_in-last es e k s other refl))
         ];
-        works = λ k c h b. elim (or_cases (has (is_start_of k) es) (eqb node k) (sym (has-last (is_start_of k) es e) ∙ b)) [
+        works = λ k c h b. elim (or_cases (has_entry (is_start_of k) es) (eqb node k) (sym (has-last (is_start_of k) es e) ∙ b)) [
           | inl before_it ↦ shown.works k c h before_it
           | inr same ↦ subst (λ x. worked_on x.kind ≡ true) (same_card cards k d c (ap (λ j. card_at j cards) (sym (eqb-true node k same)) ∙ at_d) h) works
         ];
@@ -174,24 +161,24 @@ module _ (cards : List Card) where
       or_true false = refl
 
   shown-end : (es : Entries) (p node : ℕ) (writes : List (ℕ × Value)) (choice : Option ℕ) (t : Spots) →
-      has (is_start_of node) es ≡ true → has (is_end_of node) es ≡ false → Shown es t → Shown (es ++ (p, entry.End node writes choice) ∷ []) (spot node state.Completed choice ∷ t)
+      has_entry (is_start_of node) es ≡ true → has_entry (is_end_of node) es ≡ false → Shown es t → Shown (es ++ (p, entry.End node writes choice) ∷ []) (spot node state.Completed choice ∷ t)
   shown-end es p node writes choice t begun no_end shown =
       let e : ℕ × Entry = (p, entry.End node writes choice) in
       record {
         is = λ k c h s. elim (cases_Bool (eqb node k)) [
           | inl same ↦
               let at_k : node ≡ k = eqb-true node k same in
-              let works : worked_on c.kind ≡ true = shown.works k c h (ap (λ j. has (is_start_of j) es) (sym at_k) ∙ begun) in
-              let no_end_k : has (is_end_of k) es ≡ false = ap (λ j. has (is_end_of j) es) (sym at_k) ∙ no_end in
-              let en : has (is_end_of k) (es ++ e ∷ []) ≡ true = has-last (is_end_of k) es e ∙ ap (λ b. b || eqb node k) no_end_k ∙ same in
+              let works : worked_on c.kind ≡ true = shown.works k c h (ap (λ j. has_entry (is_start_of j) es) (sym at_k) ∙ begun) in
+              let no_end_k : has_entry (is_end_of k) es ≡ false = ap (λ j. has_entry (is_end_of j) es) (sym at_k) ∙ no_end in
+              let en : has_entry (is_end_of k) (es ++ e ∷ []) ≡ true = has-last (is_end_of k) es e ∙ ap (λ b. b || eqb node k) no_end_k ∙ same in
               let ch : (facts_of (es ++ e ∷ [])).choice k ≡ choice = ap choice_of (find-behind (is_end_of k) es (e ∷ []) no_end_k) ∙ (rw same refl) in
               rw (same, works, en, ch) (ap (λ j. spot j state.Completed choice) at_k)
           | inr other ↦ rw other (shown.is k c h s ∙ sym (begun_in-last es e k s refl other))
         ];
-        works = λ k c h b. shown.works k c h (sym (has-last (is_start_of k) es e ∙ or_false _) ∙ b);
+        works = λ k c h b. shown.works k c h (sym (has-last (is_start_of k) es e ∙ or-false _) ∙ b);
       }
 
-position-behind : (test : Entry → Bool) (es rest : Entries) (e : ℕ × Entry) → has test es ≡ false → test e.1 ≡ true → position_of test (es ++ (e ∷ rest)) ≡ Some e.0
+position-behind : (test : Entry → Bool) (es rest : Entries) (e : ℕ × Entry) → has_entry test es ≡ false → test e.1 ≡ true → position_of test (es ++ (e ∷ rest)) ≡ Some e.0
 position-behind test es rest e h it = rw (find-behind test es (e ∷ rest) h, it) refl
 
 module _ (g : FlatModel) (value : ℕ → ℕ → Option Value) where
@@ -211,14 +198,14 @@ module _ (g : FlatModel) (value : ℕ → ℕ → Option Value) where
       let own : is_end_of node (entry.End node writes choice) ≡ true = eq-eqb node node refl in
       ((position-behind (is_end_of node) es rest (p, entry.End node writes choice) so.1 own,
         ap choice_of (find-behind (is_end_of node) es ((p, entry.End node writes choice) ∷ rest) so.1) ∙ rw own refl,
-        behind (is_start_of node) p es ((p, entry.End node writes choice) ∷ rest) below ∙ or_left (has (is_start_of node) es) _ so.0),
+        early-behind (is_start_of node) p es ((p, entry.End node writes choice) ∷ rest) below ∙ or_left (has_entry (is_start_of node) es) _ so.0),
         (shown-settle g.cards _ _ (shown-end g.cards es p node writes choice t so.0 so.1 shown), calm-settle g.cards _))
   ordered-step es rest (p, entry.Again node writes) t below shown calm fit =
       (tt, (shown-other g.cards es (p, entry.Again node writes) t (λ n. refl) (λ n. refl) shown, calm))
   ordered-step es rest (p, entry.Wrote writes) t below shown calm fit =
       (tt, (shown-other g.cards es (p, entry.Wrote writes) t (λ n. refl) (λ n. refl) shown, calm))
 
-  ordered : (es rest : Entries) (last : ℕ) (t end : Spots) → AllBelow (suc last) es → Rises last rest → Shown g.cards es t → Calm g.cards t → replay_from g value rest t ≡ whole end →
+  ordered : (es rest : Entries) (last : ℕ) (t end : Spots) → AllBelow (suc last) es → RisesAfter last rest → Shown g.cards es t → Calm g.cards t → replay_from g value rest t ≡ whole end →
       AllRows (λ e. InOrder (facts_of (es ++ rest)) e.0 e.1) rest
   ordered es [] last t end below rises shown calm w = tt
   ordered es (e ∷ rest) last t end below rises shown calm w =
@@ -231,13 +218,13 @@ module _ (g : FlatModel) (value : ℕ → ℕ → Option Value) where
             let regroup : (es ++ e ∷ []) ++ rest ≡ es ++ (e ∷ rest) = append_assoc es (e ∷ []) rest in
             (s.0, subst (λ l. AllRows (λ d. InOrder (facts_of l) d.0 d.1) rest) regroup
             (ordered (es ++ e ∷ []) rest e.0 (after g.cards e.1 t) end
-            (all_below-last (suc e.0) es e (all_below-later e.0 (suc e.0) (omega arith) es more) (lt-suc_self e.0))
+            (rows-last _ es e (all_below-later e.0 (suc e.0) (omega arith) es more) (lt-suc_self e.0))
             rises.1 s.1.0 s.1.1 next))
         | inr misfit ↦ let p : fails e.0 ≡ whole end = rw misfit at w in absurd (cc)
       ]
 
 -- a trail that replays whole is orderly
-pub whole-orderly : (g : FlatModel) (es : Entries) (t : Spots) → Rises 0 es → replay_of g es ≡ whole t → Orderly es
+pub whole-orderly : (g : FlatModel) (es : Entries) (t : Spots) → RisesAfter 0 es → replay_of g es ≡ whole t → Orderly es
 whole-orderly g es t rises w = record {
   rises = rises;
   order = ordered g (λ d p. value_below d p es) [] es 0 (settle g.cards []) t tt rises

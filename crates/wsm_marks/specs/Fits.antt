@@ -1,22 +1,22 @@
 -- What a trail says, entry by entry, and which entries fit a solution.
-use Rattle.std.specs.Prelude.{◌≡◌, ℕ, Bool, true, false, ◌&&◌, ◌||◌, List, [], ◌∷◌, Option, Some, None, nat_lt, if◌then◌else◌, find}
+use Rattle.std.specs.Prelude.{◌≡◌, ℕ, Bool, true, false, ◌&&◌, ◌||◌, List, [], ◌∷◌, Option, Some, None, nat_lt, if◌then◌else◌}
 use Rattle.wsm_schema.specs.Flat.{FlatModel, card_at}
 use Rattle.wsm_schema.specs.Kinds.{is_loop_end, worked_on}
 use Rattle.wsm_schema.specs.Rules.{is_yes, Spots}
 use Rattle.wsm_lists.specs.Rows.{AllRows}
 use Rattle.wsm_schema.specs.Replay.{on_card, fits_reads, fits_edges, fits_choice, Outcome}
 use Rattle.wsm_schema.specs.Replay.{whole, fails}
-use Rattle.wsm_schema.specs.Marks.{is_start_of, is_end_of, position_of, choice_of, Facts, facts_of}
+use Rattle.wsm_schema.specs.Marks.{is_start_of, is_end_of, Facts, facts_of}
 use Rattle.wsm_schema.specs.declared.cards.Card.{Card}
 use Rattle.wsm_schema.specs.declared.entries.Entry.{Entry}
 use Rattle.wsm_schema.specs.declared.entries.Entry.TheVariants as entry
 use Rattle.wsm_lists.specs.declared.values.Value.{Value}
-use Rattle.wsm_marks.specs.Timed.{Marking, before, early, IsBelow, InTime}
+use Rattle.wsm_marks.specs.Timed.{Entries, InTime, IsBelow, Marking, before, early}
 
 -- positions ascend
-abbrev pub Rises : ℕ → List (ℕ × Entry) → Type 0
-Rises last [] = Unit {0}
-Rises last (e ∷ es) = (nat_lt last e.0 ≡ true) × Rises e.0 es
+abbrev pub RisesAfter : ℕ → Entries → Type 0
+RisesAfter last [] = Unit {0}
+RisesAfter last (e ∷ es) = (nat_lt last e.0 ≡ true) × RisesAfter e.0 es
 
 -- at most one Start and one End for each node, in that order
 abbrev pub InOrder : Facts → ℕ → Entry → Type 0
@@ -25,8 +25,8 @@ InOrder f p (entry.End node writes choice) = (f.ended node ≡ Some p) × (f.cho
 InOrder f p (entry.Again node writes) = Unit {0}
 InOrder f p (entry.Wrote writes) = Unit {0}
 
-pub record Orderly (es : List (ℕ × Entry)) : Type 0 where
-  pub rises : Rises 0 es
+pub record Orderly (es : Entries) : Type 0 where
+  pub rises : RisesAfter 0 es
   pub order : AllRows (λ e. InOrder (facts_of es) e.0 e.1) es
 
 -- no fact from a on below b
@@ -43,7 +43,7 @@ pub record Tells (f : Facts) (last p : ℕ) (x : Entry) : Type 0 where
   pub order : InOrder f p x
 
 -- the entries behind `last` are the facts from there on
-abbrev pub Told : Facts → ℕ → List (ℕ × Entry) → Type 0
+abbrev pub Told : Facts → ℕ → Entries → Type 0
 Told f last [] = (q : ℕ) → nat_lt last q ≡ true → Quiet f (ℕ.suc last) q
 Told f last (e ∷ es) = Tells f last e.0 e.1 × Told f e.0 es
 
@@ -59,11 +59,11 @@ fits g f m value p (entry.End node writes choice) = on_card (card_at node g.card
 fits g f m value p (entry.Again node writes) = on_card (card_at node g.cards) (λ c. is_loop_end c.kind && partner_done g.cards f m p c.partner)
 fits g f m value p (entry.Wrote writes) = true
 
-abbrev pub first_misfit : FlatModel → Facts → Marking → (ℕ → ℕ → Option Value) → List (ℕ × Entry) → Option ℕ
+abbrev pub first_misfit : FlatModel → Facts → Marking → (ℕ → ℕ → Option Value) → Entries → Option ℕ
 first_misfit g f m value [] = None
 first_misfit g f m value (e ∷ es) = if fits g f m (λ d. value d e.0) e.0 e.1 then first_misfit g f m value es else Some e.0
 
-abbrev pub last_position : ℕ → List (ℕ × Entry) → ℕ
+abbrev pub last_position : ℕ → Entries → ℕ
 last_position last [] = last
 last_position last (e ∷ es) = last_position e.0 es
 

@@ -1,5 +1,5 @@
 -- The body of a loop in a net, and facts without it.
-use Rattle.std.specs.Prelude.{◌≡◌, ◌⊎◌, ℕ, Bool, true, false, List, [], ◌∷◌, filter_map, Option, Some, None, ◌==◌}
+use Rattle.std.specs.Prelude.{◌≡◌, ◌⊎◌, ℕ, Bool, true, false, List, [], ◌∷◌, filter_map, Some, None, ◌==◌}
 use Rattle.wsm_schema.specs.Flat.{card_at}
 use Rattle.wsm_schema.specs.Kinds.{worked_on, is_loop_end}
 use Rattle.wsm_lists.specs.Rows.{AllRows}
@@ -10,6 +10,13 @@ use Rattle.wsm_schema.specs.declared.cards.NodeKind.TheVariants.{Start}
 use Rattle.wsm_schema.specs.declared.entries.Entry.{Entry}
 use Rattle.wsm_schema.specs.declared.entries.Entry.TheVariants as entry
 use Rattle.wsm_schema.specs.Marks.{Facts}
+use Rattle.wsm_marks.specs.Timed.{Entries}
+
+-- each node but a start has an edge into it
+abbrev pub HasEdge : {X : Type 0} → NodeKind → List X → Type 0
+HasEdge Start xs = Unit {0}
+HasEdge _ [] = ⊥
+HasEdge _ (x ∷ xs) = Unit {0}
 
 -- a node that is no start, with an edge into it
 abbrev pub Inner : {X : Type 0} → NodeKind → List X → Type 0
@@ -36,7 +43,7 @@ pub record Cleared (body : List ℕ) (f f' : Facts) : Type 0 where
   pub no_start : (n : ℕ) → is_one_of n body ≡ true → f'.started n ≡ None
   pub no_end : (n : ℕ) → is_one_of n body ≡ true → f'.ended n ≡ None
 
-abbrev pub cut_entries : List ℕ → List (ℕ × Entry) → List (ℕ × Entry)
+abbrev pub cut_entries : List ℕ → Entries → Entries
 cut_entries body es = filter_map (λ e. cut_entry body e.0 e.1) es
 
 -- whether an entry is of a node of the body

@@ -1,10 +1,9 @@
 -- Timed marks of a net as the solution of one equation for each node.
-use Rattle.std.specs.Prelude.{◌≡◌, ℕ, Bool, true, false, ◌&&◌, ◌||◌, not, List, [], ◌∷◌, map, Option, Some, None, option_map, nat_lt, if◌then◌else◌}
+use Rattle.std.specs.Prelude.{◌≡◌, ℕ, Bool, true, false, ◌&&◌, not, List, [], ◌∷◌, map, Option, Some, None, nat_lt, if◌then◌else◌, is_some}
 use Rattle.wsm_schema.specs.Flat.{card_at}
 use Rattle.wsm_schema.specs.Kinds.{is_xor_split, worked_on}
-use Rattle.wsm_schema.specs.Rules.{is_chosen, is_yes, is_no, judge_of, Spots, spot, spot_in, state_by, is_begun}
+use Rattle.wsm_schema.specs.Rules.{is_chosen, judge_of, Spots, spot, spot_in, state_by, is_begun}
 use Rattle.wsm_schema.specs.declared.cards.Card.{Card}
-use Rattle.wsm_schema.specs.declared.cards.End.{End}
 use Rattle.wsm_schema.specs.declared.cards.NodeKind.{NodeKind}
 use Rattle.wsm_schema.specs.declared.cards.NodeKind.TheVariants.{Start}
 use Rattle.wsm_schema.specs.declared.states.State.TheVariants.{Running, Completed}
@@ -14,6 +13,11 @@ use Rattle.wsm_schema.specs.declared.states.Spot.{Spot}
 use Rattle.wsm_schema.specs.declared.states.Verdict.{Verdict}
 use Rattle.wsm_schema.specs.declared.states.Verdict.TheVariants as verdict
 use Rattle.wsm_schema.specs.Marks.{Facts}
+use Rattle.wsm_schema.specs.declared.entries.Entry.{Entry}
+
+-- entries by position
+abbrev pub Entries : Type 0
+Entries = List (ℕ × Entry)
 
 -- a time with what holds from then on: of a node Yes is "ready", No is "skipped"; of an edge its signal
 abbrev pub Timed : Type 0
@@ -116,8 +120,10 @@ pub record Kept (cards : List Card) (q : ℕ) (f : Facts) (old : Spots) : Type 0
   pub is : (n : ℕ) (c : Card) → card_at n cards ≡ Some c → (s : Spot) →
       (if is_begun c.kind (spot_in n old).state then spot_in n old else s) ≡ begun_or q f n s
 
--- each node but a start has an edge into it
-abbrev pub HasEdge : {X : Type 0} → NodeKind → List X → Type 0
-HasEdge Start xs = Unit {0}
-HasEdge _ [] = ⊥
-HasEdge _ (x ∷ xs) = Unit {0}
+-- whether a node is ready, or skipped, since some time
+abbrev pub is_marked : Timed → Bool
+is_marked x = is_some (flow x)
+
+-- nobody may start or end a node: each worked-on node that is ready was ended
+abbrev pub Idle : List Card → Facts → Marking → Type 0
+Idle cards f m = (n : ℕ) (c : Card) → card_at n cards ≡ Some c → worked_on c.kind ≡ true → (t : ℕ) → m n ≡ Some (t, Yes) → (u : ℕ) × (f.ended n ≡ Some u)
