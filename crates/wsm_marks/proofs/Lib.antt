@@ -15,10 +15,13 @@ pub mod Relax
 pub mod LocalMisfit
 pub mod CutOutside
 pub mod CutTrails
+pub mod LoopSets
 pub mod LoopInTree
 pub mod Sources
 pub mod LoopOfSchema
+pub mod LoopNodes
 pub mod Repeats
+pub mod SoundSchemas
 pub mod BlockFlow
 pub mod NeverStuck
 pub mod SaneTrails

@@ -1,5 +1,5 @@
 -- A loop in a tree: what stands before it, in it and behind it, and where the edges come from.
-use Rattle.std.proofs.Common.{◌≡◌, ℕ, Bool, true, List, [], ◌∷◌, ◌++◌, refl, ap, sym, ◌∙◌, subst, inl, inr, ◌⊎◌, Some, None, append_assoc, append-nil}
+use Rattle.std.proofs.Common.{◌≡◌, ℕ, Bool, true, List, [], ◌∷◌, ◌++◌, refl, ap, sym, ◌∙◌, subst, inl, inr, ◌⊎◌, Some, None, append_assoc, append-nil, false}
 use Rattle.std.proofs.lemmas.Bool.{both_ways}
 use Rattle.wsm_schema.specs.Tree.{Part, Parts, Lanes, Gate, act, gate, loop, nothing, part, no_lane, lane, and_gate, xor_gate}
 use Rattle.wsm_schema.specs.Ends.{first_node, last_of}
@@ -12,10 +12,14 @@ use Rattle.wsm_schema.specs.declared.cards.NodeKind.TheVariants.{LoopEnd, Start,
 use Rattle.std.proofs.lemmas.Option.{same_Some}
 use Rattle.wsm_lists.proofs.Lists.{rows-append, rows-parts}
 use Rattle.wsm_marks.proofs.Cards.{nodes}
+use Rattle.wsm_marks.proofs.LoopSets.{WholeLanes, WholePart, WholeParts, lanes-each, lanes-none, part-each, part-none, parts-each, parts-none}
 
 -- all nodes, and all sources of edges, are in a set
 abbrev pub NodesIn : (ℕ → Bool) → List Place → Type 0
 NodesIn A ps = AllRows (λ p. A p.node ≡ true) ps
+
+abbrev pub NodesOut : (ℕ → Bool) → List Place → Type 0
+NodesOut A ps = AllRows (λ p. A p.node ≡ false) ps
 
 abbrev pub EndsIn : (ℕ → Bool) → List End → Type 0
 EndsIn A xs = AllRows (λ x. A x.node ≡ true) xs
@@ -92,7 +96,8 @@ mutual
 
 -- ---- a loop in a tree
 module _ (l e : ℕ) where
-  pub record Found (ps : List Place) (enter : ℕ) (exits : List End) : Type 0 where
+  -- the places of a tree with a loop: what stands before it and behind it, where their edges come from, and which sets hold whole loops of the tree
+  pub record Found (ps : List Place) (enter : ℕ) (exits : List End) (W : (ℕ → Bool) → Type 0) : Type 0 where
     pub pre : List Place
     pub post : List Place
     pub body : Parts
@@ -101,6 +106,16 @@ module _ (l e : ℕ) where
     pub split : ps ≡ pre ++ (part_places (loop l e body) from to ++ post)
     pub closed : (A : ℕ → Bool) → A enter ≡ true → NodesIn A pre → NodesIn A post → A e ≡ true → InsIn A pre × (A from.node ≡ true) × InsIn A post × EndsIn A exits
     pub paired : (A : ℕ → Bool) → NodesIn A pre → NodesIn A post → PairsIn A pre × PairsIn A post
+    pub whole : (A : ℕ → Bool) → NodesOut A pre → NodesOut A post → NodesIn A (part_places (loop l e body) from to) → W A
+
+  abbrev FoundPart : Part → End → ℕ → Type 0
+  FoundPart p from to = Found (part_places p from to) from.node (plain_end (last_of p) ∷ []) (λ A. WholePart A p)
+
+  abbrev FoundParts : Parts → End → ℕ → Type 0
+  FoundParts ps from to = Found (parts_places ps from to) from.node (leaving ps from ∷ []) (λ A. WholeParts A ps)
+
+  abbrev FoundLanes : Lanes → ℕ → ℕ → Type 0
+  FoundLanes ls split join = Found (lanes_places ls split join) split (branch_tails ls split) (λ A. WholeLanes A ls)
 
   -- the loop's end is one of the places
   abbrev pub IsEnd : Place → Type 0
@@ -115,12 +130,14 @@ module _ (l e : ℕ) where
   has_end-parts (x ∷ xs) ys (inl h) = inl (inl h)
   has_end-parts (x ∷ xs) ys (inr h) = elim (has_end-parts xs ys h) [ | inl a ↦ inl (inr a) | inr b ↦ inr b ]
 
-  widen : (ps : List Place) (enter : ℕ) (exits : List End) → Found ps enter exits → (left right : List Place) (enter' : ℕ) (exits' : List End) →
+  -- the loop that stands in some places stands in more of them
+  widen : (ps : List Place) (enter : ℕ) (exits : List End) (W : (ℕ → Bool) → Type 0) → Found ps enter exits W → (left right : List Place) (enter' : ℕ) (exits' : List End) (W' : (ℕ → Bool) → Type 0) →
       ((A : ℕ → Bool) → A enter' ≡ true → NodesIn A left → InsIn A left × (A enter ≡ true)) →
       ((A : ℕ → Bool) → A enter' ≡ true → NodesIn A left → NodesIn A right → EndsIn A exits → InsIn A right × EndsIn A exits') →
       ((A : ℕ → Bool) → NodesIn A left → NodesIn A right → PairsIn A left × PairsIn A right) →
-      Found (left ++ (ps ++ right)) enter' exits'
-  widen ps enter exits f left right enter' exits' left_closed right_closed pairs =
+      ((A : ℕ → Bool) → NodesOut A left → NodesOut A right → W A → W' A) →
+      Found (left ++ (ps ++ right)) enter' exits' W'
+  widen ps enter exits W f left right enter' exits' W' left_closed right_closed pairs wholes =
       let own : List Place = part_places (loop l e f.body) f.from f.to in
       record {
         pre = left ++ f.pre;
@@ -142,13 +159,17 @@ module _ (l e : ℕ) where
             let x = pairs A b.0 c.1 in
             let y = f.paired A b.1 c.0 in
             (rows-append _ left f.pre x.0 y.0, rows-append _ f.post right y.1 x.1);
+        whole = λ A before_it behind_it own_in.
+            let b = rows-parts _ left f.pre before_it in
+            let c = rows-parts _ f.post right behind_it in
+            wholes A b.0 c.1 (f.whole A b.1 c.0 own_in);
       }
     where
       regroup : (a b c d r : List Place) → a ++ ((b ++ (c ++ d)) ++ r) ≡ (a ++ b) ++ (c ++ (d ++ r))
       regroup a b c d r = simp append_assoc
 
   mutual
-    part-find : (p : Part) (from : End) (to : ℕ) → HasEnd (part_places p from to) → Found (part_places p from to) from.node (plain_end (last_of p) ∷ [])
+    part-find : (p : Part) (from : End) (to : ℕ) → HasEnd (part_places p from to) → FoundPart p from to
     part-find (act n) from to (inl h) = absurd (both_ways _ refl h.1)
     part-find (act n) from to (inr h) = absurd h
     part-find (gate kind split join ls) from to (inl h) = absurd (no_split kind h.1)
@@ -156,18 +177,19 @@ module _ (l e : ℕ) where
         go (has_end-parts (lanes_places ls split join) _ h) (λ x. lanes-find ls split join x)
       where
         go : HasEnd (lanes_places ls split join) ⊎ HasEnd (place join (join_kind kind) (Some split) (branch_tails ls split) (plain_end to ∷ []) ∷ []) →
-            (HasEnd (lanes_places ls split join) → Found (lanes_places ls split join) split (branch_tails ls split)) →
-            Found (part_places (gate kind split join ls) from to) from.node (plain_end join ∷ [])
-        go (inl x) find = widen _ split (branch_tails ls split) (find x) (place split (split_kind kind) (Some join) (from ∷ []) (branch_heads ls join) ∷ []) _ from.node (plain_end join ∷ [])
+            (HasEnd (lanes_places ls split join) → FoundLanes ls split join) → FoundPart (gate kind split join ls) from to
+        go (inl x) find = widen _ split (branch_tails ls split) (λ A. WholeLanes A ls) (find x) (place split (split_kind kind) (Some join) (from ∷ []) (branch_heads ls join) ∷ []) _ from.node (plain_end join ∷ [])
+            (λ A. WholePart A (gate kind split join ls))
             (λ A a n. (((a, tt), tt), n.0)) (λ A a n r ends. ((ends, tt), (r.0, tt)))
             (λ A n r. ((λ h k i. absurd (no_split kind h), tt), (λ h k i. absurd (no_join kind h), tt)))
+            (λ A n r w. (n.0, r.0, w))
         go (inr (inl x)) find = absurd (no_join kind x.1)
         go (inr (inr x)) find = absurd x
     part-find (loop start end body) from to (inl h) = absurd (both_ways _ refl h.1)
     part-find (loop start end body) from to (inr h) =
         go (has_end-parts (parts_places body (plain_end start) end) _ h) (λ x. parts-find body (plain_end start) end x)
       where
-        here : end ≡ e → start ≡ l → Found (part_places (loop start end body) from to) from.node (plain_end end ∷ [])
+        here : end ≡ e → start ≡ l → FoundPart (loop start end body) from to
         here at_e at_l = record {
           pre = [];
           post = [];
@@ -177,60 +199,68 @@ module _ (l e : ℕ) where
           split = ap (λ n. part_places (loop n end body) from to) at_l ∙ ap (λ n. part_places (loop l n body) from to) at_e ∙ sym (append-nil (part_places (loop l e body) from to));
           closed = λ A h p q at. (tt, h, tt, (ap A at_e ∙ at, tt));
           paired = λ A p q. (tt, tt);
+          whole = λ A p q own_in. let each = part-each (λ n. A n ≡ true) (loop l e body) from to own_in in inl (ap A at_l ∙ each.0, ap A at_e ∙ each.1, each.2);
         }
         go : HasEnd (parts_places body (plain_end start) end) ⊎ HasEnd (place end LoopEnd (Some start) (leaving body (plain_end start) ∷ []) (plain_end to ∷ []) ∷ []) →
-            (HasEnd (parts_places body (plain_end start) end) → Found (parts_places body (plain_end start) end) start (leaving body (plain_end start) ∷ [])) →
-            Found (part_places (loop start end body) from to) from.node (plain_end end ∷ [])
-        go (inl x) find = widen _ start (leaving body (plain_end start) ∷ []) (find x) (place start _ _ (from ∷ []) _ ∷ []) _ from.node (plain_end end ∷ [])
+            (HasEnd (parts_places body (plain_end start) end) → FoundParts body (plain_end start) end) → FoundPart (loop start end body) from to
+        go (inl x) find = widen _ start (leaving body (plain_end start) ∷ []) (λ A. WholeParts A body) (find x) (place start _ _ (from ∷ []) _ ∷ []) _ from.node (plain_end end ∷ [])
+            (λ A. WholePart A (loop start end body))
             (λ A a n. (((a, tt), tt), n.0)) (λ A a n r ends. ((ends, tt), (r.0, tt)))
             (λ A n r. ((λ h k i. absurd (both_ways _ refl h), tt), (λ h k i. ap A (sym (same_Some start k i)) ∙ n.0, tt)))
+            (λ A n r w. inr (n.0, r.0, w))
         go (inr (inl x)) find = here x.0 (same_Some start l x.2)
         go (inr (inr x)) find = absurd x
 
-    parts-find : (ps : Parts) (from : End) (to : ℕ) → HasEnd (parts_places ps from to) → Found (parts_places ps from to) from.node (leaving ps from ∷ [])
+    parts-find : (ps : Parts) (from : End) (to : ℕ) → HasEnd (parts_places ps from to) → FoundParts ps from to
     parts-find nothing from to h = absurd h
     parts-find (part p ps) from to h = go (has_end-parts (part_places p from (first_node ps to)) _ h) (λ x. part-find p from (first_node ps to) x) (λ x. parts-find ps (plain_end (last_of p)) to x)
       where
-        one : List Place
-        one = part_places p from (first_node ps to)
         go : HasEnd (part_places p from (first_node ps to)) ⊎ HasEnd (parts_places ps (plain_end (last_of p)) to) →
-            (HasEnd (part_places p from (first_node ps to)) → Found (part_places p from (first_node ps to)) from.node (plain_end (last_of p) ∷ [])) →
-            (HasEnd (parts_places ps (plain_end (last_of p)) to) → Found (parts_places ps (plain_end (last_of p)) to) (last_of p) (leaving ps (plain_end (last_of p)) ∷ [])) →
-            Found (parts_places (part p ps) from to) from.node (leaving (part p ps) from ∷ [])
-        go (inl x) first others = widen _ from.node _ (first x) [] (parts_places ps (plain_end (last_of p)) to) from.node _
+            (HasEnd (part_places p from (first_node ps to)) → FoundPart p from (first_node ps to)) →
+            (HasEnd (parts_places ps (plain_end (last_of p)) to) → FoundParts ps (plain_end (last_of p)) to) → FoundParts (part p ps) from to
+        go (inl x) first others = widen _ from.node _ (λ A. WholePart A p) (first x) [] (parts_places ps (plain_end (last_of p)) to) from.node _ (λ A. WholeParts A (part p ps))
             (λ A a n. (tt, a)) (λ A a n r ends. let c = parts-closed A ps (plain_end (last_of p)) to ends.0 r in (c.0, (c.1, tt)))
             (λ A n r. (tt, parts-pairs A ps (plain_end (last_of p)) to r))
+            (λ A n r w. (w, parts-none A ps (parts-each (λ k. A k ≡ false) ps (plain_end (last_of p)) to r)))
         go (inr x) first others =
-            subst (λ y. Found (part_places p from (first_node ps to) ++ y) from.node (leaving ps (plain_end (last_of p)) ∷ [])) (append-nil (parts_places ps (plain_end (last_of p)) to))
-            (widen _ (last_of p) _ (others x) (part_places p from (first_node ps to)) [] from.node (leaving ps (plain_end (last_of p)) ∷ [])
+            subst (λ y. Found (part_places p from (first_node ps to) ++ y) from.node (leaving ps (plain_end (last_of p)) ∷ []) (λ A. WholeParts A (part p ps))) (append-nil (parts_places ps (plain_end (last_of p)) to))
+            (widen _ (last_of p) _ (λ A. WholeParts A ps) (others x) (part_places p from (first_node ps to)) [] from.node (leaving ps (plain_end (last_of p)) ∷ []) (λ A. WholeParts A (part p ps))
             (λ A a n. part-closed A p from (first_node ps to) a n) (λ A a n r ends. (tt, ends))
-            (λ A n r. (part-pairs A p from (first_node ps to) n, tt)))
+            (λ A n r. (part-pairs A p from (first_node ps to) n, tt))
+            (λ A n r w. (part-none A p (part-each (λ k. A k ≡ false) p from (first_node ps to) n), w)))
 
-    lanes-find : (ls : Lanes) (split join : ℕ) → HasEnd (lanes_places ls split join) → Found (lanes_places ls split join) split (branch_tails ls split)
+    lanes-find : (ls : Lanes) (split join : ℕ) → HasEnd (lanes_places ls split join) → FoundLanes ls split join
     lanes-find no_lane split join h = absurd h
     lanes-find (lane code ps ls) split join h = go (has_end-parts (parts_places ps (labelled split code) join) _ h) (λ x. parts-find ps (labelled split code) join x) (λ x. lanes-find ls split join x)
       where
         go : HasEnd (parts_places ps (labelled split code) join) ⊎ HasEnd (lanes_places ls split join) →
-            (HasEnd (parts_places ps (labelled split code) join) → Found (parts_places ps (labelled split code) join) split (leaving ps (labelled split code) ∷ [])) →
-            (HasEnd (lanes_places ls split join) → Found (lanes_places ls split join) split (branch_tails ls split)) →
-            Found (lanes_places (lane code ps ls) split join) split (branch_tails (lane code ps ls) split)
-        go (inl x) first others = widen _ split _ (first x) [] (lanes_places ls split join) split _
+            (HasEnd (parts_places ps (labelled split code) join) → FoundParts ps (labelled split code) join) →
+            (HasEnd (lanes_places ls split join) → FoundLanes ls split join) → FoundLanes (lane code ps ls) split join
+        go (inl x) first others = widen _ split _ (λ A. WholeParts A ps) (first x) [] (lanes_places ls split join) split _ (λ A. WholeLanes A (lane code ps ls))
             (λ A a n. (tt, a)) (λ A a n r ends. let c = lanes-closed A ls split join a r in (c.0, (ends.0, c.1)))
             (λ A n r. (tt, lanes-pairs A ls split join r))
+            (λ A n r w. (w, lanes-none A ls (lanes-each (λ k. A k ≡ false) ls split join r)))
         go (inr x) first others =
-            subst (λ y. Found (parts_places ps (labelled split code) join ++ y) split (branch_tails (lane code ps ls) split)) (append-nil (lanes_places ls split join))
-            (widen _ split _ (others x) (parts_places ps (labelled split code) join) [] split (branch_tails (lane code ps ls) split)
+            subst (λ y. Found (parts_places ps (labelled split code) join ++ y) split (branch_tails (lane code ps ls) split) (λ A. WholeLanes A (lane code ps ls))) (append-nil (lanes_places ls split join))
+            (widen _ split _ (λ A. WholeLanes A ls) (others x) (parts_places ps (labelled split code) join) [] split (branch_tails (lane code ps ls) split) (λ A. WholeLanes A (lane code ps ls))
             (λ A a n. ((parts-closed A ps (labelled split code) join a n).0, a))
             (λ A a n r ends. (tt, ((parts-closed A ps (labelled split code) join a n).1, ends)))
-            (λ A n r. (parts-pairs A ps (labelled split code) join n, tt)))
+            (λ A n r. (parts-pairs A ps (labelled split code) join n, tt))
+            (λ A n r w. (parts-none A ps (parts-each (λ k. A k ≡ false) ps (labelled split code) join n), w)))
 
-  pub places-find : (start finish : ℕ) (body : Parts) → HasEnd (places start body finish) → Found (places start body finish) e []
+  -- the loop in the places of a schema
+  abbrev pub FoundIn : ℕ → Parts → ℕ → Type 0
+  FoundIn start body finish = Found (places start body finish) e [] (λ A. WholeParts A body)
+
+  pub places-find : (start finish : ℕ) (body : Parts) → HasEnd (places start body finish) → FoundIn start body finish
   places-find start finish body (inl h) = absurd (both_ways _ refl h.1)
   places-find start finish body (inr h) = go (has_end-parts (parts_places body (plain_end start) finish) _ h)
     where
-      go : HasEnd (parts_places body (plain_end start) finish) ⊎ HasEnd (place finish Finish None (leaving body (plain_end start) ∷ []) [] ∷ []) → Found (places start body finish) e []
-      go (inl x) = widen _ start (leaving body (plain_end start) ∷ []) (parts-find body (plain_end start) finish x) (place start Start None [] (plain_end (first_node body finish) ∷ []) ∷ []) _ e []
+      go : HasEnd (parts_places body (plain_end start) finish) ⊎ HasEnd (place finish Finish None (leaving body (plain_end start) ∷ []) [] ∷ []) → FoundIn start body finish
+      go (inl x) = widen _ start (leaving body (plain_end start) ∷ []) (λ A. WholeParts A body) (parts-find body (plain_end start) finish x)
+          (place start Start None [] (plain_end (first_node body finish) ∷ []) ∷ []) _ e [] (λ A. WholeParts A body)
           (λ A a n. ((tt, tt), n.0)) (λ A a n r ends. ((ends, tt), tt))
           (λ A n r. ((λ h k i. absurd (both_ways _ refl h), tt), (λ h k i. absurd (both_ways _ refl h), tt)))
+          (λ A n r w. w)
       go (inr (inl x)) = absurd (both_ways _ refl x.1)
       go (inr (inr x)) = absurd x

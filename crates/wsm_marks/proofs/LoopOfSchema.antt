@@ -18,10 +18,11 @@ use Rattle.wsm_schema.specs.declared.cards.NodeKind.TheVariants as kind
 use Rattle.wsm_lists.proofs.Lists.{all-rows-map, both_rows, rows-append, rows-map, rows-parts}
 use Rattle.wsm_schema.proofs.Rounds.{all-rows-card_at, card_at-node}
 use Rattle.wsm_marks.specs.Loops.{HasEdge, Inner, LoopOf}
-use Rattle.wsm_marks.specs.Schemas.{Distinct, FullLanes, FullPart, FullParts, Regular, SyncsApart}
+use Rattle.wsm_marks.specs.Schemas.{Distinct, FullLanes, FullPart, FullParts, SyncsApart}
 use Rattle.wsm_marks.proofs.Cards.{nodes, not_among, self-among}
 use Rattle.wsm_marks.proofs.Lists.{eqb-swap, rows-swap}
-use Rattle.wsm_marks.proofs.LoopInTree.{EndsIn, Found, InsIn, IsPaired, PairsIn, parts-closed}
+use Rattle.wsm_marks.proofs.LoopInTree.{EndsIn, FoundIn, InsIn, IsPaired, PairsIn, parts-closed}
+use Rattle.wsm_marks.proofs.LoopSets.{WholeParts}
 
 -- ---- each place has an edge into it, and none but the first is a start
 abbrev NotStart : NodeKind → Type 0
@@ -81,7 +82,7 @@ distinct-parts (x ∷ xs) ys h =
     let d = distinct-parts xs ys h.1 in
     ((r.0, d.0), d.1, (r.1, d.2))
 
-module _ (s : SchemaModel) (l e : ℕ) (found : Found l e (places s.start s.body s.finish) e []) where
+module _ (s : SchemaModel) (l e : ℕ) (found : FoundIn l e s.start s.body s.finish) where
   abbrev pub inner_places : List Place
   inner_places = parts_places found.body (plain_end l) e
 
@@ -103,9 +104,9 @@ module _ (s : SchemaModel) (l e : ℕ) (found : Found l e (places s.start s.body
   abbrev Away : ℕ → Bool
   Away n = not (In n)
 
-  module _ (regular : Regular s) where
+  module _ (distinct : Distinct (places s.start s.body s.finish)) where
     parted : Distinct found.pre × Distinct (own_places ++ found.post) × AllRows (λ x. AllRows (λ y. eqb x.node y.node ≡ false) (own_places ++ found.post)) found.pre
-    parted = distinct-parts found.pre (own_places ++ found.post) (subst Distinct found.split regular.distinct)
+    parted = distinct-parts found.pre (own_places ++ found.post) (subst Distinct found.split distinct)
 
     parted_own : Distinct own_places × Distinct found.post × AllRows (λ x. AllRows (λ y. eqb x.node y.node ≡ false) found.post) own_places
     parted_own = distinct-parts own_places found.post parted.1
@@ -126,10 +127,10 @@ module _ (s : SchemaModel) (l e : ℕ) (found : Found l e (places s.start s.body
     inner_apart = all-rows-map _ _ (λ p h. h.0) inner_places (distinct-parts inner_places (end_place ∷ []) parted_own.0.1).2
 
     -- a property of all cards, by the places before, at the start, in the loop, and behind
-    by_places : (Q : Card → Type 0) → ((p : Place) → In p.node ≡ false → IsPaired Away p → EndsIn (λ n. Away n || eqb n e) p.ins → Q (card_of s p)) →
+    pub rows_by_places : (Q : Card → Type 0) → ((p : Place) → In p.node ≡ false → IsPaired Away p → EndsIn (λ n. Away n || eqb n e) p.ins → Q (card_of s p)) →
         ((Away found.from.node || eqb found.from.node e) ≡ true → Q (card_of s start_place)) → AllRows (λ p. Q (card_of s p)) (inner_places ++ end_place ∷ []) →
-        (n : ℕ) (c : Card) → card_at n (cards_of s) ≡ Some c → Q c
-    by_places Q outside at_start at_tail n c at =
+        AllRows Q (cards_of s)
+    rows_by_places Q outside at_start at_tail =
         let away = λ (p : Place) (h : In p.node ≡ false). not_from_false (In p.node) h in
         let pairs = found.paired Away (all-rows-map _ _ away found.pre pre_away) (all-rows-map _ _ away found.post post_away) in
         let away_e = λ (p : Place) (h : In p.node ≡ false). or_left (Away p.node) (eqb p.node e) (away p h) in
@@ -141,7 +142,12 @@ module _ (s : SchemaModel) (l e : ℕ) (found : Found l e (places s.start s.body
         (both_rows (λ p. In p.node ≡ false) (IsPaired Away) (λ p. (In p.node ≡ false) × IsPaired Away p) (λ p x y. (x, y)) ps a b) d in
         let rows : AllRows (λ p. Q (card_of s p)) (found.pre ++ (own_places ++ found.post)) =
         rows-append _ found.pre (own_places ++ found.post) (join found.pre pre_away pairs.0 ins.0) (rows-append _ own_places found.post (at_start ins.1, at_tail) (join found.post post_away pairs.1 ins.2)) in
-        all-rows-card_at Q n (cards_of s) c (rows-map Q (card_of s) (places s.start s.body s.finish) (subst (λ ps. AllRows (λ p. Q (card_of s p)) ps) (sym found.split) rows)) at
+        rows-map Q (card_of s) (places s.start s.body s.finish) (subst (λ ps. AllRows (λ p. Q (card_of s p)) ps) (sym found.split) rows)
+
+    by_places : (Q : Card → Type 0) → ((p : Place) → In p.node ≡ false → IsPaired Away p → EndsIn (λ n. Away n || eqb n e) p.ins → Q (card_of s p)) →
+        ((Away found.from.node || eqb found.from.node e) ≡ true → Q (card_of s start_place)) → AllRows (λ p. Q (card_of s p)) (inner_places ++ end_place ∷ []) →
+        (n : ℕ) (c : Card) → card_at n (cards_of s) ≡ Some c → Q c
+    by_places Q outside at_start at_tail n c at = all-rows-card_at Q n (cards_of s) c (rows_by_places Q outside at_start at_tail) at
 
     abbrev Out : ℕ → Type 0
     Out n = (In n ≡ false) ⊎ (n ≡ l)
@@ -168,9 +174,9 @@ module _ (s : SchemaModel) (l e : ℕ) (found : Found l e (places s.start s.body
         let c = parts-closed In found.body (plain_end l) e l_in (rows-parts (λ p. In p.node ≡ true) inner_places (end_place ∷ []) own_in.1).0 in
         rows-append _ inner_places (end_place ∷ []) c.0 ((c.1, tt), tt)
 
-    tail_inner : AllRows (λ p. Inner p.kind p.ins) (inner_places ++ end_place ∷ [])
-    tail_inner =
-        let entered : AllRows Entered (found.pre ++ (own_places ++ found.post)) = subst (AllRows Entered) found.split (places-edged s.start s.finish s.body regular.full) in
+    tail_inner : FullParts s.body → AllRows (λ p. Inner p.kind p.ins) (inner_places ++ end_place ∷ [])
+    tail_inner full =
+        let entered : AllRows Entered (found.pre ++ (own_places ++ found.post)) = subst (AllRows Entered) found.split (places-edged s.start s.finish s.body full) in
         let own_entered : AllRows Entered own_places = (rows-parts Entered own_places found.post (rows-parts Entered found.pre (own_places ++ found.post) entered).1).0 in
         both_rows (λ p. NotStart p.kind) Entered (λ p. Inner p.kind p.ins) (λ p a b. inner-of p.kind p.ins a b) (inner_places ++ end_place ∷ [])
         (rows-append _ inner_places (end_place ∷ []) (parts-no_start found.body (plain_end l) e) (tt, tt)) own_entered.1
@@ -187,8 +193,8 @@ module _ (s : SchemaModel) (l e : ℕ) (found : Found l e (places s.start s.body
         here same (inl away) other = ap In same ∙ away
         here same (inr is_l) other = absurd (eqb-false x.1 l other (same ∙ is_l))
 
-    pub loop-of : SyncsApart s.syncs body_nodes l → LoopOf (cards_of s) body_nodes l e
-    loop-of syncs = record {
+    pub loop-of : FullParts s.body → SyncsApart s.syncs body_nodes l → LoopOf (cards_of s) body_nodes l e
+    loop-of full syncs = record {
       has_end = e_in;
       silent = λ c at. by_places (λ d. eqb d.node l ≡ true → worked_on d.kind ≡ false)
       (λ p away pair ins same. absurd (both_ways _ away (ap In (eqb-true p.node l same) ∙ l_in))) (λ from_in same. refl)
@@ -200,7 +206,7 @@ module _ (s : SchemaModel) (l e : ℕ) (found : Found l e (places s.start s.body
       e c at (eq-eqb c.node e (card_at-node e (cards_of s) c at));
       inner = λ n c at inside other. by_places (λ d. In d.node ≡ true → eqb d.node l ≡ false → Inner d.kind d.ins)
       (λ p away pair ins a b. absurd (both_ways _ away a)) (λ from_in a b. absurd (both_ways _ b (eq-eqb l l refl)))
-      (all-rows-map _ _ (λ p h a b. h) (inner_places ++ end_place ∷ []) tail_inner) n c at
+      (all-rows-map _ _ (λ p h a b. h) (inner_places ++ end_place ∷ []) (tail_inner full)) n c at
       (ap In (card_at-node n (cards_of s) c at) ∙ inside) (ap (λ k. eqb k l) (card_at-node n (cards_of s) c at) ∙ other);
       within = λ n c at inside other. by_places (λ d. In d.node ≡ true → eqb d.node l ≡ false → AllRows (λ x. In x.node ≡ true) d.ins)
       (λ p away pair ins a b. absurd (both_ways _ away a)) (λ from_in a b. absurd (both_ways _ b (eq-eqb l l refl)))
@@ -216,3 +222,7 @@ module _ (s : SchemaModel) (l e : ℕ) (found : Found l e (places s.start s.body
       (λ p away pair ins o x j y. pair x j y) (λ from_in o x j y. absurd (both_ways _ o l_in))
       (tail_rows _ (λ p a b o x j y. absurd (both_ways _ o a))) n c at (ap In (card_at-node n (cards_of s) c at) ∙ out) ends k partner);
     }
+
+    -- the loop's nodes are those of a whole loop
+    pub whole_loop : WholeParts In s.body
+    whole_loop = found.whole In pre_away post_away own_in

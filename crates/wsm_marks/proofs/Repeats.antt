@@ -16,87 +16,24 @@ use Rattle.wsm_schema.specs.Replay.{replay_of}
 use Rattle.wsm_schema.specs.Replay.{whole}
 use Rattle.wsm_schema.specs.declared.cards.Card.{Card}
 use Rattle.wsm_schema.specs.Marks.{facts_of}
-use Rattle.wsm_lists.proofs.Lists.{all-rows-map}
 use Rattle.wsm_marks.specs.Fits.{RisesAfter, last_position}
 use Rattle.wsm_marks.specs.Loops.{LoopOf}
 use Rattle.wsm_marks.specs.Schemas.{HasCard, Regular, SyncsApart}
 use Rattle.wsm_marks.specs.Timed.{Entries, early}
-use Rattle.wsm_marks.proofs.Cards.{card-nodes, node-has_card, nodes, nodes-append}
 use Rattle.wsm_marks.proofs.Causality.{solved_net}
 use Rattle.wsm_marks.proofs.CutTrails.{cut-whole, repeated}
-use Rattle.wsm_marks.proofs.Lists.{one_of-middle}
-use Rattle.wsm_marks.proofs.LoopInTree.{Found, HasEnd, places-find}
-use Rattle.wsm_marks.proofs.LoopOfSchema.{body_nodes, end_place, inner_apart, inner_places, l_in, loop-of, pre_away, tail_apart}
+use Rattle.wsm_marks.proofs.LoopNodes.{found-of, loop_nodes-are, start_card}
+use Rattle.wsm_marks.proofs.LoopOfSchema.{loop-of}
 use Rattle.wsm_marks.proofs.WholeTrails.{whole-orderly}
-
--- the card of a loop's end comes from such a place
-end-place : (s : SchemaModel) (e l : ℕ) (ps : List Place) (c : Card) → card_at e (map (card_of s) ps) ≡ Some c → is_loop_end c.kind ≡ true → c.partner ≡ Some l → HasEnd l e ps
-end-place s e l [] c at ends partner = absurd (cc)
-end-place s e l (p ∷ ps) c at ends partner =
-    elim (cases_Bool (eqb p.node e)) [
-      | inl same ↦
-          let q : Some (card_of s p) ≡ Some c = rw same at at in
-          let here : card_of s p ≡ c = some_card q in
-          inl (eqb-true p.node e same, ap (λ d. is_loop_end d.kind) here ∙ ends, ap (λ d. d.partner) here ∙ partner)
-      | inr other ↦ inr (end-place s e l ps c (rw other at at) ends partner)
-    ]
-  where
-    some_card : {x y : Card} → Some x ≡ Some y → x ≡ y
-    some_card h = cc
-
-from_node-behind : (n : ℕ) (ps : List Place) (rest : List ℕ) → AllRows (λ p. eqb p.node n ≡ false) ps → from_node n (nodes ps ++ (n ∷ rest)) ≡ n ∷ rest
-from_node-behind n [] rest h = rw (eq-eqb n n refl) refl
-from_node-behind n (p ∷ ps) rest h = rw h.0 (from_node-behind n ps rest h.1)
-
-up_to_node-front : (n : ℕ) (ps : List Place) (rest : List ℕ) → AllRows (λ p. eqb p.node n ≡ false) ps → up_to_node n (nodes ps ++ (n ∷ rest)) ≡ nodes ps ++ (n ∷ [])
-up_to_node-front n [] rest h = rw (eq-eqb n n refl) refl
-up_to_node-front n (p ∷ ps) rest h = rw h.0 (ap (λ ns. p.node ∷ ns) (up_to_node-front n ps rest h.1))
-
-module _ (s : SchemaModel) (regular : Regular s) (l e : ℕ) (found : Found l e (places s.start s.body s.finish) e []) where
-  all_nodes : nodes (places s.start s.body s.finish) ≡ nodes found.pre ++ (l ∷ (nodes (inner_places s l e found) ++ (e ∷ nodes found.post)))
-  all_nodes =
-      ap nodes found.split ∙ nodes-append found.pre _
-      ∙ ap (λ ns. nodes found.pre ++ (l ∷ ns)) (nodes-append (inner_places s l e found ++ end_place s l e found ∷ []) found.post
-      ∙ ap (λ ns. ns ++ nodes found.post) (nodes-append (inner_places s l e found) (end_place s l e found ∷ []))
-      ∙ append_assoc (nodes (inner_places s l e found)) (e ∷ []) (nodes found.post))
-
-  own_nodes : body_nodes s l e found ≡ l ∷ (nodes (inner_places s l e found) ++ (e ∷ []))
-  own_nodes = ap (λ ns. l ∷ ns) (nodes-append (inner_places s l e found) (end_place s l e found ∷ []))
-
-  l_not_e : eqb l e ≡ false
-  l_not_e = ne_eqb l e (λ h. eqb-false e l (last_row (inner_places s l e found) (tail_apart s l e found regular)) (sym h))
-    where
-      last_row : (ps : List Place) → AllRows (λ p. eqb p.node l ≡ false) (ps ++ end_place s l e found ∷ []) → eqb e l ≡ false
-      last_row [] h = h.0
-      last_row (p ∷ ps) h = last_row ps h.1
-
-  -- the nodes that the definition cuts are the loop's
-  pub loop_nodes-are : (c : Card) → card_at e (cards_of s) ≡ Some c → is_loop_end c.kind ≡ true → c.partner ≡ Some l → loop_nodes (cards_of s) e ≡ body_nodes s l e found
-  loop_nodes-are c at ends partner =
-      let start : loop_start (card_at e (cards_of s)) ≡ Some l = rw (at, ends) partner in
-      let apart : AllRows (λ p. eqb p.node l ≡ false) found.pre =
-      all-rows-map _ _ (λ p away. ne_eqb p.node l (λ h. both_ways _ away (ap (λ k. is_one_of k (body_nodes s l e found)) h ∙ l_in s l e found regular))) found.pre (pre_away s l e found regular) in
-      ap (λ o. loop_from o e (map (λ d. d.node) (cards_of s))) start
-      ∙ ap (λ ns. up_to_node e (from_node l ns)) (card-nodes s (places s.start s.body s.finish) ∙ all_nodes)
-      ∙ ap (up_to_node e) (from_node-behind l found.pre _ apart)
-      ∙ (rw l_not_e (ap (λ ns. l ∷ ns) (up_to_node-front e (inner_places s l e found) (nodes found.post) (inner_apart s l e found regular))))
-      ∙ sym own_nodes
-
-  start_card : (d : Card) × (card_at l (cards_of s) ≡ Some d)
-  start_card = node-has_card s l (places s.start s.body s.finish) (ap (is_one_of l) all_nodes ∙ one_of-middle l (nodes found.pre) _)
-
--- the loop that a card's end names is in the tree
-found-of : (s : SchemaModel) (l e : ℕ) (c : Card) → card_at e (cards_of s) ≡ Some c → is_loop_end c.kind ≡ true → c.partner ≡ Some l → Found l e (places s.start s.body s.finish) e []
-found-of s l e c at ends partner = places-find l e s.start s.finish s.body (end-place s e l (places s.start s.body s.finish) c at ends partner)
 
 -- each loop of a schema is one that a cut may take
 pub loop-of_schema : (s : SchemaModel) → Regular s → (l e : ℕ) (c : Card) → card_at e (cards_of s) ≡ Some c → is_loop_end c.kind ≡ true → c.partner ≡ Some l →
     LoopOf (cards_of s) (loop_nodes (cards_of s) e) l e × HasCard (cards_of s) l
 loop-of_schema s regular l e c at ends partner =
     let found = found-of s l e c at ends partner in
-    let same = loop_nodes-are s regular l e found c at ends partner in
-    (subst (λ ns. LoopOf (cards_of s) ns l e) (sym same) (loop-of s l e found regular (subst (λ ns. SyncsApart s.syncs ns l) same (regular.loops l e c at ends partner))),
-      start_card s regular l e found)
+    let same = loop_nodes-are s regular.distinct l e found c at ends partner in
+    (subst (λ ns. LoopOf (cards_of s) ns l e) (sym same) (loop-of s l e found regular.distinct regular.full (subst (λ ns. SyncsApart s.syncs ns l) same (regular.loops l e c at ends partner))),
+      start_card s regular.distinct l e found)
 
 -- where the end of a loop is running, the trail that the loop's cut leaves replays whole with the repeat behind it
 pub repeat-whole : (s : SchemaModel) → Regular s → (rank : List ℕ) → IsRank (cards_of s) rank → (l e : ℕ) (c : Card) → card_at e (cards_of s) ≡ Some c → is_loop_end c.kind ≡ true → c.partner ≡ Some l →
