@@ -2,7 +2,7 @@
 use Rattle.std.proofs.Common.{◌≡◌, ℕ, ◌≤◌, Bool, true, false, cond, ◌&&◌, eqb, List, [], ◌∷◌, map, refl, ap, sym, ◌∙◌, subst, inl, inr, ◌⊎◌, arith, Option, Some, None}
 use Rattle.std.specs.Prelude.{nat_lt, is_some, count_by, ◌==◌}
 use Rattle.std.specs.List.{list_all}
-use Rattle.std.proofs.lemmas.Bool.{cases_Bool, both_ways, ltb-true, ltb-false, le-ltb, and_left, and_right, and_parts, eqb-true, eq-eqb}
+use Rattle.std.proofs.lemmas.Bool.{cases_Bool, both_ways, ltb-true, le-ltb, and_left, and_right, and_parts, eqb-true, eq-eqb}
 use Rattle.wsm_schema.specs.Tree.{Part, Parts, Lanes, act, gate, loop, nothing, part, no_lane, lane, and_gate, xor_gate}
 use Rattle.wsm_schema.specs.Ends.{first_node, last_of}
 use Rattle.wsm_schema.specs.declared.places.Place.{Place}
@@ -31,6 +31,7 @@ pub data Later : Timed → Timed → Type 0 where
   yes_none : (t : ℕ) → Later (Some (t, Yes)) None
   yes_yes : (t u : ℕ) → t ≤ u → Later (Some (t, Yes)) (Some (u, Yes))
 
+-- such steps in a row are one
 pub later-trans : (x y z : Timed) → Later x y → Later y z → Later x z
 later-trans _ _ _ none_none none_none = none_none
 later-trans _ _ _ (no_no t) (no_no _) = no_no t
@@ -41,11 +42,9 @@ later-trans _ _ _ (yes_yes t u le) (yes_yes _ v more) = yes_yes t v (omega arith
 greater-zero : (t : ℕ) → greater t 0 ≡ t
 greater-zero t = rw (le-ltb t 0 (omega arith)) refl
 
+-- the greater of two is no less than the first
 pub greater-left : (a b : ℕ) → a ≤ greater a b
-greater-left a b = elim (cases_Bool (nat_lt a b)) [ | inl less ↦ rw less (omega (arith, ltb-true a b less)) | inr more ↦ rw more (omega arith) ]
-
-pub greater-right : (a b : ℕ) → b ≤ greater a b
-greater-right a b = elim (cases_Bool (nat_lt a b)) [ | inl less ↦ rw less (omega arith) | inr more ↦ rw more (omega (arith, ltb-false a b more)) ]
+greater-left a b = elim (cases_Bool (nat_lt a b)) [ inl less ↦ rw less (omega (arith, ltb-true a b less)) | inr more ↦ rw more (omega arith) ]
 
 -- ---- a node with one edge into it
 abbrev OneEdge : NodeKind → Type 0
@@ -69,13 +68,11 @@ first_yes : (t : ℕ) (x : Timed) → Later (Some (t, Yes)) x → is_no (flow x)
 first_yes t _ (yes_none _) = refl
 first_yes t _ (yes_yes _ u le) = refl
 
-yes-time : (t : ℕ) (x : Timed) → Later (Some (t, Yes)) x → is_yes (flow x) ≡ true → t ≤ time x
-yes-time t _ (yes_none _) h = absurd (both_ways _ refl h)
-yes-time t _ (yes_yes _ u le) h = le
-
+-- behind a False stands the same False
 pub no-is : (t : ℕ) (y : Timed) → Later (Some (t, No)) y → y ≡ Some (t, No)
 no-is t _ (no_no _) = refl
 
+-- behind nothing stands nothing
 pub none-is : (y : Timed) → Later None y → y ≡ None
 none-is _ none_none = refl
 
@@ -84,6 +81,7 @@ later-same None = none_none
 later-same (Some (t, Yes)) = yes_yes t t (omega arith)
 later-same (Some (t, No)) = no_no t
 
+-- behind a False all are False
 pub all_no : (t : ℕ) (xs : List Timed) → AllRows (Later (Some (t, No))) xs → list_all is_no (map flow xs) ≡ true
 all_no t [] h = refl
 all_no t (x ∷ xs) h = rw (no-is t x h.0) (all_no t xs h.1)
@@ -113,15 +111,13 @@ all_no-count (None ∷ xs) h = absurd (both_ways _ refl h)
 all_no-count (Some Yes ∷ xs) h = absurd (both_ways _ refl h)
 all_no-count (Some No ∷ xs) h = all_no-count xs h
 
-xor-none : (ys ss : List Timed) → eq_of kind.XorJoin (None ∷ ys) ss ≡ None
-xor-none ys ss = refl
-
 xor-no : (t : ℕ) (ys ss : List Timed) → AllRows (Later (Some (t, No))) ys → eq_of kind.XorJoin (Some (t, No) ∷ ys) ss ≡ Some (t, No)
 xor-no t ys ss h =
     let n : count_by is_yes (map flow ys) ≡ 0 = all_no-count (map flow ys) (all_no t ys h) in
     let r : (list_all is_some (map flow ys) && (count_by is_yes (map flow ys) == 1)) ≡ false = and_right (list_all is_some (map flow ys)) _ (rw n refl) in
     rw (r, all_no t ys h) (ap (λ x. Some (x, No)) (all_no-latest t ys h))
 
+-- behind a signal at u
 abbrev Behind : ℕ → Timed → Type 0
 Behind u y = Later (Some (u, Yes)) y ⊎ Later (Some (u, No)) y
 
@@ -161,6 +157,7 @@ worked-sig k (Some (t, Yes)) (Some u) choice label works plain sane =
     rw (works, plain) (yes_yes t u (omega (arith, same, r.2)))
 
 module _ (s : SchemaModel) (f : Facts) (m : Marking) where
+  -- the timed signal of an edge of the tree
   abbrev pub sig : End → Timed
   sig x = sig_at (cards_of s) f m x.label x.node
 
@@ -170,9 +167,11 @@ module _ (s : SchemaModel) (f : Facts) (m : Marking) where
     pub ended : (u : ℕ) → f.ended p.node ≡ Some u → (t : ℕ) × (m p.node ≡ Some (t, Yes)) × (t ≤ u)
     pub chosen : is_xor_split p.kind ≡ true → (u : ℕ) → f.ended p.node ≡ Some u → (code : ℕ) × (f.choice p.node ≡ Some code) × (has_label code p.outs ≡ true)
 
+  -- the signals of the sync edges into a place
   abbrev sync_signals : Place → List Timed
   sync_signals p = map (sig_at (cards_of s) f m None) (card_of s p).syncs_in
 
+  -- the signal of an edge from a place, by the place's kind and mark
   pub sig-is : (p : Place) → Sane p → (label : Option ℕ) → sig_at (cards_of s) f m label p.node ≡ sig_of p.kind (m p.node) (f.ended p.node) (f.choice p.node) label
   sig-is p sane label = ap (λ o. sig_by o (m p.node) (f.ended p.node) (f.choice p.node) label) sane.placed
 
@@ -181,6 +180,7 @@ module _ (s : SchemaModel) (f : Facts) (m : Marking) where
   node-works n k partner ins outs sane works plain label =
       subst (Later (m n)) (sym (sig-is (place n k partner ins outs) sane label)) (worked-sig k (m n) (f.ended n) (f.choice n) label works plain sane.ended)
 
+  -- a silent node hands its mark on
   pub node-silent : (n : ℕ) (k : NodeKind) (partner : Option ℕ) (ins outs : List End) → Sane (place n k partner ins outs) → worked_on k ≡ false → (label : Option ℕ) → sig_at (cards_of s) f m label n ≡ m n
   node-silent n k partner ins outs sane silent label = sig-is (place n k partner ins outs) sane label ∙ silent-sig k (m n) (f.ended n) (f.choice n) label silent
 
@@ -189,6 +189,7 @@ module _ (s : SchemaModel) (f : Facts) (m : Marking) where
   LanesLater no_lane split = Unit {0}
   LanesLater (lane code ps ls) split = Later (sig (labelled split code)) (sig (leaving ps (labelled split code))) × LanesLater ls split
 
+  -- all exits of a block stand behind the one signal that its branches get
   pub rows-later : (x : Timed) (ls : Lanes) (split : ℕ) → ((code : ℕ) → sig (labelled split code) ≡ x) → LanesLater ls split → AllRows (Later x) (map sig (branch_tails ls split))
   rows-later x no_lane split same h = tt
   rows-later x (lane code ps ls) split same h = (subst (λ y. Later y (sig (leaving ps (labelled split code)))) (same code) h.0, rows-later x ls split same h.1)
@@ -196,11 +197,13 @@ module _ (s : SchemaModel) (f : Facts) (m : Marking) where
   rows-behind : (u : ℕ) (ls : Lanes) (split : ℕ) → ((code : ℕ) → (sig (labelled split code) ≡ Some (u, Yes)) ⊎ (sig (labelled split code) ≡ Some (u, No))) → LanesLater ls split →
       AllRows (Behind u) (map sig (branch_tails ls split))
   rows-behind u no_lane split which h = tt
-  rows-behind u (lane code ps ls) split which h =
-      (elim (which code) [
-        | inl it ↦ inl (subst (λ y. Later y (sig (leaving ps (labelled split code)))) it h.0)
-        | inr other ↦ inr (subst (λ y. Later y (sig (leaving ps (labelled split code)))) other h.0)
-      ], rows-behind u ls split which h.1)
+  rows-behind u (lane code ps ls) split which h = (
+    elim (which code) [
+      | inl it ↦ inl (subst (λ y. Later y (sig (leaving ps (labelled split code)))) it h.0)
+      | inr other ↦ inr (subst (λ y. Later y (sig (leaving ps (labelled split code)))) other h.0)
+    ],
+    rows-behind u ls split which h.1,
+  )
 
   chosen-goes : (u choice : ℕ) (ls : Lanes) (split join : ℕ) → ((code : ℕ) → eqb choice code ≡ true → sig (labelled split code) ≡ Some (u, Yes)) → has_label choice (branch_heads ls join) ≡ true → LanesLater ls split →
       list_all is_no (map flow (map sig (branch_tails ls split))) ≡ false
@@ -221,10 +224,12 @@ module _ (s : SchemaModel) (f : Facts) (m : Marking) where
       entry : (y : Timed) (q : Option ℕ) → m split ≡ y → f.ended split ≡ q → (c : ℕ) → sig (labelled split c) ≡ sig_of kind.XorSplit y q (f.choice split) (Some c)
       entry y q e1 e2 c = sig-is (place split kind.XorSplit partner ins (branch_heads (lane code ps ls) join)) sane (Some c)
           ∙ ap (λ z. sig_of kind.XorSplit z (f.ended split) (f.choice split) (Some c)) e1 ∙ ap (λ z. sig_of kind.XorSplit y z (f.choice split) (Some c)) e2
+
       nothing-out : ((c : ℕ) → sig (labelled split c) ≡ None) → eq_of kind.XorJoin (map sig (branch_tails (lane code ps ls) split)) ss ≡ None
       nothing-out none =
           let first : sig (leaving ps (labelled split code)) ≡ None = none-is _ (subst (λ y. Later y (sig (leaving ps (labelled split code)))) (none code) h.0) in
           ap (λ y. eq_of kind.XorJoin (y ∷ map sig (branch_tails ls split)) ss) first
+
       go : (y : Timed) (q : Option ℕ) → m split ≡ y → f.ended split ≡ q → Later y (eq_of kind.XorJoin (map sig (branch_tails (lane code ps ls) split)) ss)
       go None None e1 e2 = subst (Later None) (sym (nothing-out (entry None None e1 e2))) none_none
       go None (Some u) e1 e2 = let r = sane.ended u e2 in absurd (not_some (r.0, Yes) (sym e1 ∙ r.1))
@@ -253,7 +258,7 @@ module _ (s : SchemaModel) (f : Facts) (m : Marking) where
     node-one n k partner from outs sane i =
         subst (Later (sig from)) (sym (mark-is (place n k partner (from ∷ []) outs) sane)) (one-edge k (sig from) (sync_signals (place n k partner (from ∷ []) outs)) i)
 
-    -- ---- the signal that leaves stands behind the one that enters
+    -- the signal that leaves a part stands behind the one that enters it
     mutual
       pub part-flow : (p : Part) (from : End) (to : ℕ) → FullPart p → AllRows Sane (part_places p from to) → Later (sig from) (sig (plain_end (last_of p)))
       part-flow (act n) from to full sane =

@@ -59,9 +59,10 @@ not_among n (p ∷ ps) h = rw h.0 (not_among n ps h.1)
 -- each place's node is one of the nodes
 pub self-among : (ps : List Place) → AllRows (λ p. is_one_of p.node (nodes ps) ≡ true) ps
 self-among [] = tt
-self-among (p ∷ ps) =
-    (or_left (eqb p.node p.node) (is_one_of p.node (nodes ps)) (eq-eqb p.node p.node refl),
-      all-rows-map _ _ (λ q h. or_right (eqb p.node q.node) (is_one_of q.node (nodes ps)) h) ps (self-among ps))
+self-among (p ∷ ps) = (
+  or_left (eqb p.node p.node) (is_one_of p.node (nodes ps)) (eq-eqb p.node p.node refl),
+  all-rows-map _ _ (λ q h. or_right (eqb p.node q.node) (is_one_of q.node (nodes ps)) h) ps (self-among ps),
+)
 
 -- a place's node has a card
 pub node-has_card : (s : SchemaModel) (n : ℕ) (ps : List Place) → is_one_of n (nodes ps) ≡ true → HasCard (map (card_of s) ps) n

@@ -36,6 +36,7 @@ ended-signal : (k : NodeKind) (q : ℕ) (en choice label : Option ℕ) → early
 ended-signal k q None choice label h = absurd (both_ways _ refl h)
 ended-signal k q (Some e) choice label h = rw h refl
 
+-- before its End a node that is worked on says nothing
 pub not_ended-signal : (k : NodeKind) (q : ℕ) (en choice label : Option ℕ) → early q en ≡ false → before q (ended_signal k en choice label) ≡ None
 not_ended-signal k q None choice label h = before_none q
 not_ended-signal k q (Some e) choice label h = rw h refl
@@ -53,7 +54,7 @@ fresh-signal k q None en choice label h =
       | inr silent ↦ rw (silent, before_none q) refl
     ]
 fresh-signal k q (Some (t, No)) en choice label h =
-    elim (cases_Bool (nat_lt t q)) [ | inl soon ↦ rw soon refl | inr late ↦ rw late refl ]
+    elim (cases_Bool (nat_lt t q)) [ inl soon ↦ rw soon refl | inr late ↦ rw late refl ]
 fresh-signal k q (Some (t, Yes)) en choice label h =
     elim (cases_Bool (worked_on k)) [
       | inl works ↦
@@ -69,6 +70,7 @@ fresh-signal k q (Some (t, Yes)) en choice label h =
     ]
 
 module _ (cards : List Card) (q : ℕ) (f : Facts) (m : Marking) where
+  -- what was started before q is worked on, and was ready
   pub works_before : InTime cards q f m → (n : ℕ) (c : Card) → card_at n cards ≡ Some c → early q (f.started n) ≡ true → (worked_on c.kind ≡ true) × (before q (m n) ≡ Some Yes)
   works_before time n c e begun =
       let s = time.start n begun in
@@ -90,6 +92,7 @@ module _ (cards : List Card) (q : ℕ) (f : Facts) (m : Marking) where
             ]
       ]
 
+  -- the marking before q, read at a node
   pub spot_in-below : (n : ℕ) (c : Card) → card_at n cards ≡ Some c → spot_in n (below cards q f m) ≡ spot_before q f m c.kind n
   spot_in-below n c e = spot_in-map (λ d. spot_before q f m d.kind d.node) keeps n cards c e ∙ ap (spot_before q f m c.kind) (card_at-node n cards c e)
     where
@@ -97,7 +100,7 @@ module _ (cards : List Card) (q : ℕ) (f : Facts) (m : Marking) where
       keeps d =
           elim (cases_Bool (early q (f.ended d.node))) [
             | inl over ↦ rw over refl
-            | inr open_yet ↦ elim (cases_Bool (early q (f.started d.node))) [ | inl begun ↦ rw (open_yet, begun) refl | inr fresh ↦ rw (open_yet, fresh) refl ]
+            | inr open_yet ↦ elim (cases_Bool (early q (f.started d.node))) [ inl begun ↦ rw (open_yet, begun) refl | inr fresh ↦ rw (open_yet, fresh) refl ]
           ]
 
   source-before : InTime cards q f m → (label : Option ℕ) (n : ℕ) → source_signal (card_at n cards) (spot_in n (below cards q f m)) label ≡ before q (sig_at cards f m label n)
@@ -143,6 +146,7 @@ module _ (cards : List Card) (rank : List ℕ) (f : Facts) (m : Marking) (net : 
       let s = member-splits n rank (in_rank cards rank net.ranked n c e) in
       settled cards old rank net.ranked h meets (length cards) s.0 s.1 n c s.2 e (omega (arith, net.ranked.size, ap length s.2, length-append s.0 (n ∷ s.1)))
 
+  -- where only ready nodes were started and only started ones ended, the settled net of what was begun before q is the marking before q
   pub causality : (q : ℕ) → nat_lt 0 q ≡ true → InTime cards q f m → (old : Spots) → Kept cards q f old → IsBelow cards q f m (settle cards old)
   causality q pos in_time old kept = record {
     at = λ n c e. settle-is old (below cards q f m) (below-meets q pos in_time old kept) n c e ∙ spot_in-below cards q f m n c e;

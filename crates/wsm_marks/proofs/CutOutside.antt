@@ -34,8 +34,8 @@ no-signal k (Some (t, Yes)) choice label works h = rw works refl
 no-signal k (Some (t, No)) choice label works h = absurd (both_ways _ h refl)
 
 not_no-signal : (k : NodeKind) (x : Timed) (choice label : Option ℕ) → is_no (flow x) ≡ false → is_no (flow (sig_of k x None choice label)) ≡ false
-not_no-signal k None choice label h = elim (cases_Bool (worked_on k)) [ | inl works ↦ rw works refl | inr silent ↦ rw silent refl ]
-not_no-signal k (Some (t, Yes)) choice label h = elim (cases_Bool (worked_on k)) [ | inl works ↦ rw works refl | inr silent ↦ rw silent refl ]
+not_no-signal k None choice label h = elim (cases_Bool (worked_on k)) [ inl works ↦ rw works refl | inr silent ↦ rw silent refl ]
+not_no-signal k (Some (t, Yes)) choice label h = elim (cases_Bool (worked_on k)) [ inl works ↦ rw works refl | inr silent ↦ rw silent refl ]
 not_no-signal k (Some (t, No)) choice label h = absurd (both_ways _ h refl)
 
 -- no False, no skip
@@ -53,6 +53,7 @@ not_no-timed false false y a b h = refl
 module _ (cards : List Card) (rank : List ℕ) (is : IsRank cards rank) (f f' : Facts) (m m' : Marking) (s : Solves cards f m) (s' : Solves cards f' m')
     (body : List ℕ) (l e : ℕ) (loop : LoopOf cards body l e) (cleared : Cleared body f f')
     (open_end : f.ended e ≡ None) (end_stays : is_no (flow (m e)) ≡ false) (start_stays : is_no (flow (m l)) ≡ false) where
+  -- outside the loop, or its start
   abbrev Out : ℕ → Type 0
   Out n = (is_one_of n body ≡ false) ⊎ (n ≡ l)
 
@@ -98,19 +99,22 @@ module _ (cards : List Card) (rank : List ℕ) (is : IsRank cards rank) (f f' : 
       ]) c.ins ins (loop.ins n c at out))
       (both_rows (Known cards Same) (λ x. is_one_of x body ≡ false) (λ x. sig_at cards f m None x ≡ sig_at cards f' m' None x) (λ x known out_x. out-signal None x out_x known) c.syncs_in syncs (loop.syncs n c at out))
       ∙ sym (s'.meets n c at)
-      in
-      (outside, λ inside. elim (cases_Bool (eqb n l)) [
-        | inl same ↦
-            let is_l : n ≡ l = eqb-true n l same in
-            ap (λ x. is_no (flow x)) (sym (outside (inr is_l)) ∙ ap m is_l) ∙ start_stays
-        | inr other ↦
-            ap (λ x. is_no (flow x)) (s'.meets n c at)
-            ∙ not_no-timed (is_ready c.kind (map flow (map (λ x. sig_at cards f' m' x.label x.node) c.ins))) (is_skipped c.kind (map flow (map (λ x. sig_at cards f' m' x.label x.node) c.ins)))
-            (list_all is_some (map flow (map (sig_at cards f' m' None) c.syncs_in))) _ _
-            (not_skipped c.kind (λ x. sig_at cards f' m' x.label x.node) c.ins (loop.inner n c at inside other)
-            (both_rows (λ x. Known cards Same x.node) (λ x. is_one_of x.node body ≡ true) _ (λ x known in_x. in-signal x.label x.node in_x known) c.ins ins (loop.within n c at inside other)))
-      ])
+      in (
+        outside,
+        λ inside. elim (cases_Bool (eqb n l)) [
+          | inl same ↦
+              let is_l : n ≡ l = eqb-true n l same in
+              ap (λ x. is_no (flow x)) (sym (outside (inr is_l)) ∙ ap m is_l) ∙ start_stays
+          | inr other ↦
+              ap (λ x. is_no (flow x)) (s'.meets n c at)
+              ∙ not_no-timed (is_ready c.kind (map flow (map (λ x. sig_at cards f' m' x.label x.node) c.ins))) (is_skipped c.kind (map flow (map (λ x. sig_at cards f' m' x.label x.node) c.ins)))
+              (list_all is_some (map flow (map (sig_at cards f' m' None) c.syncs_in))) _ _
+              (not_skipped c.kind (λ x. sig_at cards f' m' x.label x.node) c.ins (loop.inner n c at inside other)
+              (both_rows (λ x. Known cards Same x.node) (λ x. is_one_of x.node body ≡ true) _ (λ x known in_x. in-signal x.label x.node in_x known) c.ins ins (loop.within n c at inside other)))
+        ],
+      )
 
+  -- a cut changes no mark outside the loop, nor at its start
   pub cut_outside : (n : ℕ) (c : Card) → card_at n cards ≡ Some c → (is_one_of n body ≡ false) ⊎ (n ≡ l) → m n ≡ m' n
   cut_outside n c at out = (rank_induction cards rank is Same same-step n c at).0 out
 

@@ -39,15 +39,15 @@ data Cut (body : List ℕ) (p : ℕ) (x : Entry) : Option (ℕ × Entry) → Typ
 
 cut_view : (body : List ℕ) (p : ℕ) (x : Entry) → Cut body p x (cut_entry body p x)
 cut_view body p (entry.Start node user reads) =
-    elim (cases_Bool (is_one_of node body)) [ | inl it ↦ rw it (goes it refl) | inr other ↦ rw other (stays other) ]
+    elim (cases_Bool (is_one_of node body)) [ inl it ↦ rw it (goes it refl) | inr other ↦ rw other (stays other) ]
 cut_view body p (entry.End node [] choice) =
-    elim (cases_Bool (is_one_of node body)) [ | inl it ↦ rw it (goes it refl) | inr other ↦ rw other (stays other) ]
+    elim (cases_Bool (is_one_of node body)) [ inl it ↦ rw it (goes it refl) | inr other ↦ rw other (stays other) ]
 cut_view body p (entry.End node (w ∷ ws) choice) =
-    elim (cases_Bool (is_one_of node body)) [ | inl it ↦ rw it (leaves it) | inr other ↦ rw other (stays other) ]
+    elim (cases_Bool (is_one_of node body)) [ inl it ↦ rw it (leaves it) | inr other ↦ rw other (stays other) ]
 cut_view body p (entry.Again node []) =
-    elim (cases_Bool (is_one_of node body)) [ | inl it ↦ rw it (goes it refl) | inr other ↦ rw other (stays other) ]
+    elim (cases_Bool (is_one_of node body)) [ inl it ↦ rw it (goes it refl) | inr other ↦ rw other (stays other) ]
 cut_view body p (entry.Again node (w ∷ ws)) =
-    elim (cases_Bool (is_one_of node body)) [ | inl it ↦ rw it (leaves it) | inr other ↦ rw other (stays other) ]
+    elim (cases_Bool (is_one_of node body)) [ inl it ↦ rw it (leaves it) | inr other ↦ rw other (stays other) ]
 cut_view body p (entry.Wrote writes) = stays refl
 
 module _ (body : List ℕ) where
@@ -100,9 +100,11 @@ module _ (body : List ℕ) where
 
   -- the trail after a repeat
   module _ (es : Entries) (p e : ℕ) (w : Written) where
+    -- the trail that a cut leaves, with the repeat behind it
     abbrev pub repeated : Entries
     repeated = cut_entries body es ++ (p, entry.Again e w) ∷ []
 
+    -- a cut clears the loop's facts and leaves the others
     pub cleared : Cleared body (facts_of es) (facts_of repeated)
     cleared = record {
       started = λ n out. ap (option_map (λ d. d.0)) (find-last (is_start_of n) (cut_entries body es) (p, entry.Again e w) refl ∙ find-cut_out (is_start_of n) (start-apart n true false out true_false) (λ v. refl) es);
@@ -169,12 +171,15 @@ rises-below last q (e ∷ es) h lt =
 
 module _ (g : FlatModel) (rank : List ℕ) (body : List ℕ) (l e : ℕ) (loop : LoopOf g.cards body l e) (es : Entries) (p : ℕ) (w : Written) (m m' : Marking)
     (net : TimedNet g.cards rank (facts_of es) m) (net' : TimedNet g.cards rank (facts_of (repeated body es p e w)) m') (orderly : Orderly es) (next : nat_lt (last_position 0 es) p ≡ true) where
+  -- the facts before the repeat
   abbrev f : Facts
   f = facts_of es
 
+  -- the trail after it
   abbrev es' : Entries
   es' = repeated body es p e w
 
+  -- the facts after it
   abbrev f' : Facts
   f' = facts_of es'
 
@@ -190,12 +195,13 @@ module _ (g : FlatModel) (rank : List ℕ) (body : List ℕ) (l e : ℕ) (loop :
   order-same (q, entry.Again node writes) out h = tt
   order-same (q, entry.Wrote writes) out h = tt
 
+  -- the trail after a repeat is orderly
   pub orderly-cut : Orderly es'
   orderly-cut = record {
     rises = rises-last 0 p (entry.Again e w) (cut_entries body es) (rises-below 0 p es orderly.rises next).1 (rises-cut body 0 es orderly.rises)
-    (rows-cut body (λ d. nat_lt d.0 p ≡ true) (λ d. nat_lt d.0 p ≡ true) (λ d out h. h) (λ d h. h) es all_below);
+        (rows-cut body (λ d. nat_lt d.0 p ≡ true) (λ d. nat_lt d.0 p ≡ true) (λ d out h. h) (λ d h. h) es all_below);
     order = rows-last (λ d. InOrder f' d.0 d.1) (cut_entries body es) (p, entry.Again e w)
-    (rows-cut body (λ d. InOrder f d.0 d.1) (λ d. InOrder f' d.0 d.1) order-same (λ d h. tt) es orderly.order) tt;
+        (rows-cut body (λ d. InOrder f d.0 d.1) (λ d. InOrder f' d.0 d.1) order-same (λ d h. tt) es orderly.order) tt;
   }
 
   value-same : (q : ℕ) → nat_lt q p ≡ true → (d : ℕ) → value_below d q es' ≡ value_below d q es
@@ -251,5 +257,6 @@ module _ (g : FlatModel) (rank : List ℕ) (body : List ℕ) (l e : ℕ) (loop :
     where
       in_time_end : first_misfit g f m (λ x q. value_below x q es) es ≡ None → Ends g.cards f m (suc (last_position 0 es)) (first_misfit g f m (λ x q. value_below x q es) es) (replay_of g es) → InTime g.cards (suc (last_position 0 es)) f m
       in_time_end fit h = (subst (λ o. Ends g.cards f m (suc (last_position 0 es)) o (replay_of g es)) fit h).3
+
       finish : first_misfit g f' m' (λ x q. value_below x q es') es' ≡ None → Ends g.cards f' m' (suc (last_position 0 es')) (first_misfit g f' m' (λ x q. value_below x q es') es') (replay_of g es') → (t' : Spots) × (replay_of g es' ≡ whole t')
       finish fit h = let r = subst (λ o. Ends g.cards f' m' (suc (last_position 0 es')) o (replay_of g es')) fit h in (r.0, r.1)

@@ -27,6 +27,7 @@ use Rattle.wsm_marks.proofs.Signals.{before-later, is_yes-some}
 begun_or-quiet : (f : Facts) (a b : ℕ) → Quiet f a b → (n : ℕ) (s : Spot) → begun_or b f n s ≡ begun_or a f n s
 begun_or-quiet f a b quiet n s = rw (quiet.ends n, quiet.starts n) refl
 
+-- what was done in time before a was so before b, where nothing is told between
 pub in_time-later : (cards : List Card) (f : Facts) (m : Marking) (a b : ℕ) → a ≤ b → Quiet f a b → InTime cards a f m → InTime cards b f m
 in_time-later cards f m a b le quiet in_time = record {
   start = λ n h. let s = in_time.start n (sym (quiet.starts n) ∙ h) in (s.0, s.1, s.2, before-later a b le (m n) Yes s.3);
@@ -34,15 +35,16 @@ in_time-later cards f m a b le quiet in_time = record {
 }
 
 fresh-activated : (k : NodeKind) (o : Option Flow) → is_in_state (state_by k (verdict_of o)) state.Activated ≡ (worked_on k && is_yes o)
-fresh-activated k None = elim (cases_Bool (worked_on k)) [ | inl works ↦ rw works refl | inr silent ↦ rw silent refl ]
-fresh-activated k (Some No) = elim (cases_Bool (worked_on k)) [ | inl works ↦ rw works refl | inr silent ↦ rw silent refl ]
-fresh-activated k (Some Yes) = elim (cases_Bool (worked_on k)) [ | inl works ↦ rw works refl | inr silent ↦ rw silent refl ]
+fresh-activated k None = elim (cases_Bool (worked_on k)) [ inl works ↦ rw works refl | inr silent ↦ rw silent refl ]
+fresh-activated k (Some No) = elim (cases_Bool (worked_on k)) [ inl works ↦ rw works refl | inr silent ↦ rw silent refl ]
+fresh-activated k (Some Yes) = elim (cases_Bool (worked_on k)) [ inl works ↦ rw works refl | inr silent ↦ rw silent refl ]
 
 fresh-completed : (k : NodeKind) (o : Option Flow) → is_in_state (state_by k (verdict_of o)) state.Completed ≡ cond (worked_on k) false (is_yes o)
-fresh-completed k None = elim (cases_Bool (worked_on k)) [ | inl works ↦ rw works refl | inr silent ↦ rw silent refl ]
-fresh-completed k (Some No) = elim (cases_Bool (worked_on k)) [ | inl works ↦ rw works refl | inr silent ↦ rw silent refl ]
-fresh-completed k (Some Yes) = elim (cases_Bool (worked_on k)) [ | inl works ↦ rw works refl | inr silent ↦ rw silent refl ]
+fresh-completed k None = elim (cases_Bool (worked_on k)) [ inl works ↦ rw works refl | inr silent ↦ rw silent refl ]
+fresh-completed k (Some No) = elim (cases_Bool (worked_on k)) [ inl works ↦ rw works refl | inr silent ↦ rw silent refl ]
+fresh-completed k (Some Yes) = elim (cases_Bool (worked_on k)) [ inl works ↦ rw works refl | inr silent ↦ rw silent refl ]
 
+-- a Start that fits is of a node that is worked on and ready
 pub started-by : (g : FlatModel) (f : Facts) (m : Marking) (value : ℕ → Option Value) (p : ℕ) (x : Entry) (n : ℕ) → fits g f m value p x ≡ true → is_start_of n x ≡ true →
     (c : Card) × (card_at n g.cards ≡ Some c) × (worked_on c.kind ≡ true) × (before p (m n) ≡ Some Yes)
 started-by g f m value p (entry.Start node user reads) n h same =
@@ -55,6 +57,7 @@ started-by g f m value p (entry.End node writes choice) n h same = absurd (both_
 started-by g f m value p (entry.Again node writes) n h same = absurd (both_ways _ refl same)
 started-by g f m value p (entry.Wrote writes) n h same = absurd (both_ways _ refl same)
 
+-- an End in order stands behind its Start
 pub ended-by : (f : Facts) (p : ℕ) (x : Entry) (n : ℕ) → InOrder f p x → is_end_of n x ≡ true → early p (f.started n) ≡ true
 ended-by f p (entry.End node writes choice) n order same = ap (λ k. early p (f.started k)) (sym (eqb-true node n same)) ∙ order.2
 ended-by f p (entry.Start node user reads) n order same = absurd (both_ways _ refl same)
@@ -62,6 +65,7 @@ ended-by f p (entry.Again node writes) n order same = absurd (both_ways _ refl s
 ended-by f p (entry.Wrote writes) n order same = absurd (both_ways _ refl same)
 
 module _ (g : FlatModel) (rank : List ℕ) (f : Facts) (m : Marking) (net : TimedNet g.cards rank f m) where
+  -- where nothing is told between, what was begun stays
   pub kept-later : (a b : ℕ) → Quiet f a b → (t : Spots) → Kept g.cards a f t → Kept g.cards b f t
   kept-later a b quiet t kept = record { is = λ n c e s. kept.is n c e s ∙ sym (begun_or-quiet f a b quiet n s) }
 
@@ -75,7 +79,7 @@ module _ (g : FlatModel) (rank : List ℕ) (f : Facts) (m : Marking) (net : Time
 
   module _ (p : ℕ) (pos : nat_lt 0 p ≡ true) (t : Spots) (is_below : IsBelow g.cards p f m t) (in_time : InTime g.cards p f m) where
     not_over : (n : ℕ) → early p (f.started n) ≡ false → early p (f.ended n) ≡ false
-    not_over n h = elim (cases_Bool (early p (f.ended n))) [ | inl over ↦ absurd (both_ways _ h (in_time.end n over)) | inr open_yet ↦ open_yet ]
+    not_over n h = elim (cases_Bool (early p (f.ended n))) [ inl over ↦ absurd (both_ways _ h (in_time.end n over)) | inr open_yet ↦ open_yet ]
 
     own_start : (n : ℕ) → f.started n ≡ Some p → early p (f.started n) ≡ false
     own_start n e = ap (early p) e ∙ not_before_itself p
@@ -116,6 +120,7 @@ module _ (g : FlatModel) (rank : List ℕ) (f : Facts) (m : Marking) (net : Time
     applicable-fits value (entry.Wrote writes) order = refl
 
     module _ (value : ℕ → Option Value) (last : ℕ) where
+      -- behind an entry that fits, all was done in time
       pub in_time-after : (x : Entry) → Tells f last p x → fits g f m value p x ≡ true → InTime g.cards (suc p) f m
       in_time-after x tells fit = record {
         start = λ n h. elim (or_cases (early p (f.started n)) (is_start_of n x) (sym (tells.starts n) ∙ h)) [
@@ -123,10 +128,10 @@ module _ (g : FlatModel) (rank : List ℕ) (f : Facts) (m : Marking) (net : Time
           | inr by_it ↦ let s = started-by g f m value p x n fit by_it in (s.0, s.1, s.2, before-later p (suc p) (omega arith) (m n) Yes s.3)
         ];
         end = λ n h. tells.starts n ∙ or_left (early p (f.started n)) (is_start_of n x)
-        (elim (or_cases (early p (f.ended n)) (is_end_of n x) (sym (tells.ends n) ∙ h)) [
-          | inl before_it ↦ in_time.end n before_it
-          | inr by_it ↦ ended-by f p x n tells.order by_it
-        ]);
+            (elim (or_cases (early p (f.ended n)) (is_end_of n x) (sym (tells.ends n) ∙ h)) [
+              | inl before_it ↦ in_time.end n before_it
+              | inr by_it ↦ ended-by f p x n tells.order by_it
+            ]);
       }
 
       -- what another node's entry leaves
@@ -164,6 +169,7 @@ module _ (g : FlatModel) (rank : List ℕ) (f : Facts) (m : Marking) (net : Time
         ];
       }
 
+      -- behind an entry that fits stands the marking behind its position
       pub below-after : (x : Entry) → Tells f last p x → fits g f m value p x ≡ true → IsBelow g.cards (suc p) f m (after g.cards x t)
       below-after (entry.Start node user reads) tells fit =
           causality g.cards rank f m net (suc p) (lt-ltb 0 (suc p) (omega arith)) (in_time-after _ tells fit) _ (start-kept node user reads tells)

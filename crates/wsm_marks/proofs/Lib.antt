@@ -11,7 +11,7 @@ pub mod Telling
 pub mod WholeTrails
 pub mod MarksOfTrails
 pub mod Remark
-pub mod Relax
+pub mod SolvedInside
 pub mod LocalMisfit
 pub mod CutOutside
 pub mod CutTrails
@@ -25,4 +25,5 @@ pub mod SoundSchemas
 pub mod BlockFlow
 pub mod NeverStuck
 pub mod SaneTrails
-pub mod Examples
+pub mod ExamplesExchange
+pub mod ExamplesRepeat

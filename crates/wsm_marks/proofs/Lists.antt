@@ -37,9 +37,11 @@ one_of-last k xs n h =
       | inr last ↦ inr (eqb-true n k (sym (or-false (eqb n k)) ∙ last))
     ]
 
+-- a member of the front is one of the whole
 pub one_of-front : (k : ℕ) (xs ys : List ℕ) → is_one_of k xs ≡ true → is_one_of k (xs ++ ys) ≡ true
 one_of-front k xs ys h = one_of-append k xs ys ∙ or_left (is_one_of k xs) (is_one_of k ys) h
 
+-- what stands between two lists is a member
 pub one_of-middle : (n : ℕ) (xs ys : List ℕ) → is_one_of n (xs ++ (n ∷ ys)) ≡ true
 one_of-middle n xs ys = one_of-append n xs (n ∷ ys) ∙ or_right (is_one_of n xs) _ (or_left (eqb n n) (is_one_of n ys) (eq-eqb n n refl))
 

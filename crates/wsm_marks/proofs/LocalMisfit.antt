@@ -47,6 +47,7 @@ module _ (g1 g2 : FlatModel) (f : Facts) (m1 m2 : Marking) (inside : ℕ → Boo
       ])
   fits-outside value p (entry.Wrote writes) out = refl
 
+  -- a trail that fits one net misfits another, first, at an entry of the region or not at all
   pub misfit-local : (value : ℕ → ℕ → Option Value) (es : Entries) → AllRows (λ e. fits g1 f m1 (λ d. value d e.0) e.0 e.1 ≡ true) es → first_misfit g2 f m2 value es ≡ misfit_in inside g2 f m2 value es
   misfit-local value [] h = refl
   misfit-local value (e ∷ es) h =

@@ -18,12 +18,15 @@ use Rattle.wsm_marks.proofs.LoopSets.{WholeLanes, WholePart, WholeParts, lanes-e
 abbrev pub NodesIn : (ℕ → Bool) → List Place → Type 0
 NodesIn A ps = AllRows (λ p. A p.node ≡ true) ps
 
+-- no node is in a set
 abbrev pub NodesOut : (ℕ → Bool) → List Place → Type 0
 NodesOut A ps = AllRows (λ p. A p.node ≡ false) ps
 
+-- the sources of edges are in a set
 abbrev pub EndsIn : (ℕ → Bool) → List End → Type 0
 EndsIn A xs = AllRows (λ x. A x.node ≡ true) xs
 
+-- the sources of all edges into places are
 abbrev pub InsIn : (ℕ → Bool) → List Place → Type 0
 InsIn A ps = AllRows (λ p. EndsIn A p.ins) ps
 
@@ -31,6 +34,7 @@ InsIn A ps = AllRows (λ p. EndsIn A p.ins) ps
 abbrev pub IsPaired : (ℕ → Bool) → Place → Type 0
 IsPaired A p = is_loop_end p.kind ≡ true → (k : ℕ) → p.partner ≡ Some k → A k ≡ true
 
+-- the same of all places
 abbrev pub PairsIn : (ℕ → Bool) → List Place → Type 0
 PairsIn A ps = AllRows (IsPaired A) ps
 
@@ -42,6 +46,7 @@ no_join : (k : Gate) → is_loop_end (join_kind k) ≡ true → ⊥
 no_join and_gate h = both_ways _ refl h
 no_join xor_gate h = both_ways _ refl h
 
+-- a set that holds the nodes holds the loop starts of the loop ends
 mutual
   pub part-pairs : (A : ℕ → Bool) (p : Part) (from : End) (to : ℕ) → NodesIn A (part_places p from to) → PairsIn A (part_places p from to)
   part-pairs A (act n) from to nodes = (λ h k e. absurd (both_ways _ refl h), tt)
@@ -49,9 +54,11 @@ mutual
       let n = rows-parts _ (lanes_places ls split join) _ nodes.1 in
       (λ h k e. absurd (no_split kind h), rows-append _ (lanes_places ls split join) _ (lanes-pairs A ls split join n.0) (λ h k e. absurd (no_join kind h), tt))
   part-pairs A (loop start end body) from to nodes =
-      let n = rows-parts _ (parts_places body (plain_end start) end) _ nodes.1 in
-      (λ h k e. absurd (both_ways _ refl h), rows-append _ (parts_places body (plain_end start) end) _ (parts-pairs A body (plain_end start) end n.0)
-      (λ h k e. ap A (sym (same_Some start k e)) ∙ nodes.0, tt))
+      let n = rows-parts _ (parts_places body (plain_end start) end) _ nodes.1 in (
+        λ h k e. absurd (both_ways _ refl h),
+        rows-append _ (parts_places body (plain_end start) end) _ (parts-pairs A body (plain_end start) end n.0)
+            (λ h k e. ap A (sym (same_Some start k e)) ∙ nodes.0, tt),
+      )
 
   pub parts-pairs : (A : ℕ → Bool) (ps : Parts) (from : End) (to : ℕ) → NodesIn A (parts_places ps from to) → PairsIn A (parts_places ps from to)
   parts-pairs A nothing from to nodes = tt
@@ -65,7 +72,7 @@ mutual
       let n = rows-parts _ (parts_places ps (labelled split code) join) _ nodes in
       rows-append _ (parts_places ps (labelled split code) join) _ (parts-pairs A ps (labelled split code) join n.0) (lanes-pairs A ls split join n.1)
 
--- ---- a set that holds the source of the edge that enters, and the nodes, holds the sources
+-- a set that holds the source of the edge that enters, and the nodes, holds the sources of all edges
 mutual
   pub part-closed : (A : ℕ → Bool) (p : Part) (from : End) (to : ℕ) → A from.node ≡ true → NodesIn A (part_places p from to) → InsIn A (part_places p from to) × (A (last_of p) ≡ true)
   part-closed A (act n) from to h nodes = (((h, tt), tt), nodes.0)
@@ -108,12 +115,15 @@ module _ (l e : ℕ) where
     pub paired : (A : ℕ → Bool) → NodesIn A pre → NodesIn A post → PairsIn A pre × PairsIn A post
     pub whole : (A : ℕ → Bool) → NodesOut A pre → NodesOut A post → NodesIn A (part_places (loop l e body) from to) → W A
 
+  -- a loop in a part
   abbrev FoundPart : Part → End → ℕ → Type 0
   FoundPart p from to = Found (part_places p from to) from.node (plain_end (last_of p) ∷ []) (λ A. WholePart A p)
 
+  -- a loop in parts
   abbrev FoundParts : Parts → End → ℕ → Type 0
   FoundParts ps from to = Found (parts_places ps from to) from.node (leaving ps from ∷ []) (λ A. WholeParts A ps)
 
+  -- a loop in branches
   abbrev FoundLanes : Lanes → ℕ → ℕ → Type 0
   FoundLanes ls split join = Found (lanes_places ls split join) split (branch_tails ls split) (λ A. WholeLanes A ls)
 
@@ -121,6 +131,7 @@ module _ (l e : ℕ) where
   abbrev pub IsEnd : Place → Type 0
   IsEnd p = (p.node ≡ e) × (is_loop_end p.kind ≡ true) × (p.partner ≡ Some l)
 
+  -- the loop's end is one of these places
   abbrev pub HasEnd : List Place → Type 0
   HasEnd [] = ⊥
   HasEnd (p ∷ ps) = IsEnd p ⊎ HasEnd ps
@@ -128,7 +139,7 @@ module _ (l e : ℕ) where
   has_end-parts : (xs ys : List Place) → HasEnd (xs ++ ys) → HasEnd xs ⊎ HasEnd ys
   has_end-parts [] ys h = inr h
   has_end-parts (x ∷ xs) ys (inl h) = inl (inl h)
-  has_end-parts (x ∷ xs) ys (inr h) = elim (has_end-parts xs ys h) [ | inl a ↦ inl (inr a) | inr b ↦ inr b ]
+  has_end-parts (x ∷ xs) ys (inr h) = elim (has_end-parts xs ys h) [ inl a ↦ inl (inr a) | inr b ↦ inr b ]
 
   -- the loop that stands in some places stands in more of them
   widen : (ps : List Place) (enter : ℕ) (exits : List End) (W : (ℕ → Bool) → Type 0) → Found ps enter exits W → (left right : List Place) (enter' : ℕ) (exits' : List End) (W' : (ℕ → Bool) → Type 0) →
@@ -201,6 +212,7 @@ module _ (l e : ℕ) where
           paired = λ A p q. (tt, tt);
           whole = λ A p q own_in. let each = part-each (λ n. A n ≡ true) (loop l e body) from to own_in in inl (ap A at_l ∙ each.0, ap A at_e ∙ each.1, each.2);
         }
+
         go : HasEnd (parts_places body (plain_end start) end) ⊎ HasEnd (place end LoopEnd (Some start) (leaving body (plain_end start) ∷ []) (plain_end to ∷ []) ∷ []) →
             (HasEnd (parts_places body (plain_end start) end) → FoundParts body (plain_end start) end) → FoundPart (loop start end body) from to
         go (inl x) find = widen _ start (leaving body (plain_end start) ∷ []) (λ A. WholeParts A body) (find x) (place start _ _ (from ∷ []) _ ∷ []) _ from.node (plain_end end ∷ [])
@@ -252,6 +264,7 @@ module _ (l e : ℕ) where
   abbrev pub FoundIn : ℕ → Parts → ℕ → Type 0
   FoundIn start body finish = Found (places start body finish) e [] (λ A. WholeParts A body)
 
+  -- a loop whose end is a place of a schema is in its tree
   pub places-find : (start finish : ℕ) (body : Parts) → HasEnd (places start body finish) → FoundIn start body finish
   places-find start finish body (inl h) = absurd (both_ways _ refl h.1)
   places-find start finish body (inr h) = go (has_end-parts (parts_places body (plain_end start) finish) _ h)

@@ -1,21 +1,14 @@
 -- The nodes that a cut takes are those of the loop in the tree.
-use Rattle.std.proofs.Common.{◌≡◌, ℕ, true, false, eqb, List, [], ◌∷◌, ◌++◌, map, refl, ap, sym, ◌∙◌, subst, inl, inr, Some, None, append_assoc}
-use Rattle.std.specs.Prelude.{nat_lt}
+use Rattle.std.proofs.Common.{◌≡◌, ℕ, true, false, eqb, List, [], ◌∷◌, ◌++◌, map, refl, ap, sym, ◌∙◌, inl, inr, Some, append_assoc}
 use Rattle.std.proofs.lemmas.Bool.{cases_Bool, both_ways, eqb-true, eqb-false, eq-eqb, ne_eqb}
 use Rattle.wsm_schema.specs.declared.places.Place.{Place}
 use Rattle.wsm_schema.specs.Places.{places}
 use Rattle.wsm_schema.specs.SchemaModel.{SchemaModel}
-use Rattle.wsm_schema.specs.Flat.{flat_of, card_at, card_of, cards_of, loop_nodes, loop_start, loop_from, from_node, up_to_node}
+use Rattle.wsm_schema.specs.Flat.{card_at, card_of, cards_of, loop_nodes, loop_start, loop_from, from_node, up_to_node}
 use Rattle.wsm_schema.specs.Kinds.{is_loop_end}
-use Rattle.wsm_schema.specs.Rank.{IsRank}
 use Rattle.wsm_lists.specs.Rows.{AllRows}
-use Rattle.wsm_schema.specs.Rules.{Spots}
-use Rattle.wsm_lists.specs.Values.{Written}
 use Rattle.wsm_schema.specs.Trail.{is_one_of}
-use Rattle.wsm_schema.specs.Replay.{replay_of}
-use Rattle.wsm_schema.specs.Replay.{whole}
 use Rattle.wsm_schema.specs.declared.cards.Card.{Card}
-use Rattle.wsm_schema.specs.Marks.{facts_of}
 use Rattle.std.proofs.lemmas.Option.{same_Some}
 use Rattle.wsm_lists.proofs.Lists.{all-rows-map}
 use Rattle.wsm_marks.specs.Schemas.{Distinct}

@@ -29,6 +29,7 @@ abbrev NotStart : NodeKind → Type 0
 NotStart kind.Start = ⊥
 NotStart _ = Unit {0}
 
+-- a place with an edge into it, or a start
 abbrev Entered : Place → Type 0
 Entered p = HasEdge p.kind p.ins
 
@@ -83,24 +84,31 @@ distinct-parts (x ∷ xs) ys h =
     ((r.0, d.0), d.1, (r.1, d.2))
 
 module _ (s : SchemaModel) (l e : ℕ) (found : FoundIn l e s.start s.body s.finish) where
+  -- the places inside the loop
   abbrev pub inner_places : List Place
   inner_places = parts_places found.body (plain_end l) e
 
+  -- the place of its end
   abbrev pub end_place : Place
   end_place = place e kind.LoopEnd (Some l) (leaving found.body (plain_end l) ∷ []) (plain_end found.to ∷ [])
 
+  -- the place of its start
   abbrev pub start_place : Place
   start_place = place l kind.LoopStart (Some e) (found.from ∷ []) (plain_end (first_node found.body e) ∷ [])
 
+  -- all of them
   abbrev pub own_places : List Place
   own_places = part_places (loop l e found.body) found.from found.to
 
+  -- the loop's nodes
   abbrev pub body_nodes : List ℕ
   body_nodes = nodes own_places
 
+  -- whether a node is one of the loop
   abbrev In : ℕ → Bool
   In n = is_one_of n body_nodes
 
+  -- whether it is not
   abbrev Away : ℕ → Bool
   Away n = not (In n)
 
@@ -111,6 +119,7 @@ module _ (s : SchemaModel) (l e : ℕ) (found : FoundIn l e s.start s.body s.fin
     parted_own : Distinct own_places × Distinct found.post × AllRows (λ x. AllRows (λ y. eqb x.node y.node ≡ false) found.post) own_places
     parted_own = distinct-parts own_places found.post parted.1
 
+    -- nothing before the loop is in it
     pub pre_away : AllRows (λ p. In p.node ≡ false) found.pre
     pre_away = all-rows-map _ _ (λ p h. not_among p.node own_places (all-rows-map _ _ (λ q x. eqb-swap p.node q.node x) own_places (rows-parts _ own_places found.post h).0)) found.pre parted.2
 
@@ -120,9 +129,11 @@ module _ (s : SchemaModel) (l e : ℕ) (found : FoundIn l e s.start s.body s.fin
     own_in : AllRows (λ p. In p.node ≡ true) own_places
     own_in = self-among own_places
 
+    -- no other node of the loop is its start
     pub tail_apart : AllRows (λ p. eqb p.node l ≡ false) (inner_places ++ end_place ∷ [])
     tail_apart = all-rows-map _ _ (λ p h. eqb-swap l p.node h) (inner_places ++ end_place ∷ []) parted_own.0.0
 
+    -- no node inside is its end
     pub inner_apart : AllRows (λ p. eqb p.node e ≡ false) inner_places
     inner_apart = all-rows-map _ _ (λ p h. h.0) inner_places (distinct-parts inner_places (end_place ∷ []) parted_own.0.1).2
 
@@ -149,12 +160,14 @@ module _ (s : SchemaModel) (l e : ℕ) (found : FoundIn l e s.start s.body s.fin
         (n : ℕ) (c : Card) → card_at n (cards_of s) ≡ Some c → Q c
     by_places Q outside at_start at_tail n c at = all-rows-card_at Q n (cards_of s) c (rows_by_places Q outside at_start at_tail) at
 
+    -- outside the loop, or its start
     abbrev Out : ℕ → Type 0
     Out n = (In n ≡ false) ⊎ (n ≡ l)
 
     away_or_end : (n : ℕ) → (Away n || eqb n e) ≡ true → (In n ≡ false) ⊎ (n ≡ e)
-    away_or_end n h = elim (or_cases (Away n) (eqb n e) h) [ | inl a ↦ inl (not-true (In n) a) | inr b ↦ inr (eqb-true n e b) ]
+    away_or_end n h = elim (or_cases (Away n) (eqb n e) h) [ inl a ↦ inl (not-true (In n) a) | inr b ↦ inr (eqb-true n e b) ]
 
+    -- its start is in it
     pub l_in : In l ≡ true
     l_in = own_in.0
 
@@ -193,34 +206,35 @@ module _ (s : SchemaModel) (l e : ℕ) (found : FoundIn l e s.start s.body s.fin
         here same (inl away) other = ap In same ∙ away
         here same (inr is_l) other = absurd (eqb-false x.1 l other (same ∙ is_l))
 
+    -- the loop is one that a cut may take
     pub loop-of : FullParts s.body → SyncsApart s.syncs body_nodes l → LoopOf (cards_of s) body_nodes l e
     loop-of full syncs = record {
       has_end = e_in;
       silent = λ c at. by_places (λ d. eqb d.node l ≡ true → worked_on d.kind ≡ false)
-      (λ p away pair ins same. absurd (both_ways _ away (ap In (eqb-true p.node l same) ∙ l_in))) (λ from_in same. refl)
-      (tail_rows _ (λ p a b same. absurd (both_ways _ b same))) l c at (eq-eqb c.node l (card_at-node l (cards_of s) c at));
+          (λ p away pair ins same. absurd (both_ways _ away (ap In (eqb-true p.node l same) ∙ l_in))) (λ from_in same. refl)
+          (tail_rows _ (λ p a b same. absurd (both_ways _ b same))) l c at (eq-eqb c.node l (card_at-node l (cards_of s) c at));
       works = λ c at. by_places (λ d. eqb d.node e ≡ true → worked_on d.kind ≡ true)
-      (λ p away pair ins same. absurd (both_ways _ away (ap In (eqb-true p.node e same) ∙ e_in)))
-      (λ from_in same. absurd (eqb-false e l (rows-parts (λ p. eqb p.node l ≡ false) inner_places (end_place ∷ []) tail_apart).1.0 (sym (eqb-true l e same))))
-      (rows-append (λ p. eqb p.node e ≡ true → worked_on p.kind ≡ true) inner_places (end_place ∷ []) (all-rows-map _ _ (λ p h same. absurd (both_ways _ h same)) inner_places inner_apart) (λ same. refl, tt))
-      e c at (eq-eqb c.node e (card_at-node e (cards_of s) c at));
+          (λ p away pair ins same. absurd (both_ways _ away (ap In (eqb-true p.node e same) ∙ e_in)))
+          (λ from_in same. absurd (eqb-false e l (rows-parts (λ p. eqb p.node l ≡ false) inner_places (end_place ∷ []) tail_apart).1.0 (sym (eqb-true l e same))))
+          (rows-append (λ p. eqb p.node e ≡ true → worked_on p.kind ≡ true) inner_places (end_place ∷ []) (all-rows-map _ _ (λ p h same. absurd (both_ways _ h same)) inner_places inner_apart) (λ same. refl, tt))
+          e c at (eq-eqb c.node e (card_at-node e (cards_of s) c at));
       inner = λ n c at inside other. by_places (λ d. In d.node ≡ true → eqb d.node l ≡ false → Inner d.kind d.ins)
-      (λ p away pair ins a b. absurd (both_ways _ away a)) (λ from_in a b. absurd (both_ways _ b (eq-eqb l l refl)))
-      (all-rows-map _ _ (λ p h a b. h) (inner_places ++ end_place ∷ []) (tail_inner full)) n c at
-      (ap In (card_at-node n (cards_of s) c at) ∙ inside) (ap (λ k. eqb k l) (card_at-node n (cards_of s) c at) ∙ other);
+          (λ p away pair ins a b. absurd (both_ways _ away a)) (λ from_in a b. absurd (both_ways _ b (eq-eqb l l refl)))
+          (all-rows-map _ _ (λ p h a b. h) (inner_places ++ end_place ∷ []) (tail_inner full)) n c at
+          (ap In (card_at-node n (cards_of s) c at) ∙ inside) (ap (λ k. eqb k l) (card_at-node n (cards_of s) c at) ∙ other);
       within = λ n c at inside other. by_places (λ d. In d.node ≡ true → eqb d.node l ≡ false → AllRows (λ x. In x.node ≡ true) d.ins)
-      (λ p away pair ins a b. absurd (both_ways _ away a)) (λ from_in a b. absurd (both_ways _ b (eq-eqb l l refl)))
-      (all-rows-map _ _ (λ p h a b. h) (inner_places ++ end_place ∷ []) tail_ins) n c at
-      (ap In (card_at-node n (cards_of s) c at) ∙ inside) (ap (λ k. eqb k l) (card_at-node n (cards_of s) c at) ∙ other);
+          (λ p away pair ins a b. absurd (both_ways _ away a)) (λ from_in a b. absurd (both_ways _ b (eq-eqb l l refl)))
+          (all-rows-map _ _ (λ p h a b. h) (inner_places ++ end_place ∷ []) tail_ins) n c at
+          (ap In (card_at-node n (cards_of s) c at) ∙ inside) (ap (λ k. eqb k l) (card_at-node n (cards_of s) c at) ∙ other);
       ins = λ n c at out. by_places (λ d. Out d.node → AllRows (λ x. (In x.node ≡ false) ⊎ (x.node ≡ e)) d.ins)
-      (λ p away pair ins o. all-rows-map _ _ (λ x h. away_or_end x.node h) p.ins ins) (λ from_in o. (away_or_end found.from.node from_in, tt))
-      (tail_rows _ (λ p a b o. absurd (not_out p a b o))) n c at (subst Out (sym (card_at-node n (cards_of s) c at)) out);
+          (λ p away pair ins o. all-rows-map _ _ (λ x h. away_or_end x.node h) p.ins ins) (λ from_in o. (away_or_end found.from.node from_in, tt))
+          (tail_rows _ (λ p a b o. absurd (not_out p a b o))) n c at (subst Out (sym (card_at-node n (cards_of s) c at)) out);
       syncs = λ n c at out. by_places (λ d. Out d.node → AllRows (λ k. In k ≡ false) d.syncs_in)
-      (λ p away pair ins o. syncs_out p.node o s.syncs syncs) (λ from_in o. syncs_out l o s.syncs syncs)
-      (tail_rows _ (λ p a b o. absurd (not_out p a b o))) n c at (subst Out (sym (card_at-node n (cards_of s) c at)) out);
+          (λ p away pair ins o. syncs_out p.node o s.syncs syncs) (λ from_in o. syncs_out l o s.syncs syncs)
+          (tail_rows _ (λ p a b o. absurd (not_out p a b o))) n c at (subst Out (sym (card_at-node n (cards_of s) c at)) out);
       partners = λ n k c at out ends partner. not-true (In k) (by_places (λ d. In d.node ≡ false → is_loop_end d.kind ≡ true → (j : ℕ) → d.partner ≡ Some j → Away j ≡ true)
-      (λ p away pair ins o x j y. pair x j y) (λ from_in o x j y. absurd (both_ways _ o l_in))
-      (tail_rows _ (λ p a b o x j y. absurd (both_ways _ o a))) n c at (ap In (card_at-node n (cards_of s) c at) ∙ out) ends k partner);
+          (λ p away pair ins o x j y. pair x j y) (λ from_in o x j y. absurd (both_ways _ o l_in))
+          (tail_rows _ (λ p a b o x j y. absurd (both_ways _ o a))) n c at (ap In (card_at-node n (cards_of s) c at) ∙ out) ends k partner);
     }
 
     -- the loop's nodes are those of a whole loop

@@ -1,13 +1,12 @@
 -- A set that holds whole loops and nothing else: the innermost loop round a node is in the set exactly where the node is.
-use Rattle.std.proofs.Common.{◌≡◌, ℕ, Bool, true, false, ◌||◌, eqb, List, [], ◌∷◌, ◌++◌, map, refl, ap, sym, ◌∙◌, subst, inl, inr, ◌⊎◌, Option, Some, None}
+use Rattle.std.proofs.Common.{◌≡◌, ℕ, Bool, true, false, ◌||◌, eqb, refl, ap, sym, ◌∙◌, inl, inr, ◌⊎◌, Option, Some, None}
 use Rattle.std.proofs.lemmas.Bool.{cases_Bool, both_ways, eqb-true, or_cases, or_parts}
 use Rattle.wsm_lists.specs.Rows.{AllRows}
-use Rattle.wsm_schema.specs.Tree.{Part, Parts, Lanes, act, gate, loop, nothing, part, no_lane, lane, and_gate, xor_gate}
+use Rattle.wsm_schema.specs.Tree.{Part, Parts, Lanes, act, gate, loop, nothing, part, no_lane, lane}
 use Rattle.wsm_schema.specs.Ends.{first_node, last_of}
-use Rattle.wsm_schema.specs.Places.{place, part_places, parts_places, lanes_places, labelled, plain_end}
+use Rattle.wsm_schema.specs.Places.{part_places, parts_places, lanes_places, labelled, plain_end}
 use Rattle.wsm_schema.specs.Sound.{part_has, parts_have, lanes_have, part_loop, parts_loop, lanes_loop}
 use Rattle.wsm_schema.specs.declared.cards.End.{End}
-use Rattle.wsm_schema.specs.declared.places.Place.{Place}
 use Rattle.wsm_lists.proofs.Lists.{rows-parts}
 
 -- a fact of each node of a tree
@@ -121,17 +120,17 @@ module _ (A : ℕ → Bool) (n : ℕ) where
     part-node : (b : Bool) (p : Part) → EachPart (λ k. A k ≡ b) p → part_has p n ≡ true → A n ≡ b
     part-node b (act node) h there = ap A (sym (eqb-true node n there)) ∙ h
     part-node b (gate kind split join ls) h there =
-        elim (or_cases (eqb split n || eqb join n) (lanes_have ls n) there) [ | inl ends ↦ one-of_two b split join h.0 h.1 ends | inr inside ↦ lanes-node b ls h.2 inside ]
+        elim (or_cases (eqb split n || eqb join n) (lanes_have ls n) there) [ inl ends ↦ one-of_two b split join h.0 h.1 ends | inr inside ↦ lanes-node b ls h.2 inside ]
     part-node b (loop start end body) h there =
-        elim (or_cases (eqb start n || eqb end n) (parts_have body n) there) [ | inl ends ↦ one-of_two b start end h.0 h.1 ends | inr inside ↦ parts-node b body h.2 inside ]
+        elim (or_cases (eqb start n || eqb end n) (parts_have body n) there) [ inl ends ↦ one-of_two b start end h.0 h.1 ends | inr inside ↦ parts-node b body h.2 inside ]
 
     parts-node : (b : Bool) (ps : Parts) → EachParts (λ k. A k ≡ b) ps → parts_have ps n ≡ true → A n ≡ b
     parts-node b nothing h there = absurd (both_ways _ refl there)
-    parts-node b (part p ps) h there = elim (or_cases (part_has p n) (parts_have ps n) there) [ | inl first ↦ part-node b p h.0 first | inr later ↦ parts-node b ps h.1 later ]
+    parts-node b (part p ps) h there = elim (or_cases (part_has p n) (parts_have ps n) there) [ inl first ↦ part-node b p h.0 first | inr later ↦ parts-node b ps h.1 later ]
 
     lanes-node : (b : Bool) (ls : Lanes) → EachLanes (λ k. A k ≡ b) ls → lanes_have ls n ≡ true → A n ≡ b
     lanes-node b no_lane h there = absurd (both_ways _ refl there)
-    lanes-node b (lane code ps ls) h there = elim (or_cases (parts_have ps n) (lanes_have ls n) there) [ | inl first ↦ parts-node b ps h.0 first | inr later ↦ lanes-node b ls h.1 later ]
+    lanes-node b (lane code ps ls) h there = elim (or_cases (parts_have ps n) (lanes_have ls n) there) [ inl first ↦ parts-node b ps h.0 first | inr later ↦ lanes-node b ls h.1 later ]
 
   -- ---- a node that a tree does not have
   parts-absent : (ps : Parts) (around : Option ℕ) → parts_have ps n ≡ false → parts_loop ps n around ≡ around

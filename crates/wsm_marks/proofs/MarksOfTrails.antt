@@ -33,6 +33,7 @@ abbrev pub shows : Flow → State → Bool
 shows Yes s = is_up s
 shows No s = is_out s
 
+-- whether a signal is this flow
 abbrev pub is_flow : Flow → Option Flow → Bool
 is_flow Yes o = is_yes o
 is_flow No o = is_no o
@@ -40,18 +41,18 @@ is_flow No o = is_no o
 fresh-shows : (y : Flow) (k : NodeKind) (o : Option Flow) → shows y (state_by k (verdict_of o)) ≡ is_flow y o
 fresh-shows Yes k None = refl
 fresh-shows Yes k (Some No) = refl
-fresh-shows Yes k (Some Yes) = elim (cases_Bool (worked_on k)) [ | inl works ↦ rw works refl | inr silent ↦ rw silent refl ]
+fresh-shows Yes k (Some Yes) = elim (cases_Bool (worked_on k)) [ inl works ↦ rw works refl | inr silent ↦ rw silent refl ]
 fresh-shows No k None = refl
 fresh-shows No k (Some No) = refl
-fresh-shows No k (Some Yes) = elim (cases_Bool (worked_on k)) [ | inl works ↦ rw works refl | inr silent ↦ rw silent refl ]
+fresh-shows No k (Some Yes) = elim (cases_Bool (worked_on k)) [ inl works ↦ rw works refl | inr silent ↦ rw silent refl ]
 
 flow_since : (y : Flow) (q : ℕ) (x : Timed) → is_flow y (before q x) ≡ early q (since y x)
 flow_since Yes q None = ap is_yes (before_none q)
 flow_since No q None = ap is_no (before_none q)
-flow_since Yes q (Some (t, Yes)) = elim (cases_Bool (nat_lt t q)) [ | inl soon ↦ rw soon refl | inr late ↦ rw late refl ]
-flow_since Yes q (Some (t, No)) = elim (cases_Bool (nat_lt t q)) [ | inl soon ↦ rw soon refl | inr late ↦ rw late refl ]
-flow_since No q (Some (t, Yes)) = elim (cases_Bool (nat_lt t q)) [ | inl soon ↦ rw soon refl | inr late ↦ rw late refl ]
-flow_since No q (Some (t, No)) = elim (cases_Bool (nat_lt t q)) [ | inl soon ↦ rw soon refl | inr late ↦ rw late refl ]
+flow_since Yes q (Some (t, Yes)) = elim (cases_Bool (nat_lt t q)) [ inl soon ↦ rw soon refl | inr late ↦ rw late refl ]
+flow_since Yes q (Some (t, No)) = elim (cases_Bool (nat_lt t q)) [ inl soon ↦ rw soon refl | inr late ↦ rw late refl ]
+flow_since No q (Some (t, Yes)) = elim (cases_Bool (nat_lt t q)) [ inl soon ↦ rw soon refl | inr late ↦ rw late refl ]
+flow_since No q (Some (t, No)) = elim (cases_Bool (nat_lt t q)) [ inl soon ↦ rw soon refl | inr late ↦ rw late refl ]
 
 is_flow-of_yes : (y : Flow) (o : Option Flow) → o ≡ Some Yes → is_flow y o ≡ shows y state.Completed
 is_flow-of_yes Yes o h = ap is_yes h
@@ -92,6 +93,7 @@ module _ (g : FlatModel) (rank : List ℕ) (f : Facts) (m : Marking) (net : Time
   never None p h = refl
   never (Some t) p h = absurd (both_ways _ (h (suc (t + p)) (lt-ltb p (suc (t + p)) (omega arith))) (lt-ltb t (suc (t + p)) (omega arith)))
 
+  -- the first position at which a node shows ready, or skipped, is the time of its mark
   pub first-since : (value : ℕ → ℕ → Option Value) (last : ℕ) (es : Entries) → Told f last es → (t : Spots) → IsBelow g.cards (suc last) f m t → InTime g.cards (suc last) f m →
       first_misfit g f m value es ≡ None → early last (since y (m n)) ≡ false → first_at (shows y) n (history_from g.cards es last t) ≡ since y (m n)
   first-since value last [] told t is_below in_time fit none =
@@ -130,6 +132,7 @@ not_before_zero None = refl
 not_before_zero (Some t) = le-ltb t 0 (omega arith)
 
 module _ (g : FlatModel) (rank : List ℕ) (es : Entries) (m : Marking) (net : TimedNet g.cards rank (facts_of es) m) (orderly : Orderly es) where
+  -- each entry of a trail that replays whole fits
   pub whole-fits : (t : Spots) → replay_of g es ≡ whole t → first_misfit g (facts_of es) m (λ d p. value_below d p es) es ≡ None
   whole-fits t w = go (first_misfit g (facts_of es) m (λ d p. value_below d p es) es) (replay-ends g rank (facts_of es) m net es (orderly-told es orderly) (orderly-fresh es orderly))
     where
@@ -137,7 +140,7 @@ module _ (g : FlatModel) (rank : List ℕ) (es : Entries) (m : Marking) (net : T
       go None h = refl
       go (Some p) h = let q : whole t ≡ fails p = sym w ∙ h in absurd (cc)
 
-  -- D20: the marks are the solution and the facts
+  -- the timed marks of a node are the solution and the facts
   pub marks-are : (t : Spots) → replay_of g es ≡ whole t → (n : ℕ) (c : Card) → card_at n g.cards ≡ Some c → mark_of g es n ≡ mark_by m es n
   marks-are t w n c e =
       let f : Facts = facts_of es in
@@ -149,6 +152,7 @@ module _ (g : FlatModel) (rank : List ℕ) (es : Entries) (m : Marking) (net : T
       let s : first_at is_out n (history_of g es) ≡ since No (m n) = at No in
       λ i. record { ready_at = r i; skipped_at = s i; started = f.started n; ended = f.ended n; choice = f.choice n; again = position_of (is_again_of n) es }
 
+  -- the listed marks of a trail that replays whole are the solution and the facts
   pub marks-listed : (t : Spots) → replay_of g es ≡ whole t → marks_of g es ≡ list_marks (mark_by m es) g.cards
   marks-listed t w =
       fold-same (λ c. (d : Card) × (card_at c.node g.cards ≡ Some d)) _ _

@@ -32,6 +32,7 @@ use Rattle.wsm_marks.proofs.Lists.{eqb-swap}
 use Rattle.wsm_marks.proofs.RankInduction.{Known, rank_induction}
 use Rattle.wsm_marks.proofs.Sources.{sources-have_cards}
 
+-- whether all edges are signaled
 abbrev all_marked : List Timed → Bool
 all_marked ys = list_all is_some (map flow ys)
 
@@ -102,6 +103,7 @@ all-marked g [] h = refl
 all-marked g (x ∷ xs) h = and_from (is_marked (g x)) _ h.0 (all-marked g xs h.1)
 
 module _ (s : SchemaModel) (f : Facts) (m : Marking) where
+  -- the signals of the edges out of a block's branches
   abbrev exits : Lanes → ℕ → List Timed
   exits ls split = map (sig s f m) (branch_tails ls split)
 
@@ -133,9 +135,11 @@ module _ (s : SchemaModel) (f : Facts) (m : Marking) where
       entry : (y : Timed) (q : Option ℕ) → m split ≡ y → f.ended split ≡ q → (c : ℕ) → sig s f m (labelled split c) ≡ sig_of kind.XorSplit y q (f.choice split) (Some c)
       entry y q e1 e2 c = sig-is s f m (place split kind.XorSplit partner ins (branch_heads (lane code ps ls) join)) sane (Some c)
           ∙ ap (λ z. sig_of kind.XorSplit z (f.ended split) (f.choice split) (Some c)) e1 ∙ ap (λ z. sig_of kind.XorSplit y z (f.choice split) (Some c)) e2
+
       none_out : ((c : ℕ) → sig s f m (labelled split c) ≡ None) → ⊥
       none_out none = no_none (sig s f m (leaving ps (labelled split code))) (exits ls split)
           (none-is _ (subst (λ y. Later y (sig s f m (leaving ps (labelled split code)))) (none code) h.0)) a
+
       go : (y : Timed) (q : Option ℕ) → m split ≡ y → f.ended split ≡ q → (list_all is_no (map flow (exits (lane code ps ls) split)) ≡ true) ⊎ (count_by is_yes (map flow (exits (lane code ps ls) split)) ≡ 1)
       go None None e1 e2 = absurd (none_out (entry None None e1 e2))
       go None (Some u) e1 e2 = let r = sane.ended u e2 in absurd (not_some (r.0, Yes) (sym e1 ∙ r.1))
@@ -164,14 +168,18 @@ module _ (s : SchemaModel) (f : Facts) (m : Marking) where
       part-settled (gate and_gate split join (lane code ps ls)) from to full apart sane =
           let r = rows-parts (Sane s f m) (lanes_places (lane code ps ls) split join) _ sane.1 in
           let later = lanes-flow s f m solves (lane code ps ls) split join full r.0 in
-          let entry = λ (c : ℕ). node-silent s f m split kind.AndSplit (Some join) (from ∷ []) (branch_heads (lane code ps ls) join) sane.0 refl (Some c) in
-          (one-settled (sig s f m from), rows-append SettledPlace (lanes_places (lane code ps ls) split join) _ (lanes-settled (lane code ps ls) split join full apart r.0)
-          (and-settled (m split) (exits (lane code ps ls) split) (rows-later s f m (m split) (lane code ps ls) split entry later), tt))
+          let entry = λ (c : ℕ). node-silent s f m split kind.AndSplit (Some join) (from ∷ []) (branch_heads (lane code ps ls) join) sane.0 refl (Some c) in (
+            one-settled (sig s f m from),
+            rows-append SettledPlace (lanes_places (lane code ps ls) split join) _ (lanes-settled (lane code ps ls) split join full apart r.0)
+                (and-settled (m split) (exits (lane code ps ls) split) (rows-later s f m (m split) (lane code ps ls) split entry later), tt),
+          )
       part-settled (gate xor_gate split join (lane code ps ls)) from to full apart sane =
           let r = rows-parts (Sane s f m) (lanes_places (lane code ps ls) split join) _ sane.1 in
-          let later = lanes-flow s f m solves (lane code ps ls) split join full r.0 in
-          (one-settled (sig s f m from), rows-append SettledPlace (lanes_places (lane code ps ls) split join) _ (lanes-settled (lane code ps ls) split join full apart r.0)
-          (xor-settled split join code (Some join) ps ls (from ∷ []) sane.0 later apart, tt))
+          let later = lanes-flow s f m solves (lane code ps ls) split join full r.0 in (
+            one-settled (sig s f m from),
+            rows-append SettledPlace (lanes_places (lane code ps ls) split join) _ (lanes-settled (lane code ps ls) split join full apart r.0)
+                (xor-settled split join code (Some join) ps ls (from ∷ []) sane.0 later apart, tt),
+          )
       part-settled (loop start end body) from to full apart sane =
           let r = rows-parts (Sane s f m) (parts_places body (plain_end start) end) _ sane.1 in
           (one-settled (sig s f m from), rows-append SettledPlace (parts_places body (plain_end start) end) _ (parts-settled body (plain_end start) end full apart r.0) (one-settled (sig s f m (leaving body (plain_end start))), tt))
@@ -198,9 +206,9 @@ module _ (s : SchemaModel) (f : Facts) (m : Marking) where
         (n : ℕ) (c : Card) → card_at n (cards_of s) ≡ Some c → is_marked (m n) ≡ true
     never-stuck rank is regular sane idle =
         rank_induction (cards_of s) rank is (λ n. is_marked (m n) ≡ true) (λ n c e ins syncs.
-          let so = sources-have_cards s regular n c e in
-          let control = all-marked (sig s f m) c.ins (both_rows _ _ (λ x. is_marked (sig s f m x) ≡ true) (λ x a b. sig-marked idle x.label x.node a b) c.ins so.0 ins) in
-          let sync = all-marked (sig_at (cards_of s) f m None) c.syncs_in (both_rows _ _ (λ x. is_marked (sig_at (cards_of s) f m None x) ≡ true) (λ x a b. sig-marked idle None x a b) c.syncs_in so.1 syncs) in
-          let settled = all-rows-card_at (λ d. Settled d.kind (map (sig s f m) d.ins)) n (cards_of s) c
-          (rows-map (λ d. Settled d.kind (map (sig s f m) d.ins)) (card_of s) (places s.start s.body s.finish) (places-settled regular.full regular.apart sane)) e in
-          ap is_marked (solves.meets n c e) ∙ settled-decides c.kind (map (sig s f m) c.ins) (map (sig_at (cards_of s) f m None) c.syncs_in) settled control sync)
+        let so = sources-have_cards s regular n c e in
+        let control = all-marked (sig s f m) c.ins (both_rows _ _ (λ x. is_marked (sig s f m x) ≡ true) (λ x a b. sig-marked idle x.label x.node a b) c.ins so.0 ins) in
+        let sync = all-marked (sig_at (cards_of s) f m None) c.syncs_in (both_rows _ _ (λ x. is_marked (sig_at (cards_of s) f m None x) ≡ true) (λ x a b. sig-marked idle None x a b) c.syncs_in so.1 syncs) in
+        let settled = all-rows-card_at (λ d. Settled d.kind (map (sig s f m) d.ins)) n (cards_of s) c
+        (rows-map (λ d. Settled d.kind (map (sig s f m) d.ins)) (card_of s) (places s.start s.body s.finish) (places-settled regular.full regular.apart sane)) e in
+        ap is_marked (solves.meets n c e) ∙ settled-decides c.kind (map (sig s f m) c.ins) (map (sig_at (cards_of s) f m None) c.syncs_in) settled control sync)

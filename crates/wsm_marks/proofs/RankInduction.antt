@@ -17,6 +17,7 @@ Known cards P n = (c : Card) → card_at n cards ≡ Some c → P n
 abbrev pub Inherits : List Card → (ℕ → Type 0) → Type 0
 Inherits cards P = (n : ℕ) (c : Card) → card_at n cards ≡ Some c → AllRows (λ e. Known cards P e.node) c.ins → AllRows (Known cards P) c.syncs_in → P n
 
+-- each node of the net stands in the rank
 pub in_rank : (cards : List Card) (rank : List ℕ) → IsRank cards rank → (n : ℕ) (c : Card) → card_at n cards ≡ Some c → is_one_of n rank ≡ true
 in_rank cards rank is n c e = subst (λ m. is_one_of m rank ≡ true) (card_at-node n cards c e) (all-rows-card_at (λ d. is_one_of d.node rank ≡ true) n cards c is.all e)
 
@@ -33,6 +34,7 @@ module _ (cards : List Card) (rank : List ℕ) (is : IsRank cards rank) (P : ℕ
       let order = is.behind front rest n c at e in
       step n c e (all-rows-map _ _ (λ x. earlier x.node) c.ins order.0) (all-rows-map _ _ (λ m. earlier m) c.syncs_in order.1)
 
+  -- what holds at a node where it holds at its sources holds at each node
   pub rank_induction : (n : ℕ) → Known cards P n
   rank_induction n c e =
       let s = member-splits n rank (in_rank cards rank is n c e) in

@@ -1,17 +1,12 @@
 -- On a schema a loop whose end is running may be repeated.
-use Rattle.std.proofs.Common.{◌≡◌, ℕ, true, false, eqb, List, [], ◌∷◌, ◌++◌, map, refl, ap, sym, ◌∙◌, subst, inl, inr, Some, None, append_assoc}
+use Rattle.std.proofs.Common.{◌≡◌, ℕ, true, List, sym, subst, Some, None}
 use Rattle.std.specs.Prelude.{nat_lt}
-use Rattle.std.proofs.lemmas.Bool.{cases_Bool, both_ways, eqb-true, eqb-false, eq-eqb, ne_eqb}
-use Rattle.wsm_schema.specs.declared.places.Place.{Place}
-use Rattle.wsm_schema.specs.Places.{places}
 use Rattle.wsm_schema.specs.SchemaModel.{SchemaModel}
-use Rattle.wsm_schema.specs.Flat.{flat_of, card_at, card_of, cards_of, loop_nodes, loop_start, loop_from, from_node, up_to_node}
+use Rattle.wsm_schema.specs.Flat.{flat_of, card_at, cards_of, loop_nodes}
 use Rattle.wsm_schema.specs.Kinds.{is_loop_end}
 use Rattle.wsm_schema.specs.Rank.{IsRank}
-use Rattle.wsm_lists.specs.Rows.{AllRows}
 use Rattle.wsm_schema.specs.Rules.{Spots}
 use Rattle.wsm_lists.specs.Values.{Written}
-use Rattle.wsm_schema.specs.Trail.{is_one_of}
 use Rattle.wsm_schema.specs.Replay.{replay_of}
 use Rattle.wsm_schema.specs.Replay.{whole}
 use Rattle.wsm_schema.specs.declared.cards.Card.{Card}
@@ -31,9 +26,10 @@ pub loop-of_schema : (s : SchemaModel) → Regular s → (l e : ℕ) (c : Card) 
     LoopOf (cards_of s) (loop_nodes (cards_of s) e) l e × HasCard (cards_of s) l
 loop-of_schema s regular l e c at ends partner =
     let found = found-of s l e c at ends partner in
-    let same = loop_nodes-are s regular.distinct l e found c at ends partner in
-    (subst (λ ns. LoopOf (cards_of s) ns l e) (sym same) (loop-of s l e found regular.distinct regular.full (subst (λ ns. SyncsApart s.syncs ns l) same (regular.loops l e c at ends partner))),
-      start_card s regular.distinct l e found)
+    let same = loop_nodes-are s regular.distinct l e found c at ends partner in (
+      subst (λ ns. LoopOf (cards_of s) ns l e) (sym same) (loop-of s l e found regular.distinct regular.full (subst (λ ns. SyncsApart s.syncs ns l) same (regular.loops l e c at ends partner))),
+      start_card s regular.distinct l e found,
+    )
 
 -- where the end of a loop is running, the trail that the loop's cut leaves replays whole with the repeat behind it
 pub repeat-whole : (s : SchemaModel) → Regular s → (rank : List ℕ) → IsRank (cards_of s) rank → (l e : ℕ) (c : Card) → card_at e (cards_of s) ≡ Some c → is_loop_end c.kind ≡ true → c.partner ≡ Some l →

@@ -106,6 +106,7 @@ module _ (s : SchemaModel) (es : Entries) (m : Marking) (orderly : Orderly es)
           let r = split-choice c choice split choice_fits in
           (r.0, ap (facts_of es).choice (sym same) ∙ o.1 ∙ r.1, r.2)
 
+  -- what block flow asks holds at each place
   pub all-sane : Distinct (places s.start s.body s.finish) → AllRows (Sane s (facts_of es) m) (places s.start s.body s.finish)
   all-sane distinct =
       all-rows-map _ _ (λ p placed. record {

@@ -8,9 +8,11 @@ use Rattle.wsm_schema.specs.declared.states.Flow.TheVariants.{Yes, No}
 use Rattle.wsm_schema.specs.Rules.{is_yes}
 use Rattle.wsm_marks.specs.Timed.{Timed, before, flow, greater, latest, time}
 
+-- two that are in time have a greater one that is
 pub greater-lt : (a b q : ℕ) → nat_lt a q ≡ true → nat_lt b q ≡ true → nat_lt (greater a b) q ≡ true
-greater-lt a b q x y = elim (cases_Bool (nat_lt a b)) [ | inl less ↦ rw less y | inr more ↦ rw more x ]
+greater-lt a b q x y = elim (cases_Bool (nat_lt a b)) [ inl less ↦ rw less y | inr more ↦ rw more x ]
 
+-- the greater of two is late where the first is
 pub greater-late_left : (a b q : ℕ) → nat_lt a q ≡ false → nat_lt (greater a b) q ≡ false
 greater-late_left a b q x =
     elim (cases_Bool (nat_lt a b)) [
@@ -18,6 +20,7 @@ greater-late_left a b q x =
       | inr more ↦ rw more x
     ]
 
+-- and where the second is
 pub greater-late_right : (a b q : ℕ) → nat_lt b q ≡ false → nat_lt (greater a b) q ≡ false
 greater-late_right a b q y =
     elim (cases_Bool (nat_lt a b)) [
@@ -27,11 +30,13 @@ greater-late_right a b q y =
 
 -- of two, one is late where the greater is
 pub greater-late : (a b q : ℕ) → nat_lt (greater a b) q ≡ false → (nat_lt a q ≡ false) ⊎ (nat_lt b q ≡ false)
-greater-late a b q h = elim (cases_Bool (nat_lt a b)) [ | inl less ↦ inr (rw less at h) | inr more ↦ inl (rw more at h) ]
+greater-late a b q h = elim (cases_Bool (nat_lt a b)) [ inl less ↦ inr (rw less at h) | inr more ↦ inl (rw more at h) ]
 
+-- what is in time holds
 pub before-in_time : (q : ℕ) (x : Timed) → nat_lt (time x) q ≡ true → before q x ≡ flow x
 before-in_time q x h = rw h refl
 
+-- what is late does not
 pub before-late : (q : ℕ) (x : Timed) → nat_lt (time x) q ≡ false → before q x ≡ None
 before-late q x h = rw h refl
 
@@ -58,8 +63,9 @@ all-late test none q pos (x ∷ xs) h =
       | inr rest ↦ and_right (test (before q x)) _ (all-late test none q pos xs rest)
     ]
 
+-- nothing never holds
 pub before_none : (q : ℕ) → before q None ≡ None
-before_none q = elim (cases_Bool (nat_lt 0 q)) [ | inl soon ↦ rw soon refl | inr late ↦ rw late refl ]
+before_none q = elim (cases_Bool (nat_lt 0 q)) [ inl soon ↦ rw soon refl | inr late ↦ rw late refl ]
 
 -- what is ready before q
 pub is_ready_mark : (q : ℕ) (x : Timed) → before q x ≡ Some Yes → (t : ℕ) × (x ≡ Some (t, Yes)) × (nat_lt t q ≡ true)
@@ -75,6 +81,7 @@ is_ready_mark q (Some (t, Yes)) h =
       | inr late ↦ let p : None ≡ Some Yes = rw late at h in absurd (cc)
     ]
 
+-- what tests as True is True
 pub is_yes-some : (o : Option Flow) → is_yes o ≡ true → o ≡ Some Yes
 is_yes-some None h = absurd (both_ways _ refl h)
 is_yes-some (Some Yes) h = refl

@@ -15,6 +15,7 @@ use Rattle.wsm_marks.specs.Timed.{Marking, Solves, Timed, eq_at, eq_of, sig_at, 
 use Rattle.wsm_marks.proofs.Lists.{one_of-front, one_of-last}
 use Rattle.wsm_marks.proofs.RankInduction.{Known, in_rank, rank_induction}
 
+-- an equation goes by the signals alone
 pub eq_of-same : (c : Card) (g h : End → Timed) (k l : ℕ → Timed) → AllRows (λ e. g e ≡ h e) c.ins → AllRows (λ n. k n ≡ l n) c.syncs_in →
     eq_of c.kind (map g c.ins) (map k c.syncs_in) ≡ eq_of c.kind (map h c.ins) (map l c.syncs_in)
 eq_of-same c g h k l ins syncs =
@@ -28,6 +29,7 @@ sig_at-same cards f m m' label n h = go (card_at n cards) h
     go None h = refl
     go (Some c) h = ap (λ x. sig_by (Some c) x (f.ended n) (f.choice n) label) (h c refl)
 
+-- a node's equation goes by the marks of its sources
 pub eq_at-same : (cards : List Card) (f : Facts) (m m' : Marking) (c : Card) → AllRows (λ e. Known cards (λ k. m k ≡ m' k) e.node) c.ins → AllRows (Known cards (λ k. m k ≡ m' k)) c.syncs_in →
     eq_at cards f m c ≡ eq_at cards f m' c
 eq_at-same cards f m m' c ins syncs =
@@ -35,6 +37,7 @@ eq_at-same cards f m m' c ins syncs =
     (all-rows-map _ _ (λ e. sig_at-same cards f m m' e.label e.node) c.ins ins)
     (all-rows-map _ _ (λ n. sig_at-same cards f m m' None n) c.syncs_in syncs)
 
+-- two solutions of one net and its facts are one
 pub unique : (cards : List Card) (rank : List ℕ) → IsRank cards rank → (f : Facts) (m m' : Marking) → Solves cards f m → Solves cards f m' → (n : ℕ) (c : Card) → card_at n cards ≡ Some c → m n ≡ m' n
 unique cards rank is f m m' s s' =
     rank_induction cards rank is (λ n. m n ≡ m' n) (λ n c e ins syncs. s.meets n c e ∙ eq_at-same cards f m m' c ins syncs ∙ sym (s'.meets n c e))
@@ -45,6 +48,7 @@ put-other cards f n k None m h = refl
 put-other cards f n k (Some c) m h = rw h refl
 
 module _ (cards : List Card) (rank : List ℕ) (is : IsRank cards rank) (f : Facts) where
+  -- the nodes of a list meet their equations
   abbrev Solved : List ℕ → Marking → Type 0
   Solved front m = (k : ℕ) → is_one_of k front ≡ true → (c : Card) → card_at k cards ≡ Some c → m k ≡ eq_at cards f m c
 
@@ -79,5 +83,6 @@ module _ (cards : List Card) (rank : List ℕ) (is : IsRank cards rank) (f : Fac
   solved-all front [] m at solved = subst (λ l. Solved l m) (sym (at ∙ append-nil front)) solved
   solved-all front (n ∷ ns) m at solved = solved-all (front ++ n ∷ []) ns _ (at ∙ sym (append_assoc front (n ∷ []) ns)) (solved-next front ns n m at solved)
 
+  -- the pass meets all of them
   pub solution-solves : Solves cards f (solution cards rank f)
   solution-solves = record { meets = λ n c e. solved-all [] rank (λ _. None) refl (λ k h. absurd (both_ways _ refl h)) n (in_rank cards rank is n c e) c e }

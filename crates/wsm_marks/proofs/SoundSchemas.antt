@@ -1,22 +1,21 @@
 -- Each sound schema is regular.
-use Rattle.std.proofs.Common.{◌≡◌, ℕ, Bool, true, false, not, ◌||◌, ◌&&◌, eqb, List, [], ◌∷◌, ◌++◌, map, length, refl, ap, sym, ◌∙◌, subst, inl, inr, Option, Some, None}
+use Rattle.std.proofs.Common.{◌≡◌, ℕ, Bool, true, false, not, ◌&&◌, eqb, List, [], ◌∷◌, length, refl, ap, sym, ◌∙◌, subst, inl, inr, Option, Some, None}
 use Rattle.std.specs.Prelude.{option_map, nat_lt}
-use Rattle.std.specs.List.{list_any}
 use Rattle.std.specs.Option.{option_or}
 use Rattle.std.proofs.lemmas.Bool.{cases_Bool, both_ways, eqb-true, and_left, and_right, and_parts, or_left, or_right, or_parts}
 use Rattle.wsm_lists.specs.Rows.{AllRows}
 use Rattle.wsm_schema.specs.Tree.{Part, Parts, Lanes, act, gate, loop, nothing, part, no_lane, lane}
 use Rattle.wsm_schema.specs.SchemaModel.{SchemaModel}
 use Rattle.wsm_schema.specs.Places.{places, branch_heads}
-use Rattle.wsm_schema.specs.Flat.{card_at, cards_of, loop_nodes}
-use Rattle.wsm_schema.specs.Kinds.{is_activity, is_loop_end}
+use Rattle.wsm_schema.specs.Flat.{cards_of}
+use Rattle.wsm_schema.specs.Kinds.{is_activity}
 use Rattle.wsm_schema.specs.Replay.{has_label}
 use Rattle.wsm_schema.specs.Trail.{is_one_of}
-use Rattle.wsm_schema.specs.Sound.{first_some, when, twice, codes_of, part_block_fault, parts_block_fault, lanes_block_fault, part_has, parts_have, parts_apart, parts_loop, same_option, is_act_in, block_fault, nodes_of, Sound}
+use Rattle.wsm_schema.specs.Sound.{first_some, when, twice, codes_of, part_block_fault, parts_block_fault, lanes_block_fault, part_has, parts_have, parts_apart, parts_loop, same_option, is_act_in, block_fault, nodes_of}
 use Rattle.wsm_schema.specs.declared.cards.Card.{Card}
 use Rattle.wsm_schema.specs.declared.places.Place.{Place}
 use Rattle.wsm_schema.specs.declared.faults.BlockFault.{BlockFault}
-use Rattle.wsm_schema.specs.declared.faults.BlockFault.TheVariants.{Twice, FewBranches, CodeTwice, SyncEnd, SyncPlace, SyncLoop}
+use Rattle.wsm_schema.specs.declared.faults.BlockFault.TheVariants.{Twice, FewBranches, CodeTwice}
 use Rattle.wsm_lists.proofs.Lists.{all-rows-map, both_rows}
 use Rattle.wsm_marks.specs.Schemas.{ApartLanes, ApartPart, ApartParts, Distinct, FullLanes, FullPart, FullParts, HasCard, Regular, SyncsApart}
 use Rattle.wsm_marks.proofs.Cards.{card-nodes, nodes}
@@ -89,6 +88,7 @@ mutual
   lanes-full no_lane h = tt
   lanes-full (lane code ps ls) h = let r = no_either (parts_block_fault few ps) _ h in (parts-full ps r.0, lanes-full ls r.1)
 
+-- a block two of whose branches have one code
 abbrev code_twice : Lanes → ℕ → Option BlockFault
 code_twice ls split = option_map (CodeTwice split) (twice [] (codes_of ls))
 
@@ -147,9 +147,11 @@ same-option (Some a) None h = absurd (both_ways _ refl h)
 abbrev Acts : SchemaModel → ℕ × ℕ → Type 0
 Acts s e = (is_act_in (cards_of s) e.0 ≡ true) × (is_act_in (cards_of s) e.1 ≡ true)
 
+-- both are nodes of the tree
 abbrev There : SchemaModel → ℕ × ℕ → Type 0
 There s e = (parts_have s.body e.0 ≡ true) × (parts_have s.body e.1 ≡ true)
 
+-- both have one innermost loop
 abbrev Together : SchemaModel → ℕ × ℕ → Type 0
 Together s e = parts_loop s.body e.0 None ≡ parts_loop s.body e.1 None
 
@@ -176,13 +178,15 @@ module _ (s : SchemaModel) (distinct : Distinct (places s.start s.body s.finish)
   edge-apart : (x : ℕ × ℕ) → SoundEdge s x → (is_one_of x.0 (body_nodes s l e found) ≡ is_one_of x.1 (body_nodes s l e found)) × (eqb x.1 l ≡ false)
   edge-apart x edge =
       let In : ℕ → Bool = λ n. is_one_of n (body_nodes s l e found) in
-      let at = λ (n : ℕ) (h : parts_have s.body n ≡ true). parts-loops In n s.body None (whole_loop s l e found distinct) refl h in
-      (sym (at x.0 edge.there.0) ∙ ap (holds In) edge.together ∙ at x.1 edge.there.1,
+      let at = λ (n : ℕ) (h : parts_have s.body n ≡ true). parts-loops In n s.body None (whole_loop s l e found distinct) refl h in (
+        sym (at x.0 edge.there.0) ∙ ap (holds In) edge.together ∙ at x.1 edge.there.1,
         elim (cases_Bool (eqb x.1 l)) [
           | inl same ↦ absurd (both_ways _ start-no_act (ap (is_act_in (cards_of s)) (sym (eqb-true x.1 l same)) ∙ edge.acts.1))
           | inr other ↦ other
-        ])
+        ],
+      )
 
+-- a schema with no fault of its blocks and sync edges is regular
 pub sound-regular : (s : SchemaModel) → block_fault s ≡ None → Regular s
 sound-regular s no_fault =
     let b0 = no_either _ _ no_fault in

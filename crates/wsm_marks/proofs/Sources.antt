@@ -24,6 +24,7 @@ rows-filter P test (x ∷ xs) h =
     ]
 
 module _ (s : SchemaModel) (regular : Regular s) where
+  -- whether a node is one of the places
   abbrev Among : ℕ → Bool
   Among n = is_one_of n (nodes (places s.start s.body s.finish))
 
@@ -35,11 +36,12 @@ module _ (s : SchemaModel) (regular : Regular s) where
       let closed = parts-closed Among s.body (plain_end s.start) s.finish among.0 body.0 in
       (tt, rows-append _ (parts_places s.body (plain_end s.start) s.finish) _ closed.0 ((closed.1, tt), tt))
 
+  -- the sources of all edges into a node are nodes
   pub sources-have_cards : (n : ℕ) (c : Card) → card_at n (cards_of s) ≡ Some c → AllRows (λ x. HasCard (cards_of s) x.node) c.ins × AllRows (HasCard (cards_of s)) c.syncs_in
   sources-have_cards n c at =
       all-rows-card_at (λ d. AllRows (λ x. HasCard (cards_of s) x.node) d.ins × AllRows (HasCard (cards_of s)) d.syncs_in) n (cards_of s) c
       (rows-map _ (card_of s) (places s.start s.body s.finish) (all-rows-map _ _ (λ p ins. (
         all-rows-map _ _ (λ x among. node-has_card s x.node (places s.start s.body s.finish) among) p.ins ins,
-        rows-map _ (λ e. e.0) (filter (λ e. eqb e.1 p.node) s.syncs) (rows-filter (λ e. HasCard (cards_of s) e.0) (λ e. eqb e.1 p.node) s.syncs regular.sources)
+        rows-map _ (λ e. e.0) (filter (λ e. eqb e.1 p.node) s.syncs) (rows-filter (λ e. HasCard (cards_of s) e.0) (λ e. eqb e.1 p.node) s.syncs regular.sources),
       )) (places s.start s.body s.finish) control-sources))
       at

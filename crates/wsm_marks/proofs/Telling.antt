@@ -16,10 +16,12 @@ use Rattle.wsm_marks.proofs.Lists.{lt-suc_self, or_none, rows-last}
 abbrev pub AllBelow : ℕ → Entries → Type 0
 AllBelow q es = AllRows (λ e. nat_lt e.0 q ≡ true) es
 
+-- positions below a number are below a greater one
 pub all_below-later : (a b : ℕ) → a ≤ b → (es : Entries) → AllBelow a es → AllBelow b es
 all_below-later a b le es h = all-rows-map _ _ (λ e x. lt-ltb e.0 b (omega (arith, ltb-true e.0 a x))) es h
 
 module _ (test : Entry → Bool) where
+  -- whether an entry passes the test
   abbrev pub has_entry : Entries → Bool
   has_entry es = list_any (λ e. test e.1) es
 
@@ -33,8 +35,9 @@ module _ (test : Entry → Bool) where
       ]
 
   at_head : (q : ℕ) (e : ℕ × Entry) (es : Entries) → nat_lt e.0 q ≡ true → early q (position_of test (e ∷ es)) ≡ (test e.1 || early q (position_of test es))
-  at_head q e es lt = elim (cases_Bool (test e.1)) [ | inl it ↦ rw (it, lt) refl | inr other ↦ rw other refl ]
+  at_head q e es lt = elim (cases_Bool (test e.1)) [ inl it ↦ rw (it, lt) refl | inr other ↦ rw other refl ]
 
+  -- the first entry that passes, where those in front have lower positions
   pub early-behind : (q : ℕ) (front rest : Entries) → AllBelow q front → early q (position_of test (front ++ rest)) ≡ (has_entry front || early q (position_of test rest))
   early-behind q [] rest h = refl
   early-behind q (e ∷ es) rest h =
@@ -76,12 +79,14 @@ module _ (test : Entry → Bool) where
 -- ---- a trail with one more entry
 pub has-last : (test : Entry → Bool) (es : Entries) (e : ℕ × Entry) → has_entry test (es ++ e ∷ []) ≡ (has_entry test es || test e.1)
 has-last test [] e = or-false (test e.1)
-has-last test (d ∷ ds) e = elim (cases_Bool (test d.1)) [ | inl it ↦ rw it refl | inr other ↦ rw other (has-last test ds e) ]
+has-last test (d ∷ ds) e = elim (cases_Bool (test d.1)) [ inl it ↦ rw it refl | inr other ↦ rw other (has-last test ds e) ]
 
+-- one more entry that fails the test is not found
 pub find-last : (test : Entry → Bool) (es : Entries) (e : ℕ × Entry) → test e.1 ≡ false → find (λ x. test x.1) (es ++ e ∷ []) ≡ find (λ x. test x.1) es
 find-last test [] e h = rw h refl
-find-last test (d ∷ ds) e h = elim (cases_Bool (test d.1)) [ | inl it ↦ rw it refl | inr other ↦ rw other (find-last test ds e h) ]
+find-last test (d ∷ ds) e h = elim (cases_Bool (test d.1)) [ inl it ↦ rw it refl | inr other ↦ rw other (find-last test ds e h) ]
 
+-- what is found behind entries that all fail the test
 pub find-behind : (test : Entry → Bool) (es rest : Entries) → has_entry test es ≡ false → find (λ x. test x.1) (es ++ rest) ≡ find (λ x. test x.1) rest
 find-behind test [] rest h = refl
 find-behind test (d ∷ ds) rest h =
@@ -103,21 +108,26 @@ told-behind front (e ∷ es) last below rises order =
       ends = λ n. step-head (is_end_of n) front es e last below rises;
       order = order.0;
     } in
-    let regroup : (front ++ e ∷ []) ++ es ≡ front ++ (e ∷ es) = append_assoc front (e ∷ []) es in
-    (tells, subst (λ l. Told (facts_of l) e.0 es) regroup
-    (told-behind (front ++ e ∷ []) es e.0
-    (rows-last _ front e (all_below-later (suc last) (suc e.0) (omega arith) front below) (lt-suc_self e.0))
-    rises.1 (subst (λ l. AllRows (λ d. InOrder (facts_of l) d.0 d.1) es) (sym regroup) order.1)))
+    let regroup : (front ++ e ∷ []) ++ es ≡ front ++ (e ∷ es) = append_assoc front (e ∷ []) es in (
+      tells,
+      subst (λ l. Told (facts_of l) e.0 es) regroup
+          (told-behind (front ++ e ∷ []) es e.0
+          (rows-last _ front e (all_below-later (suc last) (suc e.0) (omega arith) front below) (lt-suc_self e.0))
+          rises.1 (subst (λ l. AllRows (λ d. InOrder (facts_of l) d.0 d.1) es) (sym regroup) order.1)),
+    )
 
+-- an orderly trail tells its facts
 pub orderly-told : (es : Entries) → Orderly es → Told (facts_of es) 0 es
 orderly-told es orderly = told-behind [] es 0 tt orderly.rises orderly.order
 
+-- nothing is told before position 1
 pub orderly-fresh : (es : Entries) → Orderly es → Fresh (facts_of es)
 orderly-fresh es orderly = record {
   starts = λ n. rest-late (is_start_of n) 1 0 (omega arith) es orderly.rises;
   ends = λ n. rest-late (is_end_of n) 1 0 (omega arith) es orderly.rises;
 }
 
+-- nothing is told behind the last position
 pub told-end : (f : Facts) (last : ℕ) (es : Entries) → Told f last es → (q : ℕ) → nat_lt (last_position last es) q ≡ true → Quiet f (suc (last_position last es)) q
 told-end f last [] h q lt = h q lt
 told-end f last (e ∷ es) h q lt = told-end f e.0 es h.1 q lt

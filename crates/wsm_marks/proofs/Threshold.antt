@@ -53,6 +53,7 @@ late-sync true s false a b q pos x l = sym (ap verdict_of (before-in_time q None
 late-sync false true y a b q pos x l = sym (ap verdict_of (before-in_time q (Some (a, No)) x))
 late-sync false false y a b q pos x l = sym (ap verdict_of (before-in_time q None pos))
 
+-- the node rule on what the edges signal before q is what the node's equation says before q
 pub threshold : (q : ℕ) → nat_lt 0 q ≡ true → (k : NodeKind) (cs ss : List Timed) →
     judge_of k (map (before q) cs) (map (before q) ss) ≡ verdict_of (before q (eq_of k cs ss))
 threshold q pos k cs ss =

@@ -50,6 +50,7 @@ begun_in-last es e n s no_start no_end =
     rw (en, st, find-last (is_end_of n) es e no_end) refl
 
 module _ (cards : List Card) where
+  -- a table that shows what a trail has begun
   record Shown (es : Entries) (t : Spots) : Type 0 where
     is : (n : ℕ) (c : Card) → card_at n cards ≡ Some c → (s : Spot) → (if is_begun c.kind (spot_in n t).state then spot_in n t else s) ≡ begun_in es n s
     works : (n : ℕ) (c : Card) → card_at n cards ≡ Some c → has_entry (is_start_of n) es ≡ true → worked_on c.kind ≡ true
@@ -95,6 +96,7 @@ module _ (cards : List Card) where
       has_length : (ds : List Card) → card_at n ds ≡ Some c → length ds ≡ 0 → ⊥
       has_length [] p l = cc
       has_length (d ∷ ds) p l = omega arith
+
       go : (k : ℕ) → (k ≡ 0 → ⊥) → (spot_in n (iterate (round cards) k old)).state ≡ state.Activated → worked_on c.kind ≡ true
       go zero no_zero p = absurd (no_zero refl)
       go (suc k) no_zero p = calm-round (iterate (round cards) k old) n c e (ap (λ x. (spot_in n x).state) (sym (iterate-last (round cards) k old)) ∙ p)
@@ -188,18 +190,22 @@ module _ (g : FlatModel) (value : ℕ → ℕ → Option Value) where
   ordered-step es rest (p, entry.Start node user reads) t below shown calm fit =
       let s = on_card-true (card_at node g.cards) _ fit in
       let now = is_activated (spot_in node t).state (and_parts (is_in_state (spot_in node t).state state.Activated) _ s.2).0 in
-      let no = not_begun g.cards es t shown node s.0 s.1 now in
-      (position-behind (is_start_of node) es rest (p, entry.Start node user reads) no.0 (eq-eqb node node refl),
-        (shown-settle g.cards _ _ (shown-start g.cards es p node user reads t s.0 s.1 (calm node s.0 s.1 now) no.1 shown), calm-settle g.cards _))
+      let no = not_begun g.cards es t shown node s.0 s.1 now in (
+        position-behind (is_start_of node) es rest (p, entry.Start node user reads) no.0 (eq-eqb node node refl),
+        (shown-settle g.cards _ _ (shown-start g.cards es p node user reads t s.0 s.1 (calm node s.0 s.1 now) no.1 shown), calm-settle g.cards _),
+      )
   ordered-step es rest (p, entry.End node writes choice) t below shown calm fit =
       let s = on_card-true (card_at node g.cards) _ fit in
       let now = is_running (spot_in node t).state (and_parts (is_in_state (spot_in node t).state state.Running) _ (and_parts (is_in_state (spot_in node t).state state.Running && fits_edges g.elements writes s.0.writes) (fits_choice s.0 choice) s.2).0).0 in
       let so = only_begun g.cards es t shown node s.0 s.1 now in
-      let own : is_end_of node (entry.End node writes choice) ≡ true = eq-eqb node node refl in
-      ((position-behind (is_end_of node) es rest (p, entry.End node writes choice) so.1 own,
-        ap choice_of (find-behind (is_end_of node) es ((p, entry.End node writes choice) ∷ rest) so.1) ∙ rw own refl,
-        early-behind (is_start_of node) p es ((p, entry.End node writes choice) ∷ rest) below ∙ or_left (has_entry (is_start_of node) es) _ so.0),
-        (shown-settle g.cards _ _ (shown-end g.cards es p node writes choice t so.0 so.1 shown), calm-settle g.cards _))
+      let own : is_end_of node (entry.End node writes choice) ≡ true = eq-eqb node node refl in (
+        (
+          position-behind (is_end_of node) es rest (p, entry.End node writes choice) so.1 own,
+          ap choice_of (find-behind (is_end_of node) es ((p, entry.End node writes choice) ∷ rest) so.1) ∙ rw own refl,
+          early-behind (is_start_of node) p es ((p, entry.End node writes choice) ∷ rest) below ∙ or_left (has_entry (is_start_of node) es) _ so.0,
+        ),
+        (shown-settle g.cards _ _ (shown-end g.cards es p node writes choice t so.0 so.1 shown), calm-settle g.cards _),
+      )
   ordered-step es rest (p, entry.Again node writes) t below shown calm fit =
       (tt, (shown-other g.cards es (p, entry.Again node writes) t (λ n. refl) (λ n. refl) shown, calm))
   ordered-step es rest (p, entry.Wrote writes) t below shown calm fit =
@@ -215,11 +221,13 @@ module _ (g : FlatModel) (value : ℕ → ℕ → Option Value) where
         | inl fit ↦
             let s = ordered-step es rest e t more shown calm fit in
             let next : replay_from g value rest (after g.cards e.1 t) ≡ whole end = rw fit at w in
-            let regroup : (es ++ e ∷ []) ++ rest ≡ es ++ (e ∷ rest) = append_assoc es (e ∷ []) rest in
-            (s.0, subst (λ l. AllRows (λ d. InOrder (facts_of l) d.0 d.1) rest) regroup
-            (ordered (es ++ e ∷ []) rest e.0 (after g.cards e.1 t) end
-            (rows-last _ es e (all_below-later e.0 (suc e.0) (omega arith) es more) (lt-suc_self e.0))
-            rises.1 s.1.0 s.1.1 next))
+            let regroup : (es ++ e ∷ []) ++ rest ≡ es ++ (e ∷ rest) = append_assoc es (e ∷ []) rest in (
+              s.0,
+              subst (λ l. AllRows (λ d. InOrder (facts_of l) d.0 d.1) rest) regroup
+                  (ordered (es ++ e ∷ []) rest e.0 (after g.cards e.1 t) end
+                  (rows-last _ es e (all_below-later e.0 (suc e.0) (omega arith) es more) (lt-suc_self e.0))
+                  rises.1 s.1.0 s.1.1 next),
+            )
         | inr misfit ↦ let p : fails e.0 ≡ whole end = rw misfit at w in absurd (cc)
       ]
 
@@ -228,5 +236,5 @@ pub whole-orderly : (g : FlatModel) (es : Entries) (t : Spots) → RisesAfter 0 
 whole-orderly g es t rises w = record {
   rises = rises;
   order = ordered g (λ d p. value_below d p es) [] es 0 (settle g.cards []) t tt rises
-  (shown-settle g.cards [] [] (record { is = λ n c h s. refl; works = λ n c h b. absurd (both_ways _ refl b) })) (calm-settle g.cards []) w;
+      (shown-settle g.cards [] [] (record { is = λ n c h s. refl; works = λ n c h b. absurd (both_ways _ refl b) })) (calm-settle g.cards []) w;
 }

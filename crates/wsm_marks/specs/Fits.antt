@@ -25,6 +25,7 @@ InOrder f p (entry.End node writes choice) = (f.ended node ≡ Some p) × (f.cho
 InOrder f p (entry.Again node writes) = Unit {0}
 InOrder f p (entry.Wrote writes) = Unit {0}
 
+-- positions that rise, and entries in order
 pub record Orderly (es : Entries) : Type 0 where
   pub rises : RisesAfter 0 es
   pub order : AllRows (λ e. InOrder (facts_of es) e.0 e.1) es
@@ -52,6 +53,7 @@ abbrev pub partner_done : List Card → Facts → Marking → ℕ → Option ℕ
 partner_done cards f m p None = false
 partner_done cards f m p (Some n) = on_card (card_at n cards) (λ d. if worked_on d.kind then early p (f.ended n) else is_yes (before p (m n)))
 
+-- whether an entry fits at p: by cards, facts and solution alone, with no replay
 abbrev pub fits : FlatModel → Facts → Marking → (ℕ → Option Value) → ℕ → Entry → Bool
 fits g f m value p (entry.Start node user reads) =
     on_card (card_at node g.cards) (λ c. (worked_on c.kind && is_yes (before p (m node))) && fits_reads value reads c.reads)
@@ -59,10 +61,12 @@ fits g f m value p (entry.End node writes choice) = on_card (card_at node g.card
 fits g f m value p (entry.Again node writes) = on_card (card_at node g.cards) (λ c. is_loop_end c.kind && partner_done g.cards f m p c.partner)
 fits g f m value p (entry.Wrote writes) = true
 
+-- the position of the first entry that does not fit
 abbrev pub first_misfit : FlatModel → Facts → Marking → (ℕ → ℕ → Option Value) → Entries → Option ℕ
 first_misfit g f m value [] = None
 first_misfit g f m value (e ∷ es) = if fits g f m (λ d. value d e.0) e.0 e.1 then first_misfit g f m value es else Some e.0
 
+-- the last position, or the one before the first entry
 abbrev pub last_position : ℕ → Entries → ℕ
 last_position last [] = last
 last_position last (e ∷ es) = last_position e.0 es

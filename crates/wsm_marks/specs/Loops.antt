@@ -43,6 +43,7 @@ pub record Cleared (body : List ℕ) (f f' : Facts) : Type 0 where
   pub no_start : (n : ℕ) → is_one_of n body ≡ true → f'.started n ≡ None
   pub no_end : (n : ℕ) → is_one_of n body ≡ true → f'.ended n ≡ None
 
+-- the entries that a cut leaves
 abbrev pub cut_entries : List ℕ → Entries → Entries
 cut_entries body es = filter_map (λ e. cut_entry body e.0 e.1) es
 

@@ -23,10 +23,12 @@ Entries = List (ℕ × Entry)
 abbrev pub Timed : Type 0
 Timed = Option (ℕ × Flow)
 
+-- what holds of it
 abbrev pub flow : Timed → Option Flow
 flow None = None
 flow (Some x) = Some x.1
 
+-- since when; 0 where nothing holds
 abbrev pub time : Timed → ℕ
 time None = 0
 time (Some x) = x.0
@@ -35,9 +37,11 @@ time (Some x) = x.0
 abbrev pub before : ℕ → Timed → Option Flow
 before q x = if nat_lt (time x) q then flow x else None
 
+-- the greater of two numbers
 abbrev pub greater : ℕ → ℕ → ℕ
 greater a b = if nat_lt a b then b else a
 
+-- the greatest time of a list
 abbrev pub latest : List Timed → ℕ
 latest [] = 0
 latest (x ∷ xs) = greater (time x) (latest xs)
@@ -47,6 +51,7 @@ abbrev pub awaited : {X : Type 0} → NodeKind → List X → List X
 awaited Start xs = []
 awaited _ xs = xs
 
+-- a verdict with its time: a node is ready when the last of its edges is signaled, and skipped when the last of its control edges is
 abbrev pub timed_by : Verdict → ℕ → ℕ → Timed
 timed_by verdict.Waiting a b = None
 timed_by verdict.Ready a b = Some (greater a b, Yes)
@@ -56,11 +61,13 @@ timed_by verdict.Skipped a b = Some (a, No)
 abbrev pub eq_of : NodeKind → List Timed → List Timed → Timed
 eq_of kind control syncs = timed_by (judge_of kind (map flow control) (map flow syncs)) (latest (awaited kind control)) (latest syncs)
 
+-- the verdict that a mark shows
 abbrev pub verdict_of : Option Flow → Verdict
 verdict_of None = verdict.Waiting
 verdict_of (Some Yes) = verdict.Ready
 verdict_of (Some No) = verdict.Skipped
 
+-- the signal of a node that is worked on, by its End and by the choice of that End
 abbrev pub ended_signal : NodeKind → Option ℕ → Option ℕ → Option ℕ → Timed
 ended_signal kind None choice label = None
 ended_signal kind (Some t) choice label = Some (t, if is_xor_split kind && not (is_chosen choice label) then No else Yes)
@@ -71,16 +78,20 @@ sig_of kind (Some (t, No)) ended choice label = Some (t, No)
 sig_of kind (Some (t, Yes)) ended choice label = if worked_on kind then ended_signal kind ended choice label else Some (t, Yes)
 sig_of kind None ended choice label = if worked_on kind then ended_signal kind ended choice label else None
 
+-- a mark for each node
 abbrev pub Marking : Type 0
 Marking = ℕ → Timed
 
+-- the same by its source's card; an edge from no node of the net signals nothing
 abbrev pub sig_by : Option Card → Timed → Option ℕ → Option ℕ → Option ℕ → Timed
 sig_by None x ended choice label = None
 sig_by (Some c) x ended choice label = sig_of c.kind x ended choice label
 
+-- the timed signal of an edge from a node
 abbrev pub sig_at : List Card → Facts → Marking → Option ℕ → ℕ → Timed
 sig_at cards f m label n = sig_by (card_at n cards) (m n) (f.ended n) (f.choice n) label
 
+-- the equation of a card's node
 abbrev pub eq_at : List Card → Facts → Marking → Card → Timed
 eq_at cards f m c = eq_of c.kind (map (λ e. sig_at cards f m e.label e.node) c.ins) (map (sig_at cards f m None) c.syncs_in)
 
@@ -103,6 +114,7 @@ begun_or q f n s =
 abbrev pub spot_before : ℕ → Facts → Marking → NodeKind → ℕ → Spot
 spot_before q f m kind n = begun_or q f n (spot n (state_by kind (verdict_of (before q (m n)))) None)
 
+-- the marking before q: the spots of all cards' nodes
 abbrev pub below : List Card → ℕ → Facts → Marking → Spots
 below cards q f m = map (λ c. spot_before q f m c.kind c.node) cards
 

@@ -1,4 +1,4 @@
--- A pass over a region of the rank alone gives the solution, where outside the region it is known.
+-- Where the solution is known outside a region, a pass over the nodes of the region alone gives it.
 use Rattle.std.proofs.Common.{◌≡◌, ℕ, Bool, true, false, eqb, List, [], ◌∷◌, ◌++◌, refl, ap, sym, ◌∙◌, subst, inl, inr, ◌⊎◌, Some, append_assoc, append-nil}
 use Rattle.std.specs.Prelude.{if◌then◌else◌}
 use Rattle.std.proofs.lemmas.Bool.{cases_Bool, both_ways, eqb-true, eq-eqb}
@@ -43,7 +43,7 @@ module _ (cards : List Card) (rank : List ℕ) (is : IsRank cards rank) (f : Fac
       let which : (n ≡ k) ⊎ ((inside k ≡ false) ⊎ (is_one_of k front ≡ true)) =
       elim known [
         | inl out ↦ inr (inl out)
-        | inr in_k ↦ elim (one_of-last k front n in_k) [ | inl there ↦ inr (inr there) | inr last ↦ inl last ]
+        | inr in_k ↦ elim (one_of-last k front n in_k) [ inl there ↦ inr (inr there) | inr last ↦ inl last ]
       ] in
       elim (cases_Bool (inside n)) [
         | inl it ↦ rw it (put-right front rest n m at right k c e which)
@@ -53,10 +53,11 @@ module _ (cards : List Card) (rank : List ℕ) (is : IsRank cards rank) (f : Fac
         ])
       ]
 
-  relax-right : (front rest : List ℕ) (m : Marking) → rank ≡ front ++ rest → Right front m → (k : ℕ) (c : Card) → card_at k cards ≡ Some c → is_one_of k rank ≡ true → solve_inside cards f inside rest m k ≡ new k
-  relax-right front [] m at right k c e in_k = right k c e (inr (subst (λ l. is_one_of k l ≡ true) (at ∙ append-nil front) in_k))
-  relax-right front (n ∷ ns) m at right k c e in_k = relax-right (front ++ n ∷ []) ns _ (at ∙ sym (append_assoc front (n ∷ []) ns)) (right-next front ns n m at right) k c e in_k
+  inside-right : (front rest : List ℕ) (m : Marking) → rank ≡ front ++ rest → Right front m → (k : ℕ) (c : Card) → card_at k cards ≡ Some c → is_one_of k rank ≡ true → solve_inside cards f inside rest m k ≡ new k
+  inside-right front [] m at right k c e in_k = right k c e (inr (subst (λ l. is_one_of k l ≡ true) (at ∙ append-nil front) in_k))
+  inside-right front (n ∷ ns) m at right k c e in_k = inside-right (front ++ n ∷ []) ns _ (at ∙ sym (append_assoc front (n ∷ []) ns)) (right-next front ns n m at right) k c e in_k
 
-  pub relax-is : (old : Marking) → ((k : ℕ) (c : Card) → card_at k cards ≡ Some c → inside k ≡ false → old k ≡ new k) → (k : ℕ) (c : Card) → card_at k cards ≡ Some c → solve_inside cards f inside rank old k ≡ new k
-  relax-is old outside k c e =
-      relax-right [] rank old refl (λ j d found known. elim known [ | inl out ↦ outside j d found out | inr h ↦ absurd (both_ways _ refl h) ]) k c e (in_rank cards rank is k c e)
+  -- the pass over a region gives the solution, where outside of it the marks were those of the solution
+  pub solve_inside-is : (old : Marking) → ((k : ℕ) (c : Card) → card_at k cards ≡ Some c → inside k ≡ false → old k ≡ new k) → (k : ℕ) (c : Card) → card_at k cards ≡ Some c → solve_inside cards f inside rank old k ≡ new k
+  solve_inside-is old outside k c e =
+      inside-right [] rank old refl (λ j d found known. elim known [ inl out ↦ outside j d found out | inr h ↦ absurd (both_ways _ refl h) ]) k c e (in_rank cards rank is k c e)
