@@ -110,7 +110,7 @@ module _ (cards : List Card) (q : ℕ) (f : Facts) (m : Marking) where
       go None e = sym (before_none q)
       go (Some c) e = ap (λ s. source_signal (Some c) s label) (spot_in-below n c e) ∙ signal-before in_time n c e label
 
--- what a causality proof is about
+-- a net that has a rank, with a solution of its equations
 pub record TimedNet (cards : List Card) (rank : List ℕ) (f : Facts) (m : Marking) : Type 0 where
   pub ranked : IsRank cards rank
   pub solves : Solves cards f m

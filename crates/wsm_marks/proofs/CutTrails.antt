@@ -25,11 +25,11 @@ use Rattle.wsm_marks.proofs.Cards.{on_card-same}
 use Rattle.wsm_marks.proofs.Causality.{TimedNet}
 use Rattle.wsm_marks.proofs.CutOutside.{cut_outside, ready-back}
 use Rattle.wsm_marks.proofs.EntrySteps.{in_time-later}
-use Rattle.wsm_marks.proofs.FirstFailure.{fits-rows, replay-ends, rows-fit}
+use Rattle.wsm_marks.proofs.FirstFailure.{fits-rows, rows-fit}
 use Rattle.wsm_marks.proofs.Lists.{rows-last}
 use Rattle.wsm_marks.proofs.MarksOfTrails.{whole-fits}
 use Rattle.wsm_marks.proofs.Signals.{is_ready_mark}
-use Rattle.wsm_marks.proofs.Telling.{AllBelow, find-last, orderly-fresh, orderly-told, told-end}
+use Rattle.wsm_marks.proofs.Telling.{AllBelow, find-last, orderly-told, told-end, trail-ends}
 
 -- what a cut makes of an entry: it stays, it goes, or its writes stay
 data Cut (body : List ℕ) (p : ℕ) (x : Entry) : Option (ℕ × Entry) → Type 0 where
@@ -243,7 +243,7 @@ module _ (g : FlatModel) (rank : List ℕ) (body : List ℕ) (l e : ℕ) (loop :
   cut-whole t is_whole c d at_e ends partner at_l begun open_end =
       let fit : first_misfit g f m (λ x q. value_below x q es) es ≡ None = whole-fits g rank es m net orderly t is_whole in
       let pos : nat_lt 0 p ≡ true = (rises-below 0 p es orderly.rises next).1 in
-      let at_end : InTime g.cards (suc (last_position 0 es)) f m = in_time_end fit (replay-ends g rank f m net es (orderly-told es orderly) (orderly-fresh es orderly)) in
+      let at_end : InTime g.cards (suc (last_position 0 es)) f m = in_time_end fit (trail-ends g rank es m net orderly) in
       let in_time : InTime g.cards p f m =
       in_time-later g.cards f m (suc (last_position 0 es)) p (omega (arith, ltb-true (last_position 0 es) p next)) (told-end f 0 es (orderly-told es orderly) p next) at_end in
       let ready_e : before p (m e) ≡ Some Yes = (in_time.start e begun).3 in
@@ -253,7 +253,7 @@ module _ (g : FlatModel) (rank : List ℕ) (body : List ℕ) (l e : ℕ) (loop :
       let same = cut_outside g.cards rank net.ranked f f' m m' net.solves net'.solves body l e loop cleared_so open_end (ap (λ x. is_no (flow x)) mark_e.1) (ap (λ x. is_no (flow x)) mark_l.1) in
       let ready_l' : before p (m' l) ≡ Some Yes = ap (before p) (sym (same l d at_l (inr refl))) ∙ ready_l in
       let again : fits g f' m' (λ x. value_below x p es') p (entry.Again e w) ≡ true = rw (at_e, ends, partner, at_l, loop.silent d at_l, ready_l') refl in
-      finish (fits-cut same fit again) (replay-ends g rank f' m' net' es' (orderly-told es' orderly-cut) (orderly-fresh es' orderly-cut))
+      finish (fits-cut same fit again) (trail-ends g rank es' m' net' orderly-cut)
     where
       in_time_end : first_misfit g f m (λ x q. value_below x q es) es ≡ None → Ends g.cards f m (suc (last_position 0 es)) (first_misfit g f m (λ x q. value_below x q es) es) (replay_of g es) → InTime g.cards (suc (last_position 0 es)) f m
       in_time_end fit h = (subst (λ o. Ends g.cards f m (suc (last_position 0 es)) o (replay_of g es)) fit h).3

@@ -8,11 +8,11 @@ use Rattle.wsm_schema.specs.Replay.{fails, replay_of}
 use Rattle.wsm_schema.specs.Sound.{nodes_of}
 use Rattle.wsm_schema.specs.Trail.{value_below}
 use Rattle.wsm_schema.specs.declared.entries.Entry.TheVariants as entry
+use Rattle.wsm_schema.specs.declared.states.Flow.TheVariants.{No}
 use Rattle.wsm_marks.specs.Fits.{first_misfit}
 use Rattle.wsm_marks.specs.MarkBy.{mark_by}
 use Rattle.wsm_marks.specs.Solving.{solution}
 use Rattle.wsm_marks.specs.Timed.{Entries, Marking}
-use Rattle.wsm_schema.specs.declared.states.Flow.TheVariants.{No}
 
 -- a choice between nothing and two activities, then two more
 abbrev with_two : ℕ → ℕ → SchemaModel

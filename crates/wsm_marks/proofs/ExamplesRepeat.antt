@@ -6,13 +6,13 @@ use Rattle.wsm_schema.specs.Flat.{FlatModel, flat_of, loop_nodes}
 use Rattle.wsm_schema.specs.Marks.{facts_of, marks_of, list_marks}
 use Rattle.wsm_schema.specs.Sound.{nodes_of}
 use Rattle.wsm_schema.specs.declared.entries.Entry.TheVariants as entry
+use Rattle.wsm_schema.specs.declared.states.Flow.TheVariants.{Yes, No}
 use Rattle.wsm_marks.specs.MarkBy.{mark_by}
 use Rattle.wsm_marks.specs.Schemas.{Regular}
 use Rattle.wsm_marks.specs.Solving.{solution}
 use Rattle.wsm_marks.specs.Timed.{Entries, Marking, is_marked}
 use Rattle.wsm_marks.proofs.CutTrails.{repeated}
 use Rattle.wsm_marks.proofs.SoundSchemas.{sound-regular}
-use Rattle.wsm_schema.specs.declared.states.Flow.TheVariants.{Yes, No}
 
 -- beside each other: a loop from 4 to 5 with activity 6, and then activity 7; a choice at 8 between activity 10, which waits for 7, and nothing, and then activity 11
 abbrev schema : SchemaModel

@@ -17,16 +17,19 @@ use Rattle.wsm_schema.specs.declared.states.Flow.TheVariants.{Yes, No}
 use Rattle.wsm_schema.specs.declared.states.State.{State}
 use Rattle.wsm_schema.specs.declared.states.State.TheVariants as state
 use Rattle.wsm_lists.specs.declared.values.Value.{Value}
-use Rattle.wsm_marks.specs.Fits.{Ends, Fresh, Orderly, Quiet, Tells, Told, first_misfit, fits, last_position}
+use Rattle.wsm_marks.specs.Fits.{Ends, Fresh, Orderly, Quiet, RisesAfter, Tells, Told, first_misfit, fits, last_position}
 use Rattle.wsm_marks.specs.MarkBy.{mark_by, since}
+use Rattle.wsm_marks.specs.Solving.{solution}
 use Rattle.wsm_marks.specs.Timed.{Entries, InTime, IsBelow, Marking, Timed, before, early, verdict_of}
 use Rattle.wsm_marks.proofs.Cards.{each_has_card}
-use Rattle.wsm_marks.proofs.Causality.{TimedNet, works_before}
+use Rattle.wsm_marks.proofs.Causality.{TimedNet, solved_net, works_before}
 use Rattle.wsm_marks.proofs.EntrySteps.{below-after, in_time-after, in_time-later, slide}
-use Rattle.wsm_marks.proofs.FirstFailure.{below-first, in_time-first, replay-ends}
+use Rattle.wsm_marks.proofs.FirstFailure.{below-first, in_time-first}
 use Rattle.wsm_marks.proofs.Lists.{fold-same}
 use Rattle.wsm_marks.proofs.Signals.{before_none}
-use Rattle.wsm_marks.proofs.Telling.{orderly-fresh, orderly-told}
+use Rattle.wsm_marks.proofs.Telling.{orderly-fresh, orderly-told, trail-ends}
+use Rattle.wsm_marks.proofs.WholeTrails.{whole-orderly}
+use Rattle.wsm_schema.specs.Rank.{IsRank}
 
 -- which test of a state belongs to which flow
 abbrev pub shows : Flow → State → Bool
@@ -134,7 +137,7 @@ not_before_zero (Some t) = le-ltb t 0 (omega arith)
 module _ (g : FlatModel) (rank : List ℕ) (es : Entries) (m : Marking) (net : TimedNet g.cards rank (facts_of es) m) (orderly : Orderly es) where
   -- each entry of a trail that replays whole fits
   pub whole-fits : (t : Spots) → replay_of g es ≡ whole t → first_misfit g (facts_of es) m (λ d p. value_below d p es) es ≡ None
-  whole-fits t w = go (first_misfit g (facts_of es) m (λ d p. value_below d p es) es) (replay-ends g rank (facts_of es) m net es (orderly-told es orderly) (orderly-fresh es orderly))
+  whole-fits t w = go (first_misfit g (facts_of es) m (λ d p. value_below d p es) es) (trail-ends g rank es m net orderly)
     where
       go : (o : Option ℕ) → Ends g.cards (facts_of es) m (suc (last_position 0 es)) o (replay_of g es) → o ≡ None
       go None h = refl
@@ -158,3 +161,9 @@ module _ (g : FlatModel) (rank : List ℕ) (es : Entries) (m : Marking) (net : T
       fold-same (λ c. (d : Card) × (card_at c.node g.cards ≡ Some d)) _ _
       (λ ms c has. ap (λ k. if says_something k then put_row mark_key (c.node, k) ms else ms) (marks-are t w c.node has.0 has.1))
       g.cards (each_has_card g.cards) []
+
+-- the same with no premise but that the trail replays whole
+pub whole-marks : (g : FlatModel) (rank : List ℕ) → IsRank g.cards rank → (es : Entries) (t : Spots) → RisesAfter 0 es → replay_of g es ≡ whole t →
+    marks_of g es ≡ list_marks (mark_by (solution g.cards rank (facts_of es)) es) g.cards
+whole-marks g rank is es t rises is_whole =
+    marks-listed g rank es (solution g.cards rank (facts_of es)) (solved_net g.cards rank is (facts_of es)) (whole-orderly g es t rises is_whole) t is_whole

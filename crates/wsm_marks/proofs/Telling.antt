@@ -1,5 +1,5 @@
 -- The facts of a trail are told by its entries, one at each position.
-use Rattle.std.proofs.Common.{◌≡◌, ℕ, suc, ◌<◌, ◌≤◌, Bool, true, false, ◌||◌, [], ◌∷◌, ◌++◌, refl, ap, sym, ◌∙◌, subst, inl, inr, arith, append_assoc}
+use Rattle.std.proofs.Common.{◌≡◌, ℕ, suc, ◌<◌, ◌≤◌, Bool, true, false, ◌||◌, [], ◌∷◌, ◌++◌, refl, ap, sym, ◌∙◌, subst, inl, inr, arith, append_assoc, List}
 use Rattle.std.specs.Prelude.{nat_lt, find}
 use Rattle.std.specs.List.{list_any}
 use Rattle.std.proofs.lemmas.Bool.{cases_Bool, ltb-true, lt-ltb, le-ltb, or_parts}
@@ -8,9 +8,14 @@ use Rattle.wsm_schema.specs.Marks.{is_start_of, is_end_of, position_of, facts_of
 use Rattle.wsm_schema.specs.declared.entries.Entry.{Entry}
 use Rattle.std.proofs.Math.Bool.{or-false}
 use Rattle.wsm_lists.proofs.Lists.{all-rows-map}
-use Rattle.wsm_marks.specs.Fits.{Fresh, InOrder, Orderly, Quiet, RisesAfter, Tells, Told, last_position}
-use Rattle.wsm_marks.specs.Timed.{Entries, below, early}
+use Rattle.wsm_marks.specs.Fits.{Ends, Fresh, InOrder, Orderly, Quiet, RisesAfter, Tells, Told, first_misfit, last_position}
+use Rattle.wsm_marks.specs.Timed.{Entries, Marking, below, early}
+use Rattle.wsm_marks.proofs.Causality.{TimedNet}
+use Rattle.wsm_marks.proofs.FirstFailure.{replay-ends}
 use Rattle.wsm_marks.proofs.Lists.{lt-suc_self, or_none, rows-last}
+use Rattle.wsm_schema.specs.Flat.{FlatModel}
+use Rattle.wsm_schema.specs.Trail.{value_below}
+use Rattle.wsm_schema.specs.Replay.{replay_of}
 
 -- all positions below q
 abbrev pub AllBelow : ℕ → Entries → Type 0
@@ -131,3 +136,8 @@ orderly-fresh es orderly = record {
 pub told-end : (f : Facts) (last : ℕ) (es : Entries) → Told f last es → (q : ℕ) → nat_lt (last_position last es) q ≡ true → Quiet f (suc (last_position last es)) q
 told-end f last [] h q lt = h q lt
 told-end f last (e ∷ es) h q lt = told-end f e.0 es h.1 q lt
+
+-- first failure of a trail: its replay fails at the first entry that does not fit, else it ends with the marking behind the last position
+pub trail-ends : (g : FlatModel) (rank : List ℕ) (es : Entries) (m : Marking) → TimedNet g.cards rank (facts_of es) m → Orderly es →
+    Ends g.cards (facts_of es) m (suc (last_position 0 es)) (first_misfit g (facts_of es) m (λ d p. value_below d p es) es) (replay_of g es)
+trail-ends g rank es m net orderly = replay-ends g rank (facts_of es) m net es (orderly-told es orderly) (orderly-fresh es orderly)

@@ -48,7 +48,7 @@ abbrev pub Told : Facts → ℕ → Entries → Type 0
 Told f last [] = (q : ℕ) → nat_lt last q ≡ true → Quiet f (ℕ.suc last) q
 Told f last (e ∷ es) = Tells f last e.0 e.1 × Told f e.0 es
 
--- whether an entry fits a solution
+-- whether the start of a loop is done before p
 abbrev pub partner_done : List Card → Facts → Marking → ℕ → Option ℕ → Bool
 partner_done cards f m p None = false
 partner_done cards f m p (Some n) = on_card (card_at n cards) (λ d. if worked_on d.kind then early p (f.ended n) else is_yes (before p (m n)))

@@ -1,7 +1,10 @@
 -- Regions of a net: outside of them nothing differs.
-use Rattle.std.specs.Prelude.{◌≡◌, ℕ, Bool, false, List, [], ◌∷◌, Option, Some, None, if◌then◌else◌}
+use Rattle.std.specs.Prelude.{◌≡◌, ℕ, Bool, true, false, List, [], ◌∷◌, Option, Some, None, if◌then◌else◌}
 use Rattle.wsm_lists.specs.Rows.{AllRows}
+use Rattle.wsm_lists.specs.Values.{Written}
 use Rattle.wsm_lists.specs.declared.values.Value.{Value}
+use Rattle.wsm_schema.specs.Kinds.{is_loop_end}
+use Rattle.wsm_schema.specs.Replay.{fits_edges}
 use Rattle.wsm_schema.specs.Flat.{FlatModel, card_at}
 use Rattle.wsm_schema.specs.Marks.{Facts}
 use Rattle.wsm_schema.specs.declared.cards.Card.{Card}
@@ -17,6 +20,14 @@ pub record Closed (cards1 : List Card) (f1 : Facts) (cards2 : List Card) (f2 : F
   pub choice : (n : ℕ) → inside n ≡ false → f1.choice n ≡ f2.choice n
   pub ins : (n : ℕ) (c : Card) → card_at n cards2 ≡ Some c → inside n ≡ false → AllRows (λ e. inside e.node ≡ false) c.ins
   pub syncs : (n : ℕ) (c : Card) → card_at n cards2 ≡ Some c → inside n ≡ false → AllRows (λ k. inside k ≡ false) c.syncs_in
+
+-- what local re-marking asks of a region: outside of it cards are the same and write elements of the same kinds, and neither an edge of the second flat form nor a loop leads out of it
+pub record Region (g1 g2 : FlatModel) (inside : ℕ → Bool) : Type 0 where
+  pub cards : (n : ℕ) → inside n ≡ false → card_at n g1.cards ≡ card_at n g2.cards
+  pub kinds : (n : ℕ) (c : Card) → card_at n g2.cards ≡ Some c → inside n ≡ false → (w : Written) → fits_edges g1.elements w c.writes ≡ fits_edges g2.elements w c.writes
+  pub ins : (n : ℕ) (c : Card) → card_at n g2.cards ≡ Some c → inside n ≡ false → AllRows (λ e. inside e.node ≡ false) c.ins
+  pub syncs : (n : ℕ) (c : Card) → card_at n g2.cards ≡ Some c → inside n ≡ false → AllRows (λ k. inside k ≡ false) c.syncs_in
+  pub partners : (n k : ℕ) (c : Card) → card_at n g2.cards ≡ Some c → inside n ≡ false → is_loop_end c.kind ≡ true → c.partner ≡ Some k → inside k ≡ false
 
 -- whether an entry is of a node of the region
 abbrev pub is_of : (ℕ → Bool) → Entry → Bool
