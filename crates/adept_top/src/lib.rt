@@ -1,12 +1,12 @@
 //! The program as one call: what it reads, what it works, and what it writes.
 #![tactic(auto)]
 
-mod commands;
+
 mod outcomes;
-mod play;
+mod playing;
 mod serial;
 
-pub use commands::adept;
+
 pub use outcomes::Outcome;
-pub use play::{LIMIT, play};
+pub use playing::play;
 pub use serial::serial_run;

@@ -1,23 +1,27 @@
 // The serial run: the lines of a file in order, on one thread.
-ghost use Rattle.std.specs.Prelude.{◌≡◌, ◌+◌, ◌≤◌, IfOk, OnOk};
+ghost use Rattle.std.specs.Prelude.{◌≡◌, ◌+◌, ◌≤◌, length, IfOk, OnOk};
 ghost use Rattle.case_core.specs.Ages.{age, weight};
-ghost use Rattle.report_text.specs.Serial.{call_case, call_kind, opening, worked, serial};
-ghost use Rattle.type_core.specs.Machine.{DefinesInOrder};
+ghost use Rattle.report_text.specs.Serial.{acted, actor, call_case, call_kind, opening, worked, serial};
+ghost use Rattle.type_core.specs.Machine.{DefinesInOrder, next_kind};
 ghost use Rattle.wsm_sound.specs.Ordered.{IsInOrder};
 
-use case_core::{Case, Event, Reply};
+use case_core::{Case, Event};
 use process_text::{Act, File, Line};
 use report_text::{CaseEntry, CaseJournal, ClosedCase, ClosedKind, KindEntry, KindJournal, Run};
 use std::alloc::Global;
 use type_core::{Kind, KindEvent, KindReply};
 use wsm_schema::{NoMemory, RoleList, Writes};
 
-/// The one actor of a file.
+/// The number of the program itself.
+const PROGRAM: u32 = 0;
+
+/// The number of a file's one actor.
 const ACTOR: u32 = 1;
 
 /// The run that makes the calls of all lines in file order, behind the definition of the type.
 pub fn serial_run(alloc: Global, file: &File) -> Result<Run, NoMemory>
-    requires { IsInOrder file.now.kind.schema }
+    requires in_order { IsInOrder file.now.kind.schema }
+    requires within { length file.now.lines ≤ 60000 }
     ensures { IfOk result (λ run. run ≡ serial file.now) }
 {
     let mut run = opening(alloc, file)?;
@@ -36,8 +40,8 @@ fn opening(alloc: Global, file: &File) -> Result<Run, NoMemory>
         machine: Kind::new(alloc, 0),
         journal: KindJournal::new(alloc),
     };
-    let event = KindEvent::Define(file.kind.schema.copy(alloc)?);
-    call_kind(alloc, &mut kind, 0, event)?;
+    let definition = KindEvent::Define(file.kind.schema.copy(alloc)?);
+    call_kind(alloc, &mut kind, PROGRAM, definition)?;
     Ok(Run {
         kind,
         case: ClosedCase {
@@ -73,4 +77,51 @@ fn work(alloc: Global, run: &mut Run, line: &Line) -> Result<(), NoMemory>
             call_case(alloc, &mut run.case, event)
         }
     }
+}
+
+// The newest version is asked for, and the case is created on it.
+fn create(alloc: Global, run: &mut Run) -> Result<(), NoMemory>
+    requires { age run.old.case.machine + 1 ≤ 4000000000 }
+    ensures run { OnOk result (run.new ≡ acted run.old Act.Create) }
+    ensures age { OnOk result (age run.new.case.machine ≤ age run.old.case.machine + 1) }
+{
+    match call_kind(alloc, &mut run.kind, ACTOR, KindEvent::Newest)? {
+        KindReply::Is(version) => call_case(alloc, &mut run.case, Event::Create(version)),
+        KindReply::Defined | KindReply::Already | KindReply::NoType => Ok(()),
+    }
+}
+
+// A call of the type: a step, and an entry of the journal.
+fn call_kind(
+    alloc: Global,
+    kind: &mut ClosedKind,
+    caller: u32,
+    event: KindEvent,
+) -> Result<KindReply, NoMemory>
+    requires { DefinesInOrder event }
+    ensures kind { IfOk result (λ reply. kind.new ≡ call_kind caller event kind.old) }
+    ensures reply { IfOk result (λ reply. reply ≡ (next_kind kind.old.machine event).1) }
+{
+    let (reply, answer) = kind.machine.step(alloc, &event)?;
+    kind.journal.push(KindEntry {
+        caller,
+        event,
+        reply,
+    })?;
+    Ok(answer)
+}
+
+// A call of the case by the actor: a step, and an entry of the journal.
+fn call_case(alloc: Global, case: &mut ClosedCase, event: Event) -> Result<(), NoMemory>
+    requires { age case.old.machine + weight event ≤ 4000000000 }
+    ensures case { OnOk result (case.new ≡ call_case actor event case.old) }
+    ensures age { OnOk result (age case.new.machine ≤ age case.old.machine + weight event) }
+{
+    let (reply, _) = case.machine.step(alloc, &event)?;
+    case.journal.push(CaseEntry {
+        caller: ACTOR,
+        event,
+        reply,
+    })?;
+    Ok(())
 }

@@ -1,2 +1,3 @@
+pub mod AgesOfSteps
 pub mod OnlyWrite
 pub mod States

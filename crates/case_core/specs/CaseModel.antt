@@ -1,5 +1,5 @@
 -- A case as contracts see it.
-use Rattle.std.specs.Prelude.{◌≡◌, ℕ, List, [], Option, Some, None, refl}
+use Rattle.std.specs.Prelude.{ℕ, List, [], Option, None}
 use Rattle.wsm_schema.specs.SchemaModel.{SchemaModel}
 use Rattle.wsm_schema.specs.Flat.{flat_of, cards_of}
 use Rattle.wsm_schema.specs.Replay.{Outcome, whole, fails, replay_of}

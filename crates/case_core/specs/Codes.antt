@@ -1,5 +1,5 @@
 -- The codes by which a proof tells trails and cases apart.
-use Rattle.std.specs.Prelude.{◌≡◌, ℕ, zero, suc, ℤ, pos, Bool, true, false, List, [], Option, Some, None, refl}
+use Rattle.std.specs.Prelude.{◌≡◌, ℕ, zero, suc, ℤ, pos, Bool, true, false, List, [], Option, None, refl}
 use Rattle.std.specs.Coded.{Coded, code_by, coded×, coded_ℕ, coded_ℤ, coded_bool, coded_list, coded_option}
 use Rattle.case_core.specs.CaseModel.{CaseModel, LiveModel}
 use Rattle.wsm_lists.specs.declared.values.Value.{Value}

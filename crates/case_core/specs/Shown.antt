@@ -1,20 +1,13 @@
 -- What a case shows: its marking, its values and its work items.
-use Rattle.std.specs.Prelude.{ℕ, Bool, true, false, ◌&&◌, List, [], ◌∷◌, ◌++◌, map, flat_map, fold, Option, Some, None, if◌then◌else◌}
+use Rattle.std.specs.Prelude.{ℕ, Bool, List, [], ◌∷◌, flat_map, Option, Some, None, if◌then◌else◌}
 pub use Rattle.case_core.specs.CaseModel.{shown_after, shown_spots}
 use Rattle.case_core.specs.CaseModel.{LiveModel, state_of, shown_spots}
 use Rattle.case_core.specs.Machine.{holder_of}
 use Rattle.case_core.specs.declared.items.Item.{Item}
 use Rattle.case_core.specs.declared.items.Item.TheVariants as item
-use Rattle.case_core.specs.declared.views.View.{View}
-use Rattle.case_core.specs.declared.views.View.TheVariants as view
-use Rattle.wsm_lists.specs.Keys.{first}
-use Rattle.wsm_lists.specs.Rows.{put_row}
-use Rattle.wsm_lists.specs.Values.{Written}
 use Rattle.wsm_schema.specs.Flat.{cards_of, card_at}
 use Rattle.wsm_schema.specs.Kinds.{worked_on}
 use Rattle.wsm_schema.specs.Replay.{is_in_state}
-use Rattle.wsm_schema.specs.Replay.{Outcome, whole, fails}
-use Rattle.wsm_schema.specs.Rules.{Spots, marking_of}
 use Rattle.wsm_schema.specs.declared.states.Spot.{Spot}
 use Rattle.wsm_schema.specs.declared.cards.Card.{Card}
 use Rattle.wsm_schema.specs.declared.states.State.{State}

@@ -50,6 +50,17 @@ impl Case {
         ensures case { IfOk result (λ replies. self.new ≡ (next_case self.old event.now).0) }
         ensures first { IfOk result (λ replies. replies.0 ≡ (next_case self.old event.now).1) }
         ensures second { IfOk result (λ replies. replies.1 ≡ (next_case self.old event.now).1) }
+        ensures age { IfOk result (λ replies. age self.new ≤ age self.old + weight event.now) }
+        ensures err { OnErr result (self.new ≡ self.old) }
+    {
+        self.answer(alloc, event)
+    }
+
+    fn answer(&mut self, alloc: Global, event: &Event) -> Result<(Reply, Reply), NoMemory>
+        requires room { age self.old + weight event.now ≤ 4000000000 }
+        ensures case { IfOk result (λ replies. self.new ≡ (next_case self.old event.now).0) }
+        ensures first { IfOk result (λ replies. replies.0 ≡ (next_case self.old event.now).1) }
+        ensures second { IfOk result (λ replies. replies.1 ≡ (next_case self.old event.now).1) }
         ensures err { OnErr result (self.new ≡ self.old) }
     {
         match event {

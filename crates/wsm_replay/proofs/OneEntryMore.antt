@@ -1,24 +1,25 @@
 -- The replay of a trail with one entry more.
-use Rattle.std.proofs.Common.{◌≡◌, ℕ, ◌+◌, ◌≤◌, true, false, eqb, ltb, List, [], ◌∷◌, ◌++◌, append-nil, fold, refl, ap, sym, ◌∙◌, subst, inl, inr, ◌⊎◌, Option, None, arith}
+use Rattle.std.proofs.Common.{◌≡◌, ℕ, ◌+◌, ◌≤◌, true, false, eqb, List, [], ◌∷◌, ◌++◌, append-nil, fold, refl, ap, sym, ◌∙◌, subst, inl, inr, ◌⊎◌, Option, arith}
 use Rattle.std.specs.Option.{is_some}
 use Rattle.std.specs.Bool.{if◌then◌else◌}
 use Rattle.std.proofs.lemmas.Bool.{cases_Bool, both_ways, eqb-true, le-ltb}
 use Rattle.wsm_lists.specs.Rows.{AllRows, put_row}
-use Rattle.wsm_lists.specs.Values.{value_in}
 use Rattle.wsm_lists.specs.declared.values.Value.{Value}
 use Rattle.wsm_schema.specs.Flat.{FlatModel, card_at}
 use Rattle.wsm_schema.specs.Rank.{IsRank}
 use Rattle.wsm_schema.specs.Replay.{Outcome, whole, fails, applicable, after, replay_from, replay_of}
 use Rattle.wsm_schema.specs.Rules.{Spots, spot_in, by_node, marking_of}
-use Rattle.wsm_schema.specs.Trail.{later_or, value_below, written_by}
+use Rattle.wsm_schema.specs.Trail.{value_below}
 use Rattle.wsm_schema.specs.declared.cards.Card.{Card}
 use Rattle.wsm_schema.specs.declared.entries.Entry.{Entry}
 use Rattle.wsm_schema.specs.declared.states.Spot.{Spot}
 use Rattle.wsm_trail.specs.EntryAt.{value_noted}
 use Rattle.wsm_trail.specs.LastWrites.{noted_entries}
 use Rattle.wsm_trail.specs.TrailWithRoom.{Rises}
-use Rattle.wsm_trail.proofs.LastWrite.{value_before}
+use Rattle.wsm_schema.proofs.Rounds.{node_of-spot_in}
+use Rattle.wsm_trail.proofs.LastWrite.{value_before, below-append}
 use Rattle.wsm_trail.proofs.Numbered.{row_at-put}
+use Rattle.wsm_trail.proofs.Rising.{rises-le}
 use Rattle.wsm_replay.specs.Answer.{answer}
 use Rattle.wsm_replay.specs.SameSpots.{SameSpots}
 use Rattle.wsm_replay.specs.declared.Replayed.TheVariants as replayed
@@ -26,14 +27,6 @@ use Rattle.wsm_replay.proofs.Agreement.{spot_in-rows, after-same}
 use Rattle.wsm_replay.proofs.Replays.{applicable-same, marking_of-same}
 
 -- ---- a marking has the spots that it was made from
-
-spot_in-node : (n : ℕ) (t : Spots) → (spot_in n t).node ≡ n
-spot_in-node n [] = refl
-spot_in-node n (s ∷ ss) =
-    elim (cases_Bool (eqb s.node n)) [
-      | inl same ↦ rw same (eqb-true s.node n same)
-      | inr other ↦ rw other (spot_in-node n ss)
-    ]
 
 spot_in-put : (n : ℕ) (s : Spot) (m : Spots) → spot_in n (put_row by_node s m) ≡ spot_in n (s ∷ m)
 spot_in-put n s m = spot_in-rows (put_row by_node s m) (s ∷ m) (λ k. row_at-put by_node (k, 0) s m) n
@@ -43,8 +36,8 @@ put_told : (n k : ℕ) (t m : Spots) → eqb k n ≡ true ⊎ (spot_in n m ≡ s
 put_told n k t m told =
     spot_in-put n (spot_in k t) m
     ∙ elim (cases_Bool (eqb k n)) [
-      | inl same ↦ rw (spot_in-node k t, same) (ap (λ j. spot_in j t) (eqb-true k n same))
-      | inr other ↦ rw (spot_in-node k t, other) (from_before told other)
+      | inl same ↦ rw (node_of-spot_in k t, same) (ap (λ j. spot_in j t) (eqb-true k n same))
+      | inr other ↦ rw (node_of-spot_in k t, other) (from_before told other)
     ]
   where
     from_before : eqb k n ≡ true ⊎ (spot_in n m ≡ spot_in n t) → eqb k n ≡ false → spot_in n m ≡ spot_in n t
@@ -68,13 +61,7 @@ marking_of-spots cards t n c e = marked n t cards [] (inr (ap is_some e))
 -- ---- values before the last position
 
 value-append : (d p next : ℕ) (e : Entry) (es : List (ℕ × Entry)) → p ≤ next → value_below d p (es ++ (next, e) ∷ []) ≡ value_below d p es
-value-append d p next e [] le = rw (le-ltb next p le) refl
-value-append d p next e (x ∷ xs) le =
-    ap (λ v. later_or v (if ltb x.0 p then value_in d (written_by x.1) else None)) (value-append d p next e xs le)
-
-rises-le : (low high : ℕ) (es : List (ℕ × Entry)) → Rises low high es → low ≤ high
-rises-le low high [] h = h
-rises-le low high (e ∷ es) h = let rest = rises-le (e.0 + 1) high es h.1 in omega (arith, h.0, rest)
+value-append d p next e es le = below-append d p es ((next, e) ∷ []) (rw (le-ltb next p le) refl)
 
 values_stay : (low next : ℕ) (e : Entry) (all es : List (ℕ × Entry)) → Rises low next es →
     AllRows (λ x. (d : ℕ) → value_below d x.0 (all ++ (next, e) ∷ []) ≡ value_below d x.0 all) es

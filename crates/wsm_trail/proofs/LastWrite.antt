@@ -111,7 +111,7 @@ below-none d p low high [] le h = refl
 below-none d p low high (e ∷ es) le h =
     rw (below-none d p (e.0 + 1) high es (omega (arith, le, h.0)) h.1, le-ltb e.0 p (omega (arith, le, h.0))) refl
 
-below-append : (d p : ℕ) (xs ys : List (ℕ × Entry)) → value_below d p ys ≡ None → value_below d p (xs ++ ys) ≡ value_below d p xs
+pub below-append : (d p : ℕ) (xs ys : List (ℕ × Entry)) → value_below d p ys ≡ None → value_below d p (xs ++ ys) ≡ value_below d p xs
 below-append d p [] ys h = h
 below-append d p (x ∷ xs) ys h = ap (λ o. later_or o (cond (ltb x.0 p) (value_in d (written_by x.1)) None)) (below-append d p xs ys h)
 

@@ -21,18 +21,20 @@ mod tests {
     fn a_cut_keeps_what_was_written(rt: HostRuntime) -> Result<(), Fail> {
         let alloc = rt.alloc();
         let mut trail = Trail::new(alloc);
-        trail.reserve(2)?;
-        trail.reserve_writes(1)?;
+        trail.reserve(1)?;
         trail.push(Entry::Start {
             node: 4,
             user: 7,
             reads: ReadValues::new(alloc),
         });
-        trail.push(Entry::End {
+        let end = Entry::End {
             node: 4,
             writes: Writes::of_one(alloc, (9, Value::Int(5)))?,
             choice: None,
-        });
+        };
+        trail.reserve_for(&end)?;
+        trail.push(end);
+        assert_eq!(rt; trail.copy(alloc)?.len(), 2);
         trail.cut(&Nodes::of_one(alloc, 4)?);
         assert_eq!(rt; trail.len(), 1);
         assert_eq!(rt; trail.next(), 3);

@@ -1,0 +1,13 @@
+use Rattle.std.proofs.Common.{◌≡◌, ◌+◌, ◌≤◌, subst, sym}
+use Rattle.std.proofs.lemmas.Result.{IfOk-weaker}
+use Rattle.case_core.specs.Ages.{age, weight}
+use Rattle.case_core.specs.Machine.{next_case}
+use Rattle.case_core.proofs.AgesOfSteps.{age-next_case}
+use Rattle.case_core.proofs.cases.Case.step.Goals as goal
+
+pub returns-clause-age : goal.returns-clause-age
+returns-clause-age c =
+    let old = c.args.self.now in
+    let e = c.args.event.now in
+    IfOk-weaker c.answer.result (λ r. c.answer.new.self ≡ (next_case old e).0) (λ r. age c.answer.new.self ≤ age old + weight e)
+    (λ r is. subst (λ s. age s ≤ age old + weight e) (sym is) (age-next_case old e)) c.answer.ensures.case

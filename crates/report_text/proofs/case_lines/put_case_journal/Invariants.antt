@@ -1,0 +1,7 @@
+use Rattle.std.proofs.Common.{take}
+use Rattle.adept_io.specs.Written.{Gives}
+use Rattle.report_text.specs.Journals.{numbered, case_line}
+use Rattle.report_text.proofs.case_lines.put_case_journal.Given as goal
+
+abbrev pub invariant-loop-i : goal.invariant-loop-i
+invariant-loop-i g l = Gives g.K.Sink.written g.K.Sink.faults l.ok l.well l.initial.sink l.sink (numbered (case_line l.file) 1 (take l.i l.journal))

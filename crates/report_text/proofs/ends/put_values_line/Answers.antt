@@ -1,0 +1,16 @@
+use Rattle.std.proofs.Common.{◌≡◌, ℕ, List, ◌++◌, codes, subst}
+use Rattle.std.specs.List.{flat_map}
+use Rattle.adept_io.proofs.Sent.{gives_then}
+use Rattle.adept_io.specs.Written.{Gives}
+use Rattle.report_text.specs.Ends.{value_now_text}
+use Rattle.report_text.proofs.ends.put_values_line.Goals as goal
+use Rattle.wsm_lists.specs.declared.values.ElementKind.{ElementKind}
+
+pub returns : goal.returns
+returns g c =
+    let live = c.args.live.now in
+    let same : c.as_slice.result.now ≡ live.schema.elements = cc in
+    let P : List (ℕ × ElementKind) → Type 0 = λ elements. Gives g.K.Sink.written g.K.Sink.faults c.args.ok c.put.result c.args.sink.now c.put.new.sink (codes "values" ++ (flat_map (value_now_text live) elements ++ codes "\n")) in
+    subst P same
+    (gives_then _ _ _ _ _ _ _ _ _ _ c.put-ok.ensures
+    (gives_then _ _ _ _ _ _ _ _ _ _ c.put_values-ok.ensures c.put.ensures))

@@ -1,0 +1,8 @@
+use Rattle.adept_io.proofs.Sent.{gives_then}
+use Rattle.report_text.proofs.report.put_report.Goals as goal
+
+pub returns : goal.returns
+returns g c =
+    gives_then _ _ _ _ _ _ _ _ _ _ c.put-ok.ensures
+    (gives_then _ _ _ _ _ _ _ _ _ _ c.put_kind-ok.ensures
+    (gives_then _ _ _ _ _ _ _ _ _ _ c.put_case-ok.ensures c.put_summary.ensures))

@@ -1,0 +1,58 @@
+-- How a case ended.
+use Rattle.std.specs.Prelude.{ℕ, Bool, List, [], ◌∷◌, ◌++◌, flat_map, Option, Some, None, if◌then◌else◌, codes, decimal}
+use Rattle.case_core.specs.CaseModel.{LiveModel, state_of, value_now}
+use Rattle.case_core.specs.Shown.{is_finished, item_of, items_of}
+use Rattle.case_core.specs.declared.items.Item.{Item}
+use Rattle.case_core.specs.declared.items.Item.TheVariants as item
+use Rattle.process_text.specs.Lines.{Bytes}
+use Rattle.process_text.specs.declared.files.File.{File}
+use Rattle.report_text.specs.Words.{node_then, caller_text, assigned, letter}
+use Rattle.wsm_lists.specs.declared.values.ElementKind.{ElementKind}
+use Rattle.wsm_lists.specs.declared.values.Value.{Value}
+use Rattle.wsm_schema.specs.Flat.{cards_of, card_at}
+use Rattle.wsm_schema.specs.declared.cards.Card.{Card}
+use Rattle.wsm_schema.specs.declared.states.Spot.{Spot}
+
+abbrev pub progress : Bool → Bytes
+progress finished = if finished then codes " finished" else codes " running"
+
+-- the version that the case stands on, and whether it is finished; as yet no case has operations of its own
+abbrev pub state_line : LiveModel → Bytes
+state_line l = codes "state " ++ (decimal l.base.number ++ (progress (is_finished l) ++ codes " own=0\n"))
+
+-- the state of each node, in document order
+abbrev pub mark_text : File → LiveModel → Card → Bytes
+mark_text f l c = node_then f c.node (codes "=") ++ letter (state_of l c.node)
+
+abbrev pub marking_line : File → LiveModel → Bytes
+marking_line f l = codes "marking" ++ (flat_map (mark_text f l) (cards_of l.schema) ++ codes "\n")
+
+-- the value of each element that has one, ascending by element
+abbrev pub assigned_now : ℕ → Option Value → Bytes
+assigned_now d None = []
+assigned_now d (Some v) = assigned (d, v)
+
+abbrev pub value_now_text : LiveModel → ℕ × ElementKind → Bytes
+value_now_text l e = assigned_now e.0 (value_now l e.0)
+
+abbrev pub values_line : LiveModel → Bytes
+values_line l = codes "values" ++ (flat_map (value_now_text l) l.schema.elements ++ codes "\n")
+
+-- the work items, ascending by node
+abbrev pub item_text : File → Item → Bytes
+item_text f (item.Offered node role) = node_then f node (codes "@") ++ decimal role
+item_text f (item.Held node user) = node_then f node (codes ":") ++ caller_text f user
+
+-- the work item of a node, where it has one
+abbrev pub spot_text : File → LiveModel → Spot → Bytes
+spot_text f l s = flat_map (item_text f) (item_of l s (card_at s.node (cards_of l.schema)))
+
+abbrev pub items_line : File → LiveModel → Bytes
+items_line f l = codes "items" ++ (flat_map (item_text f) (items_of l) ++ codes "\n")
+
+abbrev pub live_text : File → LiveModel → Bytes
+live_text f l = state_line l ++ (marking_line f l ++ (values_line l ++ items_line f l))
+
+abbrev pub end_text : File → Option LiveModel → Bytes
+end_text f None = codes "state none\n"
+end_text f (Some l) = live_text f l

@@ -1,0 +1,92 @@
+-- The lines of the journals.
+use Rattle.std.specs.Prelude.{ℕ, ◌+◌, List, [], ◌∷◌, ◌++◌, flat_map, Option, Some, None, codes, decimal}
+use Rattle.case_core.specs.declared.events.Event.{Event}
+use Rattle.case_core.specs.declared.events.Event.TheVariants as event
+use Rattle.case_core.specs.declared.replies.Reply.{Reply}
+use Rattle.case_core.specs.declared.replies.Reply.TheVariants as reply
+use Rattle.process_text.specs.Lines.{Bytes}
+use Rattle.process_text.specs.declared.files.File.{File}
+use Rattle.report_text.specs.Words.{node_text, listed_element, caller_text, assigned, read_text, letter}
+use Rattle.report_text.specs.declared.runs.CaseEntry.{CaseEntry}
+use Rattle.report_text.specs.declared.runs.KindEntry.{KindEntry}
+use Rattle.type_core.specs.declared.events.KindEvent.{KindEvent}
+use Rattle.type_core.specs.declared.events.KindEvent.TheVariants as kind_event
+use Rattle.type_core.specs.declared.replies.KindReply.{KindReply}
+use Rattle.type_core.specs.declared.replies.KindReply.TheVariants as kind_reply
+use Rattle.wsm_lists.specs.Values.{Written}
+
+-- the choice of an end, where there is one
+abbrev pub choice_text : Option ℕ → Bytes
+choice_text None = []
+choice_text (Some code) = codes " choice " ++ decimal code
+
+abbrev pub end_event_text : File → ℕ → Written → Option ℕ → Bytes
+end_event_text f node writes choice = codes "end " ++ node_text f node ++ (choice_text choice ++ flat_map assigned writes)
+
+abbrev pub event_text : File → Event → Bytes
+event_text f (event.Create version) = codes "create " ++ decimal version.number
+event_text f (event.Start node user roles) = codes "start " ++ node_text f node
+event_text f (event.End node user writes choice) = end_event_text f node writes choice
+
+abbrev pub reply_word : Reply → Bytes
+reply_word reply.Created = codes "created"
+reply_word (reply.Started reads) = codes "started"
+reply_word reply.Ended = codes "ended"
+reply_word reply.Repeated = codes "repeated"
+reply_word reply.Already = codes "already"
+reply_word reply.NoCase = codes "no-case"
+reply_word reply.NoNode = codes "no-node"
+reply_word (reply.NotReady s) = codes "not-ready"
+reply_word (reply.NotAllowed role) = codes "not-allowed"
+reply_word (reply.NotRunning s) = codes "not-running"
+reply_word (reply.NotHolder user) = codes "not-holder"
+reply_word (reply.WrongWrites elements) = codes "wrong-writes"
+reply_word (reply.NoBranch choice) = codes "no-branch"
+reply_word reply.OtherType = codes "other-type"
+
+-- the choice that is none of the node's
+abbrev pub wrong_choice : Option ℕ → Bytes
+wrong_choice None = codes " -"
+wrong_choice (Some code) = codes " " ++ decimal code
+
+-- what stands behind the word
+abbrev pub reply_rest : File → Reply → Bytes
+reply_rest f (reply.Started reads) = flat_map read_text reads
+reply_rest f (reply.NotReady s) = codes " " ++ letter s
+reply_rest f (reply.NotAllowed role) = codes " " ++ decimal role
+reply_rest f (reply.NotRunning s) = codes " " ++ letter s
+reply_rest f (reply.NotHolder user) = codes " " ++ caller_text f user
+reply_rest f (reply.WrongWrites elements) = flat_map listed_element elements
+reply_rest f (reply.NoBranch choice) = wrong_choice choice
+reply_rest f _ = []
+
+abbrev pub reply_text : File → Reply → Bytes
+reply_text f r = reply_word r ++ reply_rest f r
+
+abbrev pub kind_event_text : KindEvent → Bytes
+kind_event_text (kind_event.Define schema) = codes "define"
+kind_event_text kind_event.Newest = codes "newest"
+
+abbrev pub kind_reply_text : KindReply → Bytes
+kind_reply_text kind_reply.Defined = codes "defined"
+kind_reply_text (kind_reply.Is version) = codes "is " ++ decimal version.number
+kind_reply_text kind_reply.Already = codes "already"
+kind_reply_text kind_reply.NoType = codes "no-type"
+
+-- the place in the journal and the caller, each with a space behind it
+abbrev pub line_start : File → ℕ → ℕ → Bytes
+line_start f k caller = decimal k ++ (codes " " ++ (caller_text f caller ++ codes " "))
+
+abbrev pub journal_line : File → ℕ → ℕ → Bytes → Bytes → Bytes
+journal_line f k caller event reply = line_start f k caller ++ (event ++ (codes " -> " ++ (reply ++ codes "\n")))
+
+abbrev pub case_line : File → ℕ → CaseEntry → Bytes
+case_line f k e = journal_line f k e.caller (event_text f e.event) (reply_text f e.reply)
+
+abbrev pub kind_line : File → ℕ → KindEntry → Bytes
+kind_line f k e = journal_line f k e.caller (kind_event_text e.event) (kind_reply_text e.reply)
+
+-- the lines of entries, numbered from k on
+abbrev pub numbered : {X : Type 0} → (ℕ → X → Bytes) → ℕ → List X → Bytes
+numbered line k [] = []
+numbered line k (e ∷ es) = line k e ++ numbered line (k + 1) es

@@ -1,0 +1,5 @@
+pub mod Serial
+pub mod Words
+pub mod Journals
+pub mod Ends
+pub mod Report

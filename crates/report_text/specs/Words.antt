@@ -1,0 +1,74 @@
+-- The words of a report.
+use Rattle.std.specs.Prelude.{◌≡◌, ℕ, ◌<◌, ◌==◌, Bool, true, ◌||◌, List, [], ◌∷◌, ◌++◌, flat_map, length, take, slice_index, slice_get, Option, Some, None, if◌then◌else◌, codes, decimal}
+use Rattle.std.specs.Fmt.{signed_decimal}
+use Rattle.process_text.specs.Lines.{Bytes}
+use Rattle.process_text.specs.declared.files.File.{File}
+use Rattle.wsm_lists.specs.declared.values.Value.{Value}
+use Rattle.wsm_lists.specs.declared.values.Value.TheVariants as value
+use Rattle.wsm_schema.specs.declared.states.State.{State}
+use Rattle.wsm_schema.specs.declared.states.State.TheVariants as state
+
+-- a name, or the number where the file has no name for it
+abbrev pub name_or_number : Option Bytes → ℕ → Bytes
+name_or_number None n = decimal n
+name_or_number (Some name) n = name
+
+abbrev pub node_text : File → ℕ → Bytes
+node_text f n = name_or_number (slice_get f.nodes n) n
+
+-- as yet a file names no elements
+abbrev pub element_text : ℕ → Bytes
+element_text d = decimal d
+
+-- the program itself is caller 0, and the file's one actor is caller 1
+abbrev pub caller_text : File → ℕ → Bytes
+caller_text f n = if n == 0 then codes "-" else (if n == 1 then f.actor else decimal n)
+
+-- in a quoted text, " and \ stand behind a \
+abbrev pub is_escaped : ℕ → Bool
+is_escaped b = b == 34 || b == 92
+
+abbrev pub escaped : ℕ → Bytes
+escaped b = if is_escaped b then 92 ∷ b ∷ [] else b ∷ []
+
+-- before this place no byte is escaped, and the one there is
+pub record EndsRun (t : Bytes) (at : ℕ) : Type 0 where
+  pub within : at < length t
+  pub plain : flat_map escaped (take at t) ≡ take at t
+  pub marked : is_escaped (slice_index t at) ≡ true
+
+abbrev pub text_in_quotes : Bytes → Bytes
+text_in_quotes t = codes "\"" ++ (flat_map escaped t ++ codes "\"")
+
+abbrev pub value_text : Value → Bytes
+value_text (value.Int n) = signed_decimal n
+value_text (value.Text t) = text_in_quotes t
+
+abbrev pub value_or_none : Option Value → Bytes
+value_or_none None = codes "-"
+value_or_none (Some v) = value_text v
+
+-- an element behind a space, and what it is
+abbrev pub element_is : ℕ → Bytes
+element_is d = codes " " ++ (element_text d ++ codes "=")
+
+abbrev pub assigned : ℕ × Value → Bytes
+assigned w = element_is w.0 ++ value_text w.1
+
+abbrev pub read_text : ℕ × Option Value → Bytes
+read_text r = element_is r.0 ++ value_or_none r.1
+
+-- an element behind a space
+abbrev pub listed_element : ℕ → Bytes
+listed_element d = codes " " ++ element_text d
+
+-- a node behind a space, with what stands behind it
+abbrev pub node_then : File → ℕ → Bytes → Bytes
+node_then f n mark = codes " " ++ (node_text f n ++ mark)
+
+abbrev pub letter : State → Bytes
+letter state.NotActivated = codes "N"
+letter state.Activated = codes "A"
+letter state.Running = codes "R"
+letter state.Completed = codes "C"
+letter state.Skipped = codes "S"

@@ -1,0 +1,180 @@
+// The lines of a case's journal.
+ghost use Rattle.std.specs.Prelude.{◌≡◌, ◌++◌, flat_map, codes, decimal};
+ghost use Rattle.adept_io.specs.Written.{Gives};
+ghost use Rattle.report_text.specs.Journals.{choice_text, case_line, end_event_text, event_text, numbered, reply_rest, reply_text, reply_word, wrong_choice};
+ghost use Rattle.report_text.specs.Words.{caller_text, letter, listed_element, node_text};
+
+use crate::kind_lines::put_line_start;
+use crate::runs::CaseEntry;
+use crate::values::{put_reads, put_writes};
+use crate::words::{caller_word, letter, node_word, put_element};
+use adept_io::{Sink, put, put_pieces};
+use case_core::{Event, Reply};
+use itoa::Buffer;
+use process_text::File;
+use wsm_schema::{State, Writes};
+
+/// The lines of the journal, numbered from 1.
+pub fn put_case_journal<K: Sink>(sink: &mut K, ok: bool, file: &File, journal: &[CaseEntry]) -> bool
+    ensures { Gives K.written K.faults ok result sink.old sink.new (numbered (case_line file.now) 1 journal.now) }
+{
+    let mut well = ok;
+    for (i, entry) in journal.iter().enumerate() {
+        well = put_case_line(sink, well, file, i as u64 + 1, entry);
+    }
+    well
+}
+
+fn put_case_line<K: Sink>(sink: &mut K, ok: bool, file: &File, place: u64, entry: &CaseEntry) -> bool
+    ensures { Gives K.written K.faults ok result sink.old sink.new (case_line file.now place entry.now) }
+{
+    let ok = put_line_start(sink, ok, file, place, entry.caller);
+    let ok = put_event(sink, ok, file, &entry.event);
+    let ok = put(sink, ok, b" -> ");
+    let ok = put_reply(sink, ok, file, &entry.reply);
+    put(sink, ok, b"\n")
+}
+
+fn put_event<K: Sink>(sink: &mut K, ok: bool, file: &File, event: &Event) -> bool
+    ensures { Gives K.written K.faults ok result sink.old sink.new (event_text file.now event.now) }
+{
+    let mut number = Buffer::new();
+    match event {
+        Event::Create(version) => {
+            put_pieces(sink, ok, &[b"create ", number.format(version.number()).as_bytes()])
+        }
+        Event::Start { node, .. } => put_on_node(sink, ok, b"start ", file, *node),
+        Event::End {
+            node,
+            writes,
+            choice,
+            ..
+        } => put_end(sink, ok, file, *node, writes, *choice),
+    }
+}
+
+// What is done with a node.
+fn put_on_node<K: Sink>(sink: &mut K, ok: bool, verb: &'static [u8], file: &File, node: u32) -> bool
+    ensures { Gives K.written K.faults ok result sink.old sink.new (verb.now ++ node_text file.now node) }
+{
+    let mut buffer = Buffer::new();
+    put_pieces(sink, ok, &[verb, node_word(file, node, &mut buffer)])
+}
+
+fn put_end<K: Sink>(
+    sink: &mut K,
+    ok: bool,
+    file: &File,
+    node: u32,
+    writes: &Writes,
+    choice: Option<u16>,
+) -> bool
+    ensures { Gives K.written K.faults ok result sink.old sink.new (end_event_text file.now node writes.now choice) }
+{
+    let ok = put_on_node(sink, ok, b"end ", file, node);
+    let ok = put_choice(sink, ok, choice);
+    put_writes(sink, ok, writes.as_slice())
+}
+
+#[tactic(auto, using(adept_io::proofs::Sent::gives_nothing))]
+fn put_choice<K: Sink>(sink: &mut K, ok: bool, choice: Option<u16>) -> bool
+    ensures { Gives K.written K.faults ok result sink.old sink.new (choice_text choice) }
+{
+    let mut number = Buffer::new();
+    match choice {
+        None => ok,
+        Some(code) => put_pieces(sink, ok, &[b" choice ", number.format(code).as_bytes()]),
+    }
+}
+
+#[tactic(auto, using(adept_io::proofs::Sent::gives_then))]
+fn put_reply<K: Sink>(sink: &mut K, ok: bool, file: &File, reply: &Reply) -> bool
+    ensures { Gives K.written K.faults ok result sink.old sink.new (reply_text file.now reply.now) }
+{
+    let ok = put(sink, ok, reply_word(reply));
+    put_reply_rest(sink, ok, file, reply)
+}
+
+fn reply_word(reply: &Reply) -> &'static [u8]
+    ensures { result.now ≡ reply_word reply.now }
+{
+    match reply {
+        Reply::Created => b"created",
+        Reply::Started(_) => b"started",
+        Reply::Ended => b"ended",
+        Reply::Repeated => b"repeated",
+        Reply::Already => b"already",
+        Reply::NoCase => b"no-case",
+        Reply::NoNode => b"no-node",
+        Reply::NotReady(_) => b"not-ready",
+        Reply::NotAllowed(_) => b"not-allowed",
+        Reply::NotRunning(_) => b"not-running",
+        Reply::NotHolder(_) => b"not-holder",
+        Reply::WrongWrites(_) => b"wrong-writes",
+        Reply::NoBranch(_) => b"no-branch",
+        Reply::OtherType => b"other-type",
+    }
+}
+
+// What stands behind the word.
+#[tactic(auto, using(adept_io::proofs::Sent::gives_nothing))]
+fn put_reply_rest<K: Sink>(sink: &mut K, ok: bool, file: &File, reply: &Reply) -> bool
+    ensures { Gives K.written K.faults ok result sink.old sink.new (reply_rest file.now reply.now) }
+{
+    match reply {
+        Reply::Started(reads) => put_reads(sink, ok, reads.as_slice()),
+        Reply::NotReady(state) => put_state(sink, ok, *state),
+        Reply::NotRunning(state) => put_state(sink, ok, *state),
+        Reply::NotAllowed(role) => put_role(sink, ok, *role),
+        Reply::NotHolder(user) => put_user(sink, ok, file, *user),
+        Reply::WrongWrites(elements) => put_elements(sink, ok, elements.as_slice()),
+        Reply::NoBranch(choice) => put_wrong_choice(sink, ok, *choice),
+        Reply::Created
+        | Reply::Ended
+        | Reply::Repeated
+        | Reply::Already
+        | Reply::NoCase
+        | Reply::NoNode
+        | Reply::OtherType => ok,
+    }
+}
+
+fn put_state<K: Sink>(sink: &mut K, ok: bool, state: State) -> bool
+    ensures { Gives K.written K.faults ok result sink.old sink.new (codes " " ++ letter state) }
+{
+    put_pieces(sink, ok, &[b" ", letter(state)])
+}
+
+fn put_role<K: Sink>(sink: &mut K, ok: bool, role: u32) -> bool
+    ensures { Gives K.written K.faults ok result sink.old sink.new (codes " " ++ decimal role) }
+{
+    let mut number = Buffer::new();
+    put_pieces(sink, ok, &[b" ", number.format(role).as_bytes()])
+}
+
+fn put_user<K: Sink>(sink: &mut K, ok: bool, file: &File, user: u32) -> bool
+    ensures { Gives K.written K.faults ok result sink.old sink.new (codes " " ++ caller_text file.now user) }
+{
+    let mut buffer = Buffer::new();
+    put_pieces(sink, ok, &[b" ", caller_word(file, user, &mut buffer)])
+}
+
+fn put_wrong_choice<K: Sink>(sink: &mut K, ok: bool, choice: Option<u16>) -> bool
+    ensures { Gives K.written K.faults ok result sink.old sink.new (wrong_choice choice) }
+{
+    let mut number = Buffer::new();
+    match choice {
+        None => put(sink, ok, b" -"),
+        Some(code) => put_pieces(sink, ok, &[b" ", number.format(code).as_bytes()]),
+    }
+}
+
+fn put_elements<K: Sink>(sink: &mut K, ok: bool, elements: &[u32]) -> bool
+    ensures { Gives K.written K.faults ok result sink.old sink.new (flat_map listed_element elements.now) }
+{
+    let mut well = ok;
+    for element in elements {
+        well = put_element(sink, well, *element);
+    }
+    well
+}

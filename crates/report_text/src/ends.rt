@@ -1,0 +1,182 @@
+// How a case ended.
+ghost use Rattle.std.specs.Prelude.{◌≡◌, ℕ, ◌++◌, flat_map, codes};
+ghost use Rattle.std.specs.Option.{option_copied};
+ghost use Rattle.adept_io.specs.Written.{Gives};
+ghost use Rattle.case_core.specs.declared.items.Item.TheVariants as item;
+ghost use Rattle.case_core.specs.Shown.{is_finished, item_in};
+ghost use Rattle.report_text.specs.Ends.{end_text, item_text, items_line, live_text, mark_text, marking_line, progress, spot_text, state_line, value_now_text, values_line};
+ghost use Rattle.wsm_schema.specs.Flat.{cards_of};
+
+use crate::values::put_assigned;
+use crate::words::{caller_word, letter, put_node};
+use adept_io::{Sink, put, put_number, put_pieces};
+use case_core::Live;
+use itoa::Buffer;
+use process_text::File;
+use wsm_rules::is_worked_on;
+use wsm_schema::{Card, ElementKind, Spot, State};
+
+/// The lines that say how a case ended: one where it was not created, and else four.
+pub fn put_end<K: Sink>(sink: &mut K, ok: bool, file: &File, live: Option<&Live>) -> bool
+    ensures { Gives K.written K.faults ok result sink.old sink.new (end_text file.now (option_copied live.entry)) }
+{
+    match live {
+        None => put(sink, ok, b"state none\n"),
+        Some(live) => put_live(sink, ok, file, live),
+    }
+}
+
+fn put_live<K: Sink>(sink: &mut K, ok: bool, file: &File, live: &Live) -> bool
+    ensures { Gives K.written K.faults ok result sink.old sink.new (live_text file.now live.now) }
+{
+    let ok = put_state_line(sink, ok, live);
+    let ok = put_marking_line(sink, ok, file, live);
+    let ok = put_values_line(sink, ok, live);
+    put_items_line(sink, ok, file, live)
+}
+
+fn put_state_line<K: Sink>(sink: &mut K, ok: bool, live: &Live) -> bool
+    ensures { Gives K.written K.faults ok result sink.old sink.new (state_line live.now) }
+{
+    let mut number = Buffer::new();
+    put_pieces(
+        sink,
+        ok,
+        &[
+            b"state ",
+            number.format(live.base().number()).as_bytes(),
+            progress(live.is_finished()),
+            b" own=0\n",
+        ],
+    )
+}
+
+fn progress(finished: bool) -> &'static [u8]
+    ensures { result.now ≡ progress finished }
+{
+    if finished { b" finished" } else { b" running" }
+}
+
+fn put_marking_line<K: Sink>(sink: &mut K, ok: bool, file: &File, live: &Live) -> bool
+    ensures { Gives K.written K.faults ok result sink.old sink.new (marking_line file.now live.now) }
+{
+    let ok = put(sink, ok, b"marking");
+    let ok = put_marks(sink, ok, file, live, live.checked().flat().cards());
+    put(sink, ok, b"\n")
+}
+
+fn put_marks<K: Sink>(sink: &mut K, ok: bool, file: &File, live: &Live, cards: &[Card]) -> bool
+    ensures { Gives K.written K.faults ok result sink.old sink.new (flat_map (mark_text file.now live.now) cards.now) }
+{
+    let mut well = ok;
+    for card in cards {
+        well = put_mark(sink, well, file, live, card);
+    }
+    well
+}
+
+#[tactic(auto, using(adept_io::proofs::Sent::gives_then))]
+fn put_mark<K: Sink>(sink: &mut K, ok: bool, file: &File, live: &Live, card: &Card) -> bool
+    ensures { Gives K.written K.faults ok result sink.old sink.new (mark_text file.now live.now card.now) }
+{
+    let ok = put_node(sink, ok, file, card.node, b"=");
+    put(sink, ok, letter(live.state(card.node)))
+}
+
+fn put_values_line<K: Sink>(sink: &mut K, ok: bool, live: &Live) -> bool
+    ensures { Gives K.written K.faults ok result sink.old sink.new (values_line live.now) }
+{
+    let ok = put(sink, ok, b"values");
+    let ok = put_values(sink, ok, live, live.checked().schema().elements.as_slice());
+    put(sink, ok, b"\n")
+}
+
+fn put_values<K: Sink>(sink: &mut K, ok: bool, live: &Live, elements: &[(u32, ElementKind)]) -> bool
+    ensures { Gives K.written K.faults ok result sink.old sink.new (flat_map (value_now_text live.now) elements.now) }
+{
+    let mut well = ok;
+    for element in elements {
+        well = put_value_now(sink, well, live, element);
+    }
+    well
+}
+
+#[tactic(auto, using(adept_io::proofs::Sent::gives_nothing))]
+fn put_value_now<K: Sink>(sink: &mut K, ok: bool, live: &Live, element: &(u32, ElementKind)) -> bool
+    ensures { Gives K.written K.faults ok result sink.old sink.new (value_now_text live.now element.now) }
+{
+    match live.trail().value(element.0) {
+        None => ok,
+        Some(value) => put_assigned(sink, ok, element.0, value),
+    }
+}
+
+fn put_items_line<K: Sink>(sink: &mut K, ok: bool, file: &File, live: &Live) -> bool
+    ensures { Gives K.written K.faults ok result sink.old sink.new (items_line file.now live.now) }
+{
+    let ok = put(sink, ok, b"items");
+    let ok = put_items(sink, ok, file, live, live.spots());
+    put(sink, ok, b"\n")
+}
+
+fn put_items<K: Sink>(sink: &mut K, ok: bool, file: &File, live: &Live, spots: &[Spot]) -> bool
+    ensures { Gives K.written K.faults ok result sink.old sink.new (flat_map (spot_text file.now live.now) spots.now) }
+{
+    let mut well = ok;
+    for spot in spots {
+        well = put_spot(sink, well, file, live, spot);
+    }
+    well
+}
+
+// The work item of a node, where it has one.
+#[tactic(auto, using(adept_io::proofs::Sent::gives_nothing))]
+fn put_spot<K: Sink>(sink: &mut K, ok: bool, file: &File, live: &Live, spot: &Spot) -> bool
+    ensures { Gives K.written K.faults ok result sink.old sink.new (spot_text file.now live.now spot.now) }
+{
+    match live.card(spot.node) {
+        None => ok,
+        Some(card) => {
+            if is_worked_on(card.kind) {
+                put_work(sink, ok, file, live, card, spot.state)
+            } else {
+                ok
+            }
+        }
+    }
+}
+
+#[tactic(auto, using(adept_io::proofs::Sent::gives_nothing))]
+fn put_work<K: Sink>(
+    sink: &mut K,
+    ok: bool,
+    file: &File,
+    live: &Live,
+    card: &Card,
+    state: State,
+) -> bool
+    ensures { Gives K.written K.faults ok result sink.old sink.new (flat_map (item_text file.now) (item_in live.now card.now state)) }
+{
+    match state {
+        State::Activated => put_offered(sink, ok, file, card.node, card.role),
+        State::Running => put_held(sink, ok, file, card.node, live.holder(card.node)),
+        State::NotActivated | State::Completed | State::Skipped => ok,
+    }
+}
+
+#[tactic(auto, using(adept_io::proofs::Sent::gives_then))]
+fn put_offered<K: Sink>(sink: &mut K, ok: bool, file: &File, node: u32, role: u32) -> bool
+    ensures { Gives K.written K.faults ok result sink.old sink.new (item_text file.now (item.Offered node role)) }
+{
+    let ok = put_node(sink, ok, file, node, b"@");
+    put_number(sink, ok, u64::from(role))
+}
+
+#[tactic(auto, using(adept_io::proofs::Sent::gives_then))]
+fn put_held<K: Sink>(sink: &mut K, ok: bool, file: &File, node: u32, user: u32) -> bool
+    ensures { Gives K.written K.faults ok result sink.old sink.new (item_text file.now (item.Held node user)) }
+{
+    let mut buffer = Buffer::new();
+    let ok = put_node(sink, ok, file, node, b":");
+    put(sink, ok, caller_word(file, user, &mut buffer))
+}

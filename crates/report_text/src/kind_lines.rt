@@ -1,0 +1,65 @@
+// The lines of a type's journal.
+ghost use Rattle.std.specs.Prelude.{◌≡◌, ◌++◌, codes, decimal};
+ghost use Rattle.adept_io.specs.Written.{Gives};
+ghost use Rattle.report_text.specs.Journals.{line_start, kind_event_text, kind_reply_text, kind_line, numbered};
+
+use crate::runs::KindEntry;
+use crate::words::caller_word;
+use adept_io::{Sink, put, put_number, put_pieces};
+use itoa::Buffer;
+use process_text::File;
+use type_core::{KindEvent, KindReply};
+
+/// The lines of the journal, numbered from 1.
+pub fn put_kind_journal<K: Sink>(sink: &mut K, ok: bool, file: &File, journal: &[KindEntry]) -> bool
+    ensures { Gives K.written K.faults ok result sink.old sink.new (numbered (kind_line file.now) 1 journal.now) }
+{
+    let mut well = ok;
+    for (i, entry) in journal.iter().enumerate() {
+        well = put_kind_line(sink, well, file, i as u64 + 1, entry);
+    }
+    well
+}
+
+fn put_kind_line<K: Sink>(sink: &mut K, ok: bool, file: &File, place: u64, entry: &KindEntry) -> bool
+    ensures { Gives K.written K.faults ok result sink.old sink.new (kind_line file.now place entry.now) }
+{
+    let ok = put_line_start(sink, ok, file, place, entry.caller);
+    let ok = put_kind_event(sink, ok, &entry.event);
+    let ok = put(sink, ok, b" -> ");
+    let ok = put_kind_reply(sink, ok, &entry.reply);
+    put(sink, ok, b"\n")
+}
+
+/// The place of an entry in its journal and its caller, each with a space behind it.
+#[tactic(auto, using(adept_io::proofs::Sent::gives_then))]
+pub fn put_line_start<K: Sink>(sink: &mut K, ok: bool, file: &File, place: u64, caller: u32) -> bool
+    ensures { Gives K.written K.faults ok result sink.old sink.new (line_start file.now place caller) }
+{
+    let mut buffer = Buffer::new();
+    let ok = put_number(sink, ok, place);
+    put_pieces(sink, ok, &[b" ", caller_word(file, caller, &mut buffer), b" "])
+}
+
+fn put_kind_event<K: Sink>(sink: &mut K, ok: bool, event: &KindEvent) -> bool
+    ensures { Gives K.written K.faults ok result sink.old sink.new (kind_event_text event.now) }
+{
+    match event {
+        KindEvent::Define(_) => put(sink, ok, b"define"),
+        KindEvent::Newest => put(sink, ok, b"newest"),
+    }
+}
+
+fn put_kind_reply<K: Sink>(sink: &mut K, ok: bool, reply: &KindReply) -> bool
+    ensures { Gives K.written K.faults ok result sink.old sink.new (kind_reply_text reply.now) }
+{
+    let mut number = Buffer::new();
+    match reply {
+        KindReply::Defined => put(sink, ok, b"defined"),
+        KindReply::Is(version) => {
+            put_pieces(sink, ok, &[b"is ", number.format(version.number()).as_bytes()])
+        }
+        KindReply::Already => put(sink, ok, b"already"),
+        KindReply::NoType => put(sink, ok, b"no-type"),
+    }
+}

@@ -1,0 +1,67 @@
+// The words of a report.
+ghost use Rattle.std.specs.Prelude.{◌≡◌, ◌++◌, codes};
+ghost use Rattle.adept_io.specs.Written.{Gives};
+ghost use Rattle.report_text.specs.Words.{node_text, caller_text, letter, node_then, listed_element, element_is};
+
+use adept_io::{Sink, put_pieces};
+use itoa::Buffer;
+use process_text::File;
+use wsm_schema::State;
+
+/// The name of a node, or its number where the file does not name it.
+pub fn node_word<'a>(file: &'a File, node: u32, buffer: &'a mut Buffer) -> &'a [u8]
+    ensures { result.now ≡ node_text file.now node }
+{
+    match file.nodes.get(node as usize) {
+        Some(name) => name.bytes(),
+        None => buffer.format(node).as_bytes(),
+    }
+}
+
+/// The name of a caller: `-` for the program itself, or the file's actor. Any other is printed as its number.
+pub fn caller_word<'a>(file: &'a File, caller: u32, buffer: &'a mut Buffer) -> &'a [u8]
+    ensures { result.now ≡ caller_text file.now caller }
+{
+    match caller {
+        0 => b"-",
+        1 => file.actor.bytes(),
+        _ => buffer.format(caller).as_bytes(),
+    }
+}
+
+/// The letter of a state.
+pub fn letter(state: State) -> &'static [u8]
+    ensures { result.now ≡ letter state }
+{
+    match state {
+        State::NotActivated => b"N",
+        State::Activated => b"A",
+        State::Running => b"R",
+        State::Completed => b"C",
+        State::Skipped => b"S",
+    }
+}
+
+/// A node behind a space, and the mark that stands behind it.
+pub fn put_node<K: Sink>(sink: &mut K, ok: bool, file: &File, node: u32, mark: &'static [u8]) -> bool
+    ensures { Gives K.written K.faults ok result sink.old sink.new (node_then file.now node mark.now) }
+{
+    let mut buffer = Buffer::new();
+    put_pieces(sink, ok, &[b" ", node_word(file, node, &mut buffer), mark])
+}
+
+/// An element behind a space.
+pub fn put_element<K: Sink>(sink: &mut K, ok: bool, element: u32) -> bool
+    ensures { Gives K.written K.faults ok result sink.old sink.new (listed_element element) }
+{
+    let mut number = Buffer::new();
+    put_pieces(sink, ok, &[b" ", number.format(element).as_bytes()])
+}
+
+/// An element behind a space, and the sign behind which its value stands.
+pub fn put_element_is<K: Sink>(sink: &mut K, ok: bool, element: u32) -> bool
+    ensures { Gives K.written K.faults ok result sink.old sink.new (element_is element) }
+{
+    let mut number = Buffer::new();
+    put_pieces(sink, ok, &[b" ", number.format(element).as_bytes(), b"="])
+}
