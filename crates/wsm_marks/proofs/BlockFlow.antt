@@ -2,7 +2,7 @@
 use Rattle.std.proofs.Common.{◌≡◌, ℕ, ◌≤◌, Bool, true, false, cond, ◌&&◌, eqb, List, [], ◌∷◌, map, refl, ap, sym, ◌∙◌, subst, inl, inr, ◌⊎◌, arith, Option, Some, None}
 use Rattle.std.specs.Prelude.{nat_lt, is_some, count_by, ◌==◌}
 use Rattle.std.specs.List.{list_all}
-use Rattle.std.proofs.lemmas.Bool.{cases_Bool, both_ways, ltb-true, le-ltb, and_left, and_right, and_parts, eqb-true, eq-eqb}
+use Rattle.std.proofs.lemmas.Bool.{cases_Bool, both_ways, ltb-true, le-ltb, and_left, and_right, and_parts, eqb-true, eq-eqb, ltb-false}
 use Rattle.wsm_schema.specs.Tree.{Part, Parts, Lanes, act, gate, loop, nothing, part, no_lane, lane, and_gate, xor_gate}
 use Rattle.wsm_schema.specs.Ends.{first_node, last_of}
 use Rattle.wsm_schema.specs.declared.places.Place.{Place}
@@ -45,6 +45,10 @@ greater-zero t = rw (le-ltb t 0 (omega arith)) refl
 -- the greater of two is no less than the first
 pub greater-left : (a b : ℕ) → a ≤ greater a b
 greater-left a b = elim (cases_Bool (nat_lt a b)) [ inl less ↦ rw less (omega (arith, ltb-true a b less)) | inr more ↦ rw more (omega arith) ]
+
+-- and no less than the second
+pub greater-right : (a b : ℕ) → b ≤ greater a b
+greater-right a b = elim (cases_Bool (nat_lt a b)) [ inl less ↦ rw less (omega arith) | inr more ↦ rw more (omega (arith, ltb-false a b more)) ]
 
 -- ---- a node with one edge into it
 abbrev OneEdge : NodeKind → Type 0

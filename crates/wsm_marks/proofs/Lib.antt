@@ -21,9 +21,12 @@ pub mod Sources
 pub mod LoopOfSchema
 pub mod LoopNodes
 pub mod Repeats
+pub mod NoFault
 pub mod SoundSchemas
 pub mod BlockFlow
 pub mod NeverStuck
 pub mod SaneTrails
+pub mod Values
+pub mod SureValues
 pub mod ExamplesExchange
 pub mod ExamplesRepeat

@@ -12,6 +12,8 @@ use Rattle.wsm_schema.specs.declared.entries.Entry.{Entry}
 use Rattle.wsm_schema.specs.declared.entries.Entry.TheVariants as entry
 use Rattle.wsm_lists.specs.declared.values.Value.{Value}
 use Rattle.wsm_schema.specs.Marks.{Facts, facts_of}
+use Rattle.wsm_schema.specs.Rules.{Spots}
+use Rattle.wsm_schema.specs.Trail.{value_below}
 use Rattle.wsm_marks.specs.Fits.{Ends, Orderly, RisesAfter, first_misfit, fits, last_position, partner_done}
 use Rattle.wsm_marks.specs.Regions.{Closed, Region, is_of, misfit_in}
 use Rattle.wsm_marks.specs.Solving.{solution}
@@ -23,8 +25,6 @@ use Rattle.wsm_marks.proofs.MarksOfTrails.{whole-fits}
 use Rattle.wsm_marks.proofs.Remark.{closed-bordered, remark}
 use Rattle.wsm_marks.proofs.Telling.{trail-ends}
 use Rattle.wsm_marks.proofs.WholeTrails.{whole-orderly}
-use Rattle.wsm_schema.specs.Rules.{Spots}
-use Rattle.wsm_schema.specs.Trail.{value_below}
 
 -- such a region is closed, whatever a trail tells
 region-closed : (g1 g2 : FlatModel) (inside : ℕ → Bool) → Region g1 g2 inside → (f : Facts) → Closed g1.cards f g2.cards f inside

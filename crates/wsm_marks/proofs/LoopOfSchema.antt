@@ -67,7 +67,8 @@ mutual
   lanes-no_start no_lane split join = tt
   lanes-no_start (lane code ps ls) split join = rows-append _ (parts_places ps (labelled split code) join) _ (parts-no_start ps (labelled split code) join) (lanes-no_start ls split join)
 
-places-edged : (start finish : ℕ) (body : Parts) → FullParts body → AllRows Entered (places start body finish)
+-- each place but the start has an edge into it
+pub places-edged : (start finish : ℕ) (body : Parts) → FullParts body → AllRows Entered (places start body finish)
 places-edged start finish body full = (tt, rows-append _ (parts_places body (plain_end start) finish) _ (parts-edged body (plain_end start) finish full) (tt, tt))
 
 inner-of : {X : Type 0} (k : NodeKind) (xs : List X) → NotStart k → HasEdge k xs → Inner k xs

@@ -17,6 +17,7 @@ use Rattle.wsm_schema.specs.declared.states.Flow.TheVariants.{Yes, No}
 use Rattle.wsm_schema.specs.declared.states.State.{State}
 use Rattle.wsm_schema.specs.declared.states.State.TheVariants as state
 use Rattle.wsm_lists.specs.declared.values.Value.{Value}
+use Rattle.wsm_schema.specs.Rank.{IsRank}
 use Rattle.wsm_marks.specs.Fits.{Ends, Fresh, Orderly, Quiet, RisesAfter, Tells, Told, first_misfit, fits, last_position}
 use Rattle.wsm_marks.specs.MarkBy.{mark_by, since}
 use Rattle.wsm_marks.specs.Solving.{solution}
@@ -29,7 +30,6 @@ use Rattle.wsm_marks.proofs.Lists.{fold-same}
 use Rattle.wsm_marks.proofs.Signals.{before_none}
 use Rattle.wsm_marks.proofs.Telling.{orderly-fresh, orderly-told, trail-ends}
 use Rattle.wsm_marks.proofs.WholeTrails.{whole-orderly}
-use Rattle.wsm_schema.specs.Rank.{IsRank}
 
 -- which test of a state belongs to which flow
 abbrev pub shows : Flow → State → Bool

@@ -36,7 +36,7 @@ use Rattle.wsm_marks.proofs.Signals.{is_ready_mark}
 use Rattle.wsm_marks.proofs.WholeTrails.{whole-orderly}
 
 -- an entry that is found has what all have
-found-row : (P : ℕ × Entry → Type 0) (test : Entry → Bool) (es : Entries) (d : ℕ × Entry) → AllRows P es → find (λ e. test e.1) es ≡ Some d → P d × (test d.1 ≡ true)
+pub found-row : (P : ℕ × Entry → Type 0) (test : Entry → Bool) (es : Entries) (d : ℕ × Entry) → AllRows P es → find (λ e. test e.1) es ≡ Some d → P d × (test d.1 ≡ true)
 found-row P test [] d h e = absurd (cc)
 found-row P test (x ∷ xs) d h e =
     elim (cases_Bool (test x.1)) [
@@ -44,7 +44,8 @@ found-row P test (x ∷ xs) d h e =
       | inr other ↦ found-row P test xs d h.1 (rw other at e)
     ]
 
-position-found : (test : Entry → Bool) (es : Entries) (p : ℕ) → position_of test es ≡ Some p → (x : Entry) × (find (λ e. test e.1) es ≡ Some (p, x))
+-- a position that is told is that of an entry
+pub position-found : (test : Entry → Bool) (es : Entries) (p : ℕ) → position_of test es ≡ Some p → (x : Entry) × (find (λ e. test e.1) es ≡ Some (p, x))
 position-found test es p h = go (find (λ e. test e.1) es) h
   where
     go : (o : Option (ℕ × Entry)) → option_map (λ e. e.0) o ≡ Some p → (x : Entry) × (o ≡ Some (p, x))
@@ -74,7 +75,7 @@ split-choice c (Some code) x h =
 module _ (s : SchemaModel) (es : Entries) (m : Marking) (orderly : Orderly es)
     (fit : AllRows (λ e. fits (flat_of s) (facts_of es) m (λ d. value_below d e.0 es) e.0 e.1 ≡ true) es) where
   -- a node that was ended was ready before
-  ended-ready : (n u : ℕ) → (facts_of es).ended n ≡ Some u → (t : ℕ) × (m n ≡ Some (t, Yes)) × (t ≤ u)
+  pub ended-ready : (n u : ℕ) → (facts_of es).ended n ≡ Some u → (t : ℕ) × (m n ≡ Some (t, Yes)) × (t ≤ u)
   ended-ready n u h =
       let x = position-found (is_end_of n) es u h in
       let r = found-row (λ e. InOrder (facts_of es) e.0 e.1) (is_end_of n) es (u, x.0) orderly.order x.1 in

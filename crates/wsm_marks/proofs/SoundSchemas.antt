@@ -1,7 +1,6 @@
 -- Each sound schema is regular.
-use Rattle.std.proofs.Common.{◌≡◌, ℕ, Bool, true, false, not, ◌&&◌, eqb, List, [], ◌∷◌, length, refl, ap, sym, ◌∙◌, subst, inl, inr, Option, Some, None}
+use Rattle.std.proofs.Common.{◌≡◌, ℕ, Bool, true, false, ◌&&◌, eqb, List, [], ◌∷◌, length, refl, ap, sym, ◌∙◌, subst, inl, inr, Option, Some, None}
 use Rattle.std.specs.Prelude.{option_map, nat_lt}
-use Rattle.std.specs.Option.{option_or}
 use Rattle.std.proofs.lemmas.Bool.{cases_Bool, both_ways, eqb-true, and_left, and_right, and_parts, or_left, or_right, or_parts}
 use Rattle.wsm_lists.specs.Rows.{AllRows}
 use Rattle.wsm_schema.specs.Tree.{Part, Parts, Lanes, act, gate, loop, nothing, part, no_lane, lane}
@@ -11,7 +10,7 @@ use Rattle.wsm_schema.specs.Flat.{cards_of}
 use Rattle.wsm_schema.specs.Kinds.{is_activity}
 use Rattle.wsm_schema.specs.Replay.{has_label}
 use Rattle.wsm_schema.specs.Trail.{is_one_of}
-use Rattle.wsm_schema.specs.Sound.{first_some, when, twice, codes_of, part_block_fault, parts_block_fault, lanes_block_fault, part_has, parts_have, parts_apart, parts_loop, same_option, is_act_in, block_fault, nodes_of}
+use Rattle.wsm_schema.specs.Sound.{when, twice, codes_of, part_block_fault, parts_block_fault, lanes_block_fault, part_has, parts_have, parts_apart, parts_loop, same_option, is_act_in, block_fault, nodes_of}
 use Rattle.wsm_schema.specs.declared.cards.Card.{Card}
 use Rattle.wsm_schema.specs.declared.places.Place.{Place}
 use Rattle.wsm_schema.specs.declared.faults.BlockFault.{BlockFault}
@@ -24,27 +23,7 @@ use Rattle.wsm_marks.proofs.LoopInTree.{FoundIn}
 use Rattle.wsm_marks.proofs.LoopNodes.{found-of, loop_nodes-are}
 use Rattle.wsm_marks.proofs.LoopOfSchema.{body_nodes, l_in, rows_by_places, tail_apart, whole_loop}
 use Rattle.wsm_marks.proofs.LoopSets.{holds, parts-loops}
-
--- ---- where no fault is found
-no_either : {X : Type 0} (a b : Option X) → option_or a b ≡ None → (a ≡ None) × (b ≡ None)
-no_either None b h = (refl, h)
-no_either (Some x) b h = absurd (cc)
-
-no_when : {X : Type 0} (test : Bool) (x : X) → when test x ≡ None → test ≡ false
-no_when true x h = absurd (cc)
-no_when false x h = refl
-
-no_map : {X Y : Type 0} (f : X → Y) (o : Option X) → option_map f o ≡ None → o ≡ None
-no_map f None h = refl
-no_map f (Some x) h = absurd (cc)
-
-no_first : {X Y : Type 0} (f : X → Option Y) (xs : List X) → first_some f xs ≡ None → AllRows (λ x. f x ≡ None) xs
-no_first f [] h = tt
-no_first f (x ∷ xs) h = let r = no_either (f x) (first_some f xs) h in (r.0, no_first f xs r.1)
-
-not_false : (b : Bool) → not b ≡ false → b ≡ true
-not_false true h = refl
-not_false false h = absurd (both_ways _ h refl)
+use Rattle.wsm_marks.proofs.NoFault.{no_either, no_first, no_map, no_when, not_false}
 
 -- ---- distinct numbers
 abbrev Apart : List ℕ → Type 0

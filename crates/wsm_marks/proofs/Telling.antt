@@ -6,6 +6,9 @@ use Rattle.std.proofs.lemmas.Bool.{cases_Bool, ltb-true, lt-ltb, le-ltb, or_part
 use Rattle.wsm_lists.specs.Rows.{AllRows}
 use Rattle.wsm_schema.specs.Marks.{is_start_of, is_end_of, position_of, facts_of, Facts}
 use Rattle.wsm_schema.specs.declared.entries.Entry.{Entry}
+use Rattle.wsm_schema.specs.Flat.{FlatModel}
+use Rattle.wsm_schema.specs.Trail.{value_below}
+use Rattle.wsm_schema.specs.Replay.{replay_of}
 use Rattle.std.proofs.Math.Bool.{or-false}
 use Rattle.wsm_lists.proofs.Lists.{all-rows-map}
 use Rattle.wsm_marks.specs.Fits.{Ends, Fresh, InOrder, Orderly, Quiet, RisesAfter, Tells, Told, first_misfit, last_position}
@@ -13,9 +16,6 @@ use Rattle.wsm_marks.specs.Timed.{Entries, Marking, below, early}
 use Rattle.wsm_marks.proofs.Causality.{TimedNet}
 use Rattle.wsm_marks.proofs.FirstFailure.{replay-ends}
 use Rattle.wsm_marks.proofs.Lists.{lt-suc_self, or_none, rows-last}
-use Rattle.wsm_schema.specs.Flat.{FlatModel}
-use Rattle.wsm_schema.specs.Trail.{value_below}
-use Rattle.wsm_schema.specs.Replay.{replay_of}
 
 -- all positions below q
 abbrev pub AllBelow : ℕ → Entries → Type 0
