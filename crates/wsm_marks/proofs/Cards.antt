@@ -42,6 +42,7 @@ each_has_card (c ∷ cs) = ((c, rw (eq-eqb c.node c.node refl) refl), all-rows-m
 abbrev pub nodes : List Place → List ℕ
 nodes ps = map (λ p. p.node) ps
 
+-- the nodes of two lists of places
 pub nodes-append : (xs ys : List Place) → nodes (xs ++ ys) ≡ nodes xs ++ nodes ys
 nodes-append [] ys = refl
 nodes-append (x ∷ xs) ys = ap (λ ns. x.node ∷ ns) (nodes-append xs ys)

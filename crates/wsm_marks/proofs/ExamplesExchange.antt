@@ -22,6 +22,7 @@ with_two a b = plain 0 1 (part (gate xor_gate 2 3 (lane 3 nothing (lane 1 (part 
 abbrev old_flat : FlatModel
 old_flat = flat_of (with_two 5 7)
 
+-- the same with 5 last and 7 on the branch
 abbrev new_flat : FlatModel
 new_flat = flat_of (with_two 7 5)
 
@@ -29,10 +30,11 @@ new_flat = flat_of (with_two 7 5)
 abbrev trail : Entries
 trail = (1, entry.Start 2 9 []) ∷ (2, entry.End 2 [] (Some 3)) ∷ (3, entry.Start 6 9 []) ∷ (4, entry.End 6 [] None) ∷ (5, entry.Start 7 9 []) ∷ (6, entry.End 7 [] None) ∷ []
 
--- the solution of a flat form for the trail, and the first entry that does not fit it
+-- the solution of a flat form for the trail
 abbrev solved : FlatModel → Marking
 solved g = solution g.cards (nodes_of g.cards) (facts_of trail)
 
+-- the first entry that does not fit it
 abbrev misfit : FlatModel → Option ℕ
 misfit g = first_misfit g (facts_of trail) (solved g) (λ d p. value_below d p trail) trail
 

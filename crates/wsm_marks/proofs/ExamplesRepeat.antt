@@ -21,6 +21,7 @@ schema = record (plain 0 1 (part (gate and_gate 2 3 (
     (lane 1 (part (gate xor_gate 8 9 (lane 0 (part (act 10) nothing) (lane 1 nothing no_lane))) (part (act 11) nothing)) no_lane)
     )) nothing)) { syncs = (7, 10) ∷ [] }
 
+-- its flat form
 abbrev flat : FlatModel
 flat = flat_of schema
 
@@ -37,6 +38,7 @@ again = repeated (loop_nodes flat.cards 5) trail 8 5 []
 again-is : again ≡ (1, entry.Start 8 9 []) ∷ (2, entry.End 8 [] (Some 1)) ∷ (3, entry.Start 11 9 []) ∷ (4, entry.End 11 [] None) ∷ (8, entry.Again 5 []) ∷ []
 again-is = refl
 
+-- its solution for a trail
 abbrev solved : Entries → Marking
 solved es = solution flat.cards (nodes_of flat.cards) (facts_of es)
 

@@ -8,18 +8,23 @@ use Rattle.wsm_schema.proofs.DocumentOrder.{one_of-append}
 use Rattle.std.proofs.Math.Bool.{or-false}
 use Rattle.wsm_lists.proofs.Lists.{all_rows, both_rows}
 
+-- no number is below itself
 pub not_before_itself : (p : ℕ) → nat_lt p p ≡ false
 not_before_itself p = le-ltb p p (omega arith)
 
+-- each is below the next
 pub lt-suc_self : (p : ℕ) → nat_lt p (suc p) ≡ true
 lt-suc_self p = lt-ltb p (suc p) (omega arith)
 
+-- two numbers that are not one, the other way round
 pub eqb-swap : (a b : ℕ) → eqb a b ≡ false → eqb b a ≡ false
 eqb-swap a b h = ne_eqb b a (λ e. eqb-false a b h (sym e))
 
+-- a test or one that fails
 pub or_none : (a b : Bool) → b ≡ false → (a || b) ≡ a
 or_none a b h = ap (λ x. a || x) h ∙ or-false a
 
+-- two maps in a row are one
 pub map-map : {X Y Z : Type 0} (g : Y → Z) (h : X → Y) (xs : List X) → map (λ x. g (h x)) xs ≡ map g (map h xs)
 map-map g h [] = refl
 map-map g h (x ∷ xs) = ap (λ ys. g (h x) ∷ ys) (map-map g h xs)

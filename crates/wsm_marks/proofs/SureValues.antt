@@ -53,6 +53,7 @@ times-latest sig (x ∷ xs) = (
 )
 
 module _ {X : Type 0} (G : Type 0) (yes sure : X → Bool) where
+  -- each row that is True and sure leads to G
   abbrev Leads : List X → Type 0
   Leads xs = AllRows (λ x. yes x ≡ true → sure x ≡ true → G) xs
 
@@ -145,6 +146,7 @@ module _ (s : SchemaModel) (regular : Regular s) (writers : WritersWork s) (es :
           let here : r.0 ≡ c = same_card (cards_of s) n r.0 c (ap (λ k. card_at k (cards_of s)) (sym same) ∙ r.1) at in
           edges-write s.elements d writes c.writes (subst (λ y. fits_edges s.elements writes y.writes ≡ true) here (and_parts (fits_edges s.elements writes r.0.writes) (fits_choice r.0 choice) r.2).0) listed
 
+  -- one round of what is sure
   abbrev round : Sure → Sure
   round sure n d = sure_at s sure (card_at n (cards_of s)) d
 
