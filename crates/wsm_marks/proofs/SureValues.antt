@@ -1,0 +1,223 @@
+-- Where a node is ready, each element that is sure there has a value, so each value that must be read is there.
+use Rattle.std.proofs.Common.{◌≡◌, ℕ, zero, suc, ◌≤◌, Bool, true, false, cond, not, ◌||◌, ◌&&◌, List, [], ◌∷◌, map, refl, ap, sym, ◌∙◌, subst, inl, inr, ◌⊎◌, arith, Option, Some, None, length}
+use Rattle.std.specs.Prelude.{is_some, find, count_by, ◌==◌}
+use Rattle.std.specs.List.{list_all, list_any}
+use Rattle.std.specs.Fn.{iterate}
+use Rattle.std.proofs.lemmas.Bool.{cases_Bool, both_ways, ltb-true, eqb-true, and_parts, or_cases}
+use Rattle.wsm_lists.specs.Rows.{AllRows}
+use Rattle.wsm_lists.specs.Values.{value_in}
+use Rattle.wsm_schema.specs.SchemaModel.{SchemaModel}
+use Rattle.wsm_schema.specs.Flat.{flat_of, card_at, cards_of}
+use Rattle.wsm_schema.specs.Kinds.{worked_on}
+use Rattle.wsm_schema.specs.Rank.{IsRank}
+use Rattle.wsm_schema.specs.Rules.{Spots, is_yes, is_ready, is_skipped}
+use Rattle.wsm_schema.specs.Replay.{fits_edges, fits_choice, replay_of, whole}
+use Rattle.wsm_schema.specs.Marks.{Facts, facts_of, is_end_of}
+use Rattle.wsm_schema.specs.Trail.{value_below, written_by}
+use Rattle.wsm_schema.specs.Sound.{Sure, none_sure, sure_by, sure_at, sure_of, missing_at, has_number, writes_of, data_fault}
+use Rattle.wsm_schema.specs.declared.cards.Card.{Card}
+use Rattle.wsm_schema.specs.declared.cards.End.{End}
+use Rattle.wsm_schema.specs.declared.cards.NodeKind.{NodeKind}
+use Rattle.wsm_schema.specs.declared.cards.NodeKind.TheVariants as kind
+use Rattle.wsm_schema.specs.declared.entries.Entry.{Entry}
+use Rattle.wsm_schema.specs.declared.entries.Entry.TheVariants as entry
+use Rattle.wsm_schema.specs.declared.states.Flow.{Flow}
+use Rattle.wsm_schema.specs.declared.states.Flow.TheVariants.{Yes, No}
+use Rattle.wsm_schema.specs.declared.states.Verdict.TheVariants as verdict
+use Rattle.wsm_schema.proofs.Rounds.{iterate-last}
+use Rattle.wsm_lists.proofs.Lists.{all-rows-map}
+use Rattle.wsm_schema.proofs.Rounds.{all-rows-card_at, card_at-node}
+use Rattle.wsm_marks.specs.Fits.{Orderly, RisesAfter, fits}
+use Rattle.wsm_marks.specs.Loops.{HasEdge}
+use Rattle.wsm_marks.specs.Schemas.{Regular}
+use Rattle.wsm_marks.specs.Solving.{solution}
+use Rattle.wsm_marks.specs.Timed.{Entries, Marking, Solves, Timed, awaited, before, flow, latest, sig_at, sig_by, sig_of, time, timed_by}
+use Rattle.wsm_marks.proofs.BlockFlow.{greater-left, greater-right, not_some, sig}
+use Rattle.wsm_marks.proofs.Cards.{on_card-true, same_card}
+use Rattle.wsm_marks.proofs.Causality.{solved_net}
+use Rattle.wsm_marks.proofs.FirstFailure.{fits-rows}
+use Rattle.wsm_marks.proofs.Lists.{lt-suc_self, map-map}
+use Rattle.wsm_marks.proofs.MarksOfTrails.{whole-fits}
+use Rattle.wsm_marks.proofs.NoFault.{no_either, no_first, no_map}
+use Rattle.wsm_marks.proofs.SaneTrails.{ended-ready, found-row, position-found}
+use Rattle.wsm_marks.proofs.Signals.{is_ready_mark}
+use Rattle.wsm_marks.proofs.Values.{WritersWork, card-edged, card-writes, edges-write, value-later, value-of_entry, writers-work}
+use Rattle.wsm_marks.proofs.WholeTrails.{whole-orderly}
+
+-- the time of each signal is no later than the latest
+times-latest : {X : Type 0} (sig : X → Timed) (xs : List X) → AllRows (λ x. time (sig x) ≤ latest (map sig xs)) xs
+times-latest sig [] = tt
+times-latest sig (x ∷ xs) = (
+  greater-left (time (sig x)) (latest (map sig xs)),
+  all-rows-map _ _ (λ y le. omega (arith, le, greater-right (time (sig x)) (latest (map sig xs)))) xs (times-latest sig xs),
+)
+
+module _ {X : Type 0} (G : Type 0) (yes sure : X → Bool) where
+  -- each row that is True and sure leads to G
+  abbrev Leads : List X → Type 0
+  Leads xs = AllRows (λ x. yes x ≡ true → sure x ≡ true → G) xs
+
+  -- all are True, and one is sure; one is True, and all are sure
+  one-sure : (xs : List X) → list_all (λ b. b) (map yes xs) ≡ true → list_any (λ b. b) (map sure xs) ≡ true → Leads xs → G
+  one-sure [] all any leads = absurd (both_ways _ refl any)
+  one-sure (x ∷ xs) all any leads =
+      let r = and_parts (yes x) _ all in
+      elim (or_cases (sure x) _ any) [ inl it ↦ leads.0 r.0 it | inr later ↦ one-sure xs r.1 later leads.1 ]
+
+  one-yes : (xs : List X) → list_any (λ b. b) (map yes xs) ≡ true → list_all (λ b. b) (map sure xs) ≡ true → Leads xs → G
+  one-yes [] any all leads = absurd (both_ways _ refl any)
+  one-yes (x ∷ xs) any all leads =
+      let r = and_parts (sure x) _ all in
+      elim (or_cases (yes x) _ any) [ inl it ↦ leads.0 it r.0 | inr later ↦ one-yes xs later r.1 leads.1 ]
+
+all_yes-map : (os : List (Option Flow)) → list_all is_yes os ≡ true → list_all (λ b. b) (map is_yes os) ≡ true
+all_yes-map [] h = refl
+all_yes-map (o ∷ os) h = let r = and_parts (is_yes o) _ h in rw r.0 (all_yes-map os r.1)
+
+count_yes-any : (os : List (Option Flow)) → (count_by is_yes os == 1) ≡ true → list_any (λ b. b) (map is_yes os) ≡ true
+count_yes-any [] h = absurd (both_ways _ refl h)
+count_yes-any (Some Yes ∷ os) h = refl
+count_yes-any (Some No ∷ os) h = count_yes-any os h
+count_yes-any (None ∷ os) h = count_yes-any os h
+
+-- what is sure at a ready node is sure at, or written by, a source whose edge is True
+sure-edge : {X : Type 0} (G : Type 0) (k : NodeKind) (sig : X → Timed) (sure : X → Bool) (xs : List X) → HasEdge k xs → is_ready k (map flow (map sig xs)) ≡ true → sure_by k (map sure xs) ≡ true →
+    Leads G (λ x. is_yes (flow (sig x))) sure xs → G
+sure-edge G kind.Start sig sure xs edge ready h leads = absurd (both_ways _ refl h)
+sure-edge G kind.AndJoin sig sure xs edge ready h leads =
+    one-sure G (λ x. is_yes (flow (sig x))) sure xs
+    (ap (list_all (λ b. b)) (map-map is_yes (λ x. flow (sig x)) xs ∙ ap (map is_yes) (map-map flow sig xs)) ∙ all_yes-map (map flow (map sig xs)) ready) h leads
+sure-edge G kind.XorJoin sig sure xs edge ready h leads =
+    one-yes G (λ x. is_yes (flow (sig x))) sure xs
+    (ap (list_any (λ b. b)) (map-map is_yes (λ x. flow (sig x)) xs ∙ ap (map is_yes) (map-map flow sig xs)) ∙ count_yes-any (map flow (map sig xs)) (and_parts (list_all is_some (map flow (map sig xs))) _ ready).1) h leads
+sure-edge G _ sig sure [] edge ready h leads = absurd edge
+sure-edge G _ sig sure (x ∷ xs) edge ready h leads = leads.0 (and_parts (is_yes (flow (sig x))) _ ready).0 (and_parts (sure x) _ h).0
+
+-- a node that is ready since t has its control edges' signals by then
+ready-time : (r s y : Bool) (a b t : ℕ) → timed_by (cond r (cond y verdict.Ready verdict.Waiting) (cond s verdict.Skipped verdict.Waiting)) a b ≡ Some (t, Yes) → (r ≡ true) × (a ≤ t)
+ready-time true s true a b t h = (refl, omega (arith, greater-left a b, ap time h))
+ready-time true s false a b t h = absurd (not_some (t, Yes) h)
+ready-time false true y a b t h = let p : Some No ≡ Some Yes = ap flow h in absurd (cc)
+ready-time false false y a b t h = absurd (not_some (t, Yes) h)
+
+-- an edge is True where its source was ended, or is silent and ready, at that time
+abbrev Sourced : NodeKind → Timed → Option ℕ → Timed → Type 0
+Sourced k x en y = ((worked_on k ≡ true) × (en ≡ Some (time y))) ⊎ ((worked_on k ≡ false) × (x ≡ Some (time y, Yes)))
+
+yes-sourced : (k : NodeKind) (x : Timed) (en choice label : Option ℕ) → is_yes (flow (sig_of k x en choice label)) ≡ true → Sourced k x en (sig_of k x en choice label)
+yes-sourced k (Some (t, No)) en choice label h = absurd (both_ways _ refl h)
+yes-sourced k (Some (t, Yes)) None choice label h =
+    elim (cases_Bool (worked_on k)) [
+      | inl works ↦ absurd (both_ways _ refl (rw works at h))
+      | inr silent ↦ rw silent (inr (refl, refl))
+    ]
+yes-sourced k (Some (t, Yes)) (Some u) choice label h =
+    elim (cases_Bool (worked_on k)) [
+      | inl works ↦ rw works (inl (refl, refl))
+      | inr silent ↦ rw silent (inr (refl, refl))
+    ]
+yes-sourced k None None choice label h =
+    elim (cases_Bool (worked_on k)) [
+      | inl works ↦ absurd (both_ways _ refl (rw works at h))
+      | inr silent ↦ absurd (both_ways _ refl (rw silent at h))
+    ]
+yes-sourced k None (Some u) choice label h =
+    elim (cases_Bool (worked_on k)) [
+      | inl works ↦ rw works (inl (refl, refl))
+      | inr silent ↦ absurd (both_ways _ refl (rw silent at h))
+    ]
+
+module _ (s : SchemaModel) (regular : Regular s) (writers : WritersWork s) (es : Entries) (m : Marking) (solves : Solves (cards_of s) (facts_of es) m) (orderly : Orderly es)
+    (fit : AllRows (λ e. fits (flat_of s) (facts_of es) m (λ d. value_below d e.0 es) e.0 e.1 ≡ true) es) where
+  -- what a node that was ended writes is there behind its End
+  written-by_end : (n u d : ℕ) (c : Card) → card_at n (cards_of s) ≡ Some c → (facts_of es).ended n ≡ Some u → has_number d c.writes ≡ true → is_some (value_below d (suc u) es) ≡ true
+  written-by_end n u d c at h listed =
+      let x = position-found (is_end_of n) es u h in
+      let q = found-row (λ e. fits (flat_of s) (facts_of es) m (λ d. value_below d e.0 es) e.0 e.1 ≡ true) (is_end_of n) es (u, x.0) fit x.1 in
+      value-of_entry d u (suc u) x.0 (is_end_of n) es x.1 (lt-suc_self u) (go x.0 q.0 q.1)
+    where
+      go : (x : Entry) → fits (flat_of s) (facts_of es) m (λ d. value_below d u es) u x ≡ true → is_end_of n x ≡ true → is_some (value_in d (written_by x)) ≡ true
+      go (entry.Start node user reads) f i = absurd (both_ways _ refl i)
+      go (entry.Again node writes) f i = absurd (both_ways _ refl i)
+      go (entry.Wrote writes) f i = absurd (both_ways _ refl i)
+      go (entry.End node writes choice) f i =
+          let same : node ≡ n = eqb-true node n i in
+          let r = on_card-true (card_at node (cards_of s)) _ f in
+          let here : r.0 ≡ c = same_card (cards_of s) n r.0 c (ap (λ k. card_at k (cards_of s)) (sym same) ∙ r.1) at in
+          edges-write s.elements d writes c.writes (subst (λ y. fits_edges s.elements writes y.writes ≡ true) here (and_parts (fits_edges s.elements writes r.0.writes) (fits_choice r.0 choice) r.2).0) listed
+
+  -- one round of what is sure
+  abbrev round : Sure → Sure
+  round sure n d = sure_at s sure (card_at n (cards_of s)) d
+
+  -- what is sure after some rounds is there where the node is ready
+  sure-there : (k n d t : ℕ) (c : Card) → card_at n (cards_of s) ≡ Some c → m n ≡ Some (t, Yes) → iterate round k none_sure n d ≡ true → is_some (value_below d (suc t) es) ≡ true
+  sure-there zero n d t c at ready h = absurd (both_ways _ refl h)
+  sure-there (suc k) n d t c at ready h =
+      let sure : Sure = iterate round k none_sure in
+      let sig : End → Timed = λ x. sig_at (cards_of s) (facts_of es) m x.label x.node in
+      let by_sources : sure_by c.kind (map (λ x. sure x.node d || writes_of s x.node d) c.ins) ≡ true = ap (λ o. sure_at s sure o d) (sym at) ∙ ap (λ g. g n d) (sym (iterate-last round k none_sure)) ∙ h in
+      let timely = ready-time (is_ready c.kind (map flow (map sig c.ins))) (is_skipped c.kind (map flow (map sig c.ins))) _ _ _ t (sym (solves.meets n c at) ∙ ready) in
+      sure-edge (is_some (value_below d (suc t) es) ≡ true) c.kind sig (λ x. sure x.node d || writes_of s x.node d) c.ins (card-edged s regular n c at) timely.0 by_sources
+      (all-rows-map _ _ (λ x le is_true known. value-later d (suc (time (sig x))) (suc t) (omega (arith, le, timely.1)) es (source (λ j u b. sure-there k j d u b) x is_true known)) c.ins (bounded c.kind sig c.ins by_sources))
+    where
+      -- the latest of the awaited signals
+      bounded : (kd : NodeKind) (sig : End → Timed) (xs : List End) → sure_by kd (map (λ x. iterate round k none_sure x.node d || writes_of s x.node d) xs) ≡ true → AllRows (λ x. time (sig x) ≤ latest (awaited kd (map sig xs))) xs
+      bounded kind.Start sig xs h = absurd (both_ways _ refl h)
+      bounded _ sig xs h = times-latest sig xs
+
+      source : ((j u : ℕ) (b : Card) → card_at j (cards_of s) ≡ Some b → m j ≡ Some (u, Yes) → iterate round k none_sure j d ≡ true → is_some (value_below d (suc u) es) ≡ true) →
+          (x : End) → is_yes (flow (sig_at (cards_of s) (facts_of es) m x.label x.node)) ≡ true → (iterate round k none_sure x.node d || writes_of s x.node d) ≡ true →
+          is_some (value_below d (suc (time (sig_at (cards_of s) (facts_of es) m x.label x.node))) es) ≡ true
+      source ih x is_true known = go (card_at x.node (cards_of s)) refl is_true
+        where
+          go : (o : Option Card) → card_at x.node (cards_of s) ≡ o → is_yes (flow (sig_by o (m x.node) ((facts_of es).ended x.node) ((facts_of es).choice x.node) x.label)) ≡ true →
+              is_some (value_below d (suc (time (sig_by o (m x.node) ((facts_of es).ended x.node) ((facts_of es).choice x.node) x.label))) es) ≡ true
+          go None at is_true = absurd (both_ways _ refl is_true)
+          go (Some b) at is_true =
+              elim (yes-sourced b.kind (m x.node) ((facts_of es).ended x.node) ((facts_of es).choice x.node) x.label is_true) [
+                | inl ended ↦
+                    let r = ended-ready s es m orderly fit x.node _ ended.1 in
+                    elim (or_cases (iterate round k none_sure x.node d) (writes_of s x.node d) known) [
+                      | inl sure ↦ value-later d (suc r.0) _ (omega (arith, r.2)) es (ih x.node r.0 b at r.1 sure)
+                      | inr writes ↦ written-by_end x.node _ d b at ended.1 (card-writes s regular x.node d b at writes)
+                    ]
+                | inr silent ↦
+                    elim (or_cases (iterate round k none_sure x.node d) (writes_of s x.node d) known) [
+                      | inl sure ↦ ih x.node _ b at silent.1 sure
+                      | inr writes ↦ absurd (both_ways _ silent.0 (writers x.node d b at writes))
+                    ]
+              ]
+
+-- a list in which nothing is found
+none-found : {X : Type 0} (test : X → Bool) (xs : List X) → find test xs ≡ None → AllRows (λ x. test x ≡ false) xs
+none-found test [] h = tt
+none-found test (x ∷ xs) h =
+    elim (cases_Bool (test x)) [
+      | inl it ↦ let p : Some x ≡ None = rw it at h in absurd (cc)
+      | inr other ↦ (other, none-found test xs (rw other at h))
+    ]
+
+-- on a trail that replays whole each value that must be read at a node is there where the node is ready
+pub read-there : (s : SchemaModel) → Regular s → data_fault s ≡ None → (rank : List ℕ) → IsRank (cards_of s) rank → (es : Entries) (t : Spots) → RisesAfter 0 es → replay_of (flat_of s) es ≡ whole t →
+    (n q : ℕ) (c : Card) → card_at n (cards_of s) ≡ Some c → before q (solution (cards_of s) rank (facts_of es) n) ≡ Some Yes → AllRows (λ r. r.1 ≡ true → is_some (value_below r.0 q es) ≡ true) c.reads
+read-there s regular no_fault rank is es t rises is_whole n q c at ready =
+    let f : Facts = facts_of es in
+    let m : Marking = solution (cards_of s) rank f in
+    let orderly : Orderly es = whole-orderly (flat_of s) es t rises is_whole in
+    let net = solved_net (cards_of s) rank is f in
+    let fit = fits-rows (flat_of s) f m (λ d p. value_below d p es) es (whole-fits (flat_of s) rank es m net orderly t is_whole) in
+    let mark = is_ready_mark q (m n) ready in
+    let later : suc mark.0 ≤ q = omega (arith, ltb-true mark.0 q mark.2) in
+    let faults = no_first (missing_at (sure_of s)) (cards_of s) (no_either _ _ (no_either _ _ (no_either _ _ no_fault).1).1).0 in
+    let missing : missing_at (sure_of s) c ≡ None = all-rows-card_at (λ x. missing_at (sure_of s) x ≡ None) n (cards_of s) c faults at in
+    let rows = none-found (λ r. r.1 && not (sure_of s c.node r.0)) c.reads (no_map _ _ missing) in
+    all-rows-map _ _ (λ r none must.
+    let sure : sure_of s n r.0 ≡ true = ap (λ k. sure_of s k r.0) (sym (card_at-node n (cards_of s) c at)) ∙ sure_by_clause r.1 (sure_of s c.node r.0) none must in
+    value-later r.0 (suc mark.0) q later es
+    (sure-there s regular (writers-work s regular no_fault) es m net.solves orderly fit (length (cards_of s)) n r.0 mark.0 c at mark.1 sure)) c.reads rows
+  where
+    sure_by_clause : (must sure : Bool) → (must && not sure) ≡ false → must ≡ true → sure ≡ true
+    sure_by_clause true true h it = refl
+    sure_by_clause true false h it = absurd (both_ways _ h refl)
+    sure_by_clause false sure h it = absurd (both_ways _ refl it)
