@@ -1,15 +1,20 @@
-// A schema with its flat form and a rank of its nodes.
-ghost use Rattle.std.specs.Prelude.{◌≡◌, IfOk};
-ghost use Rattle.wsm_schema.specs.Flat.{flat_of};
+// Sound schemas.
+ghost use Rattle.std.specs.Prelude.{◌≡◌, ◌<◌, ◌^◌, length, Ok, None, IfOk, IfErr};
+ghost use Rattle.wsm_schema.specs.Flat.{flat_of, cards_of};
 ghost use Rattle.wsm_schema.specs.Rank.{IsRank};
-ghost use Rattle.wsm_schema.specs.Sound.{nodes_of};
-ghost use Rattle.wsm_sound.specs.Ordered.{IsInOrder};
+ghost use Rattle.wsm_schema.specs.Sound.{Sound, block_fault, data_fault};
+ghost use Rattle.wsm_sound.specs.Faults.{fault_of, changed_by};
+ghost use Rattle.wsm_sound.specs.Refusals.{IsFault, IsRefusal};
 
+use crate::faults::{Fault, SoundRefusal};
 use std::alloc::Global;
 use std::marker::Model;
-use wsm_schema::{Card, Flat, NoMemory, Rank, Schema};
+use wsm_block::{BlockRefusal, check_block};
+use wsm_data::{DataRefusal, check_data};
+use wsm_ops::{ApplyRefusal, Ops, apply};
+use wsm_schema::{Flat, Rank, Schema};
 
-/// A schema that cases can work on, with its flat form and a rank of its nodes.
+/// A sound schema, with its flat form and a rank of its nodes.
 #[derive(Drop)]
 pub struct Checked {
     schema: Schema,
@@ -24,27 +29,18 @@ impl Model for Checked {
 
     ghost coded = { schema_code };
 
-    ghost use Rattle.wsm_sound.specs.Ordered.{IsRanked};
+    ghost use Rattle.wsm_sound.specs.Flattened.{IsFlattened};
 
     ghost view = { λ a. a.schema };
 
-    ghost invariant = { λ a. IsRanked a.schema a.flat a.rank };
+    ghost invariant = { λ a. IsFlattened a.schema a.flat a.rank };
 }
 
 impl Checked {
-    /// The schema with document order as its rank.
-    pub fn in_document_order(alloc: Global, schema: Schema) -> Result<Checked, NoMemory>
-        requires { IsInOrder schema }
-        ensures { IfOk result (λ checked. checked ≡ schema) }
-    {
-        let flat = Flat::of(alloc, &schema)?;
-        let rank = document_order(alloc, &flat)?;
-        Ok(Checked { schema, flat, rank })
-    }
-
     /// The schema alone.
     pub fn schema(&self) -> &Schema
-        ensures { result.now ≡ self.now }
+        ensures schema { result.now ≡ self.now }
+        ensures sound { Sound self.now }
     {
         &self.schema
     }
@@ -58,21 +54,61 @@ impl Checked {
 
     /// All nodes, each behind the sources of its edges.
     pub fn rank(&self) -> &Rank
-        ensures { IsRank (flat_of self.now).cards result.now }
+        ensures { IsRank (cards_of self.now) result.now }
     {
         &self.rank
     }
 }
 
-// The nodes in document order.
-fn document_order(alloc: Global, flat: &Flat) -> Result<Rank, NoMemory>
-    ensures { IfOk result (λ rank. rank ≡ nodes_of flat.now.cards) }
+/// The schema, where it is sound; else its first fault.
+#[tactic(auto, using(crate::proofs::NoFaults::no_fault_of_both))]
+pub fn check(alloc: Global, schema: Schema) -> Result<Checked, SoundRefusal>
+    ensures ok { IfOk result (λ checked. checked ≡ schema) }
+    ensures sound { IfOk result (λ checked. fault_of schema ≡ None) }
+    ensures fault { IfErr result (λ refusal. IsFault (fault_of schema) refusal) }
 {
-    Ok(Rank::from_vec(nodes_of(alloc, flat.cards())?))
+    let flat = Flat::of(alloc, &schema)?;
+    let rank = blocks_rank(alloc, &schema, &flat)?;
+    data_checked(alloc, &schema, &flat)?;
+    Ok(Checked { schema, flat, rank })
 }
 
-fn nodes_of(alloc: Global, cards: &[Card]) -> Result<Vec<u32>, NoMemory>
-    ensures { IfOk result (λ nodes. nodes.items ≡ nodes_of cards.now) }
+fn blocks_rank(alloc: Global, schema: &Schema, flat: &Flat) -> Result<Rank, SoundRefusal>
+    requires { flat.now ≡ flat_of schema.now }
+    ensures sound { IfOk result (λ rank. block_fault schema.now ≡ None) }
+    ensures rank { IfOk result (λ rank. IsRank (cards_of schema.now) rank) }
+    ensures fault { IfErr result (λ refusal. IsFault (fault_of schema.now) refusal) }
 {
-    cards.iter().map(|card| card.node).collect(alloc)
+    match check_block(alloc, schema, flat) {
+        Ok(rank) => Ok(rank),
+        Err(BlockRefusal::Fault(fault)) => Err(SoundRefusal::Fault(Fault::Block(fault))),
+        Err(BlockRefusal::NoMemory) => Err(SoundRefusal::NoMemory),
+    }
+}
+
+fn data_checked(alloc: Global, schema: &Schema, flat: &Flat) -> Result<(), SoundRefusal>
+    requires flat { flat.now ≡ flat_of schema.now }
+    requires blocks { block_fault schema.now ≡ None }
+    ensures sound { IfOk result (λ done. data_fault schema.now ≡ None) }
+    ensures fault { IfErr result (λ refusal. IsFault (fault_of schema.now) refusal) }
+{
+    match check_data(alloc, schema, flat) {
+        Ok(()) => Ok(()),
+        Err(DataRefusal::Fault(fault)) => Err(SoundRefusal::Fault(Fault::Data(fault))),
+        Err(DataRefusal::NoMemory) => Err(SoundRefusal::NoMemory),
+    }
+}
+
+/// The sound schema that the operations make of this one; else the first operation that is refused, or the first fault of
+/// what they make.
+pub fn change(alloc: Global, checked: &Checked, ops: &Ops) -> Result<Checked, SoundRefusal>
+    requires { length ops.now < 2 ^ 32 }
+    ensures ok { IfOk result (λ new. changed_by checked.now ops.now ≡ Ok new) }
+    ensures fault { IfErr result (λ refusal. IsRefusal (changed_by checked.now ops.now) refusal) }
+{
+    match apply(alloc, checked.schema(), ops) {
+        Ok(schema) => check(alloc, schema),
+        Err(ApplyRefusal::Fault(fault)) => Err(SoundRefusal::Fault(Fault::Op(fault))),
+        Err(ApplyRefusal::NoMemory) => Err(SoundRefusal::NoMemory),
+    }
 }
