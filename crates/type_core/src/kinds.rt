@@ -1,15 +1,17 @@
 // Process types.
-ghost use Rattle.std.specs.Prelude.{◌≡◌, ◌<◌, ◌^◌, length, slice_get, IfOk, OnErr};
+ghost use Rattle.std.specs.Prelude.{◌≡◌, ◌<◌, ◌≤◌, ◌+◌, ◌^◌, Ok, None, Some, length, IfOk, IfErr, OnErr};
 ghost use Rattle.std.specs.Option.{option_copied};
 ghost use Rattle.type_core.specs.KindModel.{not_defined};
-ghost use Rattle.type_core.specs.Machine.{newest_of, next_kind, DefinesInOrder};
+ghost use Rattle.type_core.specs.Machine.{newest_of, version_in, next_kind, weight};
 
 use crate::events::KindEvent;
-use crate::replies::KindReply;
+use crate::replies::{KindReply, both};
 use std::alloc::Global;
 use std::marker::Model;
+use turn_cell::Machine;
+use wsm_ops::Ops;
 use wsm_schema::{Listing, NoMemory, Schema};
-use wsm_sound::Version;
+use wsm_sound::{SoundRefusal, Version, evolve, first};
 
 /// A process type with its versions.
 #[derive(Drop)]
@@ -19,13 +21,15 @@ pub struct Kind {
 }
 
 impl Model for Kind {
-    ghost use Rattle.type_core.specs.KindModel.{KindModel, kind_code};
+    ghost use Rattle.type_core.specs.KindModel.{KindModel, kind_code, Numbered};
 
     ghost Value = { KindModel };
 
     ghost coded = { kind_code };
 
     ghost view = { λ a. record { type_no = a.type_no; versions = a.versions } };
+
+    ghost invariant = { λ a. Numbered a.type_no 1 a.versions };
 }
 
 impl Kind {
@@ -39,53 +43,6 @@ impl Kind {
         }
     }
 
-    /// What the event does to the type, and two equal replies to it, one to keep and one to hand out.
-    pub fn step(
-        &mut self,
-        alloc: Global,
-        event: &KindEvent,
-    ) -> Result<(KindReply, KindReply), NoMemory>
-        requires { DefinesInOrder event.now }
-        ensures kind { IfOk result (λ replies. self.new ≡ (next_kind self.old event.now).0) }
-        ensures first { IfOk result (λ replies. replies.0 ≡ (next_kind self.old event.now).1) }
-        ensures second { IfOk result (λ replies. replies.1 ≡ (next_kind self.old event.now).1) }
-        ensures err { OnErr result (self.new ≡ self.old) }
-    {
-        match event {
-            KindEvent::Define(schema) => self.define(alloc, schema),
-            KindEvent::Newest => self.newest_replies(),
-        }
-    }
-
-    fn define(&mut self, alloc: Global, schema: &Schema) -> Result<(KindReply, KindReply), NoMemory>
-        requires { DefinesInOrder (KindEvent.Define schema.now) }
-        ensures kind { IfOk result (λ replies. self.new ≡ (next_kind self.old (KindEvent.Define schema.now)).0) }
-        ensures first { IfOk result (λ replies. replies.0 ≡ (next_kind self.old (KindEvent.Define schema.now)).1) }
-        ensures second { IfOk result (λ replies. replies.1 ≡ (next_kind self.old (KindEvent.Define schema.now)).1) }
-        ensures err { OnErr result (self.new ≡ self.old) }
-    {
-        if self.newest().is_some() {
-            return Ok((KindReply::Already, KindReply::Already));
-        }
-        let version = Version::first(alloc, self.type_no, schema)?;
-        self.versions.push(version)?;
-        Ok((KindReply::Defined, KindReply::Defined))
-    }
-
-    fn newest_replies(&self) -> Result<(KindReply, KindReply), NoMemory>
-        ensures first { IfOk result (λ replies. replies.0 ≡ (next_kind self.now KindEvent.Newest).1) }
-        ensures second { IfOk result (λ replies. replies.1 ≡ (next_kind self.now KindEvent.Newest).1) }
-        ensures kind { (next_kind self.now KindEvent.Newest).0 ≡ self.now }
-    {
-        match self.newest() {
-            None => Ok((KindReply::NoType, KindReply::NoType)),
-            Some(version) => Ok((
-                KindReply::Is(version.share()?),
-                KindReply::Is(version.share()?),
-            )),
-        }
-    }
-
     /// The newest version, where the type is defined.
     pub fn newest(&self) -> Option<&Version>
         ensures { option_copied result ≡ newest_of self.now.versions }
@@ -93,10 +50,128 @@ impl Kind {
         self.versions.as_slice().last()
     }
 
-    /// The number of versions.
-    pub fn view(&self) -> usize
-        ensures { result ≡ length self.now.versions }
+    /// The version with this number, from 1. None where there is no such version.
+    pub fn version(&self, number: u32) -> Option<&Version>
+        ensures { option_copied result ≡ version_in self.now.versions number }
     {
-        self.versions.len()
+        if number == 0 {
+            return None;
+        }
+        self.versions.get(number as usize - 1)
+    }
+
+    // What a step does to the type, and its replies.
+    fn answer(
+        &mut self,
+        alloc: Global,
+        event: &KindEvent,
+    ) -> Result<(KindReply, KindReply), NoMemory>
+        requires { weight event.now ≤ 4000000000 }
+        ensures kind { IfOk result (λ replies. self.new ≡ (next_kind self.old event.now).0) }
+        ensures replies { IfOk result (λ replies. (replies.0 ≡ (next_kind self.old event.now).1) × (replies.1 ≡ (next_kind self.old event.now).1)) }
+        ensures err { OnErr result (self.new ≡ self.old) }
+    {
+        match event {
+            KindEvent::Define(schema) => self.define(alloc, schema),
+            KindEvent::Install(ops) => self.install(alloc, ops),
+            KindEvent::Newest => match self.newest() {
+                None => both(KindReply::NoType),
+                Some(version) => both(KindReply::Is(version.share()?)),
+            },
+        }
+    }
+
+    fn define(
+        &mut self,
+        alloc: Global,
+        schema: &Schema,
+    ) -> Result<(KindReply, KindReply), NoMemory>
+        ensures kind { IfOk result (λ replies. self.new ≡ (next_kind self.old (KindEvent.Define schema.now)).0) }
+        ensures replies { IfOk result (λ replies. (replies.0 ≡ (next_kind self.old (KindEvent.Define schema.now)).1) × (replies.1 ≡ (next_kind self.old (KindEvent.Define schema.now)).1)) }
+        ensures err { OnErr result (self.new ≡ self.old) }
+    {
+        if self.newest().is_some() {
+            return both(KindReply::Already);
+        }
+        match first(alloc, self.type_no, schema) {
+            Ok(version) => {
+                self.versions.push(version)?;
+                Ok((KindReply::Defined, KindReply::Defined))
+            }
+            Err(refusal) => both(KindReply::Unsound(refusal.fault()?)),
+        }
+    }
+
+    fn install(&mut self, alloc: Global, ops: &Ops) -> Result<(KindReply, KindReply), NoMemory>
+        requires { length ops.now < 2 ^ 32 }
+        ensures kind { IfOk result (λ replies. self.new ≡ (next_kind self.old (KindEvent.Install ops.now)).0) }
+        ensures replies { IfOk result (λ replies. (replies.0 ≡ (next_kind self.old (KindEvent.Install ops.now)).1) × (replies.1 ≡ (next_kind self.old (KindEvent.Install ops.now)).1)) }
+        ensures err { OnErr result (self.new ≡ self.old) }
+    {
+        let newest = match self.newest() {
+            None => return both(KindReply::NoType),
+            Some(newest) => newest,
+        };
+        if self.versions.len() >= MAX_VERSIONS {
+            return both(KindReply::VersionLimit);
+        }
+        match evolve(alloc, newest, ops) {
+            Ok(version) => {
+                let number = version.number();
+                self.versions.push(version)?;
+                Ok((KindReply::Installed(number), KindReply::Installed(number)))
+            }
+            Err(refusal) => both(KindReply::Unsound(refusal.fault()?)),
+        }
+    }
+}
+
+/// A type has at most so many versions.
+pub const MAX_VERSIONS: usize = 256;
+
+impl Machine for Kind {
+    ghost use Rattle.type_core.specs.Machine.{next_kind, weight};
+    ghost use Rattle.std.specs.Prelude.{length};
+
+    type Event = KindEvent;
+
+    type Reply = KindReply;
+
+    /// The number of versions.
+    type View = usize;
+
+    type State = Kind;
+
+    ghost state = { λ k. k };
+
+    ghost after = { λ k e. (next_kind k e).0 };
+
+    ghost reply = { λ k e. (next_kind k e).1 };
+
+    ghost shown = { λ k. length k.versions };
+
+    ghost age = { λ k. 0 };
+
+    ghost weight = { weight };
+
+    ghost reads = { λ k. 0 };
+
+    ghost allowance = { λ k e. 0 };
+
+    fn step(
+        &mut self,
+        alloc: Global,
+        event: &KindEvent,
+    ) -> Result<(KindReply, KindReply), NoMemory> {
+        self.answer(alloc, event)
+    }
+
+    fn view(&self, alloc: Global) -> Result<usize, NoMemory> {
+        let _ = alloc;
+        Ok(self.versions.len())
+    }
+
+    fn copy_event(alloc: Global, event: &KindEvent) -> Result<KindEvent, NoMemory> {
+        event.copy(alloc)
     }
 }

@@ -6,5 +6,5 @@ mod kinds;
 mod replies;
 
 pub use events::KindEvent;
-pub use kinds::Kind;
+pub use kinds::{Kind, MAX_VERSIONS};
 pub use replies::KindReply;

@@ -1,4 +1,6 @@
 // Why a schema is refused.
+ghost use Rattle.std.specs.Prelude.{◌≡◌, IfOk};
+
 use wsm_ops::OpFault;
 use wsm_schema::{BlockFault, DataFault, NoMemory};
 
@@ -28,5 +30,17 @@ impl From<NoMemory> for SoundRefusal {
 
     fn from(_: NoMemory) -> SoundRefusal {
         SoundRefusal::NoMemory
+    }
+}
+
+impl SoundRefusal {
+    /// The fault, with want of memory as an error.
+    pub fn fault(self) -> Result<Fault, NoMemory>
+        ensures { IfOk result (λ fault. self ≡ SoundRefusal.Fault fault) }
+    {
+        match self {
+            SoundRefusal::Fault(fault) => Ok(fault),
+            SoundRefusal::NoMemory => Err(NoMemory),
+        }
     }
 }
