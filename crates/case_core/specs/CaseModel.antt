@@ -1,18 +1,22 @@
 -- A case as contracts see it.
-use Rattle.std.specs.Prelude.{ℕ, List, [], Option, None}
+use Rattle.std.specs.Prelude.{ℕ, Bool, List, [], Option, None}
 use Rattle.wsm_schema.specs.SchemaModel.{SchemaModel}
 use Rattle.wsm_schema.specs.Flat.{flat_of, cards_of}
 use Rattle.wsm_schema.specs.Replay.{Outcome, whole, fails, replay_of}
 use Rattle.wsm_schema.specs.Rules.{Spots, spot_in, marking_of}
 use Rattle.wsm_schema.specs.declared.cards.Card.{Card}
 use Rattle.wsm_schema.specs.Trail.{TrailModel, no_trail, value_below}
+use Rattle.wsm_schema.specs.Replay.{is_in_state}
 use Rattle.wsm_schema.specs.declared.states.State.{State}
+use Rattle.wsm_schema.specs.declared.states.State.TheVariants.{Completed}
 use Rattle.wsm_lists.specs.declared.values.Value.{Value}
+use Rattle.wsm_ops.specs.declared.operations.Op.{Op}
 use Rattle.wsm_sound.specs.VersionModel.{VersionModel}
 
--- a case that was created: the version that it stands on, its schema, and its trail
+-- a case that was created: the version that it stands on, its own operations, its schema, and its trail
 pub record LiveModel : Type 0 where
   pub base : VersionModel
+  pub own : List Op
   pub schema : SchemaModel
   pub trail : TrailModel
 
@@ -27,7 +31,11 @@ not_created type_no = record { type_no = type_no; live = None }
 
 -- a case that was just created on a version
 abbrev pub created_on : VersionModel → LiveModel
-created_on version = record { base = version; schema = version.schema; trail = no_trail }
+created_on version = record { base = version; own = []; schema = version.schema; trail = no_trail }
+
+-- a case on another version or schema keeps its trail
+abbrev pub on_schema : LiveModel → VersionModel → List Op → SchemaModel → LiveModel
+on_schema l base own schema = record { base = base; own = own; schema = schema; trail = l.trail }
 
 -- the states of a case's nodes are those of the replay of its trail on its schema
 abbrev pub replay_of_case : LiveModel → Outcome
@@ -47,3 +55,7 @@ state_of l n = (spot_in n (shown_spots l)).state
 -- the value of an element before the next position
 abbrev pub value_now : LiveModel → ℕ → Option Value
 value_now l d = value_below d l.trail.next l.trail.entries
+
+-- a case is finished where its finish node is completed
+abbrev pub is_finished : LiveModel → Bool
+is_finished l = is_in_state (state_of l l.schema.finish) Completed

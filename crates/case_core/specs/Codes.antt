@@ -8,6 +8,8 @@ use Rattle.wsm_schema.specs.SchemaModel.{SchemaModel, schema_code}
 use Rattle.wsm_schema.specs.Trail.{TrailModel}
 use Rattle.wsm_schema.specs.declared.entries.Entry.{Entry}
 use Rattle.wsm_schema.specs.declared.entries.Entry.TheVariants as entry
+use Rattle.wsm_ops.specs.declared.operations.Op.{Op}
+use Rattle.wsm_sound.specs.OpCodes.{op_code}
 use Rattle.wsm_sound.specs.VersionModel.{VersionModel, version_code}
 
 -- a value as a mark of its kind, a number and bytes
@@ -69,8 +71,8 @@ trail_code =
 
 abbrev pub live_code : Coded LiveModel
 live_code =
-    code_by (VersionModel × (SchemaModel × TrailModel)) (coded× version_code (coded× schema_code trail_code))
-    (λ l. (l.base, (l.schema, l.trail))) (λ p. record { base = p.0; schema = p.1.0; trail = p.1.1 }) (λ _. refl)
+    code_by (VersionModel × (List Op × (SchemaModel × TrailModel))) (coded× version_code (coded× (coded_list op_code) (coded× schema_code trail_code)))
+    (λ l. (l.base, (l.own, (l.schema, l.trail)))) (λ p. record { base = p.0; own = p.1.0; schema = p.1.1.0; trail = p.1.1.1 }) (λ _. refl)
 
 abbrev pub case_code : Coded CaseModel
 case_code =

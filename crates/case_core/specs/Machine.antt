@@ -1,7 +1,7 @@
 -- The case machine: what each event does to a case, and what the case answers.
-use Rattle.std.specs.Prelude.{ℕ, Bool, true, false, ◌&&◌, ◌||◌, not, ◌==◌, List, [], ◌∷◌, map, find, Option, Some, None, if◌then◌else◌}
+use Rattle.std.specs.Prelude.{ℕ, Bool, true, false, ◌&&◌, ◌||◌, not, ◌==◌, nat_lt, List, [], ◌∷◌, ◌++◌, map, find, Result, Ok, Err, Option, Some, None, option_map, if◌then◌else◌}
 use Rattle.std.specs.Option.{option_or}
-use Rattle.case_core.specs.CaseModel.{CaseModel, LiveModel, created_on, state_of, value_now}
+use Rattle.case_core.specs.CaseModel.{CaseModel, LiveModel, created_on, state_of, value_now, replay_of_case, on_schema, is_finished}
 use Rattle.case_core.specs.Writes.{wrong_elements, by_element}
 use Rattle.case_core.specs.declared.events.Event.{Event}
 use Rattle.case_core.specs.declared.events.Event.TheVariants as event
@@ -17,7 +17,16 @@ use Rattle.wsm_schema.specs.declared.cards.Card.{Card}
 use Rattle.wsm_schema.specs.declared.entries.Entry.{Entry}
 use Rattle.wsm_schema.specs.declared.entries.Entry.TheVariants as entry
 use Rattle.wsm_schema.specs.declared.states.State.TheVariants as state
+use Rattle.wsm_foot.specs.Overlap.{least_overlap}
+use Rattle.wsm_foot.specs.declared.names.Name.{Name}
+use Rattle.wsm_ops.specs.declared.operations.Op.{Op}
+use Rattle.wsm_schema.specs.Replay.{Outcome, whole, fails}
+use Rattle.wsm_schema.specs.SchemaModel.{SchemaModel}
+use Rattle.wsm_sound.specs.Faults.{changed_by}
 use Rattle.wsm_sound.specs.VersionModel.{VersionModel}
+use Rattle.wsm_sound.specs.Versions.{ops_after}
+use Rattle.wsm_sound.specs.declared.faults.Fault.{Fault}
+use Rattle.wsm_trail.specs.EntryAt.{entry_at}
 
 abbrev pub when_reply : Bool → Reply → Option Reply
 when_reply test r = if test then Some r else None
@@ -114,6 +123,61 @@ start_live l node user roles = start_on l node user roles (card_at node (flat_of
 abbrev pub end_live : LiveModel → ℕ → ℕ → Written → Option ℕ → LiveModel × Reply
 end_live l node user writes choice = end_on l node user writes choice (card_at node (flat_of l.schema).cards)
 
+-- the first entry that a replay refuses; a trail has an entry at each position at which its replay fails
+abbrev pub entry_or : Option Entry → Entry
+entry_or None = entry.Wrote []
+entry_or (Some e) = e
+
+abbrev pub blocked_at : LiveModel → ℕ → Reply
+blocked_at l position = reply.Blocked position (entry_or (entry_at position l.trail.entries))
+
+abbrev pub failed_at : Outcome → Option ℕ
+failed_at (whole spots) = None
+failed_at (fails position) = Some position
+
+abbrev pub misfit : LiveModel → Option ℕ → Option Reply
+misfit l failed = option_map (blocked_at l) failed
+
+-- a case takes a new schema exactly where its trail replays on it
+abbrev pub taken : LiveModel → LiveModel → Reply → LiveModel × Reply
+taken l new r = or_reply (misfit l (failed_at (replay_of_case new))) l (new, r)
+
+-- a change on its own, which leaves the base version
+abbrev pub changed : LiveModel → List Op → SchemaModel → LiveModel
+changed l ops schema = on_schema l l.base (l.own ++ ops) schema
+
+abbrev pub change_with : LiveModel → List Op → Result SchemaModel Fault → LiveModel × Reply
+change_with l ops (Ok schema) = taken l (changed l ops schema) reply.Changed
+change_with l ops (Err fault) = (l, reply.Unsound fault)
+
+abbrev pub change_live : LiveModel → List Op → LiveModel × Reply
+change_live l ops = or_reply (when_reply (is_finished l) reply.Finished) l (change_with l ops (changed_by l.schema ops))
+
+-- a migration, which keeps the case's own operations
+abbrev pub migrated : LiveModel → VersionModel → SchemaModel → LiveModel
+migrated l version schema = on_schema l version l.own schema
+
+abbrev pub migrate_with : LiveModel → VersionModel → Result SchemaModel Fault → LiveModel × Reply
+migrate_with l version (Ok schema) = taken l (migrated l version schema) (reply.Migrated version.number)
+migrate_with l version (Err fault) = (l, reply.Unsound fault)
+
+abbrev pub overlap_reply : Option Name → Option Reply
+overlap_reply None = None
+overlap_reply (Some name) = Some (reply.Overlap name)
+
+-- the operations of the case and those that made the versions since its base
+abbrev pub overlap_with : LiveModel → VersionModel → Option Name
+overlap_with l version = least_overlap l.own (ops_after l.base.number version)
+
+abbrev pub migrate_refusal : LiveModel → VersionModel → Option Reply
+migrate_refusal l version =
+    option_or (when_reply (not (nat_lt l.base.number version.number)) (reply.NotNewer l.base.number))
+    (option_or (when_reply (is_finished l) reply.Finished)
+    (overlap_reply (overlap_with l version)))
+
+abbrev pub migrate_live : LiveModel → VersionModel → LiveModel × Reply
+migrate_live l version = or_reply (migrate_refusal l version) l (migrate_with l version (changed_by version.schema l.own))
+
 -- a case after each event
 abbrev pub with_live : CaseModel → LiveModel × Reply → CaseModel × Reply
 with_live s step = (record { type_no = s.type_no; live = Some step.0 }, step.1)
@@ -122,13 +186,21 @@ abbrev pub create_on : CaseModel → VersionModel → CaseModel × Reply
 create_on s version =
     or_reply (when_reply (not (version.type_no == s.type_no)) reply.OtherType) s (with_live s (created_on version, reply.Created))
 
+abbrev pub migrate_on : CaseModel → LiveModel → VersionModel → CaseModel × Reply
+migrate_on s l version =
+    or_reply (when_reply (not (version.type_no == s.type_no)) reply.OtherType) s (with_live s (migrate_live l version))
+
 abbrev pub event_on : CaseModel → Option LiveModel → Event → CaseModel × Reply
 event_on s None (event.Create version) = create_on s version
 event_on s None (event.Start node user roles) = (s, reply.NoCase)
 event_on s None (event.End node user writes choice) = (s, reply.NoCase)
+event_on s None (event.Change ops) = (s, reply.NoCase)
+event_on s None (event.Migrate version) = (s, reply.NoCase)
 event_on s (Some l) (event.Create version) = (s, reply.Already)
 event_on s (Some l) (event.Start node user roles) = with_live s (start_live l node user roles)
 event_on s (Some l) (event.End node user writes choice) = with_live s (end_live l node user writes choice)
+event_on s (Some l) (event.Change ops) = with_live s (change_live l ops)
+event_on s (Some l) (event.Migrate version) = migrate_on s l version
 
 -- the state and the reply after an event
 abbrev pub next_case : CaseModel → Event → CaseModel × Reply

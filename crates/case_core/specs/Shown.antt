@@ -1,8 +1,12 @@
 -- What a case shows: its marking, its values and its work items.
-use Rattle.std.specs.Prelude.{ℕ, Bool, List, [], ◌∷◌, flat_map, Option, Some, None, if◌then◌else◌}
-pub use Rattle.case_core.specs.CaseModel.{shown_after, shown_spots}
-use Rattle.case_core.specs.CaseModel.{LiveModel, state_of, shown_spots}
+use Rattle.std.specs.Prelude.{ℕ, Bool, List, [], ◌∷◌, length, flat_map, Option, Some, None, if◌then◌else◌}
+pub use Rattle.case_core.specs.CaseModel.{shown_after, shown_spots, is_finished}
+use Rattle.case_core.specs.CaseModel.{CaseModel, LiveModel, state_of, shown_spots, is_finished}
 use Rattle.case_core.specs.Machine.{holder_of}
+use Rattle.case_core.specs.declared.views.View.{View}
+use Rattle.case_core.specs.declared.views.View.TheVariants as view
+use Rattle.wsm_lists.specs.Values.{Written}
+use Rattle.wsm_trail.specs.LastWrites.{noted_entries, values_at}
 use Rattle.case_core.specs.declared.items.Item.{Item}
 use Rattle.case_core.specs.declared.items.Item.TheVariants as item
 use Rattle.wsm_schema.specs.Flat.{cards_of, card_at}
@@ -13,10 +17,6 @@ use Rattle.wsm_schema.specs.declared.cards.Card.{Card}
 use Rattle.wsm_schema.specs.declared.states.State.{State}
 use Rattle.wsm_schema.specs.declared.states.State.TheVariants as state
 
--- a case is finished where its finish node is completed
-abbrev pub is_finished : LiveModel → Bool
-is_finished l = is_in_state (state_of l l.schema.finish) state.Completed
-
 -- an activated node is offered with its role, and a running one is held by its user
 abbrev pub item_in : LiveModel → Card → State → List Item
 item_in l c state.Activated = item.Offered c.node c.role ∷ []
@@ -26,6 +26,11 @@ item_in l c _ = []
 abbrev pub item_of : LiveModel → Spot → Option Card → List Item
 item_of l s None = []
 item_of l s (Some c) = if worked_on c.kind then item_in l c s.state else []
+
+-- an item, where there is one
+abbrev pub items_in : Option Item → List Item
+items_in None = []
+items_in (Some i) = i ∷ []
 
 -- the work items, ascending by node
 abbrev pub items_of : LiveModel → List Item
@@ -47,3 +52,20 @@ held_by l n _ = None
 abbrev pub shown_holder : Option LiveModel → ℕ → Option ℕ
 shown_holder None n = None
 shown_holder (Some l) n = held_by l n (shown_state (Some l) n)
+
+-- the value of the last write of each element that was written, ascending by element
+abbrev pub values_of : LiveModel → Written
+values_of l = values_at l.trail.entries (noted_entries l.trail.entries)
+
+-- the number of its own operations
+abbrev pub own_of : Option LiveModel → ℕ
+own_of None = 0
+own_of (Some l) = length l.own
+
+-- what a case shows
+abbrev pub shown_live : Option LiveModel → View
+shown_live None = view.None
+shown_live (Some l) = view.Live l.base.number (length l.own) (is_finished l) (shown_spots l) (values_of l) (items_of l)
+
+abbrev pub shown : CaseModel → View
+shown s = shown_live s.live

@@ -4,13 +4,15 @@ ghost use Rattle.std.specs.Option.{option_copied, option_map};
 ghost use Rattle.case_core.specs.Ages.{age, weight};
 ghost use Rattle.case_core.specs.CaseModel.{not_created};
 ghost use Rattle.case_core.specs.Machine.{next_case};
-ghost use Rattle.case_core.specs.Shown.{shown_state, shown_holder};
+ghost use Rattle.case_core.specs.Shown.{own_of, shown, shown_state, shown_holder};
 
 use crate::events::Event;
 use crate::live::Live;
 use crate::replies::{Reply, both};
+use crate::views::View;
 use std::alloc::Global;
 use std::marker::Model;
+use turn_cell::Machine;
 use wsm_schema::{NoMemory, State};
 use wsm_sound::{Checked, Version};
 use wsm_trail::Trail;
@@ -78,6 +80,11 @@ impl Case {
                 None => both(alloc, Reply::NoCase),
                 Some(live) => live.end(alloc, *node, *user, writes, *choice),
             },
+            Event::Change(ops) => match &mut self.live {
+                None => both(alloc, Reply::NoCase),
+                Some(live) => live.change(alloc, ops),
+            },
+            Event::Migrate(version) => self.migrate(alloc, version),
         }
     }
 
@@ -95,6 +102,32 @@ impl Case {
         }
         self.live = Some(Live::new(alloc, version)?);
         Ok((Reply::Created, Reply::Created))
+    }
+
+    fn migrate(&mut self, alloc: Global, version: &Version) -> Result<(Reply, Reply), NoMemory>
+        ensures case { IfOk result (λ replies. self.new ≡ (next_case self.old (Event.Migrate version.now)).0) }
+        ensures first { IfOk result (λ replies. replies.0 ≡ (next_case self.old (Event.Migrate version.now)).1) }
+        ensures second { IfOk result (λ replies. replies.1 ≡ (next_case self.old (Event.Migrate version.now)).1) }
+        ensures err { OnErr result (self.new ≡ self.old) }
+    {
+        let live = match &mut self.live {
+            None => return both(alloc, Reply::NoCase),
+            Some(live) => live,
+        };
+        if version.type_no() != self.type_no {
+            return both(alloc, Reply::OtherType);
+        }
+        live.migrate(alloc, version)
+    }
+
+    /// What the case shows.
+    pub fn view(&self, alloc: Global) -> Result<View, NoMemory>
+        ensures view { IfOk result (λ view. view ≡ shown self.now) }
+    {
+        match &self.live {
+            None => Ok(View::None),
+            Some(live) => live.view(alloc),
+        }
     }
 
     /// The case, where it is created.
@@ -147,6 +180,16 @@ impl Case {
         }
     }
 
+    /// The number of the case's own operations.
+    pub fn own(&self) -> u32
+        ensures { result ≡ own_of self.now.live }
+    {
+        match &self.live {
+            None => 0,
+            Some(live) => live.own().len() as u32,
+        }
+    }
+
     /// The user who holds a running node. None where the node is not running.
     pub fn holder(&self, node: u32) -> Option<u32>
         ensures { result ≡ shown_holder self.now.live node }
@@ -158,5 +201,47 @@ impl Case {
                 _ => None,
             },
         }
+    }
+}
+
+impl Machine for Case {
+    ghost use Rattle.case_core.specs.Ages.{age, weight};
+    ghost use Rattle.case_core.specs.Machine.{next_case};
+    ghost use Rattle.case_core.specs.Shown.{shown};
+
+    type Event = Event;
+
+    type Reply = Reply;
+
+    type View = View;
+
+    type State = Case;
+
+    ghost state = { λ s. s };
+
+    ghost after = { λ s e. (next_case s e).0 };
+
+    ghost reply = { λ s e. (next_case s e).1 };
+
+    ghost shown = { shown };
+
+    ghost age = { age };
+
+    ghost weight = { weight };
+
+    ghost reads = { λ s. 0 };
+
+    ghost allowance = { λ s e. 0 };
+
+    fn step(&mut self, alloc: Global, event: &Event) -> Result<(Reply, Reply), NoMemory> {
+        Case::step(self, alloc, event)
+    }
+
+    fn view(&self, alloc: Global) -> Result<View, NoMemory> {
+        Case::view(self, alloc)
+    }
+
+    fn copy_event(alloc: Global, event: &Event) -> Result<Event, NoMemory> {
+        event.copy(alloc)
     }
 }

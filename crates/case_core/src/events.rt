@@ -1,13 +1,10 @@
 // Events of a case.
-use wsm_schema::{RoleList, Writes};
-use wsm_sound::Version;
+ghost use Rattle.std.specs.Prelude.{◌≡◌, IfOk};
 
-/// The place of a case among the cases of its type.
-#[derive(Clone, Copy, PartialEq, Eq, Debug)]
-pub struct CaseId {
-    pub type_no: u32,
-    pub place: u32,
-}
+use std::alloc::Global;
+use wsm_ops::Ops;
+use wsm_schema::{NoMemory, RoleList, Writes};
+use wsm_sound::Version;
 
 /// What may happen to a case.
 #[derive(Drop)]
@@ -28,4 +25,37 @@ pub enum Event {
         writes: Writes,
         choice: Option<u16>,
     },
+    /// The case gets a schema of its own, which the operations make of the one that it has.
+    Change(Ops),
+    /// The case moves to this version of its type, with its own operations.
+    Migrate(Version),
+}
+
+impl Event {
+    /// An equal event, which shares the version.
+    pub fn copy(&self, alloc: Global) -> Result<Event, NoMemory>
+        ensures { IfOk result (λ event. event ≡ self.now) }
+    {
+        match self {
+            Event::Create(version) => Ok(Event::Create(version.share()?)),
+            Event::Start { node, user, roles } => Ok(Event::Start {
+                node: *node,
+                user: *user,
+                roles: roles.copy(alloc)?,
+            }),
+            Event::End {
+                node,
+                user,
+                writes,
+                choice,
+            } => Ok(Event::End {
+                node: *node,
+                user: *user,
+                writes: writes.duplicate(alloc)?,
+                choice: *choice,
+            }),
+            Event::Change(ops) => Ok(Event::Change(ops.copy(alloc)?)),
+            Event::Migrate(version) => Ok(Event::Migrate(version.share()?)),
+        }
+    }
 }

@@ -2,17 +2,20 @@
 #![tactic(auto)]
 
 mod cases;
+mod changes;
 mod events;
 mod items;
 mod live;
 mod replies;
+mod showing;
 mod views;
 mod work;
 mod writes;
 
 pub use cases::Case;
-pub use events::{CaseId, Event};
+pub use events::Event;
 pub use items::{Item, ItemList};
 pub use live::Live;
 pub use replies::Reply;
 pub use views::View;
+pub use wsm_sound::CaseId;

@@ -1,10 +1,12 @@
 // A case that was created.
-ghost use Rattle.std.specs.Prelude.{◌≡◌, ◌+◌, ◌<◌, ◌^◌, IfOk, OnOk, OnErr};
+ghost use Rattle.std.specs.Prelude.{◌≡◌, ◌+◌, ◌<◌, ◌^◌, Ok, is_some, length, IfOk, OnOk, OnErr, if◌then◌else◌};
 ghost use Rattle.std.specs.Option.{option_copied};
-ghost use Rattle.case_core.specs.CaseModel.{created_on, state_of, value_now};
-ghost use Rattle.case_core.specs.Machine.{holder_of, reads_now, repeated_trail, with_trail};
+ghost use Rattle.case_core.specs.CaseModel.{created_on, on_schema, replay_of_case, state_of, value_now};
+ghost use Rattle.case_core.specs.Kept.{Kept};
+ghost use Rattle.case_core.specs.Machine.{failed_at, holder_of, reads_now, repeated_trail, with_trail};
 ghost use Rattle.case_core.specs.Replayed.{state_in};
 ghost use Rattle.case_core.specs.Shown.{is_finished, shown_spots};
+ghost use Rattle.wsm_ops.specs.Apply.{applied};
 ghost use Rattle.wsm_schema.specs.Flat.{flat_of, card_at};
 ghost use Rattle.wsm_schema.specs.Trail.{cut_by, pushed};
 
@@ -12,15 +14,17 @@ use std::alloc::Global;
 use std::marker::Model;
 use std::sync::Arc;
 use wsm_lists::copy_option;
+use wsm_ops::Ops;
 use wsm_replay::{Replayed, extend, replay, spot_in};
-use wsm_schema::{Card, Entry, NoMemory, Nodes, ReadValues, Spot, State, Value, Writes};
+use wsm_schema::{Card, Entry, Marking, NoMemory, Nodes, ReadValues, Spot, State, Value, Writes};
 use wsm_sound::{Checked, Version};
 use wsm_trail::Trail;
 
-/// A case that was created: its version, its schema, its trail, and the replay of the trail on the schema.
+/// A case that was created: its version, its own operations, its schema, its trail, and the replay of the trail on the schema.
 #[derive(Drop)]
 pub struct Live {
     base: Version,
+    own: Ops,
     schema: Arc<Checked>,
     trail: Trail,
     replayed: Replayed,
@@ -37,9 +41,11 @@ impl Model for Live {
 
     ghost coded = { live_code };
 
-    ghost view = { λ a. record { base = a.base; schema = a.schema.value; trail = a.trail.trail } };
+    ghost use Rattle.case_core.specs.Kept.{Kept};
 
-    ghost invariant = { λ a. a.replayed ≡ answer (cards_of a.schema.value) (replay_of_case (record { base = a.base; schema = a.schema.value; trail = a.trail.trail })) };
+    ghost view = { λ a. record { base = a.base; own = a.own; schema = a.schema.value; trail = a.trail.trail } };
+
+    ghost invariant = { λ a. Kept (record { base = a.base; own = a.own; schema = a.schema.value; trail = a.trail.trail }) × (a.replayed ≡ answer (cards_of a.schema.value) (replay_of_case (record { base = a.base; own = a.own; schema = a.schema.value; trail = a.trail.trail }))) };
 }
 
 impl Live {
@@ -52,6 +58,7 @@ impl Live {
         let replayed = replay(alloc, schema.flat(), schema.rank(), &trail)?;
         Ok(Live {
             base: version.share()?,
+            own: Ops::new(alloc),
             schema,
             trail,
             replayed,
@@ -60,9 +67,17 @@ impl Live {
 
     /// The version that the case stands on.
     pub fn base(&self) -> &Version
-        ensures { result.now ≡ self.now.base }
+        ensures base { result.now ≡ self.now.base }
+        ensures kept { Kept self.now }
     {
         &self.base
+    }
+
+    /// The case's own operations, which made its schema of that of its version.
+    pub fn own(&self) -> &Ops
+        ensures { result.now ≡ self.now.own }
+    {
+        &self.own
     }
 
     /// The case's schema.
@@ -100,6 +115,16 @@ impl Live {
         match &self.replayed {
             Replayed::Whole(marking) => marking.as_slice(),
             Replayed::Fails { .. } => &[],
+        }
+    }
+
+    /// The marking: the spots of the case's nodes.
+    pub fn marking(&self, alloc: Global) -> Result<Marking, NoMemory>
+        ensures { IfOk result (λ marking. marking ≡ shown_spots self.now) }
+    {
+        match &self.replayed {
+            Replayed::Whole(marking) => marking.copy(alloc),
+            Replayed::Fails { .. } => Ok(Marking::new(alloc)),
         }
     }
 
@@ -149,7 +174,8 @@ impl Live {
 
     /// One more entry.
     pub fn append(&mut self, alloc: Global, entry: Entry) -> Result<(), NoMemory>
-        requires { self.old.trail.next + 1 < 2 ^ 32 }
+        requires position { self.old.trail.next + 1 < 2 ^ 32 }
+        requires kept { Kept (with_trail self.old (pushed entry self.old.trail)) }
         ensures ok { OnOk result (self.new ≡ with_trail self.old (pushed entry self.old.trail)) }
         ensures err { OnErr result (self.new ≡ self.old) }
     {
@@ -167,9 +193,36 @@ impl Live {
         Ok(())
     }
 
+    /// The case on another version or schema, where its trail replays on that; else the case is as before, and this is the
+    /// position of the first entry that fails.
+    pub fn try_on(
+        &mut self,
+        alloc: Global,
+        base: Version,
+        own: Ops,
+        schema: Arc<Checked>,
+    ) -> Result<Option<u32>, NoMemory>
+        requires own { applied base.schema own ≡ Ok schema.value }
+        requires few { length own < 2 ^ 32 }
+        ensures failed { IfOk result (λ failed. failed ≡ failed_at (replay_of_case (on_schema self.old base own schema.value))) }
+        ensures live { IfOk result (λ failed. self.new ≡ (if is_some failed then self.old else on_schema self.old base own schema.value)) }
+        ensures err { OnErr result (self.new ≡ self.old) }
+    {
+        let replayed = replay(alloc, schema.flat(), schema.rank(), &self.trail)?;
+        if let Replayed::Fails { position } = replayed {
+            return Ok(Some(position));
+        }
+        self.base = base;
+        self.own = own;
+        self.schema = schema;
+        self.replayed = replayed;
+        Ok(None)
+    }
+
     /// The loop that ends with the node goes on once more.
     pub fn repeat(&mut self, alloc: Global, node: u32, writes: Writes) -> Result<(), NoMemory>
-        requires { self.old.trail.next + 1 < 2 ^ 32 }
+        requires position { self.old.trail.next + 1 < 2 ^ 32 }
+        requires kept { Kept (with_trail self.old (repeated_trail self.old node writes)) }
         ensures ok { OnOk result (self.new ≡ with_trail self.old (repeated_trail self.old node writes)) }
         ensures err { OnErr result (self.new ≡ self.old) }
     {

@@ -2,7 +2,9 @@
 ghost use Rattle.std.specs.Prelude.{◌≡◌, IfOk};
 
 use std::alloc::Global;
-use wsm_schema::{NoMemory, Nodes, ReadValues, State};
+use wsm_foot::Name;
+use wsm_schema::{Entry, NoMemory, Nodes, ReadValues, State};
+use wsm_sound::Fault;
 
 /// What a case answers to an event. After a refusal the case is as it was before.
 #[derive(Drop)]
@@ -15,6 +17,10 @@ pub enum Reply {
     Ended,
     /// The loop goes on once more.
     Repeated,
+    /// The case has a schema of its own.
+    Changed,
+    /// The case stands on the version with this number.
+    Migrated(u32),
     /// Refused: the case was created before.
     Already,
     /// Refused: the case is not created.
@@ -33,8 +39,18 @@ pub enum Reply {
     WrongWrites(Nodes),
     /// Refused: the choice is none of the node's.
     NoBranch(Option<u16>),
+    /// Refused: the finish node is completed.
+    Finished,
+    /// Refused: an operation, or the schema that the operations make, has this fault.
+    Unsound(Fault),
+    /// Refused: the trail does not replay on the new schema; this is the first entry that fails, at this position.
+    Blocked(u32, Entry),
     /// Refused: the version is one of another type.
     OtherType,
+    /// Refused: the case stands on the version with this number, which is not lower.
+    NotNewer(u32),
+    /// Refused: the case and the versions since its base have both changed this, or one has changed what the other uses.
+    Overlap(Name),
 }
 
 impl Reply {
@@ -57,6 +73,13 @@ impl Reply {
             Reply::WrongWrites(elements) => Reply::WrongWrites(elements.copy(alloc)?),
             Reply::NoBranch(choice) => Reply::NoBranch(*choice),
             Reply::OtherType => Reply::OtherType,
+            Reply::Changed => Reply::Changed,
+            Reply::Migrated(number) => Reply::Migrated(*number),
+            Reply::Finished => Reply::Finished,
+            Reply::Unsound(fault) => Reply::Unsound(*fault),
+            Reply::Blocked(position, entry) => Reply::Blocked(*position, entry.copy(alloc)?),
+            Reply::NotNewer(number) => Reply::NotNewer(*number),
+            Reply::Overlap(name) => Reply::Overlap(*name),
         })
     }
 }

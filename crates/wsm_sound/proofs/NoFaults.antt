@@ -46,6 +46,13 @@ pub no_fault : (s : SchemaModel) → Sound s → fault_of s ≡ None
 unfolding fault_of
 no_fault s sound = ap (λ o. option_or (option_map fault.Block o) (option_map fault.Data (data_fault s))) sound.blocks ∙ ap (option_map fault.Data) sound.on_data
 
+-- a schema without a fault is sound
+pub is_sound : (s : SchemaModel) → fault_of s ≡ None → Sound s
+unfolding fault_of
+is_sound s none =
+    let both = no_either _ _ none in
+    record { blocks = no_map fault.Block (block_fault s) both.0; on_data = no_map fault.Data (data_fault s) both.1 }
+
 -- what operations make of a schema
 pub change_refused_op : (s : SchemaModel) (ops : List Op) (f : OpFault) → applied s ops ≡ Err f → changed_by s ops ≡ Err (fault.Op f)
 unfolding changed_by
@@ -70,8 +77,8 @@ fault-refusals s t ops is (Ok x) h = tt
 fault-refusals s t ops is (Err e) h = fault-refusal s t ops is e h
 
 -- the same of a schema that is equal to a sound one
-pub distinct_nodes_of : (s t : SchemaModel) → t ≡ s → Sound s → twice [] (nodes_of (cards_of t)) ≡ None
-distinct_nodes_of s t same sound = subst (λ x. twice [] (nodes_of (cards_of x)) ≡ None) (sym same) (distinct_nodes s sound.blocks)
+pub distinct_nodes_of : (s t : SchemaModel) → t ≡ s → fault_of s ≡ None → twice [] (nodes_of (cards_of t)) ≡ None
+distinct_nodes_of s t same sound = subst (λ x. twice [] (nodes_of (cards_of x)) ≡ None) (sym same) (distinct_nodes s (is_sound s sound).blocks)
 
 -- what is refused of a version's schema is refused of the version
 with-refusal : (make : SchemaModel → VersionModel) (o : Result SchemaModel Fault) (r : SoundRefusal) → IsRefusal o r → IsRefusal (with_schema make o) r

@@ -2,7 +2,7 @@
 ghost use Rattle.std.specs.Prelude.{◌≡◌, ◌<◌, ◌^◌, length, Ok, None, IfOk, IfErr};
 ghost use Rattle.wsm_schema.specs.Flat.{flat_of, cards_of};
 ghost use Rattle.wsm_schema.specs.Rank.{IsRank};
-ghost use Rattle.wsm_schema.specs.Sound.{Sound, block_fault, data_fault};
+ghost use Rattle.wsm_schema.specs.Sound.{block_fault, data_fault};
 ghost use Rattle.wsm_sound.specs.Faults.{fault_of, changed_by};
 ghost use Rattle.wsm_sound.specs.Refusals.{IsFault, IsRefusal};
 
@@ -40,14 +40,15 @@ impl Checked {
     /// The schema alone.
     pub fn schema(&self) -> &Schema
         ensures schema { result.now ≡ self.now }
-        ensures sound { Sound self.now }
+        ensures sound { fault_of self.now ≡ None }
     {
         &self.schema
     }
 
     /// The schema's flat form.
     pub fn flat(&self) -> &Flat
-        ensures { result.now ≡ flat_of self.now }
+        ensures flat { result.now ≡ flat_of self.now }
+        ensures sound { fault_of self.now ≡ None }
     {
         &self.flat
     }

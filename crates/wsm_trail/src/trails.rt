@@ -6,7 +6,7 @@ ghost use Rattle.wsm_lists.specs.Rows.{Ascends};
 ghost use Rattle.wsm_lists.specs.Values.{value_in};
 ghost use Rattle.wsm_schema.specs.Trail.{no_trail, pushed, value_below, cut_by, cut_entry, written_by};
 ghost use Rattle.wsm_trail.specs.EntryAt.{entry_at, written_to};
-ghost use Rattle.wsm_trail.specs.LastWrites.{noted_entries, write_of};
+ghost use Rattle.wsm_trail.specs.LastWrites.{noted_entries, values_at, write_of};
 ghost use Rattle.wsm_trail.specs.TrailWithRoom.{Rises};
 
 use crate::cuts::cut_entry;
@@ -107,6 +107,7 @@ impl Trail {
 
     /// The value of the last write of each element that was written.
     pub fn values(&self, alloc: Global) -> Result<Writes, NoMemory>
+        ensures rows { IfOk result (λ values. values ≡ values_at self.now.trail.entries (noted_entries self.now.trail.entries)) }
         ensures ascends { IfOk result (Ascends first) }
         ensures values { IfOk result (λ values. (element : ℕ) → value_in element values ≡ value_below element self.now.trail.next self.now.trail.entries) }
     {

@@ -8,7 +8,7 @@ use Rattle.case_core.proofs.live.Live.repeat.Goals as goal
 
 pub returns-clause-ok : goal.returns-clause-ok
 returns-clause-ok c =
-    let old : LiveModel = record { base = c.self.inside.base; schema = c.self.inside.schema.value; trail = c.self.inside.trail.trail } in
+    let old : LiveModel = record { base = c.self.inside.base; own = c.self.inside.own; schema = c.self.inside.schema.value; trail = c.self.inside.trail.trail } in
     let body = c.in_ok-body.ensures ∙ ap (λ (f : FlatModel). loop_nodes f.cards c.args.node) (c.flat.ensures ∙ ap flat_of c.deref.ensures) in
     let trail : c.in_ok-trail.trail.trail ≡ repeated_trail old c.args.node c.args.writes =
     c.in_ok-trail.ensures ∙ ap (λ b. pushed (Again c.args.node c.args.writes) (cut_by b c.self.inside.trail.trail)) body in

@@ -19,6 +19,9 @@ all_of c =
     ∙ ap (values_at es) (c.as_slice-row-items.ensures.rows ∙ c.self.invariant.1)
     ∙ ap (λ k. values_at k.trail.entries (noted_entries c.self.inside.entries.items)) (sym c.self.view_is)
 
+pub returns-clause-rows : goal.returns-clause-rows
+returns-clause-rows c = c.from_vec.ensures ∙ all_of c ∙ ap (λ k. values_at k.trail.entries (noted_entries k.trail.entries)) c.self.view_is
+
 pub returns-clause-ascends : goal.returns-clause-ascends
 returns-clause-ascends c = subst (Ascends first) (sym (c.from_vec.ensures ∙ all_of c)) (all_values-ascend c.self.inside.entries.items)
 

@@ -1,0 +1,175 @@
+// Changes of a case's schema.
+ghost use Rattle.std.specs.Prelude.{◌≡◌, ◌+◌, ◌<◌, ◌^◌, [], ◌++◌, Ok, length, IfOk, IfErr, OnOk, OnErr};
+ghost use Rattle.case_core.specs.CaseModel.{on_schema};
+ghost use Rattle.case_core.specs.Machine.{blocked_at, change_live, migrate_live, migrate_refusal, taken};
+ghost use Rattle.wsm_ops.specs.Apply.{applied};
+ghost use Rattle.wsm_sound.specs.Faults.{changed_by};
+ghost use Rattle.wsm_sound.specs.Refusals.{IsRefusal};
+ghost use Rattle.wsm_sound.specs.Versions.{ops_after};
+
+use crate::live::Live;
+use crate::replies::{Reply, both};
+use std::alloc::Global;
+use std::sync::Arc;
+use wsm_foot::overlap;
+use wsm_ops::{Op, Ops};
+use wsm_schema::{Entry, NoMemory, Writes};
+use wsm_sound::{Checked, SoundRefusal, Version, change};
+
+impl Live {
+    /// The operations change the case's schema, where its trail replays on what they make.
+    pub fn change(&mut self, alloc: Global, ops: &Ops) -> Result<(Reply, Reply), NoMemory>
+        requires { length self.old.own + length ops.now < 2 ^ 32 }
+        ensures live { IfOk result (λ replies. self.new ≡ (change_live self.old ops.now).0) }
+        ensures first { IfOk result (λ replies. replies.0 ≡ (change_live self.old ops.now).1) }
+        ensures second { IfOk result (λ replies. replies.1 ≡ (change_live self.old ops.now).1) }
+        ensures err { OnErr result (self.new ≡ self.old) }
+    {
+        if self.is_finished() {
+            return both(alloc, Reply::Finished);
+        }
+        match change(alloc, self.checked(), ops) {
+            Ok(checked) => {
+                let base = self.base().share()?;
+                let own = joined(alloc, self.own(), ops)?;
+                self.take(alloc, base, own, shared(alloc, checked)?, Reply::Changed)
+            }
+            Err(refusal) => both(alloc, Reply::Unsound(refusal.fault()?)),
+        }
+    }
+
+    /// The case moves to the version, where its trail replays on what its own operations make of the version's schema.
+    pub fn migrate(
+        &mut self,
+        alloc: Global,
+        version: &Version,
+    ) -> Result<(Reply, Reply), NoMemory>
+        ensures live { IfOk result (λ replies. self.new ≡ (migrate_live self.old version.now).0) }
+        ensures first { IfOk result (λ replies. replies.0 ≡ (migrate_live self.old version.now).1) }
+        ensures second { IfOk result (λ replies. replies.1 ≡ (migrate_live self.old version.now).1) }
+        ensures err { OnErr result (self.new ≡ self.old) }
+    {
+        if let Some(refusal) = self.migrate_refusal(alloc, version)? {
+            return both(alloc, refusal);
+        }
+        match self.schema_on(alloc, version) {
+            Ok(schema) => {
+                let own = self.own().copy(alloc)?;
+                let reply = Reply::Migrated(version.number());
+                self.take(alloc, version.share()?, own, schema, reply)
+            }
+            Err(refusal) => both(alloc, Reply::Unsound(refusal.fault()?)),
+        }
+    }
+
+    // The first reason, before any schema is made, why the case may not move to the version.
+    fn migrate_refusal(
+        &self,
+        alloc: Global,
+        version: &Version,
+    ) -> Result<Option<Reply>, NoMemory>
+        ensures { IfOk result (λ refusal. refusal ≡ migrate_refusal self.now version.now) }
+    {
+        let base = self.base().number();
+        if version.number() <= base {
+            return Ok(Some(Reply::NotNewer(base)));
+        }
+        if self.is_finished() {
+            return Ok(Some(Reply::Finished));
+        }
+        let later = ops_after(alloc, version, base)?;
+        match overlap(alloc, self.own(), &later)? {
+            Some(name) => Ok(Some(Reply::Overlap(name))),
+            None => Ok(None),
+        }
+    }
+
+    // What the case's own operations make of the version's schema, which is shared where there are none.
+    fn schema_on(&self, alloc: Global, version: &Version) -> Result<Arc<Checked>, SoundRefusal>
+        ensures ok { IfOk result (λ schema. changed_by version.now.schema self.now.own ≡ Ok schema.value) }
+        ensures fault { IfErr result (λ refusal. IsRefusal (changed_by version.now.schema self.now.own) refusal) }
+    {
+        if self.own().is_empty() {
+            return Ok(version.share_schema()?);
+        }
+        let checked = change(alloc, version.checked(), self.own())?;
+        Ok(shared(alloc, checked)?)
+    }
+
+    // The case on another schema, where its trail replays on it; else the first entry that fails is named.
+    fn take(
+        &mut self,
+        alloc: Global,
+        base: Version,
+        own: Ops,
+        schema: Arc<Checked>,
+        reply: Reply,
+    ) -> Result<(Reply, Reply), NoMemory>
+        requires own { applied base.schema own ≡ Ok schema.value }
+        requires few { length own < 2 ^ 32 }
+        ensures live { IfOk result (λ replies. self.new ≡ (taken self.old (on_schema self.old base own schema.value) reply).0) }
+        ensures first { IfOk result (λ replies. replies.0 ≡ (taken self.old (on_schema self.old base own schema.value) reply).1) }
+        ensures second { IfOk result (λ replies. replies.1 ≡ (taken self.old (on_schema self.old base own schema.value) reply).1) }
+        ensures err { OnErr result (self.new ≡ self.old) }
+    {
+        let replies = both(alloc, reply)?;
+        match self.try_on(alloc, base, own, schema)? {
+            None => Ok(replies),
+            Some(position) => both(alloc, self.blocked(alloc, position)?),
+        }
+    }
+
+    // The reply that names the entry at the position.
+    fn blocked(&self, alloc: Global, position: u32) -> Result<Reply, NoMemory>
+        ensures { IfOk result (λ reply. reply ≡ blocked_at self.now position) }
+    {
+        let entry = match self.trail().entry(position) {
+            Some(entry) => entry.copy(alloc)?,
+            None => nothing_written(alloc),
+        };
+        Ok(Reply::Blocked(position, entry))
+    }
+}
+
+// The operations that made the versions after the one with this number.
+fn ops_after(alloc: Global, version: &Version, number: u32) -> Result<Ops, NoMemory>
+    requires { 0 < number }
+    ensures { IfOk result (λ ops. ops ≡ ops_after number version.now) }
+{
+    let mut all = Vec::new(alloc);
+    for ops in version.lineage().as_slice().iter().skip(number as usize - 1) {
+        append(&mut all, ops)?;
+    }
+    Ok(Ops::from_vec(all))
+}
+
+// The operations, and then more.
+fn joined(alloc: Global, first: &Ops, more: &Ops) -> Result<Ops, NoMemory>
+    ensures { IfOk result (λ ops. ops ≡ first.now ++ more.now) }
+{
+    let mut all = Vec::from_slice(alloc, first.as_slice())?;
+    append(&mut all, more)?;
+    Ok(Ops::from_vec(all))
+}
+
+fn append(all: &mut Vec<Op>, ops: &Ops) -> Result<(), NoMemory>
+    ensures { OnOk result (all.new.items ≡ all.old.items ++ ops.now) }
+{
+    all.extend_from_slice(ops.as_slice())?;
+    Ok(())
+}
+
+// The schema, to be shared.
+fn shared(alloc: Global, checked: Checked) -> Result<Arc<Checked>, NoMemory>
+    ensures { IfOk result (λ schema. schema.value ≡ checked) }
+{
+    Ok(Arc::new(alloc, checked)?)
+}
+
+fn nothing_written(alloc: Global) -> Entry
+    ensures { result ≡ Entry.Wrote [] }
+{
+    Entry::Wrote {
+        writes: Writes::new(alloc),
+    }
+}
