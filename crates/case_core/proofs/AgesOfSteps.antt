@@ -3,7 +3,7 @@ use Rattle.std.proofs.Common.{◌≡◌, ℕ, ◌+◌, ◌-◌, ◌≤◌, Bool,
 use Rattle.case_core.specs.Ages.{age, live_age, weight}
 use Rattle.case_core.specs.CaseModel.{CaseModel, LiveModel, created_on}
 use Rattle.case_core.specs.Machine.{next_case, event_on, start_on, end_on, start_refusal, end_refusal, repeats, when_reply, or_reply, with_live, with_trail, ended_trail, ended_reply, start_entry, reads_now}
-use Rattle.case_core.specs.Writes.{by_element}
+use Rattle.case_writes.specs.Writes.{by_element}
 use Rattle.case_core.specs.declared.events.Event.{Event}
 use Rattle.case_core.specs.declared.events.Event.TheVariants as event
 use Rattle.case_core.specs.declared.replies.Reply.{Reply}

@@ -1,3 +1,2 @@
 pub mod AgesOfSteps
-pub mod OnlyWrite
 pub mod States

@@ -1,6 +1,5 @@
 pub mod CaseModel
 pub mod Codes
-pub mod Writes
 pub mod Machine
 pub mod Replayed
 pub mod Shown

@@ -2,7 +2,7 @@
 use Rattle.std.specs.Prelude.{ℕ, Bool, true, false, ◌&&◌, ◌||◌, not, ◌==◌, nat_lt, List, [], ◌∷◌, ◌++◌, map, find, Result, Ok, Err, Option, Some, None, option_map, if◌then◌else◌}
 use Rattle.std.specs.Option.{option_or}
 use Rattle.case_core.specs.CaseModel.{CaseModel, LiveModel, created_on, state_of, value_now, replay_of_case, on_schema, is_finished}
-use Rattle.case_core.specs.Writes.{wrong_elements, by_element}
+use Rattle.case_writes.specs.Writes.{wrong_elements, by_element}
 use Rattle.case_core.specs.declared.events.Event.{Event}
 use Rattle.case_core.specs.declared.events.Event.TheVariants as event
 use Rattle.case_core.specs.declared.replies.Reply.{Reply}

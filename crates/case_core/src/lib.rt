@@ -10,7 +10,6 @@ mod replies;
 mod showing;
 mod views;
 mod work;
-mod writes;
 
 pub use cases::Case;
 pub use events::Event;

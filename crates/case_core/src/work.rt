@@ -2,11 +2,10 @@
 ghost use Rattle.std.specs.Prelude.{◌≡◌, ◌+◌, ◌<◌, ◌^◌, ◌||◌, IfOk, OnErr};
 ghost use Rattle.case_core.specs.Machine.{start_refusal, end_refusal, start_live, end_live, may_work, repeats, wrong_reply, ended_reply};
 ghost use Rattle.wsm_schema.specs.Replay.{fits_choice};
-ghost use Rattle.wsm_schema.specs.Trail.{is_one_of};
 
 use crate::live::Live;
 use crate::replies::{Reply, both};
-use crate::writes::{by_element, wrong_elements};
+use case_writes::{by_element, is_one_of, wrong_elements};
 use std::alloc::Global;
 use wsm_replay::fits_choice;
 use wsm_schema::{Card, Entry, NoMemory, NodeKind, Nodes, RoleList, State, Writes};
@@ -133,13 +132,6 @@ fn may_work(role: u32, roles: &[u32]) -> bool
     ensures { result ≡ may_work role roles.now }
 {
     role == 0 || is_one_of(role, roles)
-}
-
-/// Whether the number is among these.
-pub fn is_one_of(number: u32, numbers: &[u32]) -> bool
-    ensures { result ≡ is_one_of number numbers.now }
-{
-    numbers.iter().any(|n| *n == number)
 }
 
 // Whether an end with that choice makes a loop go on once more.

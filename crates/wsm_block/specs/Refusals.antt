@@ -1,10 +1,10 @@
--- Which refusal stands for which first fault.
+-- What a refusal says of the first fault.
 use Rattle.std.specs.Prelude.{◌≡◌, Option, Some}
-use Rattle.wsm_block.specs.declared.checks.BlockRefusal.{BlockRefusal}
-use Rattle.wsm_block.specs.declared.checks.BlockRefusal.TheVariants as refusal
 use Rattle.wsm_schema.specs.declared.faults.BlockFault.{BlockFault}
+use Rattle.wsm_block.specs.declared.refusals.BlockRefusal.{BlockRefusal}
+use Rattle.wsm_block.specs.declared.refusals.BlockRefusal.TheVariants.{Fault, NoMemory}
 
--- the refusal names the fault that was found; want of memory may come at any schema
+-- the fault that is found first, or nothing where memory was wanting
 abbrev pub IsBlockFault : Option BlockFault → BlockRefusal → Type 0
-IsBlockFault found (refusal.Fault f) = found ≡ Some f
-IsBlockFault found refusal.NoMemory = Unit {0}
+IsBlockFault found (Fault fault) = found ≡ Some fault
+IsBlockFault found NoMemory = Unit {0}

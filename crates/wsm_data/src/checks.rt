@@ -1,36 +1,46 @@
-// A stub.
+// The whole check.
 ghost use Rattle.std.specs.Prelude.{◌≡◌, None, IfOk, IfErr};
-ghost use Rattle.wsm_data.specs.Refusals.{IsDataFault};
 ghost use Rattle.wsm_schema.specs.Flat.{flat_of};
 ghost use Rattle.wsm_schema.specs.Sound.{block_fault, data_fault};
+ghost use Rattle.wsm_data.specs.Refusals.{IsDataFault};
 
+use crate::missing::missing_read;
+use crate::parallels::parallel_writes;
+use crate::refusals::DataRefusal;
+use crate::unknowns::{unknown_read, unknown_write};
 use std::alloc::Global;
 use wsm_schema::{DataFault, Flat, NoMemory, Schema};
 
-/// Why data are refused.
-#[derive(Clone, Copy, PartialEq, Eq, Debug)]
-pub enum DataRefusal {
-    Fault(DataFault),
-    NoMemory,
-}
-
-impl From<NoMemory> for DataRefusal {
-    ghost use Rattle.std.specs.Prelude.{◌≡◌};
-    ghost use Rattle.wsm_data.specs.declared.checks.DataRefusal.TheVariants as refusal;
-
-    ghost from_gives = { λ _ e. e ≡ refusal.NoMemory };
-
-    fn from(_: NoMemory) -> DataRefusal {
-        DataRefusal::NoMemory
-    }
-}
-
-/// A stub.
+/// Whether the data of a schema is sound: its reads and writes, in a schema whose blocks and sync edges are sound.
 pub fn check_data(alloc: Global, schema: &Schema, flat: &Flat) -> Result<(), DataRefusal>
     requires flat { flat.now ≡ flat_of schema.now }
     requires blocks { block_fault schema.now ≡ None }
     ensures ok { IfOk result (λ done. data_fault schema.now ≡ None) }
     ensures fault { IfErr result (λ refusal. IsDataFault (data_fault schema.now) refusal) }
 {
-    Err(DataRefusal::NoMemory)
+    match first_fault(alloc, schema, flat)? {
+        None => Ok(()),
+        Some(fault) => Err(DataRefusal::Fault(fault)),
+    }
+}
+
+// The first fault of the data.
+fn first_fault(alloc: Global, schema: &Schema, flat: &Flat) -> Result<Option<DataFault>, NoMemory>
+    requires flat { flat.now ≡ flat_of schema.now }
+    requires blocks { block_fault schema.now ≡ None }
+    ensures { IfOk result (λ found. found ≡ data_fault schema.now) }
+{
+    let found = unknown_read(flat, schema.reads.as_slice());
+    if found.is_some() {
+        return Ok(found);
+    }
+    let found = unknown_write(flat, schema.writes.as_slice());
+    if found.is_some() {
+        return Ok(found);
+    }
+    let found = missing_read(alloc, schema, flat)?;
+    if found.is_some() {
+        return Ok(found);
+    }
+    parallel_writes(alloc, schema, flat)
 }

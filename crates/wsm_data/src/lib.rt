@@ -1,6 +1,17 @@
-//! The check of a schema's data.
+//! The check of a schema's data: that each read and write is of a known node and element, that no mandatory read can miss its value, and that no two nodes write one element side by side.
 #![tactic(auto)]
 
 mod checks;
+mod missing;
+mod parallels;
+mod refusals;
+mod sets;
+mod tables;
+#[cfg(test)]
+mod tests;
+mod trees;
+mod unknowns;
 
-pub use checks::{DataRefusal, check_data};
+pub use checks::check_data;
+pub use refusals::DataRefusal;
+pub use wsm_schema::DataFault;

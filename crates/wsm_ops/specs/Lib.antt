@@ -1,2 +1,4 @@
-pub mod Apply
+pub mod Edit
+pub mod Onto
 pub mod Refusals
+pub mod Apply

@@ -1,11 +1,96 @@
--- Which refusal stands for which outcome.
-use Rattle.std.specs.Prelude.{◌≡◌, Result, Err}
-use Rattle.wsm_schema.specs.SchemaModel.{SchemaModel}
-use Rattle.wsm_ops.specs.declared.applying.ApplyRefusal.{ApplyRefusal}
-use Rattle.wsm_ops.specs.declared.applying.ApplyRefusal.TheVariants as refusal
-use Rattle.wsm_ops.specs.declared.faults.OpFault.{OpFault}
+-- What speaks against an operation, by the cards of the schema.
+use Rattle.std.specs.Prelude.{ℕ, Bool, true, false, ◌&&◌, ◌||◌, not, ◌==◌, List, [], ◌∷◌, Option, Some, None, is_some, if◌then◌else◌}
+use Rattle.std.specs.Option.{option_or}
+use Rattle.std.specs.List.{list_any}
+use Rattle.wsm_lists.specs.Rows.{row_at}
+use Rattle.wsm_lists.specs.Keys.{both}
+use Rattle.wsm_schema.specs.Kinds.{worked_on, is_activity}
+use Rattle.wsm_schema.specs.Flat.{card_at}
+use Rattle.wsm_schema.specs.Trail.{is_one_of}
+use Rattle.wsm_schema.specs.Sound.{when}
+use Rattle.wsm_schema.specs.declared.cards.Card.{Card}
+use Rattle.wsm_schema.specs.declared.cards.End.{End}
+use Rattle.wsm_schema.specs.declared.cards.NodeKind.{NodeKind}
+use Rattle.wsm_schema.specs.declared.cards.NodeKind.TheVariants as node_kind
+use Rattle.wsm_ops.specs.Edit.{is_behind, is_code}
+use Rattle.wsm_ops.specs.declared.operations.Gap.{Gap}
+use Rattle.wsm_ops.specs.declared.operations.Gap.TheVariants as gap
+use Rattle.wsm_ops.specs.declared.faults.OpWhy.{OpWhy}
+use Rattle.wsm_ops.specs.declared.faults.OpWhy.TheVariants.{NoNode, NodeThere, WrongKind, SelfTarget, SyncThere}
 
--- the refusal names the fault that was found; want of memory may come at any operations
-abbrev pub IsOpFault : Result SchemaModel OpFault → ApplyRefusal → Type 0
-IsOpFault outcome (refusal.Fault f) = outcome ≡ Err f
-IsOpFault outcome refusal.NoMemory = Unit {0}
+-- a node that is not there, or whose card fails a test
+abbrev pub by_card : (Card → Bool) → ℕ → Option Card → Option OpWhy
+by_card test n None = Some (NoNode n)
+by_card test n (Some c) = when (not (test c)) (WrongKind n)
+
+abbrev pub wrong_unless : (Card → Bool) → List Card → ℕ → Option OpWhy
+wrong_unless test cards n = by_card test n (card_at n cards)
+
+abbrev pub unless_activity : List Card → ℕ → Option OpWhy
+unless_activity = wrong_unless (λ c. is_activity c.kind)
+
+abbrev pub unless_worked_on : List Card → ℕ → Option OpWhy
+unless_worked_on = wrong_unless (λ c. worked_on c.kind)
+
+-- a new node whose number is in the schema, or is one of the new nodes before it
+abbrev pub taken : List Card → List ℕ → ℕ → Option OpWhy
+taken cards earlier n = when (is_some (card_at n cards) || is_one_of n earlier) (NodeThere n)
+
+-- the same of the three nodes of a new block
+abbrev pub one_taken : List Card → (node split join : ℕ) → Option OpWhy
+one_taken cards node split join =
+    option_or (taken cards [] node) (option_or (taken cards (node ∷ []) split) (taken cards (node ∷ split ∷ []) join))
+
+-- whether something may stand directly behind such a node
+abbrev pub takes_behind : NodeKind → Bool
+takes_behind node_kind.Finish = false
+takes_behind node_kind.AndSplit = false
+takes_behind node_kind.XorSplit = false
+takes_behind _ = true
+
+-- whether it is a split
+abbrev pub is_split : NodeKind → Bool
+is_split node_kind.AndSplit = true
+is_split node_kind.XorSplit = true
+is_split _ = false
+
+-- whether an edge has the code
+abbrev pub has_code : ℕ → List End → Bool
+has_code code ends = list_any (λ e. is_code e.label code) ends
+
+-- the gap test
+abbrev pub gap_refusal : List Card → Gap → Option OpWhy
+gap_refusal cards (gap.After n) = wrong_unless (λ c. takes_behind c.kind) cards n
+gap_refusal cards (gap.Head split code) = wrong_unless (λ c. is_split c.kind && has_code code c.outs) cards split
+
+-- whether an item begins with such a node
+abbrev pub begins_item : NodeKind → Bool
+begins_item node_kind.Activity = true
+begins_item node_kind.AndSplit = true
+begins_item node_kind.XorSplit = true
+begins_item node_kind.LoopStart = true
+begins_item _ = false
+
+-- whether the item that begins with this card's node ends with that node
+abbrev pub ends_item : Card → ℕ → Bool
+ends_item c last = if is_activity c.kind then c.node == last else is_code c.partner last
+
+-- what is wrong with the item that begins with this card's node
+abbrev pub wrong_item : List Card → (first last : ℕ) → Option Card → Option OpWhy
+wrong_item cards first last None = Some (NoNode first)
+wrong_item cards first last (Some c) =
+    option_or (when (not (begins_item c.kind)) (WrongKind first)) (wrong_unless (λ _. ends_item c last) cards last)
+
+abbrev pub item_refusal : List Card → (first last : ℕ) → Option OpWhy
+item_refusal cards first last = wrong_item cards first last (card_at first cards)
+
+-- the refusal of a move
+abbrev pub move_refusal : List Card → ℕ → Gap → Option OpWhy
+move_refusal cards node gap =
+    option_or (unless_activity cards node) (option_or (when (is_behind gap node) (SelfTarget node)) (gap_refusal cards gap))
+
+-- the refusal of a new sync edge
+abbrev pub sync_refusal : List Card → List (ℕ × ℕ) → (source target : ℕ) → Option OpWhy
+sync_refusal cards syncs source target =
+    option_or (unless_activity cards source)
+    (option_or (unless_activity cards target) (when (is_some (row_at both (source, target) syncs)) SyncThere))

@@ -1,4 +1,5 @@
 // Why an operation is refused.
+use wsm_schema::NoMemory;
 
 /// The first operation of a list that is refused, counted from 1, and why.
 #[derive(Clone, Copy, PartialEq, Eq, Debug)]
@@ -28,4 +29,24 @@ pub enum OpWhy {
     EdgeThere,
     /// The element is there.
     ElementThere,
+}
+
+/// Why operations give no schema.
+#[derive(Clone, Copy, PartialEq, Eq, Debug)]
+pub enum ApplyRefusal {
+    /// An operation is refused.
+    Fault(OpFault),
+    /// There is too little memory.
+    NoMemory,
+}
+
+impl From<NoMemory> for ApplyRefusal {
+    ghost use Rattle.std.specs.Prelude.{◌≡◌};
+    ghost use Rattle.wsm_ops.specs.declared.faults.ApplyRefusal.TheVariants as refusal;
+
+    ghost from_gives = { λ _ e. e ≡ refusal.NoMemory };
+
+    fn from(_error: NoMemory) -> ApplyRefusal {
+        ApplyRefusal::NoMemory
+    }
 }

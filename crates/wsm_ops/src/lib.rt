@@ -1,10 +1,17 @@
 //! Operations that change a schema: each with its refusals and its effect.
 #![tactic(auto)]
 
-mod applying;
+mod applications;
+mod effects;
 mod faults;
+mod insertions;
 mod operations;
+mod refusals;
+mod removals;
+#[cfg(test)]
+mod tests;
+mod wraps;
 
-pub use applying::{ApplyRefusal, apply};
-pub use faults::{OpFault, OpWhy};
+pub use applications::apply;
+pub use faults::{ApplyRefusal, OpFault, OpWhy};
 pub use operations::{Gap, Op, Ops};

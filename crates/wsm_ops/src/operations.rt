@@ -1,4 +1,7 @@
 // Operations on schemas.
+ghost use Rattle.std.specs.Prelude.{◌≡◌};
+ghost use Rattle.wsm_ops.specs.Edit.{is_behind, head_code, is_code};
+
 use wsm_schema::{ElementKind, Listing};
 
 /// A place in a schema where something may be put.
@@ -11,11 +14,47 @@ pub enum Gap {
     Head(u32, u16),
 }
 
+impl Gap {
+    /// Whether it is the place directly behind the node.
+    pub fn is_behind(self, node: u32) -> bool
+        ensures { result ≡ is_behind self node }
+    {
+        match self {
+            Gap::After(n) => node == n,
+            Gap::Head(..) => false,
+        }
+    }
+
+    // The code of the branch at whose head it is, where it is in a branch of this split.
+    pub fn head_code(self, split: u32) -> Option<u16>
+        ensures { result ≡ head_code self split }
+    {
+        match self {
+            Gap::After(_) => None,
+            Gap::Head(s, code) => { if split == s { Some(code) } else { None } }
+        }
+    }
+}
+
+// Whether a code is the one that is looked for.
+pub fn is_code(wanted: Option<u16>, code: u16) -> bool
+    ensures { result ≡ is_code wanted code }
+{
+    match wanted {
+        None => false,
+        Some(other) => other == code,
+    }
+}
+
 /// An operation on a schema. Role 0 stands for no role.
 #[derive(Clone, Copy, PartialEq, Eq, Debug)]
 pub enum Op {
     /// A new activity at a gap.
-    InsertSerial { node: u32, role: u32, gap: Gap },
+    InsertSerial {
+        node: u32,
+        role: u32,
+        gap: Gap,
+    },
     /// A new activity beside the item from `first` to `last`, in a new AND block round both.
     InsertParallel {
         node: u32,
@@ -34,15 +73,29 @@ pub enum Op {
         gap: Gap,
     },
     /// The activity goes, with its reads, its writes, its role and every sync edge that it ends.
-    DeleteActivity { node: u32 },
+    DeleteActivity {
+        node: u32,
+    },
     /// The activity moves to a gap, and keeps its edges, its data and its role.
-    MoveActivity { node: u32, gap: Gap },
+    MoveActivity {
+        node: u32,
+        gap: Gap,
+    },
     /// A new sync edge between two activities.
-    InsertSync { source: u32, target: u32 },
+    InsertSync {
+        source: u32,
+        target: u32,
+    },
     /// The sync edge goes.
-    DeleteSync { source: u32, target: u32 },
+    DeleteSync {
+        source: u32,
+        target: u32,
+    },
     /// A new element.
-    AddElement { element: u32, kind: ElementKind },
+    AddElement {
+        element: u32,
+        kind: ElementKind,
+    },
     /// The node then reads the element.
     AddRead {
         node: u32,
@@ -50,13 +103,25 @@ pub enum Op {
         mandatory: bool,
     },
     /// The node then reads the element no more.
-    RemoveRead { node: u32, element: u32 },
+    RemoveRead {
+        node: u32,
+        element: u32,
+    },
     /// The node then writes the element.
-    AddWrite { node: u32, element: u32 },
+    AddWrite {
+        node: u32,
+        element: u32,
+    },
     /// The node then writes the element no more.
-    RemoveWrite { node: u32, element: u32 },
+    RemoveWrite {
+        node: u32,
+        element: u32,
+    },
     /// The node then has this role.
-    SetRole { node: u32, role: u32 },
+    SetRole {
+        node: u32,
+        role: u32,
+    },
 }
 
 /// Operations in order.

@@ -60,7 +60,7 @@ marking_of-spots cards t n c e = marked n t cards [] (inr (ap is_some e))
 
 -- ---- values before the last position
 
-value-append : (d p next : ℕ) (e : Entry) (es : List (ℕ × Entry)) → p ≤ next → value_below d p (es ++ (next, e) ∷ []) ≡ value_below d p es
+pub value-append : (d p next : ℕ) (e : Entry) (es : List (ℕ × Entry)) → p ≤ next → value_below d p (es ++ (next, e) ∷ []) ≡ value_below d p es
 value-append d p next e es le = below-append d p es ((next, e) ∷ []) (rw (le-ltb next p le) refl)
 
 values_stay : (low next : ℕ) (e : Entry) (all es : List (ℕ × Entry)) → Rises low next es →

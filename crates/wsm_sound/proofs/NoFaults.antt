@@ -3,11 +3,11 @@ use Rattle.std.proofs.Common.{◌≡◌, ℕ, List, [], refl, Option, Some, None
 use Rattle.std.specs.Prelude.{IfOk, IfErr, option_map}
 use Rattle.std.specs.Option.{option_or}
 use Rattle.wsm_block.specs.Refusals.{IsBlockFault}
-use Rattle.wsm_block.specs.declared.checks.BlockRefusal.{BlockRefusal}
-use Rattle.wsm_block.specs.declared.checks.BlockRefusal.TheVariants as block_refusal
+use Rattle.wsm_block.specs.declared.refusals.BlockRefusal.{BlockRefusal}
+use Rattle.wsm_block.specs.declared.refusals.BlockRefusal.TheVariants as block_refusal
 use Rattle.wsm_data.specs.Refusals.{IsDataFault}
-use Rattle.wsm_data.specs.declared.checks.DataRefusal.{DataRefusal}
-use Rattle.wsm_data.specs.declared.checks.DataRefusal.TheVariants as data_refusal
+use Rattle.wsm_data.specs.declared.refusals.DataRefusal.{DataRefusal}
+use Rattle.wsm_data.specs.declared.refusals.DataRefusal.TheVariants as data_refusal
 use Rattle.wsm_marks.proofs.NoFault.{no_either, no_map}
 use Rattle.wsm_ops.specs.Apply.{applied}
 use Rattle.wsm_ops.specs.declared.operations.Op.{Op}

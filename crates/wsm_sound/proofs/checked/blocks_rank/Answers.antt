@@ -1,5 +1,5 @@
 use Rattle.std.proofs.Common.{◌≡◌, Err, rules}
-use Rattle.wsm_block.specs.declared.checks.BlockRefusal.TheVariants.{Fault}
+use Rattle.wsm_block.specs.declared.refusals.BlockRefusal.TheVariants.{Fault}
 use Rattle.wsm_sound.proofs.NoFaults.{block_refused_by}
 use Rattle.wsm_sound.proofs.checked.blocks_rank.Goals as goal
 

@@ -1,0 +1,2 @@
+pub mod OnlyWrite
+pub mod RightWrites

@@ -1,0 +1,15 @@
+pub mod Counts
+pub mod Repeated
+pub mod Moves
+pub mod Marked
+pub mod Leading
+pub mod Parting
+pub mod Added
+pub mod Upwards
+pub mod CardRows
+pub mod Ranks
+pub mod DocumentStart
+pub mod Growing
+pub mod RankTests
+pub mod FirstFault
+pub mod RanksOfSchemas

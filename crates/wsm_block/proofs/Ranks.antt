@@ -1,0 +1,133 @@
+-- From ranks to heights, and from orders to ranks.
+use Rattle.std.proofs.Common.{◌≡◌, ℕ, ◌<◌, Bool, true, false, ◌||◌, eqb, List, [], ◌∷◌, ◌++◌, length, refl, ap, sym, ◌∙◌, subst, inl, inr, arith, Some, None, append_assoc}
+use Rattle.std.proofs.lemmas.Bool.{cases_Bool, both_ways, or_cases, or_left, or_right}
+use Rattle.std.proofs.lemmas.List.{length-map}
+use Rattle.wsm_lists.specs.Rows.{AllRows}
+use Rattle.wsm_lists.proofs.Lists.{all-rows-map}
+use Rattle.wsm_schema.specs.Trail.{is_one_of}
+use Rattle.wsm_schema.specs.SchemaModel.{SchemaModel}
+use Rattle.wsm_schema.specs.Flat.{card_at, cards_of}
+use Rattle.wsm_schema.specs.Places.{places}
+use Rattle.wsm_schema.specs.Rank.{IsRank}
+use Rattle.wsm_schema.specs.Sound.{twice, nodes_of, control_edges, is_act_in, sync_cycle}
+use Rattle.wsm_schema.proofs.Rounds.{member-splits, all-rows-card_at, card_at-node}
+use Rattle.wsm_schema.proofs.DocumentOrder.{twice-once}
+use Rattle.wsm_schema.specs.declared.cards.Card.{Card}
+use Rattle.wsm_block.specs.Order.{Edges, Ordered, Once, IsOrder, SameNodes, onto_seen}
+use Rattle.wsm_block.proofs.CardRows.{control-rows, rows-into, found-rows, sources-are, rows-from_sources, rows-of_sources, activity-card}
+use Rattle.wsm_block.proofs.Repeated.{seen-behind}
+use Rattle.wsm_block.proofs.Upwards.{Rises, no-cycle, height_in, height-at, height-below, below-height}
+
+-- ---- in a rank edges rise
+module _ (cards : List Card) (rank : List ℕ) (is : IsRank cards rank) where
+  rises-into : (n : ℕ) (c : Card) → card_at n cards ≡ Some c →
+      AllRows (λ e. height_in rank e.node < height_in rank n) c.ins × AllRows (λ m. height_in rank m < height_in rank n) c.syncs_in
+  rises-into n c found =
+      let there : is_one_of n rank ≡ true = subst (λ m. is_one_of m rank ≡ true) (card_at-node n cards c found) (all-rows-card_at (λ d. is_one_of d.node rank ≡ true) n cards c is.all found) in
+      let split = member-splits n rank there in
+      let front : List ℕ = split.0 in
+      let rest : List ℕ = split.1 in
+      let top : height_in rank n ≡ length front = ap (λ r. height_in r n) split.2 ∙ height-at n front rest (is.once front rest n split.2) in
+      let low : (m : ℕ) → is_one_of m front ≡ true → height_in rank m < height_in rank n =
+      λ m one.
+      let below : height_in rank m < length front = subst (λ r. height_in r m < length front) (sym split.2) (height-below m front (n ∷ rest) one) in
+      omega (arith, below, top)
+      in
+      let order = is.behind front rest n c split.2 found in
+      (all-rows-map _ _ (λ e one. low e.node one) c.ins order.0, all-rows-map _ _ (λ m one. low m one) c.syncs_in order.1)
+
+  pub control-rises : twice [] (nodes_of cards) ≡ None → AllRows (Rises (height_in rank)) (control_edges cards)
+  control-rises distinct =
+      control-rows (Rises (height_in rank)) cards (all-rows-map (λ c. card_at c.node cards ≡ Some c) _ (λ c found. (rises-into c.node c found).0) cards (found-rows [] cards distinct))
+
+-- ---- so no sync edge of a schema closes a cycle, where its nodes have a rank
+module _ (s : SchemaModel) (rank : List ℕ) (is : IsRank (cards_of s) rank) where
+  abbrev Up : ℕ × ℕ → Type 0
+  Up = Rises (height_in rank)
+
+  into-rises : (n : ℕ) (c : Card) → card_at n (cards_of s) ≡ Some c → AllRows (λ e. e.1 ≡ n → height_in rank e.0 < height_in rank n) s.syncs
+  into-rises n c found =
+      rows-from_sources (λ m. height_in rank m < height_in rank n) n s.syncs
+      (subst (AllRows (λ m. height_in rank m < height_in rank n)) (sources-are s n (places s.start s.body s.finish) c found) (rises-into (cards_of s) rank is n c found).1)
+
+  each-rises : (es : Edges) → AllRows (λ e. is_act_in (cards_of s) e.1 ≡ true) es →
+      ((n : ℕ) (c : Card) → card_at n (cards_of s) ≡ Some c → AllRows (λ e. e.1 ≡ n → height_in rank e.0 < height_in rank n) es) → AllRows Up es
+  each-rises [] acts h = tt
+  each-rises (e ∷ es) acts h =
+      let card = activity-card e.1 (cards_of s) acts.0 in ((h e.1 card.0 card.1).0 refl, each-rises es acts.1 (λ n c found. (h n c found).1))
+
+  pub rank-no_cycle : twice [] (nodes_of (cards_of s)) ≡ None → AllRows (λ e. is_act_in (cards_of s) e.1 ≡ true) s.syncs → (n : ℕ) → sync_cycle n (control_edges (cards_of s)) s.syncs ≡ None
+  rank-no_cycle distinct acts n = no-cycle (height_in rank) n (control_edges (cards_of s)) s.syncs (control-rises (cards_of s) rank is distinct) (each-rises s.syncs acts into-rises)
+
+-- ---- from heights to an order
+pub twice-Once : (seen ns : List ℕ) → twice seen ns ≡ None → Once seen ns
+twice-Once seen [] h = tt
+twice-Once seen (n ∷ ns) h =
+    elim (cases_Bool (is_one_of n seen)) [
+      | inl old ↦ absurd (let bad : Some n ≡ None = rw old at h in cc)
+      | inr new ↦ (new, twice-Once (n ∷ seen) ns (rw new at h))
+    ]
+
+Once-twice : (seen ns : List ℕ) → Once seen ns → twice seen ns ≡ None
+Once-twice seen [] h = refl
+Once-twice seen (n ∷ ns) h = rw h.0 (Once-twice (n ∷ seen) ns h.1)
+
+module _ (edges : Edges) (rank : List ℕ) (rise : AllRows (Rises (height_in rank)) edges) where
+  ordered-from : (front seen ns : List ℕ) → rank ≡ front ++ ns → ((m : ℕ) → is_one_of m (front) ≡ is_one_of m seen) → Once seen ns → Ordered edges seen ns
+  ordered-from front seen [] at same once = tt
+  ordered-from front seen (n ∷ ns) at same once =
+      let top : height_in rank n ≡ length front = ap (λ r. height_in r n) at ∙ height-at n front ns (same n ∙ once.0) in (
+        all-rows-map _ _ (λ e up to_n.
+            let ends : height_in rank e.1 ≡ length front = ap (height_in rank) to_n ∙ top in
+            let low : height_in rank e.0 < length front = (let up2 : height_in rank e.0 < height_in rank e.1 = up in omega (arith, ends, up2)) in
+            sym (same e.0) ∙ below-height e.0 front (n ∷ ns) (subst (λ r. height_in r e.0 < length front) at low)) edges rise,
+        ordered-from (front ++ n ∷ []) (n ∷ seen) ns (at ∙ sym (append_assoc front (n ∷ []) ns)) (λ m. sym (seen-behind m n front) ∙ ap (λ x. eqb n m || x) (same m)) once.1,
+      )
+
+  pub rises-ordered : Once [] rank → Ordered edges [] rank
+  rises-ordered once = ordered-from [] [] rank refl (λ m. refl) once
+
+-- ---- from an order to a rank
+onto-one : (m : ℕ) (xs seen : List ℕ) → is_one_of m (onto_seen xs seen) ≡ true → (is_one_of m xs || is_one_of m seen) ≡ true
+onto-one m [] seen h = h
+onto-one m (x ∷ xs) seen h =
+    elim (or_cases (is_one_of m xs) (is_one_of m (x ∷ seen)) (onto-one m xs (x ∷ seen) h)) [
+      | inl later ↦ or_left _ _ (or_right (eqb x m) _ later)
+      | inr first ↦ elim (or_cases (eqb x m) (is_one_of m seen) first) [
+        | inl same ↦ or_left _ _ (or_left _ _ same)
+        | inr old ↦ or_right (is_one_of m (x ∷ xs)) _ old
+      ]
+    ]
+
+onto-rows : {X : Type 0} (Q : X → Type 0) (xs ys : List X) → AllRows Q (onto_seen xs ys) → AllRows Q xs × AllRows Q ys
+onto-rows Q [] ys h = (tt, h)
+onto-rows Q (x ∷ xs) ys h = let r = onto-rows Q xs (x ∷ ys) h in ((r.1.0, r.0), r.1.1)
+
+ordered-split : (edges : Edges) (seen ns front rest : List ℕ) (n : ℕ) → Ordered edges seen ns → ns ≡ front ++ (n ∷ rest) → AllRows (λ e. e.1 ≡ n → is_one_of e.0 (onto_seen front seen) ≡ true) edges
+ordered-split edges seen [] [] rest n h e = absurd (cc)
+ordered-split edges seen [] (f ∷ front) rest n h e = absurd (cc)
+ordered-split edges seen (m ∷ ms) [] rest n h e = let same : m ≡ n = cc in subst (λ x. AllRows (λ d. d.1 ≡ x → is_one_of d.0 seen ≡ true) edges) same h.0
+ordered-split edges seen (m ∷ ms) (f ∷ front) rest n h e =
+    let same : m ≡ f = cc in
+    let tail : ms ≡ front ++ (n ∷ rest) = cc in
+    subst (λ x. AllRows (λ d. d.1 ≡ n → is_one_of d.0 (onto_seen front (x ∷ seen)) ≡ true) edges) same (ordered-split edges (m ∷ seen) ms front rest n h.1 tail)
+
+pub order-rank : (s : SchemaModel) (rank : List ℕ) → IsOrder (onto_seen s.syncs (control_edges (cards_of s))) rank → SameNodes rank (nodes_of (cards_of s)) →
+    AllRows (λ c. is_one_of c.node (nodes_of (cards_of s)) ≡ true) (cards_of s) → IsRank (cards_of s) rank
+order-rank s rank order same all =
+    let cards : List Card = cards_of s in
+    let upward : (front rest : List ℕ) (n : ℕ) → rank ≡ front ++ (n ∷ rest) → AllRows (λ e. e.1 ≡ n → is_one_of e.0 front ≡ true) (onto_seen s.syncs (control_edges cards)) =
+    λ front rest n at. all-rows-map _ _ (λ e h to_n. or-false (onto-one e.0 front [] (h to_n))) (onto_seen s.syncs (control_edges cards)) (ordered-split (onto_seen s.syncs (control_edges cards)) [] rank front rest n order.ordered at) in
+    record {
+      size = omega (arith, same.size, length-map cards (λ c. c.node));
+      all = all-rows-map _ _ (λ c one. same.members c.node ∙ one) cards all;
+      once = λ front rest n at. (twice-once [] rank front rest n (Once-twice [] rank order.once) at).0;
+      behind = λ front rest n c at found.
+          let parts = onto-rows (λ e. e.1 ≡ n → is_one_of e.0 front ≡ true) s.syncs (control_edges cards) (upward front rest n at) in (
+            all-rows-map _ _ (λ e h. h refl) c.ins (rows-into (λ e. e.1 ≡ n → is_one_of e.0 front ≡ true) cards parts.1 n c found),
+            subst (AllRows (λ m. is_one_of m front ≡ true)) (sym (sources-are s n (places s.start s.body s.finish) c found)) (rows-of_sources (λ m. is_one_of m front ≡ true) n s.syncs parts.0),
+          );
+    }
+  where
+    or-false : {x : Bool} → (x || false) ≡ true → x ≡ true
+    or-false {x} h = elim (or_cases x false h) [ inl yes_it ↦ yes_it | inr never ↦ absurd (both_ways _ refl never) ]

@@ -1,0 +1,9 @@
+pub mod Known
+pub mod Elements
+pub mod Firsts
+pub mod Sure
+pub mod Pass
+pub mod Syncs
+pub mod Clauses
+pub mod Beside
+pub mod Writers

@@ -1,0 +1,111 @@
+-- The steps of the pass: what is sure at the next card, and the table with a row for it.
+use Rattle.std.proofs.Common.{◌≡◌, ℕ, suc, ◌+◌, ◌<◌, Bool, true, false, not, ◌||◌, ◌&&◌, eqb, List, [], ◌∷◌, ◌++◌, map, length, take, drop, get_or, refl, ap, sym, ◌∙◌, subst, inl, inr, Option, Some, add-one, drop-cons}
+use Rattle.std.proofs.Math.Seq.{take-suc}
+use Rattle.std.proofs.lemmas.List.{map-append}
+use Rattle.std.specs.List.{list_any, filter}
+use Rattle.std.specs.Prelude.{find, option_map, is_some}
+use Rattle.std.proofs.lemmas.Bool.{cases_Bool, both_ways, eqb-true, eq-eqb}
+use Rattle.wsm_lists.specs.Rows.{key_eq, key_lt, row_at, put_row}
+use Rattle.wsm_lists.proofs.Lists.{map-same, all-rows-map}
+use Rattle.wsm_lists.proofs.Rows.{eq_means, lt_not_eq}
+use Rattle.wsm_schema.specs.SchemaModel.{SchemaModel}
+use Rattle.wsm_schema.specs.Sound.{sure_by, sure_of, first_some, missing_at, nodes_of, has_number, writes_of}
+use Rattle.wsm_schema.specs.declared.cards.Card.{Card}
+use Rattle.wsm_marks.proofs.Lists.{one_of-last}
+use Rattle.wsm_data.specs.Passes.{IsNext, Passes}
+use Rattle.wsm_data.specs.Sets.{Holds}
+use Rattle.wsm_data.specs.Tables.{by_node, set_of, set_behind, sure_behind, Tells, IsPut}
+use Rattle.wsm_data.specs.declared.tables.Behind.{Behind}
+use Rattle.wsm_data.proofs.Elements.{eq_number}
+use Rattle.wsm_data.proofs.Firsts.{first-some, first-none}
+
+-- what a table gives for a card is sure there
+pub sure-there : (s : SchemaModel) (rows : List Behind) (seen : List ℕ) (c : Card) (set : List ℕ) → Tells s rows seen → IsNext s seen c →
+    Holds set (λ d. sure_by c.kind (map (λ e. has_number d (set_behind rows e.node)) c.ins)) → Holds set (sure_of s c.node)
+sure-there s rows seen c set tells next holds d =
+    holds d
+    ∙ ap (sure_by c.kind) (map-same (λ e. has_number d (set_behind rows e.node)) (λ e. sure_behind s e.node d) c.ins (all-rows-map _ _ (λ e there. tells e.node d there) c.ins next.behind))
+    ∙ sym (next.solved d)
+
+-- the reads that are missing are those of that set
+pub missing-there : (s : SchemaModel) (c : Card) (set : List ℕ) → Holds set (sure_of s c.node) → missing_at (λ n d. has_number d set) c ≡ missing_at (sure_of s) c
+missing-there s c set holds = ap (option_map (λ r. _)) (λ j. find (λ r. r.1 && not (holds r.0 j)) c.reads)
+
+-- the elements of a node's writes
+pub written-is : (n d : ℕ) (ws : List (ℕ × ℕ)) → list_any (λ w. eqb w.1 d) (filter (λ w. eqb w.0 n) ws) ≡ list_any (λ w. eqb w.0 n && eqb w.1 d) ws
+written-is n d [] = refl
+written-is n d (w ∷ ws) =
+    elim (cases_Bool (eqb w.0 n)) [
+      | inl same ↦ rw same (ap (λ b. eqb w.1 d || b) (written-is n d ws))
+      | inr other ↦ rw other (written-is n d ws)
+    ]
+
+-- a row that was put is that of its node
+row-here : (b : Behind) (rows : List Behind) → row_at by_node (b.node, 0) (put_row by_node b rows) ≡ Some b
+row-here b [] = rw (eq_number b.node b.node, eq-eqb b.node b.node refl) refl
+row-here b (x ∷ xs) =
+    elim (cases_Bool (key_lt (x.node, 0) (b.node, 0))) [
+      | inl below ↦ rw (below, lt_not_eq (x.node, 0) (b.node, 0) below) (row-here b xs)
+      | inr not_below ↦ elim (cases_Bool (key_eq (x.node, 0) (b.node, 0))) [
+        | inl same ↦ rw (not_below, same, eq_number b.node b.node, eq-eqb b.node b.node refl) refl
+        | inr other ↦ rw (not_below, other, eq_number b.node b.node, eq-eqb b.node b.node refl) refl
+      ]
+    ]
+
+-- the rows of other nodes stay
+row-others : (b : Behind) (rows : List Behind) (n : ℕ) → eqb b.node n ≡ false → row_at by_node (n, 0) (put_row by_node b rows) ≡ row_at by_node (n, 0) rows
+row-others b [] n away = rw (eq_number b.node n, away) refl
+row-others b (x ∷ xs) n away =
+    elim (cases_Bool (key_lt (x.node, 0) (b.node, 0))) [
+      | inl below ↦ rw below (elim (cases_Bool (key_eq (x.node, 0) (n, 0))) [
+        | inl same ↦ rw same refl
+        | inr other ↦ rw other (row-others b xs n away)
+      ])
+      | inr not_below ↦ elim (cases_Bool (key_eq (x.node, 0) (b.node, 0))) [
+        | inl same ↦
+            let one : x.node ≡ b.node = (eq_means (x.node, 0) (b.node, 0) same).0 in
+            let gone : eqb x.node n ≡ false = ap (λ k. eqb k n) one ∙ away in
+            rw (not_below, same, eq_number b.node n, away, eq_number x.node n, gone) refl
+        | inr other ↦ rw (not_below, other, eq_number b.node n, away) refl
+      ]
+    ]
+
+-- what a put makes of a table
+pub put-is : (test : ℕ → Bool) (b : Behind) (old new : List Behind) → Holds b.elements test → new ≡ put_row by_node b old → IsPut test b.node old new
+put-is test b old new holds put = record {
+  here = λ d. ap (λ rows. has_number d (set_behind rows b.node)) put ∙ ap (λ o. has_number d (set_of o)) (row-here b old) ∙ holds d;
+  others = λ n away. ap (λ rows. set_behind rows n) put ∙ ap set_of (row-others b old n away);
+}
+
+-- the table with the next row tells of one node more
+pub tells-next : (s : SchemaModel) (old new : List Behind) (seen : List ℕ) (node : ℕ) → Tells s old seen → IsPut (sure_behind s node) node old new → Tells s new (seen ++ node ∷ [])
+tells-next s old new seen node tells put n d there =
+    elim (cases_Bool (eqb node n)) [
+      | inl same ↦ let here : node ≡ n = eqb-true node n same in subst (λ k. has_number d (set_behind new k) ≡ sure_behind s k d) here (put.here d)
+      | inr other ↦ ap (has_number d) (put.others n other) ∙ elim (one_of-last n seen node there) [
+        | inl before ↦ tells n d before
+        | inr here ↦ absurd (both_ways _ other (eq-eqb node n here))
+      ]
+    ]
+
+-- the next card, and those that are left behind it
+pub passes-step : (s : SchemaModel) (cards : List Card) (i : ℕ) (c : Card) → i < length cards → c ≡ get_or cards i c → Passes s (nodes_of (take i cards)) (drop i cards) →
+    IsNext s (nodes_of (take i cards)) c × Passes s (nodes_of (take i cards) ++ c.node ∷ []) (drop (i + 1) cards)
+passes-step s cards i c lt is passes =
+    let split : drop i cards ≡ c ∷ drop (i + 1) cards = rw add-one (drop-cons cards i c lt ∙ ap (λ x. x ∷ drop (suc i) cards) (sym is)) in
+    subst (Passes s (nodes_of (take i cards))) split passes
+
+pub nodes-step : (cards : List Card) (i : ℕ) (c : Card) → i < length cards → c ≡ get_or cards i c → nodes_of (take i cards) ++ c.node ∷ [] ≡ nodes_of (take (i + 1) cards)
+nodes-step cards i c lt is = sym (ap nodes_of (rw add-one (take-suc cards i c lt ∙ ap (λ x. take i cards ++ x ∷ []) (sym is))) ∙ map-append (λ (k : Card). k.node) (take i cards) (c ∷ []))
+
+-- the first answer, where the next row has one, and where it has none
+pub first-found : {X Y : Type 0} (f : X → Option Y) (xs : List X) (i : ℕ) (x : X) (found all : Option Y) → i < length xs → x ≡ get_or xs i x → found ≡ f x → is_some found ≡ true → first_some f (drop i xs) ≡ all → found ≡ all
+first-found f xs i x found all lt is here some rest = first-some found (f x) (first_some f (drop (suc i) xs)) here some ∙ ap (first_some f) (sym (drop-cons xs i x lt ∙ ap (λ y. y ∷ drop (suc i) xs) (sym is))) ∙ rest
+
+pub first-left : {X Y : Type 0} (f : X → Option Y) (xs : List X) (i : ℕ) (x : X) (found all : Option Y) → i < length xs → x ≡ get_or xs i x → found ≡ f x → is_some found ≡ false → first_some f (drop i xs) ≡ all → first_some f (drop (i + 1) xs) ≡ all
+first-left f xs i x found all lt is here none rest =
+    rw add-one (first-none found (f x) (first_some f (drop (suc i) xs)) here none ∙ ap (first_some f) (sym (drop-cons xs i x lt ∙ ap (λ y. y ∷ drop (suc i) xs) (sym is))) ∙ rest)
+
+-- a put by what is sure
+pub put-sure : (s : SchemaModel) (node : ℕ) (set : List ℕ) (old new : List Behind) → Holds set (sure_of s node) → IsPut (λ d. has_number d set || writes_of s node d) node old new → IsPut (sure_behind s node) node old new
+put-sure s node set old new holds put = record { here = λ d. put.here d ∙ ap (λ b. b || writes_of s node d) (holds d); others = put.others }

@@ -1,0 +1,70 @@
+// Mandatory reads that may find no value.
+ghost use Rattle.std.specs.Prelude.{◌≡◌, ◌||◌, ◌==◌, [], None, IfOk, OnOk, map};
+ghost use Rattle.std.specs.List.{list_any};
+ghost use Rattle.wsm_schema.specs.Flat.{flat_of, cards_of};
+ghost use Rattle.wsm_schema.specs.Sound.{block_fault, first_some, has_number, missing_at, sure_of, writes_of};
+ghost use Rattle.wsm_data.specs.Tables.{IsPut};
+ghost use Rattle.wsm_data.specs.Sets.{Holds};
+
+use crate::sets::{ElementSet, add, contains};
+use crate::tables::{Behind, BehindTable, sure_at};
+use std::alloc::Global;
+use wsm_schema::{Card, DataFault, Flat, NoMemory, Schema};
+
+// The first mandatory read of a card whose element is not one of those that are sure there.
+fn missing_at(sure: &ElementSet, card: &Card) -> Option<DataFault>
+    ensures { result ≡ missing_at (λ n d. has_number d sure.now) card.now }
+{
+    for read in card.reads.as_slice() {
+        if read.1 && !contains(sure, read.0) {
+            return Some(DataFault::Missing(card.node, read.0));
+        }
+    }
+    None
+}
+
+/// The first mandatory read that may find no value, by one pass over the nodes in document order.
+pub fn missing_read(
+    alloc: Global,
+    schema: &Schema,
+    flat: &Flat,
+) -> Result<Option<DataFault>, NoMemory>
+    requires flat { flat.now ≡ flat_of schema.now }
+    requires blocks { block_fault schema.now ≡ None }
+    ensures { IfOk result (λ found. found ≡ first_some (missing_at (sure_of schema.now)) (cards_of schema.now)) }
+{
+    let mut table = BehindTable::new(alloc);
+    for card in flat.cards() {
+        let sure = sure_at(alloc, &table, card)?;
+        let found = missing_at(&sure, card);
+        if found.is_some() {
+            return Ok(found);
+        }
+        put_behind(&mut table, schema, card.node, sure)?;
+    }
+    Ok(None)
+}
+
+// One more row: behind a node there is what is sure there, and what it writes.
+fn put_behind(
+    table: &mut BehindTable,
+    schema: &Schema,
+    node: u32,
+    sure: ElementSet,
+) -> Result<(), NoMemory>
+    ensures { OnOk result (IsPut (λ d. has_number d sure || writes_of schema.now node d) node table.old table.new) }
+{
+    let mut elements = sure;
+    add_written(&mut elements, schema.writes.rows_of(node))?;
+    table.set(Behind { node, elements })
+}
+
+// The set with the elements that are written too.
+fn add_written(set: &mut ElementSet, writes: &[(u32, u32)]) -> Result<(), NoMemory>
+    ensures { OnOk result (Holds set.new (λ d. has_number d set.old || list_any (λ w. w.1 == d) writes.now)) }
+{
+    for write in writes {
+        add(set, write.1)?;
+    }
+    Ok(())
+}

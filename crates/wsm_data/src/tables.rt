@@ -1,0 +1,98 @@
+// Tables of the elements that have a value behind nodes, and the set of a node from those of its sources.
+ghost use Rattle.std.specs.Prelude.{◌≡◌, ◌<◌, ◌||◌, ◌&&◌, ◌==◌, [], map, length, IfOk, OnOk, if◌then◌else◌};
+ghost use Rattle.std.specs.List.{list_all, list_any};
+ghost use Rattle.wsm_schema.specs.Sound.{has_number, sure_by};
+ghost use Rattle.wsm_marks.specs.Loops.{HasEdge};
+ghost use Rattle.wsm_data.specs.Sets.{Holds};
+ghost use Rattle.wsm_data.specs.Tables.{by_node, set_behind};
+
+use crate::sets::{ElementSet, add_all, common};
+use std::alloc::Global;
+use wsm_lists::{Keys, NoMemory, Table};
+use wsm_schema::{Card, End, NodeKind};
+
+/// A node, and the elements that have a value behind it, whatever came before.
+#[derive(Drop)]
+pub struct Behind {
+    pub node: u32,
+    pub elements: ElementSet,
+}
+
+/// Rows by their node.
+pub struct ByBehind;
+
+impl Keys for ByBehind {
+    type Row = Behind;
+
+    ghost key_of = { by_node };
+
+    fn key(row: &Behind) -> (u32, u32) {
+        (row.node, 0)
+    }
+}
+
+/// Nodes with what is sure behind them.
+pub type BehindTable = Table<ByBehind>;
+
+/// The elements that are sure at a card, where the table tells them of its sources: at an AND join those behind some
+/// source, elsewhere those behind all.
+pub fn sure_at(alloc: Global, table: &BehindTable, card: &Card) -> Result<ElementSet, NoMemory>
+    requires { HasEdge card.now.kind card.now.ins }
+    ensures { IfOk result (λ set. Holds set (λ d. sure_by card.now.kind (map (λ e. has_number d (set_behind table.now e.node)) card.now.ins))) }
+{
+    match card.kind {
+        NodeKind::Start => Ok(ElementSet::new(alloc)),
+        NodeKind::AndJoin => behind_some(alloc, table, card.ins.as_slice()),
+        NodeKind::Finish
+        | NodeKind::Activity
+        | NodeKind::AndSplit
+        | NodeKind::XorSplit
+        | NodeKind::XorJoin
+        | NodeKind::LoopStart
+        | NodeKind::LoopEnd => behind_all(alloc, table, card.ins.as_slice()),
+    }
+}
+
+// The elements behind a node.
+fn set_behind(table: &BehindTable, node: u32) -> &[u32]
+    ensures { result.now ≡ set_behind table.now node }
+{
+    match table.find((node, 0)) {
+        None => &[],
+        Some(row) => row.elements.as_slice(),
+    }
+}
+
+// The same as a set.
+fn copy_behind(alloc: Global, table: &BehindTable, node: u32) -> Result<ElementSet, NoMemory>
+    ensures { IfOk result (λ set. set ≡ set_behind table.now node) }
+{
+    match table.find((node, 0)) {
+        None => Ok(ElementSet::new(alloc)),
+        Some(row) => row.elements.copy(alloc),
+    }
+}
+
+// The elements that are sure behind one of the sources.
+fn behind_some(alloc: Global, table: &BehindTable, ends: &[End]) -> Result<ElementSet, NoMemory>
+    requires { 0 < length ends.now }
+    ensures { IfOk result (λ set. Holds set (λ d. list_any (λ b. b) (map (λ e. has_number d (set_behind table.now e.node)) ends.now))) }
+{
+    let mut set = copy_behind(alloc, table, ends[0].node)?;
+    for i in 1..ends.len() {
+        add_all(&mut set, set_behind(table, ends[i].node))?;
+    }
+    Ok(set)
+}
+
+// The elements that are sure behind all sources.
+fn behind_all(alloc: Global, table: &BehindTable, ends: &[End]) -> Result<ElementSet, NoMemory>
+    requires { 0 < length ends.now }
+    ensures { IfOk result (λ set. Holds set (λ d. list_all (λ b. b) (map (λ e. has_number d (set_behind table.now e.node)) ends.now))) }
+{
+    let mut set = copy_behind(alloc, table, ends[0].node)?;
+    for i in 1..ends.len() {
+        set = common(alloc, &set, set_behind(table, ends[i].node))?;
+    }
+    Ok(set)
+}

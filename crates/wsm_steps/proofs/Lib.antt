@@ -1,0 +1,3 @@
+pub mod Positions
+pub mod NextEntry
+pub mod Agains

@@ -1,0 +1,28 @@
+-- Trails that replay whole, and that repeat no loop's end twice.
+use Rattle.std.specs.Prelude.{ℕ, Bool, true, false, ◌&&◌, not, ◌==◌, List, [], ◌∷◌}
+use Rattle.std.specs.List.{list_any}
+use Rattle.wsm_schema.specs.Replay.{Outcome, whole, fails}
+use Rattle.wsm_schema.specs.declared.entries.Entry.{Entry}
+use Rattle.wsm_schema.specs.declared.entries.Entry.TheVariants as entry
+
+-- whether a replay failed nowhere
+abbrev pub is_whole : Outcome → Bool
+is_whole (whole spots) = true
+is_whole (fails position) = false
+
+-- whether an entry repeats the loop that ends with a node
+abbrev pub is_again_of : ℕ → Entry → Bool
+is_again_of n (entry.Again node writes) = node == n
+is_again_of n _ = false
+
+abbrev pub has_again : ℕ → List (ℕ × Entry) → Bool
+has_again n es = list_any (λ e. is_again_of n e.1) es
+
+-- whether no loop's end is repeated again behind the entry
+abbrev pub again_once : Entry → List (ℕ × Entry) → Bool
+again_once (entry.Again node writes) es = not (has_again node es)
+again_once _ es = true
+
+abbrev pub agains_once : List (ℕ × Entry) → Bool
+agains_once [] = true
+agains_once (e ∷ es) = again_once e.1 es && agains_once es
