@@ -50,8 +50,8 @@ greater-left a b = elim (cases_Bool (nat_lt a b)) [ inl less ↦ rw less (omega 
 pub greater-right : (a b : ℕ) → b ≤ greater a b
 greater-right a b = elim (cases_Bool (nat_lt a b)) [ inl less ↦ rw less (omega arith) | inr more ↦ rw more (omega (arith, ltb-false a b more)) ]
 
--- ---- a node with one edge into it
-abbrev OneEdge : NodeKind → Type 0
+-- ---- a node with one edge into it, which is one of these kinds
+abbrev pub OneEdge : NodeKind → Type 0
 OneEdge kind.Start = ⊥
 OneEdge kind.XorJoin = ⊥
 OneEdge _ = Unit {0}
@@ -258,7 +258,8 @@ module _ (s : SchemaModel) (f : Facts) (m : Marking) where
     mark-is : (p : Place) → Sane p → m p.node ≡ eq_of p.kind (map sig p.ins) (sync_signals p)
     mark-is p sane = solves.meets p.node (card_of s p) sane.placed
 
-    node-one : (n : ℕ) (k : NodeKind) (partner : Option ℕ) (from : End) (outs : List End) → Sane (place n k partner (from ∷ []) outs) → OneEdge k → Later (sig from) (m n)
+    -- the mark of a node with one edge into it stands behind the edge's signal
+    pub node-one : (n : ℕ) (k : NodeKind) (partner : Option ℕ) (from : End) (outs : List End) → Sane (place n k partner (from ∷ []) outs) → OneEdge k → Later (sig from) (m n)
     node-one n k partner from outs sane i =
         subst (Later (sig from)) (sym (mark-is (place n k partner (from ∷ []) outs) sane)) (one-edge k (sig from) (sync_signals (place n k partner (from ∷ []) outs)) i)
 

@@ -34,7 +34,8 @@ in_time-later cards f m a b le quiet in_time = record {
   end = λ n h. quiet.starts n ∙ in_time.end n (sym (quiet.ends n) ∙ h);
 }
 
-fresh-activated : (k : NodeKind) (o : Option Flow) → is_in_state (state_by k (verdict_of o)) state.Activated ≡ (worked_on k && is_yes o)
+-- a node that was not begun is Activated where it is worked on and ready
+pub fresh-activated : (k : NodeKind) (o : Option Flow) → is_in_state (state_by k (verdict_of o)) state.Activated ≡ (worked_on k && is_yes o)
 fresh-activated k None = elim (cases_Bool (worked_on k)) [ inl works ↦ rw works refl | inr silent ↦ rw silent refl ]
 fresh-activated k (Some No) = elim (cases_Bool (worked_on k)) [ inl works ↦ rw works refl | inr silent ↦ rw silent refl ]
 fresh-activated k (Some Yes) = elim (cases_Bool (worked_on k)) [ inl works ↦ rw works refl | inr silent ↦ rw silent refl ]

@@ -26,7 +26,10 @@ pub mod SoundSchemas
 pub mod BlockFlow
 pub mod NeverStuck
 pub mod SaneTrails
+pub mod LastMarking
 pub mod Values
 pub mod SureValues
+pub mod ReadyValues
+pub mod NeverIdle
 pub mod ExamplesExchange
 pub mod ExamplesRepeat

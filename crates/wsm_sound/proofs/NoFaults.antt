@@ -9,7 +9,9 @@ use Rattle.wsm_data.specs.Refusals.{IsDataFault}
 use Rattle.wsm_data.specs.declared.refusals.DataRefusal.{DataRefusal}
 use Rattle.wsm_data.specs.declared.refusals.DataRefusal.TheVariants as data_refusal
 use Rattle.wsm_marks.proofs.NoFault.{no_either, no_map}
-use Rattle.wsm_ops.specs.Apply.{applied}
+use Rattle.wsm_ops.specs.Apply.{applied, IsOpFault}
+use Rattle.wsm_ops.specs.declared.faults.ApplyRefusal.{ApplyRefusal}
+use Rattle.wsm_ops.specs.declared.faults.ApplyRefusal.TheVariants as apply_refusal
 use Rattle.wsm_ops.specs.declared.operations.Op.{Op}
 use Rattle.wsm_schema.specs.SchemaModel.{SchemaModel}
 use Rattle.wsm_schema.specs.Flat.{cards_of}
@@ -116,3 +118,6 @@ block_refused_by s f r is h = block_refused s f (subst (λ r. IfErr r (IsBlockFa
 
 pub data_refused_by : {X : Type 0} (s : SchemaModel) (f : DataFault) → block_fault s ≡ None → (r : Result X DataRefusal) → r ≡ Err (data_refusal.Fault f) → IfErr r (IsDataFault (data_fault s)) → fault_of s ≡ Some (fault.Data f)
 data_refused_by s f no_block r is h = data_refused s f no_block (subst (λ r. IfErr r (IsDataFault (data_fault s))) is h)
+
+pub change_refused_by : {X : Type 0} (s t : SchemaModel) (ops : List Op) (f : OpFault) → t ≡ s → (r : Result X ApplyRefusal) → r ≡ Err (apply_refusal.Fault f) → IfErr r (IsOpFault (applied t ops)) → changed_by s ops ≡ Err (fault.Op f)
+change_refused_by s t ops f same r is h = change_refused_op s ops f (subst (λ x. applied x ops ≡ Err f) same (subst (λ r. IfErr r (IsOpFault (applied t ops))) is h))

@@ -1,5 +1,7 @@
 // Sound schemas.
 ghost use Rattle.std.specs.Prelude.{◌≡◌, ◌<◌, ◌^◌, length, Ok, None, IfOk, IfErr};
+ghost use Rattle.wsm_lists.specs.Keys.{both};
+ghost use Rattle.wsm_lists.specs.Rows.{Ascends};
 ghost use Rattle.wsm_schema.specs.Flat.{flat_of, cards_of};
 ghost use Rattle.wsm_schema.specs.Rank.{IsRank};
 ghost use Rattle.wsm_schema.specs.Sound.{block_fault, data_fault};
@@ -41,6 +43,7 @@ impl Checked {
     pub fn schema(&self) -> &Schema
         ensures schema { result.now ≡ self.now }
         ensures sound { fault_of self.now ≡ None }
+        ensures writes { Ascends both self.now.writes }
     {
         &self.schema
     }
@@ -70,8 +73,17 @@ pub fn check(alloc: Global, schema: Schema) -> Result<Checked, SoundRefusal>
 {
     let flat = Flat::of(alloc, &schema)?;
     let rank = blocks_rank(alloc, &schema, &flat)?;
+    let _ = write_edges(&schema);
     data_checked(alloc, &schema, &flat)?;
     Ok(Checked { schema, flat, rank })
+}
+
+// The write edges, in the order that the invariant keeps.
+fn write_edges(schema: &Schema) -> &[(u32, u32)]
+    ensures rows { result.now ≡ schema.now.writes }
+    ensures ascends { Ascends both schema.now.writes }
+{
+    schema.writes.as_slice()
 }
 
 fn blocks_rank(alloc: Global, schema: &Schema, flat: &Flat) -> Result<Rank, SoundRefusal>
