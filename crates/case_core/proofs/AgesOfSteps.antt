@@ -1,39 +1,70 @@
 -- An event raises the age of a case by its weight at most.
-use Rattle.std.proofs.Common.{◌≡◌, ℕ, ◌+◌, ◌-◌, ◌≤◌, Bool, true, false, not, List, ◌==◌, refl, arith, Option, Some, None}
+use Rattle.std.proofs.Common.{◌≡◌, ℕ, ◌+◌, ◌-◌, ◌*◌, ◌≤◌, Bool, true, false, not, List, ◌++◌, length, length-append, ◌==◌, refl, arith, Option, Some, None, Result, Ok, Err}
 use Rattle.case_core.specs.Ages.{age, live_age, weight}
-use Rattle.case_core.specs.CaseModel.{CaseModel, LiveModel, created_on}
-use Rattle.case_core.specs.Machine.{next_case, event_on, start_on, end_on, start_refusal, end_refusal, repeats, when_reply, or_reply, with_live, with_trail, ended_trail, ended_reply, start_entry, reads_now}
+use Rattle.case_core.specs.CaseModel.{CaseModel, LiveModel, created_on, is_finished, replay_of_case}
+use Rattle.case_core.specs.Machine.{next_case, event_on, start_on, end_on, start_refusal, end_refusal, repeats, when_reply, or_reply, with_live, with_trail, ended_trail, ended_reply, start_entry, reads_now, misfit, failed_at, changed, change_with, change_live, migrated, migrate_with, migrate_live, migrate_refusal}
 use Rattle.case_writes.specs.Writes.{by_element}
 use Rattle.case_core.specs.declared.events.Event.{Event}
 use Rattle.case_core.specs.declared.events.Event.TheVariants as event
 use Rattle.case_core.specs.declared.replies.Reply.{Reply}
 use Rattle.case_core.specs.declared.replies.Reply.TheVariants as reply
 use Rattle.wsm_lists.specs.Values.{Written}
+use Rattle.wsm_ops.specs.declared.operations.Op.{Op}
+use Rattle.wsm_schema.specs.SchemaModel.{SchemaModel}
+use Rattle.wsm_sound.specs.Faults.{changed_by}
+use Rattle.wsm_sound.specs.VersionModel.{VersionModel}
+use Rattle.wsm_sound.specs.declared.faults.Fault.{Fault}
 use Rattle.wsm_schema.specs.Flat.{flat_of, card_at}
 use Rattle.wsm_schema.specs.Trail.{pushed}
 use Rattle.wsm_schema.specs.declared.cards.Card.{Card}
 
-after_start : (l : LiveModel) (node user : ℕ) (roles : List ℕ) (o : Option Card) → (start_on l node user roles o).0.trail.next - 1 ≤ l.trail.next - 1 + 1
+abbrev older : LiveModel → LiveModel → ℕ → Type 0
+older l new n = live_age (Some new) ≤ live_age (Some l) + n
+
+-- a refusal or what follows where there is none
+unless_refused : (l new : LiveModel) (r : Option Reply) (reply : Reply) (n : ℕ) → older l new n → older l (or_reply r l (new, reply)).0 n
+unless_refused l new None reply n h = h
+unless_refused l new (Some r) reply n h = omega arith
+
+after_start : (l : LiveModel) (node user : ℕ) (roles : List ℕ) (o : Option Card) → older l (start_on l node user roles o).0 1
 after_start l node user roles None = omega arith
-after_start l node user roles (Some c) = go (start_refusal l c node roles)
-  where
-    go : (r : Option Reply) →
-        (or_reply r l (with_trail l (pushed (start_entry l c node user) l.trail), reply.Started (reads_now l c))).0.trail.next - 1 ≤ l.trail.next - 1 + 1
-    go None = omega arith
-    go (Some r) = omega arith
+after_start l node user roles (Some c) =
+    unless_refused l (with_trail l (pushed (start_entry l c node user) l.trail)) (start_refusal l c node roles) (reply.Started (reads_now l c)) 1 (omega arith)
 
 ended_next : (l : LiveModel) (node : ℕ) (writes : Written) (choice : Option ℕ) (b : Bool) → (ended_trail l node writes choice b).next ≡ l.trail.next + 1
 ended_next l node writes choice true = refl
 ended_next l node writes choice false = refl
 
-after_end : (l : LiveModel) (node user : ℕ) (writes : Written) (choice : Option ℕ) (o : Option Card) → (end_on l node user writes choice o).0.trail.next - 1 ≤ l.trail.next - 1 + 1
+after_end : (l : LiveModel) (node user : ℕ) (writes : Written) (choice : Option ℕ) (o : Option Card) → older l (end_on l node user writes choice o).0 1
 after_end l node user writes choice None = omega arith
-after_end l node user writes choice (Some c) = go (end_refusal l c node user writes choice)
-  where
-    go : (r : Option Reply) →
-        (or_reply r l (with_trail l (ended_trail l node (by_element writes) choice (repeats c choice)), ended_reply (repeats c choice))).0.trail.next - 1 ≤ l.trail.next - 1 + 1
-    go None = rw (ended_next l node (by_element writes) choice (repeats c choice)) (omega arith)
-    go (Some r) = omega arith
+after_end l node user writes choice (Some c) =
+    unless_refused l (with_trail l (ended_trail l node (by_element writes) choice (repeats c choice))) (end_refusal l c node user writes choice) (ended_reply (repeats c choice)) 1
+    (rw (ended_next l node (by_element writes) choice (repeats c choice)) (omega arith))
+
+change-with : (l : LiveModel) (ops : List Op) (o : Result SchemaModel Fault) → older l (change_with l ops o).0 (3 * length ops)
+change-with l ops (Err fault) = omega arith
+change-with l ops (Ok schema) =
+    let longer : length (l.own ++ ops) ≡ length l.own + length ops = length-append l.own ops in
+    unless_refused l (changed l ops schema) (misfit l (failed_at (replay_of_case (changed l ops schema)))) reply.Changed (3 * length ops) (rw longer (omega arith))
+
+unless_before : (l : LiveModel) (r : Option Reply) (step : LiveModel × Reply) (n : ℕ) → older l step.0 n → older l (or_reply r l step).0 n
+unless_before l None step n h = h
+unless_before l (Some r) step n h = omega arith
+
+after_change : (l : LiveModel) (ops : List Op) → older l (change_live l ops).0 (3 * length ops)
+after_change l ops = unless_before l (when_reply (is_finished l) reply.Finished) (change_with l ops (changed_by l.schema ops)) (3 * length ops) (change-with l ops (changed_by l.schema ops))
+
+migrate-with : (l : LiveModel) (version : VersionModel) (o : Result SchemaModel Fault) → older l (migrate_with l version o).0 0
+migrate-with l version (Err fault) = omega arith
+migrate-with l version (Ok schema) =
+    unless_refused l (migrated l version schema) (misfit l (failed_at (replay_of_case (migrated l version schema)))) (reply.Migrated version.number) 0 (omega arith)
+
+after_migrate : (l : LiveModel) (version : VersionModel) → older l (migrate_live l version).0 0
+after_migrate l version = unless_before l (migrate_refusal l version) (migrate_with l version (changed_by version.schema l.own)) 0 (migrate-with l version (changed_by version.schema l.own))
+
+with-live : (s : CaseModel) (l : LiveModel) (r : Option Reply) (step : LiveModel × Reply) (n : ℕ) → s.live ≡ Some l → older l step.0 n → live_age (or_reply r s (with_live s step)).0.live ≤ live_age (Some l) + n
+with-live s l None step n is h = h
+with-live s l (Some r) step n is h = rw is (omega arith)
 
 pub age-next_case : (s : CaseModel) (e : Event) → age (next_case s e).0 ≤ age s + weight e
 age-next_case s e = go s.live e
@@ -47,6 +78,11 @@ age-next_case s e = go s.live e
         created false = omega arith
     go None (event.Start node user roles) = omega arith
     go None (event.End node user writes choice) = omega arith
+    go None (event.Change ops) = omega arith
+    go None (event.Migrate version) = omega arith
     go (Some l) (event.Create version) = omega arith
     go (Some l) (event.Start node user roles) = after_start l node user roles (card_at node (flat_of l.schema).cards)
     go (Some l) (event.End node user writes choice) = after_end l node user writes choice (card_at node (flat_of l.schema).cards)
+    go (Some l) (event.Change ops) = after_change l ops
+    go (Some l) (event.Migrate version) =
+        with-live (record { type_no = s.type_no; live = Some l }) l (when_reply (not (version.type_no == s.type_no)) reply.OtherType) (migrate_live l version) 0 refl (after_migrate l version)

@@ -1,2 +1,3 @@
 pub mod AgesOfSteps
 pub mod States
+pub mod Keeping

@@ -179,7 +179,8 @@ module _ (s : SchemaModel) (f : Facts) (m : Marking) where
   pub sig-is : (p : Place) → Sane p → (label : Option ℕ) → sig_at (cards_of s) f m label p.node ≡ sig_of p.kind (m p.node) (f.ended p.node) (f.choice p.node) label
   sig-is p sane label = ap (λ o. sig_by o (m p.node) (f.ended p.node) (f.choice p.node) label) sane.placed
 
-  node-works : (n : ℕ) (k : NodeKind) (partner : Option ℕ) (ins outs : List End) → Sane (place n k partner ins outs) → worked_on k ≡ true → is_xor_split k ≡ false → (label : Option ℕ) →
+  -- a node that is worked on, and chooses no branch, signals behind its mark
+  pub node-works : (n : ℕ) (k : NodeKind) (partner : Option ℕ) (ins outs : List End) → Sane (place n k partner ins outs) → worked_on k ≡ true → is_xor_split k ≡ false → (label : Option ℕ) →
       Later (m n) (sig_at (cards_of s) f m label n)
   node-works n k partner ins outs sane works plain label =
       subst (Later (m n)) (sym (sig-is (place n k partner ins outs) sane label)) (worked-sig k (m n) (f.ended n) (f.choice n) label works plain sane.ended)
@@ -255,7 +256,8 @@ module _ (s : SchemaModel) (f : Facts) (m : Marking) where
           (chosen-goes u c.0 (lane code ps ls) split join (λ k same_k. entry (Some (t, Yes)) (Some u) e1 e2 k ∙ (rw (c.1, same_k) refl)) c.2 h)
 
   module _ (solves : Solves (cards_of s) f m) where
-    mark-is : (p : Place) → Sane p → m p.node ≡ eq_of p.kind (map sig p.ins) (sync_signals p)
+    -- the mark of a place, by the signals of its edges
+    pub mark-is : (p : Place) → Sane p → m p.node ≡ eq_of p.kind (map sig p.ins) (sync_signals p)
     mark-is p sane = solves.meets p.node (card_of s p) sane.placed
 
     -- the mark of a node with one edge into it stands behind the edge's signal

@@ -31,5 +31,8 @@ pub mod Values
 pub mod SureValues
 pub mod ReadyValues
 pub mod NeverIdle
+pub mod HeldInside
+pub mod HeldBranches
+pub mod HeldApart
 pub mod ExamplesExchange
 pub mod ExamplesRepeat

@@ -190,7 +190,7 @@ module _ (s : SchemaModel) (regular : Regular s) (writers : WritersWork s) (es :
               ]
 
 -- a list in which nothing is found
-none-found : {X : Type 0} (test : X → Bool) (xs : List X) → find test xs ≡ None → AllRows (λ x. test x ≡ false) xs
+pub none-found : {X : Type 0} (test : X → Bool) (xs : List X) → find test xs ≡ None → AllRows (λ x. test x ≡ false) xs
 none-found test [] h = tt
 none-found test (x ∷ xs) h =
     elim (cases_Bool (test x)) [

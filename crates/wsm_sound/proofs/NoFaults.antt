@@ -14,6 +14,7 @@ use Rattle.wsm_ops.specs.declared.faults.ApplyRefusal.{ApplyRefusal}
 use Rattle.wsm_ops.specs.declared.faults.ApplyRefusal.TheVariants as apply_refusal
 use Rattle.wsm_ops.specs.declared.operations.Op.{Op}
 use Rattle.wsm_schema.specs.SchemaModel.{SchemaModel}
+use Rattle.wsm_sound.proofs.SameSchema.{same_Ok}
 use Rattle.wsm_schema.specs.Flat.{cards_of}
 use Rattle.wsm_schema.specs.Sound.{Sound, block_fault, data_fault, twice, nodes_of}
 use Rattle.wsm_schema.specs.declared.faults.BlockFault.{BlockFault}
@@ -121,3 +122,16 @@ data_refused_by s f no_block r is h = data_refused s f no_block (subst (λ r. If
 
 pub change_refused_by : {X : Type 0} (s t : SchemaModel) (ops : List Op) (f : OpFault) → t ≡ s → (r : Result X ApplyRefusal) → r ≡ Err (apply_refusal.Fault f) → IfErr r (IsOpFault (applied t ops)) → changed_by s ops ≡ Err (fault.Op f)
 change_refused_by s t ops f same r is h = change_refused_op s ops f (subst (λ x. applied x ops ≡ Err f) same (subst (λ r. IfErr r (IsOpFault (applied t ops))) is h))
+
+-- a change that is taken
+taken-sound : (u t : SchemaModel) (f : Option Fault) → fault_of u ≡ f → unless_fault f u ≡ Ok t → (u ≡ t) × (fault_of t ≡ None)
+taken-sound u t None none h = let same = same_Ok u t h in (same, subst (λ x. fault_of x ≡ None) same none)
+taken-sound u t (Some f) some h = absurd (cc)
+
+taken-by : (t : SchemaModel) (o : Result SchemaModel OpFault) → sound_after o ≡ Ok t → (o ≡ Ok t) × (fault_of t ≡ None)
+taken-by t (Err f) h = absurd (cc)
+taken-by t (Ok u) h = let r = taken-sound u t (fault_of u) refl h in (ap Ok r.0, r.1)
+
+pub taken_parts : (s t : SchemaModel) (ops : List Op) → changed_by s ops ≡ Ok t → (applied s ops ≡ Ok t) × (fault_of t ≡ None)
+unfolding changed_by
+taken_parts s t ops h = taken-by t (applied s ops) h

@@ -6,7 +6,8 @@ use Rattle.wsm_lists.specs.Values.{Written}
 use Rattle.wsm_schema.specs.Trail.{is_one_of, cut_entry, wrote}
 use Rattle.wsm_schema.specs.declared.entries.Entry.{Entry}
 use Rattle.wsm_schema.specs.declared.entries.Entry.TheVariants as entry
-use Rattle.wsm_steps.specs.Whole.{is_again_of, has_again, again_once, agains_once}
+use Rattle.wsm_schema.specs.Marks.{is_again_of}
+use Rattle.wsm_steps.specs.Whole.{has_again, again_once, agains_once}
 
 -- an entry that is no Again, at the end
 abbrev pub IsNoAgain : Entry → Type 0

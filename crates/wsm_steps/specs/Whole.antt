@@ -1,6 +1,7 @@
 -- Trails that replay whole, and that repeat no loop's end twice.
 use Rattle.std.specs.Prelude.{ℕ, Bool, true, false, ◌&&◌, not, ◌==◌, List, [], ◌∷◌}
 use Rattle.std.specs.List.{list_any}
+use Rattle.wsm_schema.specs.Marks.{is_again_of}
 use Rattle.wsm_schema.specs.Replay.{Outcome, whole, fails}
 use Rattle.wsm_schema.specs.declared.entries.Entry.{Entry}
 use Rattle.wsm_schema.specs.declared.entries.Entry.TheVariants as entry
@@ -10,11 +11,7 @@ abbrev pub is_whole : Outcome → Bool
 is_whole (whole spots) = true
 is_whole (fails position) = false
 
--- whether an entry repeats the loop that ends with a node
-abbrev pub is_again_of : ℕ → Entry → Bool
-is_again_of n (entry.Again node writes) = node == n
-is_again_of n _ = false
-
+-- whether a loop's end is repeated
 abbrev pub has_again : ℕ → List (ℕ × Entry) → Bool
 has_again n es = list_any (λ e. is_again_of n e.1) es
 

@@ -1,0 +1,218 @@
+-- What every step keeps of a case that was created.
+use Rattle.std.proofs.Common.{◌≡◌, ◌⊎◌, ℕ, ◌+◌, ◌<◌, ◌^◌, Bool, true, false, ◌&&◌, ◌||◌, not, List, [], ◌∷◌, ◌++◌, map, filter, find, length, refl, ap, sym, ◌∙◌, subst, inl, inr, arith, Option, Some, None, is_some, Ok, eqb}
+use Rattle.std.specs.Prelude.{◌==◌}
+use Rattle.std.proofs.lemmas.Bool.{cases_Bool, both_ways, and_parts, eqb-true}
+use Rattle.std.proofs.lemmas.Option.{same_Some}
+use Rattle.std.proofs.Math.Bool.{or-false}
+use Rattle.case_core.specs.CaseModel.{LiveModel, created_on, on_schema, replay_of_case, shown_after, shown_spots, state_of, value_now}
+use Rattle.case_core.specs.Kept.{Kept}
+use Rattle.case_core.specs.Machine.{start_refusal, end_refusal, start_entry, reads_now, repeats, repeated_trail, with_trail, wrong_reply}
+use Rattle.case_writes.proofs.RightWrites.{right-writes}
+use Rattle.case_writes.specs.Writes.{number_key, wrong_elements, by_element}
+use Rattle.wsm_lists.proofs.Lists.{all_rows, rows-append}
+use Rattle.wsm_lists.proofs.Rows.{lt_means, lt_from}
+use Rattle.wsm_lists.specs.Keys.{both}
+use Rattle.wsm_lists.specs.Rows.{AllRows, Ascends, key_lt}
+use Rattle.wsm_lists.specs.Values.{Written}
+use Rattle.wsm_marks.proofs.NoFault.{no_either, no_when, not_false}
+use Rattle.wsm_marks.proofs.ReadyValues.{activated-values, running-begun}
+use Rattle.wsm_marks.proofs.Repeats.{loop-of_schema, repeat-whole}
+use Rattle.wsm_marks.proofs.SoundSchemas.{sound-regular}
+use Rattle.wsm_marks.specs.Loops.{LoopOf}
+use Rattle.wsm_replay.proofs.OneEntryMore.{marking_of-spots}
+use Rattle.wsm_schema.specs.Flat.{cards_of, card_at, card_of, flat_of, loop_nodes}
+use Rattle.wsm_schema.specs.Kinds.{is_loop_end}
+use Rattle.wsm_schema.specs.Ends.{first_node, last_of}
+use Rattle.wsm_schema.specs.Marks.{is_again_of}
+use Rattle.wsm_schema.specs.Places.{place, labelled, plain_end, split_kind, join_kind, branch_heads, branch_tails, part_places, parts_places, lanes_places, places}
+use Rattle.wsm_schema.specs.Rank.{IsRank}
+use Rattle.wsm_schema.specs.Replay.{Outcome, whole, fails, replay_of, is_in_state, fits_choice}
+use Rattle.wsm_schema.specs.Rules.{Spots, spot_in}
+use Rattle.wsm_schema.specs.SchemaModel.{SchemaModel}
+use Rattle.wsm_schema.specs.Sound.{Sound}
+use Rattle.wsm_schema.specs.Trail.{TrailModel, pushed, cut_by, value_below}
+use Rattle.wsm_schema.specs.Tree.{Gate, Part, Parts, Lanes, act, gate, loop, nothing, part, no_lane, lane}
+use Rattle.wsm_schema.specs.declared.cards.Card.{Card}
+use Rattle.wsm_schema.specs.declared.cards.End.{End}
+use Rattle.wsm_schema.specs.declared.entries.Entry.{Entry}
+use Rattle.wsm_schema.specs.declared.entries.Entry.TheVariants as entry
+use Rattle.wsm_schema.specs.declared.places.Place.{Place}
+use Rattle.wsm_schema.specs.declared.states.State.{State}
+use Rattle.wsm_schema.specs.declared.states.State.TheVariants.{Activated, Running}
+use Rattle.wsm_ops.specs.Apply.{applied}
+use Rattle.wsm_ops.specs.declared.operations.Op.{Op}
+use Rattle.wsm_sound.proofs.NoFaults.{is_sound}
+use Rattle.wsm_sound.specs.Faults.{fault_of}
+use Rattle.wsm_sound.specs.VersionModel.{VersionModel}
+use Rattle.wsm_steps.proofs.Agains.{agains-push, agains-repeat}
+use Rattle.wsm_steps.proofs.NextEntry.{next-whole, start-applies, end-applies}
+use Rattle.wsm_steps.proofs.Positions.{rises-after, last-below}
+use Rattle.wsm_steps.specs.Whole.{is_whole}
+use Rattle.wsm_trail.proofs.Cutting.{rises_cut}
+use Rattle.wsm_trail.proofs.Rising.{rises_push}
+use Rattle.wsm_trail.specs.TrailWithRoom.{Rises}
+
+-- a replay that fails nowhere ends in a table
+pub table-of : (o : Outcome) → is_whole o ≡ true → (t : Spots) × (o ≡ whole t)
+table-of (whole t) h = (t, refl)
+table-of (fails p) h = absurd (both_ways _ refl h)
+
+whole-is : (o : Outcome) (t : Spots) → o ≡ whole t → is_whole o ≡ true
+whole-is o t h = ap is_whole h
+
+-- the state of a node is that of the table
+pub state-is : (l : LiveModel) (t : Spots) → replay_of_case l ≡ whole t → (n : ℕ) (c : Card) → card_at n (cards_of l.schema) ≡ Some c → state_of l n ≡ (spot_in n t).state
+state-is l t w n c at = ap (λ o. (spot_in n (shown_after (cards_of l.schema) o)).state) w ∙ ap (λ s. s.state) (marking_of-spots (cards_of l.schema) t n c at)
+
+-- a card's write edges ascend
+edge-below : (n a : ℕ) (b : ℕ × ℕ) → key_lt (n, a) b ≡ true → eqb b.0 n ≡ true → key_lt (a, 0) (b.1, 0) ≡ true
+edge-below n a b below same =
+    let at : b.0 ≡ n = eqb-true b.0 n same in
+    elim (lt_means (n, a) b below) [
+      | inl less ↦ absurd (omega (arith, less, at))
+      | inr next ↦ lt_from (a, 0) (b.1, 0) (inl next.1)
+    ]
+
+edges-above : (n a : ℕ) (ws : List (ℕ × ℕ)) → AllRows (λ w. key_lt (n, a) w ≡ true) ws → AllRows (λ m. key_lt (a, 0) (m, 0) ≡ true) (map (λ w. w.1) (filter (λ w. w.0 == n) ws))
+edges-above n a [] h = tt
+edges-above n a (w ∷ ws) h =
+    elim (cases_Bool (eqb w.0 n)) [
+      | inl here ↦ rw here (edge-below n a w h.0 here, edges-above n a ws h.1)
+      | inr away ↦ rw away (edges-above n a ws h.1)
+    ]
+
+edges-ascend : (n : ℕ) (ws : List (ℕ × ℕ)) → Ascends both ws → Ascends number_key (map (λ w. w.1) (filter (λ w. w.0 == n) ws))
+edges-ascend n [] h = tt
+edges-ascend n (w ∷ ws) h =
+    elim (cases_Bool (eqb w.0 n)) [
+      | inl here ↦ rw here (edges-above n w.1 ws (subst (λ k. AllRows (λ v. key_lt (k, w.1) v ≡ true) ws) (eqb-true w.0 n here) h.0), edges-ascend n ws h.1)
+      | inr away ↦ rw away (edges-ascend n ws h.1)
+    ]
+
+-- what holds of the cards of places holds of a node's card
+found-card : (s : SchemaModel) (Q : Place → Type 0) (P : Card → Type 0) → ((p : Place) → Q p → P (card_of s p)) → (n : ℕ) (ps : List Place) → AllRows Q ps → (c : Card) → card_at n (map (card_of s) ps) ≡ Some c → P c
+found-card s Q P all n [] placed c at = absurd (cc)
+found-card s Q P all n (p ∷ ps) placed c at =
+    elim (cases_Bool (eqb p.node n)) [
+      | inl here ↦ let same : Some (card_of s p) ≡ Some c = rw here at at in subst P (same_Some (card_of s p) c same) (all p placed.0)
+      | inr away ↦ found-card s Q P all n ps placed.1 c (rw away at at)
+    ]
+
+-- each end of a loop has the loop's start as its partner
+abbrev HasPartner : Place → Type 0
+HasPartner p = is_loop_end p.kind ≡ true → (k : ℕ) × (p.partner ≡ Some k)
+
+gate-partner : (kind : Gate) (split join : ℕ) (ins outs ins' outs' : List End) → HasPartner (place split (split_kind kind) (Some join) ins outs) × HasPartner (place join (join_kind kind) (Some split) ins' outs')
+gate-partner kind split join ins outs ins' outs' = ((λ h. (join, refl)), (λ h. (split, refl)))
+
+mutual
+  part-partners : (p : Part) (from : End) (to : ℕ) → AllRows HasPartner (part_places p from to)
+  part-partners (act node) from to = ((λ h. absurd (both_ways _ refl h)), tt)
+  part-partners (gate kind split join ls) from to =
+      let ends = gate-partner kind split join (from ∷ []) (branch_heads ls join) (branch_tails ls split) (plain_end to ∷ []) in
+      (ends.0, rows-append HasPartner (lanes_places ls split join) _ (lanes-partners ls split join) (ends.1, tt))
+  part-partners (loop start end body) from to =
+      ((λ h. (end, refl)), rows-append HasPartner (parts_places body (plain_end start) end) _ (parts-partners body (plain_end start) end) ((λ h. (start, refl)), tt))
+
+  parts-partners : (ps : Parts) (from : End) (to : ℕ) → AllRows HasPartner (parts_places ps from to)
+  parts-partners nothing from to = tt
+  parts-partners (part p ps) from to = rows-append HasPartner (part_places p from (first_node ps to)) _ (part-partners p from (first_node ps to)) (parts-partners ps (plain_end (last_of p)) to)
+
+  lanes-partners : (ls : Lanes) (split join : ℕ) → AllRows HasPartner (lanes_places ls split join)
+  lanes-partners no_lane split join = tt
+  lanes-partners (lane code ps ls) split join = rows-append HasPartner (parts_places ps (labelled split code) join) _ (parts-partners ps (labelled split code) join) (lanes-partners ls split join)
+
+places-partners : (s : SchemaModel) → AllRows HasPartner (places s.start s.body s.finish)
+places-partners s = ((λ h. absurd (both_ways _ refl h)), rows-append HasPartner (parts_places s.body (plain_end s.start) s.finish) _ (parts-partners s.body (plain_end s.start) s.finish) ((λ h. absurd (both_ways _ refl h)), tt))
+
+module _ (l : LiveModel) (rank : List ℕ) (is : IsRank (cards_of l.schema) rank) (kept : Kept l) (n user : ℕ) (c : Card) (at : card_at n (cards_of l.schema) ≡ Some c) where
+  abbrev es : List (ℕ × Entry)
+  es = l.trail.entries
+
+  abbrev next : ℕ
+  next = l.trail.next
+
+  sound : Sound l.schema
+  sound = is_sound l.schema kept.sound
+
+  table : (t : Spots) × (replay_of_case l ≡ whole t)
+  table = table-of (replay_of_case l) kept.replays
+
+  state-in : (x : State) → is_in_state (state_of l n) x ≡ true → is_in_state (spot_in n table.0).state x ≡ true
+  state-in x h = subst (λ y. is_in_state y x ≡ true) (state-is l table.0 table.1 n c at) h
+
+  -- one entry more that is applicable, and no Again
+  kept-push : (e : Entry) → ((k : ℕ) → is_again_of k e ≡ false) → is_whole (replay_of (flat_of l.schema) (es ++ (next, e) ∷ [])) ≡ true → Kept (with_trail l (pushed e l.trail))
+  kept-push e no_again replays = record {
+    sound = kept.sound;
+    own = kept.own;
+    few = kept.few;
+    replays = replays;
+    rises = rises_push 1 next es e kept.rises;
+    once = agains-push next e es no_again kept.once;
+  }
+
+  -- the node is activated, and what it must read is there
+  ready : (roles : List ℕ) → start_refusal l c n roles ≡ None → is_in_state (state_of l n) Activated ≡ true
+  ready roles none = not_false _ (no_when _ _ (no_either _ _ none).0)
+
+  pub read-there_now : (roles : List ℕ) → start_refusal l c n roles ≡ None → AllRows (λ r. r.1 ≡ true → is_some (value_now l r.0) ≡ true) c.reads
+  read-there_now roles none =
+      activated-values l.schema sound.blocks sound.on_data rank is es table.0 (rises-after 0 next es kept.rises) table.1 next (last-below 0 next es kept.rises) n c at
+      (state-in Activated (ready roles none))
+
+  pub kept-start : (roles : List ℕ) → start_refusal l c n roles ≡ None → Kept (with_trail l (pushed (start_entry l c n user) l.trail))
+  kept-start roles none =
+      kept-push (start_entry l c n user) (λ k. refl)
+      (next-whole (flat_of l.schema) es next (start_entry l c n user) kept.rises table.0 table.1
+      (start-applies (flat_of l.schema) table.0 (λ d. value_below d next es) n user c at (state-in Activated (ready roles none)) (read-there_now roles none)))
+
+  module _ (writes : Written) (choice : Option ℕ) (none : end_refusal l c n user writes choice ≡ None) where
+    running : is_in_state (state_of l n) Running ≡ true
+    running = not_false _ (no_when _ _ (no_either _ _ none).0)
+
+    behind : (wrong_elements l.schema.elements c.writes writes ≡ []) × ((fits_choice c choice || repeats c choice) ≡ true)
+    behind =
+        let later = no_either _ _ (no_either _ _ none).1 in
+        let last = no_either _ _ later.1 in
+        (no-wrong (wrong_elements l.schema.elements c.writes writes) last.0, not_false _ (no_when _ _ last.1))
+      where
+        no-wrong : (ds : List ℕ) → wrong_reply ds ≡ None → ds ≡ []
+        no-wrong [] h = refl
+        no-wrong (d ∷ ds) h = absurd (cc)
+
+    pub kept-end : Ascends both l.schema.writes → repeats c choice ≡ false → Kept (with_trail l (pushed (entry.End n (by_element writes) choice) l.trail))
+    kept-end ascends leaves =
+        let edges = found-card l.schema (λ p. Unit {0}) (λ k. Ascends number_key k.writes) (λ p h. edges-ascend p.node l.schema.writes ascends) n (places l.schema.start l.schema.body l.schema.finish) (all_rows (λ p. Unit {0}) (λ p. tt) (places l.schema.start l.schema.body l.schema.finish)) c at in
+        let right = right-writes l.schema.elements c.writes writes edges behind.0 in
+        let chosen : fits_choice c choice ≡ true = sym (or-false (fits_choice c choice)) ∙ ap (λ b. fits_choice c choice || b) (sym leaves) ∙ behind.1 in
+        kept-push (entry.End n (by_element writes) choice) (λ k. refl)
+        (next-whole (flat_of l.schema) es next (entry.End n (by_element writes) choice) kept.rises table.0 table.1
+        (end-applies (flat_of l.schema) table.0 (λ d. value_below d next es) n (by_element writes) choice c at (state-in Running running) right chosen))
+
+    -- the end of a loop that goes on
+    pub kept-repeat : repeats c choice ≡ true → Kept (with_trail l (repeated_trail l n (by_element writes)))
+    kept-repeat goes_on =
+        let ends : is_loop_end c.kind ≡ true = (and_parts (is_loop_end c.kind) _ goes_on).0 in
+        let partner = found-card l.schema HasPartner (λ k. is_loop_end k.kind ≡ true → (m : ℕ) × (k.partner ≡ Some m)) (λ p h. h) n (places l.schema.start l.schema.body l.schema.finish) (places-partners l.schema) c at ends in
+        let regular = sound-regular l.schema sound.blocks in
+        let body = loop_nodes (cards_of l.schema) n in
+        let begun = running-begun l.schema rank is es table.0 (rises-after 0 next es kept.rises) table.1 next (last-below 0 next es kept.rises) n c at (state-in Running running) in
+        let again = repeat-whole l.schema regular rank is partner.0 n c at ends partner.1 es table.0 (rises-after 0 next es kept.rises) table.1 next (last-below 0 next es kept.rises) begun.0 begun.1 (by_element writes) in
+        record {
+          sound = kept.sound;
+          own = kept.own;
+          few = kept.few;
+          replays = whole-is _ again.0 again.1;
+          rises = rises_push 1 next _ (entry.Again n (by_element writes)) (rises_cut body 1 next es kept.rises);
+          once = agains-repeat body n (loop-of_schema l.schema regular partner.0 n c at ends partner.1).0.has_end next (by_element writes) es kept.once;
+        }
+
+-- a case that was just created
+pub kept-created : (version : VersionModel) → fault_of version.schema ≡ None → Kept (created_on version)
+kept-created version sound = record { sound = sound; own = refl; few = omega arith; replays = refl; rises = omega arith; once = refl }
+
+-- a case on another version or schema
+pub kept-on_schema : (l : LiveModel) (base : VersionModel) (own : List Op) (schema : SchemaModel) → Kept l → fault_of schema ≡ None → applied base.schema own ≡ Ok schema → length own < 2 ^ 32 →
+    is_whole (replay_of_case (on_schema l base own schema)) ≡ true → Kept (on_schema l base own schema)
+kept-on_schema l base own schema kept sound is few replays = record { sound = sound; own = is; few = few; replays = replays; rises = kept.rises; once = kept.once }
