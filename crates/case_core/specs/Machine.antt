@@ -17,7 +17,7 @@ use Rattle.wsm_schema.specs.declared.cards.Card.{Card}
 use Rattle.wsm_schema.specs.declared.entries.Entry.{Entry}
 use Rattle.wsm_schema.specs.declared.entries.Entry.TheVariants as entry
 use Rattle.wsm_schema.specs.declared.states.State.TheVariants as state
-use Rattle.wsm_foot.specs.Overlap.{least_overlap}
+use Rattle.wsm_foot.specs.Foot.{least_overlap}
 use Rattle.wsm_foot.specs.declared.names.Name.{Name}
 use Rattle.wsm_ops.specs.declared.operations.Op.{Op}
 use Rattle.wsm_schema.specs.Replay.{Outcome, whole, fails}

@@ -13,3 +13,4 @@ pub mod Growing
 pub mod RankTests
 pub mod FirstFault
 pub mod RanksOfSchemas
+pub mod Forward

@@ -112,22 +112,30 @@ ordered-split edges seen (m ∷ ms) (f ∷ front) rest n h e =
     let tail : ms ≡ front ++ (n ∷ rest) = cc in
     subst (λ x. AllRows (λ d. d.1 ≡ n → is_one_of d.0 (onto_seen front (x ∷ seen)) ≡ true) edges) same (ordered-split edges (m ∷ seen) ms front rest n h.1 tail)
 
+or-false : (x : Bool) → (x || false) ≡ true → x ≡ true
+or-false x h = elim (or_cases x false h) [ inl yes_it ↦ yes_it | inr never ↦ absurd (both_ways _ refl never) ]
+
+-- at each split the sources stand in front
+pub upward : (edges : Edges) (rank : List ℕ) → IsOrder edges rank → (front rest : List ℕ) (n : ℕ) → rank ≡ front ++ (n ∷ rest) → AllRows (λ e. e.1 ≡ n → is_one_of e.0 front ≡ true) edges
+upward edges rank order front rest n at =
+    all-rows-map _ _ (λ e h to_n. or-false (is_one_of e.0 front) (onto-one e.0 front [] (h to_n))) edges (ordered-split edges [] rank front rest n order.ordered at)
+
+-- and each node stands once
+pub stands-once : (edges : Edges) (rank : List ℕ) → IsOrder edges rank → (front rest : List ℕ) (n : ℕ) → rank ≡ front ++ (n ∷ rest) → is_one_of n front ≡ false
+stands-once edges rank order front rest n at = (twice-once [] rank front rest n (Once-twice [] rank order.once) at).0
+
 pub order-rank : (s : SchemaModel) (rank : List ℕ) → IsOrder (onto_seen s.syncs (control_edges (cards_of s))) rank → SameNodes rank (nodes_of (cards_of s)) →
     AllRows (λ c. is_one_of c.node (nodes_of (cards_of s)) ≡ true) (cards_of s) → IsRank (cards_of s) rank
 order-rank s rank order same all =
     let cards : List Card = cards_of s in
-    let upward : (front rest : List ℕ) (n : ℕ) → rank ≡ front ++ (n ∷ rest) → AllRows (λ e. e.1 ≡ n → is_one_of e.0 front ≡ true) (onto_seen s.syncs (control_edges cards)) =
-    λ front rest n at. all-rows-map _ _ (λ e h to_n. or-false (onto-one e.0 front [] (h to_n))) (onto_seen s.syncs (control_edges cards)) (ordered-split (onto_seen s.syncs (control_edges cards)) [] rank front rest n order.ordered at) in
+    let edges : Edges = onto_seen s.syncs (control_edges cards) in
     record {
       size = omega (arith, same.size, length-map cards (λ c. c.node));
       all = all-rows-map _ _ (λ c one. same.members c.node ∙ one) cards all;
-      once = λ front rest n at. (twice-once [] rank front rest n (Once-twice [] rank order.once) at).0;
+      once = stands-once edges rank order;
       behind = λ front rest n c at found.
-          let parts = onto-rows (λ e. e.1 ≡ n → is_one_of e.0 front ≡ true) s.syncs (control_edges cards) (upward front rest n at) in (
+          let parts = onto-rows (λ e. e.1 ≡ n → is_one_of e.0 front ≡ true) s.syncs (control_edges cards) (upward edges rank order front rest n at) in (
             all-rows-map _ _ (λ e h. h refl) c.ins (rows-into (λ e. e.1 ≡ n → is_one_of e.0 front ≡ true) cards parts.1 n c found),
             subst (AllRows (λ m. is_one_of m front ≡ true)) (sym (sources-are s n (places s.start s.body s.finish) c found)) (rows-of_sources (λ m. is_one_of m front ≡ true) n s.syncs parts.0),
           );
     }
-  where
-    or-false : {x : Bool} → (x || false) ≡ true → x ≡ true
-    or-false {x} h = elim (or_cases x false h) [ inl yes_it ↦ yes_it | inr never ↦ absurd (both_ways _ refl never) ]

@@ -12,7 +12,7 @@ module _ (height : ℕ → ℕ) where
   abbrev pub Rises : ℕ × ℕ → Type 0
   Rises e = height e.0 < height e.1
 
-  leads-up : (edges : Edges) → AllRows Rises edges → (k a b : ℕ) → leads edges k a b ≡ true → height a ≤ height b
+  pub leads-up : (edges : Edges) → AllRows Rises edges → (k a b : ℕ) → leads edges k a b ≡ true → height a ≤ height b
   leads-up edges rise zero a b h = let same : height a ≡ height b = ap height (eqb-true a b h) in omega (arith, same)
   leads-up edges rise (suc k) a b h =
       elim (or_cases (eqb a b) (list_any (λ e. eqb e.0 a && leads edges k e.1 b) edges) h) [

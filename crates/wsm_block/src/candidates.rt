@@ -14,15 +14,8 @@ use wsm_schema::{Card, End, Flat, NoMemory};
 // The nodes, each behind its sources where no cycle hinders that: those without sources first, and then whatever waits
 // for no other node any more. It promises nothing, since what it makes is tested.
 pub fn candidate(alloc: Global, flat: &Flat) -> Result<Vec<u32>, NoMemory> {
-    let mut waiting = BTreeMap::new(alloc);
-    let mut nodes = Vec::new(alloc);
-    for card in flat.cards() {
-        let sources = card.ins.len().saturating_add(card.syncs_in.len());
-        waiting.insert(card.node, sources)?;
-        if sources == 0 {
-            nodes.push(card.node)?;
-        }
-    }
+    let mut waiting = source_counts(alloc, flat.cards())?;
+    let mut nodes = without_sources(alloc, flat.cards())?;
     for i in 0..flat.cards().len() {
         if i < nodes.len() {
             let card = flat.card(nodes[i]);
@@ -32,6 +25,28 @@ pub fn candidate(alloc: Global, flat: &Flat) -> Result<Vec<u32>, NoMemory> {
     Ok(nodes)
 }
 
+// How many sources each node has.
+fn source_counts(alloc: Global, cards: &[Card]) -> Result<BTreeMap<u32, usize>, NoMemory> {
+    let mut counts = BTreeMap::new(alloc);
+    for card in cards {
+        counts.insert(card.node, source_count(card))?;
+    }
+    Ok(counts)
+}
+
+fn source_count(card: &Card) -> usize {
+    card.ins.len().saturating_add(card.syncs_in.len())
+}
+
+// The nodes that have none.
+fn without_sources(alloc: Global, cards: &[Card]) -> Result<Vec<u32>, NoMemory> {
+    cards
+        .iter()
+        .filter(|card| source_count(card) == 0)
+        .map(|card| card.node)
+        .collect(alloc)
+}
+
 // The card's targets wait for one node less.
 fn release_targets(
     waiting: &mut BTreeMap<u32, usize>,
@@ -39,12 +54,30 @@ fn release_targets(
     card: Option<&Card>,
 ) -> Result<(), NoMemory> {
     if let Some(card) = card {
-        for end in card.outs.as_slice() {
-            release(waiting, nodes, end.node)?;
-        }
-        for node in card.syncs_out.as_slice() {
-            release(waiting, nodes, *node)?;
-        }
+        release_ends(waiting, nodes, card.outs.as_slice())?;
+        release_nodes(waiting, nodes, card.syncs_out.as_slice())?;
+    }
+    Ok(())
+}
+
+fn release_ends(
+    waiting: &mut BTreeMap<u32, usize>,
+    nodes: &mut Vec<u32>,
+    ends: &[End],
+) -> Result<(), NoMemory> {
+    for end in ends {
+        release(waiting, nodes, end.node)?;
+    }
+    Ok(())
+}
+
+fn release_nodes(
+    waiting: &mut BTreeMap<u32, usize>,
+    nodes: &mut Vec<u32>,
+    targets: &[u32],
+) -> Result<(), NoMemory> {
+    for target in targets {
+        release(waiting, nodes, *target)?;
     }
     Ok(())
 }

@@ -6,8 +6,8 @@ ghost use Rattle.wsm_schema.specs.Trail.{is_one_of};
 ghost use Rattle.wsm_block.specs.Order.{IsOrder, SameNodes, onto_seen};
 ghost use Rattle.wsm_block.specs.Refusals.{IsBlockFault};
 
+use crate::block_refusals::BlockRefusal;
 use crate::orders::with_edge;
-use crate::refusals::BlockRefusal;
 use std::alloc::Global;
 use wsm_schema::{BlockFault, Card, NoMemory, Rank};
 

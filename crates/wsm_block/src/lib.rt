@@ -1,13 +1,13 @@
 //! Whether the tree and the sync edges of a schema are sound, and a rank of its nodes.
 #![tactic(auto)]
 
+mod block_refusals;
 mod branches;
 mod candidates;
 mod faults;
 mod growth;
 mod limits;
 mod orders;
-mod refusals;
 mod repeats;
 mod scopes;
 mod syncs;
@@ -24,7 +24,7 @@ ghost use Rattle.wsm_block.specs.Refusals.{IsBlockFault};
 use crate::candidates::{candidate, is_rank};
 use crate::faults::shape_fault;
 use crate::growth::grown_rank;
-pub use refusals::BlockRefusal;
+pub use block_refusals::BlockRefusal;
 use std::alloc::Global;
 pub use wsm_schema::{BlockFault, LimitKind};
 use wsm_schema::{Flat, Rank, Schema};

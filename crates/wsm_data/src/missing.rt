@@ -1,5 +1,5 @@
 // Mandatory reads that may find no value.
-ghost use Rattle.std.specs.Prelude.{◌≡◌, ◌||◌, ◌==◌, [], None, IfOk, OnOk, map};
+ghost use Rattle.std.specs.Prelude.{◌≡◌, ◌||◌, ◌==◌, None, IfOk, OnOk};
 ghost use Rattle.std.specs.List.{list_any};
 ghost use Rattle.wsm_schema.specs.Flat.{flat_of, cards_of};
 ghost use Rattle.wsm_schema.specs.Sound.{block_fault, first_some, has_number, missing_at, sure_of, writes_of};

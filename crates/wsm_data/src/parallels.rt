@@ -1,7 +1,6 @@
 // Writes of one element side by side.
-ghost use Rattle.std.specs.Prelude.{◌≡◌, ◌==◌, ◌&&◌, ◌≤◌, None, find, map, drop, length, IfOk};
+ghost use Rattle.std.specs.Prelude.{◌≡◌, ◌≤◌, None, find, map, drop, length, IfOk};
 ghost use Rattle.wsm_schema.specs.Flat.{flat_of, cards_of};
-ghost use Rattle.std.specs.List.{list_any};
 ghost use Rattle.wsm_schema.specs.Sound.{block_fault, parts_apart, first_some, has_number, synced, parallel_write, parallel_writes};
 
 use crate::trees::beside;

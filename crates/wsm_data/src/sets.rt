@@ -1,6 +1,5 @@
 // Sets of elements.
 ghost use Rattle.std.specs.Prelude.{◌≡◌, ◌==◌, ◌||◌, ◌&&◌, IfOk, OnOk};
-ghost use Rattle.std.specs.List.{list_any};
 ghost use Rattle.wsm_schema.specs.Sound.{has_number};
 ghost use Rattle.wsm_data.specs.Sets.{number, Holds};
 

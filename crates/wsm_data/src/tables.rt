@@ -1,5 +1,5 @@
 // Tables of the elements that have a value behind nodes, and the set of a node from those of its sources.
-ghost use Rattle.std.specs.Prelude.{◌≡◌, ◌<◌, ◌||◌, ◌&&◌, ◌==◌, [], map, length, IfOk, OnOk, if◌then◌else◌};
+ghost use Rattle.std.specs.Prelude.{◌≡◌, ◌<◌, map, length, IfOk};
 ghost use Rattle.std.specs.List.{list_all, list_any};
 ghost use Rattle.wsm_schema.specs.Sound.{has_number, sure_by};
 ghost use Rattle.wsm_marks.specs.Loops.{HasEdge};

@@ -1,8 +1,11 @@
-//! What operations change and use, by name, and where two lists of them overlap.
+//! What lists of operations change and use, and what two lists share.
 #![tactic(auto)]
 
+mod footprints;
 mod names;
 mod overlaps;
+#[cfg(test)]
+mod tests;
 
 pub use names::Name;
 pub use overlaps::overlap;

@@ -3,8 +3,8 @@ use Rattle.std.proofs.Common.{◌≡◌, ℕ, List, [], refl, Option, Some, None
 use Rattle.std.specs.Prelude.{IfOk, IfErr, option_map}
 use Rattle.std.specs.Option.{option_or}
 use Rattle.wsm_block.specs.Refusals.{IsBlockFault}
-use Rattle.wsm_block.specs.declared.refusals.BlockRefusal.{BlockRefusal}
-use Rattle.wsm_block.specs.declared.refusals.BlockRefusal.TheVariants as block_refusal
+use Rattle.wsm_block.specs.declared.block_refusals.BlockRefusal.{BlockRefusal}
+use Rattle.wsm_block.specs.declared.block_refusals.BlockRefusal.TheVariants as block_refusal
 use Rattle.wsm_data.specs.Refusals.{IsDataFault}
 use Rattle.wsm_data.specs.declared.refusals.DataRefusal.{DataRefusal}
 use Rattle.wsm_data.specs.declared.refusals.DataRefusal.TheVariants as data_refusal

@@ -1,3 +1,4 @@
 pub mod Positions
 pub mod NextEntry
 pub mod Agains
+pub mod Markings

@@ -1,0 +1,2 @@
+pub mod ExamplesFoot
+pub mod Least
