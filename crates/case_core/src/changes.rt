@@ -39,11 +39,7 @@ impl Live {
     }
 
     /// The case moves to the version, where its trail replays on what its own operations make of the version's schema.
-    pub fn migrate(
-        &mut self,
-        alloc: Global,
-        version: &Version,
-    ) -> Result<(Reply, Reply), NoMemory>
+    pub fn migrate(&mut self, alloc: Global, version: &Version) -> Result<(Reply, Reply), NoMemory>
         ensures live { IfOk result (λ replies. self.new ≡ (migrate_live self.old version.now).0) }
         ensures first { IfOk result (λ replies. replies.0 ≡ (migrate_live self.old version.now).1) }
         ensures second { IfOk result (λ replies. replies.1 ≡ (migrate_live self.old version.now).1) }
@@ -63,11 +59,7 @@ impl Live {
     }
 
     // The first reason, before any schema is made, why the case may not move to the version.
-    fn migrate_refusal(
-        &self,
-        alloc: Global,
-        version: &Version,
-    ) -> Result<Option<Reply>, NoMemory>
+    fn migrate_refusal(&self, alloc: Global, version: &Version) -> Result<Option<Reply>, NoMemory>
         ensures { IfOk result (λ refusal. refusal ≡ migrate_refusal self.now version.now) }
     {
         let base = self.base().number();
