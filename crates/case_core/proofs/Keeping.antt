@@ -42,7 +42,7 @@ use Rattle.wsm_schema.specs.declared.states.State.TheVariants.{Activated, Runnin
 use Rattle.wsm_ops.specs.Apply.{applied}
 use Rattle.wsm_ops.specs.declared.operations.Op.{Op}
 use Rattle.wsm_sound.proofs.NoFaults.{is_sound}
-use Rattle.wsm_sound.specs.Faults.{fault_of}
+use Rattle.wsm_sound.specs.Flattened.{IsChecked}
 use Rattle.wsm_sound.specs.VersionModel.{VersionModel}
 use Rattle.wsm_steps.proofs.Agains.{agains-push, agains-repeat}
 use Rattle.wsm_steps.proofs.NextEntry.{next-whole, start-applies, end-applies}
@@ -125,7 +125,13 @@ mutual
 places-partners : (s : SchemaModel) → AllRows HasPartner (places s.start s.body s.finish)
 places-partners s = ((λ h. absurd (both_ways _ refl h)), rows-append HasPartner (parts_places s.body (plain_end s.start) s.finish) _ (parts-partners s.body (plain_end s.start) s.finish) ((λ h. absurd (both_ways _ refl h)), tt))
 
-module _ (l : LiveModel) (rank : List ℕ) (is : IsRank (cards_of l.schema) rank) (kept : Kept l) (n user : ℕ) (c : Card) (at : card_at n (cards_of l.schema) ≡ Some c) where
+module _ (l : LiveModel) (kept : Kept l) (n user : ℕ) (c : Card) (at : card_at n (cards_of l.schema) ≡ Some c) where
+  abbrev rank : List ℕ
+  rank = kept.checked.rank
+
+  is : IsRank (cards_of l.schema) rank
+  is = kept.checked.ranked
+
   abbrev es : List (ℕ × Entry)
   es = l.trail.entries
 
@@ -133,7 +139,7 @@ module _ (l : LiveModel) (rank : List ℕ) (is : IsRank (cards_of l.schema) rank
   next = l.trail.next
 
   sound : Sound l.schema
-  sound = is_sound l.schema kept.sound
+  sound = is_sound l.schema kept.checked.sound
 
   table : (t : Spots) × (replay_of_case l ≡ whole t)
   table = table-of (replay_of_case l) kept.replays
@@ -144,7 +150,7 @@ module _ (l : LiveModel) (rank : List ℕ) (is : IsRank (cards_of l.schema) rank
   -- one entry more that is applicable, and no Again
   kept-push : (e : Entry) → ((k : ℕ) → is_again_of k e ≡ false) → is_whole (replay_of (flat_of l.schema) (es ++ (next, e) ∷ [])) ≡ true → Kept (with_trail l (pushed e l.trail))
   kept-push e no_again replays = record {
-    sound = kept.sound;
+    checked = kept.checked;
     own = kept.own;
     few = kept.few;
     replays = replays;
@@ -181,9 +187,9 @@ module _ (l : LiveModel) (rank : List ℕ) (is : IsRank (cards_of l.schema) rank
         no-wrong [] h = refl
         no-wrong (d ∷ ds) h = absurd (cc)
 
-    pub kept-end : Ascends both l.schema.writes → repeats c choice ≡ false → Kept (with_trail l (pushed (entry.End n (by_element writes) choice) l.trail))
-    kept-end ascends leaves =
-        let edges = found-card l.schema (λ p. Unit {0}) (λ k. Ascends number_key k.writes) (λ p h. edges-ascend p.node l.schema.writes ascends) n (places l.schema.start l.schema.body l.schema.finish) (all_rows (λ p. Unit {0}) (λ p. tt) (places l.schema.start l.schema.body l.schema.finish)) c at in
+    pub kept-end : repeats c choice ≡ false → Kept (with_trail l (pushed (entry.End n (by_element writes) choice) l.trail))
+    kept-end leaves =
+        let edges = found-card l.schema (λ p. Unit {0}) (λ k. Ascends number_key k.writes) (λ p h. edges-ascend p.node l.schema.writes kept.checked.writes) n (places l.schema.start l.schema.body l.schema.finish) (all_rows (λ p. Unit {0}) (λ p. tt) (places l.schema.start l.schema.body l.schema.finish)) c at in
         let right = right-writes l.schema.elements c.writes writes edges behind.0 in
         let chosen : fits_choice c choice ≡ true = sym (or-false (fits_choice c choice)) ∙ ap (λ b. fits_choice c choice || b) (sym leaves) ∙ behind.1 in
         kept-push (entry.End n (by_element writes) choice) (λ k. refl)
@@ -200,7 +206,7 @@ module _ (l : LiveModel) (rank : List ℕ) (is : IsRank (cards_of l.schema) rank
         let begun = running-begun l.schema rank is es table.0 (rises-after 0 next es kept.rises) table.1 next (last-below 0 next es kept.rises) n c at (state-in Running running) in
         let again = repeat-whole l.schema regular rank is partner.0 n c at ends partner.1 es table.0 (rises-after 0 next es kept.rises) table.1 next (last-below 0 next es kept.rises) begun.0 begun.1 (by_element writes) in
         record {
-          sound = kept.sound;
+          checked = kept.checked;
           own = kept.own;
           few = kept.few;
           replays = whole-is _ again.0 again.1;
@@ -209,10 +215,10 @@ module _ (l : LiveModel) (rank : List ℕ) (is : IsRank (cards_of l.schema) rank
         }
 
 -- a case that was just created
-pub kept-created : (version : VersionModel) → fault_of version.schema ≡ None → Kept (created_on version)
-kept-created version sound = record { sound = sound; own = refl; few = omega arith; replays = refl; rises = omega arith; once = refl }
+pub kept-created : (version : VersionModel) → IsChecked version.schema → Kept (created_on version)
+kept-created version checked = record { checked = checked; own = refl; few = omega arith; replays = refl; rises = omega arith; once = refl }
 
 -- a case on another version or schema
-pub kept-on_schema : (l : LiveModel) (base : VersionModel) (own : List Op) (schema : SchemaModel) → Kept l → fault_of schema ≡ None → applied base.schema own ≡ Ok schema → length own < 2 ^ 32 →
+pub kept-on_schema : (l : LiveModel) (base : VersionModel) (own : List Op) (schema : SchemaModel) → Kept l → IsChecked schema → applied base.schema own ≡ Ok schema → length own < 2 ^ 32 →
     is_whole (replay_of_case (on_schema l base own schema)) ≡ true → Kept (on_schema l base own schema)
-kept-on_schema l base own schema kept sound is few replays = record { sound = sound; own = is; few = few; replays = replays; rises = kept.rises; once = kept.once }
+kept-on_schema l base own schema kept checked is few replays = record { checked = checked; own = is; few = few; replays = replays; rises = kept.rises; once = kept.once }

@@ -1,8 +1,8 @@
 -- What stays true of a case from its creation on.
-use Rattle.std.specs.Prelude.{◌≡◌, ◌<◌, ◌^◌, true, length, None, Ok}
+use Rattle.std.specs.Prelude.{◌≡◌, ◌<◌, ◌^◌, true, length, Ok}
 use Rattle.case_core.specs.CaseModel.{LiveModel, replay_of_case}
 use Rattle.wsm_ops.specs.Apply.{applied}
-use Rattle.wsm_sound.specs.Faults.{fault_of}
+use Rattle.wsm_sound.specs.Flattened.{IsChecked}
 use Rattle.wsm_steps.specs.Whole.{is_whole, agains_once}
 use Rattle.wsm_trail.specs.TrailWithRoom.{Rises}
 
@@ -10,7 +10,7 @@ use Rattle.wsm_trail.specs.TrailWithRoom.{Rises}
 -- rising positions below the next one, and repeats no loop's end twice
 -- (a trail that replays whole starts and ends no node twice)
 pub record Kept (l : LiveModel) : Type 0 where
-  pub sound : fault_of l.schema ≡ None
+  pub checked : IsChecked l.schema
   pub own : applied l.base.schema l.own ≡ Ok l.schema
   pub few : length l.own < 2 ^ 32
   pub replays : is_whole (replay_of_case l) ≡ true

@@ -5,3 +5,4 @@ pub mod Replayed
 pub mod Shown
 pub mod Ages
 pub mod Kept
+pub mod Promises

@@ -166,7 +166,7 @@ overlap_reply None = None
 overlap_reply (Some name) = Some (reply.Overlap name)
 
 -- the operations of the case and those that made the versions since its base
-abbrev pub overlap_with : LiveModel → VersionModel → Option Name
+unfoldable pub overlap_with : LiveModel → VersionModel → Option Name
 overlap_with l version = least_overlap l.own (ops_after l.base.number version)
 
 abbrev pub migrate_refusal : LiveModel → VersionModel → Option Reply

@@ -1,9 +1,10 @@
 // Cases.
-ghost use Rattle.std.specs.Prelude.{◌≡◌, ◌+◌, ◌≤◌, Some, None, IfOk, OnErr};
+ghost use Rattle.std.specs.Prelude.{◌≡◌, ◌==◌, ◌+◌, ◌≤◌, true, not, Some, None, IfOk, OnErr};
 ghost use Rattle.std.specs.Option.{option_copied, option_map};
 ghost use Rattle.case_core.specs.Ages.{age, weight};
 ghost use Rattle.case_core.specs.CaseModel.{not_created};
 ghost use Rattle.case_core.specs.Machine.{next_case};
+ghost use Rattle.case_core.specs.Promises.{IsFairView, goes_on};
 ghost use Rattle.case_core.specs.Shown.{own_of, shown, shown_state, shown_holder};
 
 use crate::events::Event;
@@ -97,7 +98,7 @@ impl Case {
         if self.live.is_some() {
             return both(alloc, Reply::Already);
         }
-        if version.type_no() != self.type_no {
+        if self.is_of_another_type(version) {
             return both(alloc, Reply::OtherType);
         }
         self.live = Some(Live::new(alloc, version)?);
@@ -110,19 +111,29 @@ impl Case {
         ensures second { IfOk result (λ replies. replies.1 ≡ (next_case self.old (Event.Migrate version.now)).1) }
         ensures err { OnErr result (self.new ≡ self.old) }
     {
-        let live = match &mut self.live {
-            None => return both(alloc, Reply::NoCase),
-            Some(live) => live,
-        };
-        if version.type_no() != self.type_no {
-            return both(alloc, Reply::OtherType);
+        let is_of_another_type = self.is_of_another_type(version);
+        match &mut self.live {
+            None => both(alloc, Reply::NoCase),
+            Some(_) if is_of_another_type => both(alloc, Reply::OtherType),
+            Some(live) => live.migrate(alloc, version),
         }
-        live.migrate(alloc, version)
+    }
+
+    fn is_of_another_type(&self, version: &Version) -> bool
+        ensures { result ≡ not (version.now.type_no == self.now.type_no) }
+    {
+        version.type_no() != self.type_no
     }
 
     /// What the case shows.
     pub fn view(&self, alloc: Global) -> Result<View, NoMemory>
         ensures view { IfOk result (λ view. view ≡ shown self.now) }
+
+        // A case that was created is finished, or somebody may work on it.
+        ensures goes_on { IfOk result (λ view. goes_on view ≡ true) }
+
+        // What an offered node must read is there, and no two held nodes write one element.
+        ensures fair { IfOk result (IsFairView self.now) }
     {
         match &self.live {
             None => Ok(View::None),

@@ -1,7 +1,7 @@
 // Changes of a case's schema.
 ghost use Rattle.std.specs.Prelude.{◌≡◌, ◌+◌, ◌<◌, ◌^◌, [], ◌++◌, Ok, length, IfOk, IfErr, OnOk, OnErr};
 ghost use Rattle.case_core.specs.CaseModel.{on_schema};
-ghost use Rattle.case_core.specs.Machine.{blocked_at, change_live, migrate_live, migrate_refusal, taken};
+ghost use Rattle.case_core.specs.Machine.{blocked_at, change_live, migrate_live, migrate_refusal, overlap_with, taken};
 ghost use Rattle.wsm_ops.specs.Apply.{applied};
 ghost use Rattle.wsm_sound.specs.Faults.{changed_by};
 ghost use Rattle.wsm_sound.specs.Refusals.{IsRefusal};
@@ -11,7 +11,7 @@ use crate::live::Live;
 use crate::replies::{Reply, both};
 use std::alloc::Global;
 use std::sync::Arc;
-use wsm_foot::overlap;
+use wsm_foot::{Name, overlap};
 use wsm_ops::{Op, Ops};
 use wsm_schema::{Entry, NoMemory, Writes};
 use wsm_sound::{Checked, SoundRefusal, Version, change};
@@ -39,11 +39,7 @@ impl Live {
     }
 
     /// The case moves to the version, where its trail replays on what its own operations make of the version's schema.
-    pub fn migrate(
-        &mut self,
-        alloc: Global,
-        version: &Version,
-    ) -> Result<(Reply, Reply), NoMemory>
+    pub fn migrate(&mut self, alloc: Global, version: &Version) -> Result<(Reply, Reply), NoMemory>
         ensures live { IfOk result (λ replies. self.new ≡ (migrate_live self.old version.now).0) }
         ensures first { IfOk result (λ replies. replies.0 ≡ (migrate_live self.old version.now).1) }
         ensures second { IfOk result (λ replies. replies.1 ≡ (migrate_live self.old version.now).1) }
@@ -63,11 +59,7 @@ impl Live {
     }
 
     // The first reason, before any schema is made, why the case may not move to the version.
-    fn migrate_refusal(
-        &self,
-        alloc: Global,
-        version: &Version,
-    ) -> Result<Option<Reply>, NoMemory>
+    fn migrate_refusal(&self, alloc: Global, version: &Version) -> Result<Option<Reply>, NoMemory>
         ensures { IfOk result (λ refusal. refusal ≡ migrate_refusal self.now version.now) }
     {
         let base = self.base().number();
@@ -77,11 +69,19 @@ impl Live {
         if self.is_finished() {
             return Ok(Some(Reply::Finished));
         }
-        let later = ops_after(alloc, version, base)?;
-        match overlap(alloc, self.own(), &later)? {
+        match self.overlap_with(alloc, version)? {
             Some(name) => Ok(Some(Reply::Overlap(name))),
             None => Ok(None),
         }
+    }
+
+    // What the case's own operations and those that made the versions since its base have in common.
+    #[tactic(auto, unfolding(crate::specs::Machine::overlap_with))]
+    fn overlap_with(&self, alloc: Global, version: &Version) -> Result<Option<Name>, NoMemory>
+        ensures { IfOk result (λ name. name ≡ overlap_with self.now version.now) }
+    {
+        let later = ops_after(alloc, version, self.base().number())?;
+        overlap(alloc, self.own(), &later)
     }
 
     // What the case's own operations make of the version's schema, which is shared where there are none.
@@ -136,9 +136,10 @@ fn ops_after(alloc: Global, version: &Version, number: u32) -> Result<Ops, NoMem
     requires { 0 < number }
     ensures { IfOk result (λ ops. ops ≡ ops_after number version.now) }
 {
+    let lists = version.lineage().as_slice();
     let mut all = Vec::new(alloc);
-    for ops in version.lineage().as_slice().iter().skip(number as usize - 1) {
-        append(&mut all, ops)?;
+    for i in number as usize - 1..lists.len() {
+        append(&mut all, &lists[i])?;
     }
     Ok(Ops::from_vec(all))
 }

@@ -75,7 +75,8 @@ impl Live {
 
     /// The case's own operations, which made its schema of that of its version.
     pub fn own(&self) -> &Ops
-        ensures { result.now ≡ self.now.own }
+        ensures own { result.now ≡ self.now.own }
+        ensures few { length result.now < 2 ^ 32 }
     {
         &self.own
     }
@@ -96,7 +97,8 @@ impl Live {
 
     /// The card of a node.
     pub fn card(&self, node: u32) -> Option<&Card>
-        ensures { option_copied result ≡ card_at node (flat_of self.now.schema).cards }
+        ensures card { option_copied result ≡ card_at node (flat_of self.now.schema).cards }
+        ensures kept { Kept self.now }
     {
         self.schema.flat().card(node)
     }

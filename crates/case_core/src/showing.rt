@@ -1,5 +1,6 @@
 // What a case that was created shows.
-ghost use Rattle.std.specs.Prelude.{◌≡◌, ◌++◌, Some, IfOk, OnOk};
+ghost use Rattle.std.specs.Prelude.{◌≡◌, ◌++◌, true, Some, IfOk, OnOk};
+ghost use Rattle.case_core.specs.Promises.{IsFair, goes_on};
 ghost use Rattle.case_core.specs.Shown.{item_of, items_in, items_of, shown_live};
 ghost use Rattle.wsm_schema.specs.Flat.{card_at, cards_of};
 ghost use Rattle.wsm_schema.specs.Kinds.{worked_on};
@@ -13,6 +14,15 @@ use wsm_schema::{NoMemory, NodeKind, Spot, State};
 impl Live {
     /// What the case shows: its version and its own operations, its marking, its values and its work items.
     pub fn view(&self, alloc: Global) -> Result<View, NoMemory>
+        ensures view { IfOk result (λ view. view ≡ shown_live (Some self.now)) }
+        ensures goes_on { IfOk result (λ view. goes_on view ≡ true) }
+        ensures fair { IfOk result (IsFair self.now) }
+    {
+        let _ = self.base();
+        self.shown(alloc)
+    }
+
+    fn shown(&self, alloc: Global) -> Result<View, NoMemory>
         ensures { IfOk result (λ view. view ≡ shown_live (Some self.now)) }
     {
         Ok(View::Live {

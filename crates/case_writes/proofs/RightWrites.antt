@@ -187,7 +187,7 @@ module _ (elements : List (ℕ × ElementKind)) where
   kind-right edges front w ws h =
       let r = right-parts edges (front ++ w ∷ ws) w.0 h in
       let at : writes_to w.0 (front ++ w ∷ ws) ≡ writes_to w.0 front ++ w ∷ writes_to w.0 ws =
-          filter-append w.0 front (w ∷ ws) ∙ ap (λ (b : Bool). writes_to w.0 front ++ cond b (w ∷ writes_to w.0 ws) (writes_to w.0 ws)) (eq-eqb w.0 w.0 refl) in
+      filter-append w.0 front (w ∷ ws) ∙ ap (λ (b : Bool). writes_to w.0 front ++ cond b (w ∷ writes_to w.0 ws) (writes_to w.0 ws)) (eq-eqb w.0 w.0 refl) in
       (r.0, last-only (writes_to w.0 front) w (writes_to w.0 ws) w.0 (subst (λ vs. is_right elements (only_value vs) w.0 ≡ true) at r.1))
 
   all-right : (edges : List ℕ) (front ws : Written) → AllRows (λ w. is_wrong elements edges (front ++ ws) w.0 ≡ false) ws → AllRows (Fits edges) ws

@@ -81,11 +81,7 @@ impl Kind {
         }
     }
 
-    fn define(
-        &mut self,
-        alloc: Global,
-        schema: &Schema,
-    ) -> Result<(KindReply, KindReply), NoMemory>
+    fn define(&mut self, alloc: Global, schema: &Schema) -> Result<(KindReply, KindReply), NoMemory>
         ensures kind { IfOk result (λ replies. self.new ≡ (next_kind self.old (KindEvent.Define schema.now)).0) }
         ensures replies { IfOk result (λ replies. (replies.0 ≡ (next_kind self.old (KindEvent.Define schema.now)).1) × (replies.1 ≡ (next_kind self.old (KindEvent.Define schema.now)).1)) }
         ensures err { OnErr result (self.new ≡ self.old) }

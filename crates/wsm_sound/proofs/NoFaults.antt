@@ -135,3 +135,7 @@ taken-by t (Ok u) h = let r = taken-sound u t (fault_of u) refl h in (ap Ok r.0,
 pub taken_parts : (s t : SchemaModel) (ops : List Op) → changed_by s ops ≡ Ok t → (applied s ops ≡ Ok t) × (fault_of t ≡ None)
 unfolding changed_by
 taken_parts s t ops h = taken-by t (applied s ops) h
+
+-- no operations leave a sound schema as it is
+pub change_none : (s : SchemaModel) → fault_of s ≡ None → changed_by s [] ≡ Ok s
+change_none s sound = change_taken s s [] refl sound

@@ -6,6 +6,7 @@ ghost use Rattle.wsm_schema.specs.Flat.{flat_of, cards_of};
 ghost use Rattle.wsm_schema.specs.Rank.{IsRank};
 ghost use Rattle.wsm_schema.specs.Sound.{block_fault, data_fault};
 ghost use Rattle.wsm_sound.specs.Faults.{fault_of, changed_by};
+ghost use Rattle.wsm_sound.specs.Flattened.{IsChecked};
 ghost use Rattle.wsm_sound.specs.Refusals.{IsFault, IsRefusal};
 
 use crate::faults::{Fault, SoundRefusal};
@@ -43,7 +44,6 @@ impl Checked {
     pub fn schema(&self) -> &Schema
         ensures schema { result.now ≡ self.now }
         ensures sound { fault_of self.now ≡ None }
-        ensures writes { Ascends both self.now.writes }
     {
         &self.schema
     }
@@ -51,7 +51,7 @@ impl Checked {
     /// The schema's flat form.
     pub fn flat(&self) -> &Flat
         ensures flat { result.now ≡ flat_of self.now }
-        ensures sound { fault_of self.now ≡ None }
+        ensures checked { IsChecked self.now }
     {
         &self.flat
     }

@@ -11,6 +11,6 @@ invariant_of-self-in-Ok c =
     let none : newest_of versions ≡ None = search rules in
     let made : first_of c.self.inside.type_no c.args.schema.now ≡ Ok c.in-Ok.version = search rules in
     let grown = one_more c.self.inside.type_no versions c.in-Ok.version c.self.invariant
-        (first-type c.self.inside.type_no c.args.schema.now c.in-Ok.version made)
-        (first-number c.self.inside.type_no c.args.schema.now c.in-Ok.version made ∙ sym (ap (λ n. n + 1) (none_newest versions none))) in
+    (first-type c.self.inside.type_no c.args.schema.now c.in-Ok.version made)
+    (first-number c.self.inside.type_no c.args.schema.now c.in-Ok.version made ∙ sym (ap (λ n. n + 1) (none_newest versions none))) in
     search rules

@@ -19,6 +19,6 @@ invariant_of-self-in-Ok c =
     let kind = newest-type c.self.inside.type_no versions c.in-Some.newest.now c.self.invariant newest in
     let next : evolved c.in-Some.newest.now c.args.ops.now ≡ Ok c.in-Ok.version = search rules in
     let grown = one_more c.self.inside.type_no versions c.in-Ok.version c.self.invariant
-        (next-type c.in-Some.newest.now c.in-Ok.version c.args.ops.now next ∙ kind)
-        (next-number c.in-Some.newest.now c.in-Ok.version c.args.ops.now next ∙ ap (λ n. n + 1) number) in
+    (next-type c.in-Some.newest.now c.in-Ok.version c.args.ops.now next ∙ kind)
+    (next-number c.in-Some.newest.now c.in-Ok.version c.args.ops.now next ∙ ap (λ n. n + 1) number) in
     search rules

@@ -1,25 +1,31 @@
 -- What a case shows: it is never stuck, what is offered has its values, and what is held writes apart.
-use Rattle.std.proofs.Common.{◌≡◌, ◌⊎◌, ℕ, Bool, true, false, ◌&&◌, ◌||◌, not, List, [], ◌∷◌, ◌++◌, flat_map, refl, ap, sym, ◌∙◌, subst, inl, inr, Option, Some, None, is_some, eqb}
+use Rattle.std.proofs.Common.{◌≡◌, ◌⊎◌, ℕ, Bool, true, false, ◌&&◌, ◌||◌, not, List, [], ◌∷◌, ◌++◌, map, cond, flat_map, refl, ap, sym, ◌∙◌, subst, inl, inr, Option, Some, None, is_some, eqb}
 use Rattle.std.specs.Prelude.{◌==◌}
 use Rattle.std.proofs.lemmas.Bool.{cases_Bool, both_ways, or_cases, or_left, or_right, eqb-true, eq-eqb}
 use Rattle.std.proofs.lemmas.Option.{same_Some}
 use Rattle.case_core.specs.CaseModel.{LiveModel, replay_of_case, shown_after, shown_spots, state_of, value_now, is_finished}
 use Rattle.case_core.specs.Kept.{Kept}
 use Rattle.case_core.specs.Shown.{item_in, item_of, items_of, values_of, shown_live}
-use Rattle.case_core.specs.Promises.{has_work, goes_on, is_held, Filled, HeldApart}
+use Rattle.case_core.specs.Promises.{has_work, goes_on, holds, is_held, IsFilled, AreApart, IsFair}
 use Rattle.case_core.specs.declared.items.Item.{Item}
 use Rattle.case_core.specs.declared.items.Item.TheVariants as item
 use Rattle.case_core.proofs.Keeping.{table-of, state-is}
 use Rattle.wsm_lists.specs.Rows.{AllRows}
+use Rattle.wsm_lists.specs.Values.{value_in}
 use Rattle.wsm_lists.proofs.Lists.{all-rows-map, rows-append}
 use Rattle.wsm_marks.proofs.Cards.{node-has_card}
 use Rattle.wsm_marks.proofs.HeldApart.{held-apart}
 use Rattle.wsm_marks.proofs.NeverIdle.{never-idle}
 use Rattle.wsm_marks.proofs.ReadyValues.{activated-values}
+use Rattle.wsm_marks.specs.Fits.{RisesAfter}
 use Rattle.wsm_replay.proofs.OneEntryMore.{marking_of-spots}
 use Rattle.wsm_schema.specs.Flat.{cards_of, card_at}
 use Rattle.wsm_schema.specs.Kinds.{worked_on}
+use Rattle.wsm_schema.proofs.Rounds.{node_of-spot_in}
+use Rattle.wsm_schema.specs.Places.{plain_end, parts_places, places}
 use Rattle.wsm_schema.specs.Rank.{IsRank}
+use Rattle.wsm_schema.specs.Trail.{is_one_of}
+use Rattle.wsm_schema.specs.declared.places.Place.{Place}
 use Rattle.wsm_schema.specs.Replay.{whole, is_in_state}
 use Rattle.wsm_schema.specs.Rules.{Spots, spot, spot_in, marking_of}
 use Rattle.wsm_schema.specs.Sound.{Sound, writes_of}
@@ -41,6 +47,20 @@ no-item l c Running h = absurd (cc)
 no-item l c Completed h = (refl, refl)
 no-item l c Skipped h = (refl, refl)
 
+-- a card that is found is that of the node
+card-node : (cards : List Card) (n : ℕ) (c : Card) → card_at n cards ≡ Some c → c.node ≡ n
+card-node [] n c at = absurd (cc)
+card-node (d ∷ ds) n c at =
+    elim (cases_Bool (eqb d.node n)) [
+      | inl here ↦ let same : d ≡ c = same_Some d c (rw here at at) in subst (λ (k : Card). k.node ≡ n) same (eqb-true d.node n here)
+      | inr away ↦ card-node ds n c (rw away at at)
+    ]
+
+-- the last of several places is among them
+last-among : (n : ℕ) (ps : List Place) (p : Place) → p.node ≡ n → is_one_of n (map (λ q. q.node) (ps ++ p ∷ [])) ≡ true
+last-among n [] p h = or_left (eqb p.node n) false (eq-eqb p.node n h)
+last-among n (q ∷ ps) p h = or_right (eqb q.node n) _ (last-among n ps p h)
+
 -- where a list is empty so is each part
 empty-parts : {X : Type 0} (xs ys : List X) → xs ++ ys ≡ [] → (xs ≡ []) × (ys ≡ [])
 empty-parts [] ys h = (refl, h)
@@ -50,9 +70,15 @@ no-items : {X : Type 0} (f : Spot → List X) (ss : Spots) → flat_map f ss ≡
 no-items f [] h = tt
 no-items f (s ∷ ss) h = let r = empty-parts (f s) (flat_map f ss) h in (r.0, no-items f ss r.1)
 
-module _ (l : LiveModel) (rank : List ℕ) (is : IsRank (cards_of l.schema) rank) (kept : Kept l) where
+module _ (l : LiveModel) (kept : Kept l) where
+  abbrev rank : List ℕ
+  rank = kept.checked.rank
+
+  is : IsRank (cards_of l.schema) rank
+  is = kept.checked.ranked
+
   sound : Sound l.schema
-  sound = is_sound l.schema kept.sound
+  sound = is_sound l.schema kept.checked.sound
 
   table : (t : Spots) × (replay_of_case l ≡ whole t)
   table = table-of (replay_of_case l) kept.replays
@@ -60,6 +86,7 @@ module _ (l : LiveModel) (rank : List ℕ) (is : IsRank (cards_of l.schema) rank
   abbrev cards : List Card
   cards = cards_of l.schema
 
+  rises : RisesAfter 0 l.trail.entries
   rises = rises-after 0 l.trail.next l.trail.entries kept.rises
 
   -- the spots that are shown
@@ -86,7 +113,7 @@ module _ (l : LiveModel) (rank : List ℕ) (is : IsRank (cards_of l.schema) rank
   finish-card = node-has_card l.schema l.schema.finish (places l.schema.start l.schema.body l.schema.finish) among
     where
       among : is_one_of l.schema.finish (map (λ p. p.node) (places l.schema.start l.schema.body l.schema.finish)) ≡ true
-      among = or_right (eqb l.schema.start l.schema.finish) _ (finish-last l.schema.finish (parts_places l.schema.body (plain_end l.schema.start) l.schema.finish) _ refl)
+      among = or_right (eqb l.schema.start l.schema.finish) _ (last-among l.schema.finish (parts_places l.schema.body (plain_end l.schema.start) l.schema.finish) _ refl)
 
   finished : items_of l ≡ [] → is_finished l ≡ true
   finished none =
@@ -101,19 +128,53 @@ module _ (l : LiveModel) (rank : List ℕ) (is : IsRank (cards_of l.schema) rank
       go (i ∷ is) some = or_right (is_finished l) true refl
 
   -- ---- what is offered and held
-  abbrev IsShown : Item → Type 0
-  IsShown i = Filled l (values_of l) i
+  abbrev Runs : Item → Type 0
+  Runs (item.Offered n role) = Unit {0}
+  Runs (item.Held n user) = is_in_state (spot_in n table.0).state Running ≡ true
 
-  of-state : (c : Card) (n : ℕ) → card_at n cards ≡ Some c → c.node ≡ n → (x : State) → x ≡ (spot_in n table.0).state → AllRows IsShown (item_in l c x)
+  abbrev IsTrue_of : Item → Type 0
+  IsTrue_of i = IsFilled l.schema (values_of l) i × Runs i
+
+  offered : (c : Card) (n : ℕ) → card_at n cards ≡ Some c → c.node ≡ n → is_in_state (spot_in n table.0).state Activated ≡ true → IsFilled l.schema (values_of l) (item.Offered c.node c.role)
+  offered c n at named ready d found =
+      let same : c ≡ d = same_Some c d (sym at ∙ ap (λ k. card_at k cards) (sym named) ∙ found) in
+      let there = activated-values l.schema sound.blocks sound.on_data rank is l.trail.entries table.0 rises table.1 l.trail.next (last-below 0 l.trail.next l.trail.entries kept.rises) n c at ready in
+      subst (λ (k : Card). AllRows (λ r. r.1 ≡ true → is_some (value_in r.0 (values_of l)) ≡ true) k.reads) same
+      (all-rows-map _ _ (λ r have must. ap is_some (value_in-all_values r.0 1 l.trail.next l.trail.entries kept.rises) ∙ have must) c.reads there)
+
+  of-state : (c : Card) (n : ℕ) → card_at n cards ≡ Some c → c.node ≡ n → (x : State) → x ≡ (spot_in n table.0).state → AllRows IsTrue_of (item_in l c x)
   of-state c n at named NotActivated h = tt
-  of-state c n at named Activated h = (offered, tt)
-    where
-      offered : (d : Card) → card_at c.node cards ≡ Some d → AllRows (λ r. r.1 ≡ true → is_some (value_in r.0 (values_of l)) ≡ true) d.reads
-      offered d found =
-          let same : d ≡ c = same_Some d c (sym found ∙ ap (λ k. card_at k cards) named ∙ at) in
-          let there = activated-values l.schema sound.blocks sound.on_data rank is l.trail.entries table.0 rises table.1 l.trail.next (last-below 0 l.trail.next l.trail.entries kept.rises) n c at (ap (λ y. is_in_state y Activated) (sym h)) in
-          subst (λ (k : Card). AllRows (λ r. r.1 ≡ true → is_some (value_in r.0 (values_of l)) ≡ true) k.reads) (sym same)
-          (all-rows-map _ _ (λ r have must. ap is_some (value_in-all_values r.0 1 l.trail.next l.trail.entries kept.rises) ∙ have must) c.reads there)
-  of-state c n at named Running h = (ap (λ y. is_in_state y Running) (sym (ap (λ k. (spot_in k table.0).state) named ∙ sym h)), tt)
+  of-state c n at named Activated h = ((offered c n at named (ap (λ y. is_in_state y Activated) (sym h)), tt), tt)
+  of-state c n at named Running h = ((tt, subst (λ k. is_in_state (spot_in k table.0).state Running ≡ true) (sym named) (ap (λ y. is_in_state y Running) (sym h))), tt)
   of-state c n at named Completed h = tt
   of-state c n at named Skipped h = tt
+
+  of-card : (s : Spot) → IsSpotOf table.0 s → (o : Option Card) → card_at s.node cards ≡ o → AllRows IsTrue_of (item_of l s o)
+  of-card s its None at = tt
+  of-card s its (Some c) at =
+      elim (cases_Bool (worked_on c.kind)) [
+        | inl works ↦ rw works (of-state c s.node at (card-node cards s.node c at) s.state (ap (λ x. x.state) its))
+        | inr silent ↦ rw silent tt
+      ]
+
+  of-spots : (ss : Spots) → AllRows (IsSpotOf table.0) ss → AllRows IsTrue_of (flat_map (λ s. item_of l s (card_at s.node cards)) ss)
+  of-spots [] its = tt
+  of-spots (s ∷ ss) its = rows-append IsTrue_of (item_of l s (card_at s.node cards)) _ (of-card s its.0 (card_at s.node cards) refl) (of-spots ss its.1)
+
+  all-true : AllRows IsTrue_of (items_of l)
+  all-true = of-spots (shown_spots l) (subst (λ ss. AllRows (IsSpotOf table.0) ss) (sym shown-is) (marking-rows cards table.0))
+
+  held-runs : (n : ℕ) (is : List Item) → AllRows IsTrue_of is → is_held n is ≡ true → is_in_state (spot_in n table.0).state Running ≡ true
+  held-runs n [] all h = absurd (both_ways _ refl h)
+  held-runs n (item.Offered node role ∷ is) all h = held-runs n is all.1 h
+  held-runs n (item.Held node user ∷ is) all h =
+      elim (or_cases (eqb node n) (is_held n is) h) [
+        | inl here ↦ subst (λ k. is_in_state (spot_in k table.0).state Running ≡ true) (eqb-true node n here) all.0.1
+        | inr later ↦ held-runs n is all.1 later
+      ]
+
+  pub fair : IsFair l (shown_live (Some l))
+  fair = (
+    all-rows-map IsTrue_of (IsFilled l.schema (values_of l)) (λ i both. both.0) (items_of l) all-true,
+    λ a b d other held_a held_b. held-apart l.schema sound.blocks sound.on_data rank is l.trail.entries table.0 rises table.1 a b d other (held-runs a (items_of l) all-true held_a) (held-runs b (items_of l) all-true held_b),
+  )

@@ -1,0 +1,19 @@
+use Rattle.std.proofs.Common.{◌≡◌, ◌++◌, Ok, rules, sym, ◌∙◌, ap, subst}
+use Rattle.case_core.specs.CaseModel.{LiveModel}
+use Rattle.wsm_ops.specs.Apply.{applied}
+use Rattle.wsm_schema.specs.SchemaModel.{SchemaModel}
+use Rattle.wsm_sound.proofs.InARow.{applied-in_a_row}
+use Rattle.wsm_sound.proofs.NoFaults.{taken_parts}
+use Rattle.wsm_sound.specs.Faults.{changed_by}
+use Rattle.case_core.proofs.live.Live.change.Goals as goal
+
+pub take-requires-clause-own : goal.take-requires-clause-own
+take-requires-clause-own c =
+    let l : LiveModel = c.args.self.now in
+    let new : SchemaModel = c.in-Ok.checked in
+    let made : changed_by l.schema c.args.ops.now ≡ Ok new = search rules in
+    let both = applied-in_a_row l.base.schema l.schema new l.own c.args.ops.now c.base.ensures.kept.own (taken_parts l.schema new c.args.ops.now made).0 in
+    let base : c.in_ok-base-in-Ok.base ≡ l.base = search rules in
+    let own : c.in_ok-own-in-Ok.own ≡ l.own ++ c.args.ops.now = search rules in
+    let schema : c.in_ok-shared-in-Ok.field-0.value ≡ new = search rules in
+    search rules

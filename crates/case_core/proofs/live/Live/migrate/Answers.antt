@@ -1,0 +1,15 @@
+use Rattle.std.proofs.Common.{◌≡◌, Ok, rules, sym, ◌∙◌, ap, subst}
+use Rattle.wsm_ops.specs.Apply.{applied}
+use Rattle.wsm_sound.proofs.NoFaults.{taken_parts}
+use Rattle.wsm_sound.specs.Faults.{changed_by}
+use Rattle.case_core.proofs.live.Live.migrate.Goals as goal
+
+pub take-requires-clause-own : goal.take-requires-clause-own
+take-requires-clause-own c =
+    let l = c.args.self.now in
+    let v = c.args.version.now in
+    let made : changed_by v.schema l.own ≡ Ok c.in-Ok.schema.value = search rules in
+    let both : applied v.schema l.own ≡ Ok c.in-Ok.schema.value = (taken_parts v.schema c.in-Ok.schema.value l.own made).0 in
+    let version : c.in_ok-share-in-Ok.field-0 ≡ v = search rules in
+    let own : c.in_ok-own-in-Ok.own ≡ l.own = search rules in
+    ap (λ w. applied w.schema c.in_ok-own-in-Ok.own) version ∙ ap (applied v.schema) own ∙ both

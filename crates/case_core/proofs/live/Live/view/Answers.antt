@@ -1,0 +1,16 @@
+use Rattle.std.proofs.Common.{◌≡◌, true, Some, sym, subst, ◌∙◌, ap}
+use Rattle.std.proofs.lemmas.Result.{IfOk-weaker}
+use Rattle.case_core.proofs.Fairness.{never-stuck, fair}
+use Rattle.case_core.specs.Promises.{goes_on, IsFair}
+use Rattle.case_core.specs.Shown.{shown_live}
+use Rattle.case_core.proofs.live.Live.view.Goals as goal
+
+pub returns-clause-goes_on : goal.returns-clause-goes_on
+returns-clause-goes_on c =
+    let l = c.args.self.now in
+    IfOk-weaker c.shown.result (λ v. v ≡ shown_live (Some l)) (λ v. goes_on v ≡ true) (λ v is. ap goes_on is ∙ never-stuck l c.base.ensures.kept) c.shown.ensures
+
+pub returns-clause-fair : goal.returns-clause-fair
+returns-clause-fair c =
+    let l = c.args.self.now in
+    IfOk-weaker c.shown.result (λ v. v ≡ shown_live (Some l)) (IsFair l) (λ v is. subst (IsFair l) (sym is) (fair l c.base.ensures.kept)) c.shown.ensures

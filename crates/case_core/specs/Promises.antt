@@ -1,0 +1,53 @@
+-- What a case promises of what it shows.
+use Rattle.std.specs.Prelude.{◌≡◌, ℕ, Bool, true, false, ◌||◌, ◌==◌, List, [], ◌∷◌, Option, Some, None, is_some}
+use Rattle.std.specs.List.{list_any}
+use Rattle.case_core.specs.CaseModel.{CaseModel, LiveModel}
+use Rattle.case_core.specs.declared.items.Item.{Item}
+use Rattle.case_core.specs.declared.items.Item.TheVariants as item
+use Rattle.case_core.specs.declared.views.View.{View}
+use Rattle.case_core.specs.declared.views.View.TheVariants as view
+use Rattle.wsm_lists.specs.Rows.{AllRows}
+use Rattle.wsm_lists.specs.Values.{Written, value_in}
+use Rattle.wsm_schema.specs.Flat.{cards_of, card_at}
+use Rattle.wsm_schema.specs.SchemaModel.{SchemaModel}
+use Rattle.wsm_schema.specs.Sound.{writes_of}
+use Rattle.wsm_schema.specs.declared.cards.Card.{Card}
+
+abbrev pub has_work : List Item → Bool
+has_work [] = false
+has_work (i ∷ is) = true
+
+-- a case that was created is finished, or somebody may work on it
+abbrev pub goes_on : View → Bool
+goes_on view.None = true
+goes_on (view.Live version own finished marking values items) = finished || has_work items
+
+-- each element that the node of an offer must read has a value
+abbrev pub IsFilled : SchemaModel → Written → Item → Type 0
+IsFilled s values (item.Offered n role) =
+    (c : Card) → card_at n (cards_of s) ≡ Some c → AllRows (λ r. r.1 ≡ true → is_some (value_in r.0 values) ≡ true) c.reads
+IsFilled s values (item.Held n user) = Unit {0}
+
+-- no two nodes that are held write one element
+abbrev pub holds : ℕ → Item → Bool
+holds n (item.Offered node role) = false
+holds n (item.Held node user) = node == n
+
+abbrev pub is_held : ℕ → List Item → Bool
+is_held n items = list_any (λ i. holds n i) items
+
+abbrev pub AreApart : SchemaModel → List Item → Type 0
+AreApart s items =
+    (a b d : ℕ) → (a == b) ≡ false → is_held a items ≡ true → is_held b items ≡ true → writes_of s a d ≡ true → writes_of s b d ≡ true → ⊥
+
+-- the offers of a view are filled, and what it shows as held writes apart
+abbrev pub IsFair : LiveModel → View → Type 0
+IsFair l view.None = Unit {0}
+IsFair l (view.Live version own finished marking values items) = AllRows (IsFilled l.schema values) items × AreApart l.schema items
+
+abbrev pub IsFairCase : Option LiveModel → View → Type 0
+IsFairCase None shown = Unit {0}
+IsFairCase (Some l) shown = IsFair l shown
+
+abbrev pub IsFairView : CaseModel → View → Type 0
+IsFairView s shown = IsFairCase s.live shown
