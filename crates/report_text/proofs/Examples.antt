@@ -1,5 +1,5 @@
 -- Reports, computed from the definitions alone: from the bytes of a process file to the bytes of its report.
-use Rattle.std.specs.Prelude.{◌≡◌, ℕ, pos, negsuc, List, [], ◌∷◌, ◌++◌, flat_map, Option, Some, None, refl, codes}
+use Rattle.std.specs.Prelude.{◌≡◌, pos, negsuc, List, [], ◌∷◌, ◌++◌, flat_map, Option, Some, None, refl, codes}
 use Rattle.std.specs.Fmt.{digits}
 use Rattle.case_core.specs.CaseModel.{LiveModel}
 use Rattle.case_core.specs.declared.events.Event.TheVariants as event
@@ -10,7 +10,7 @@ use Rattle.process_text.specs.declared.files.File.{File}
 use Rattle.report_text.specs.Ends.{state_line}
 use Rattle.report_text.specs.Faults.{fault_text}
 use Rattle.report_text.specs.Journals.{case_line, kind_line, reply_text}
-use Rattle.report_text.specs.Migrations.{moved, overlapped, was_blocked}
+use Rattle.report_text.specs.Migrations.{has_fate}
 use Rattle.report_text.specs.Names.{name_text}
 use Rattle.report_text.specs.Report.{migration_totals, text}
 use Rattle.report_text.specs.Serial.{serial}
@@ -41,26 +41,26 @@ report None = []
 report (Some f) = text f (serial f)
 
 pub sequence_of_two : report (file (codes "adept 1\ntype t\nact A\nact B\nend\nactor ann\ncase c t\nphase\nann create c\nann start c A\nann end c A\nann start c B\nann end c B\n")) ≡ codes "adept report 1\ntype t\n1 - define -> defined\n2 ann newest -> is 1\ncase c t\n1 ann create 1 -> created\n2 ann start A -> started\n3 ann end A -> ended\n4 ann start B -> started\n5 ann end B -> ended\nstate 1 finished own=0\nmarking start=C A=C B=C finish=C\nvalues\nitems\nsummary cases=1 finished=1 entries=5 migrated=0 blocked=0 overlap=0\n"
-unfolding digits fault_of moved was_blocked overlapped
+unfolding digits fault_of has_fate
 sequence_of_two = refl
 
 pub type_without_items : report (file (codes "adept 1\ntype t\nend\nactor ann\ncase c t\nphase\nann create c\n")) ≡ codes "adept report 1\ntype t\n1 - define -> defined\n2 ann newest -> is 1\ncase c t\n1 ann create 1 -> created\nstate 1 finished own=0\nmarking start=C finish=C\nvalues\nitems\nsummary cases=1 finished=1 entries=1 migrated=0 blocked=0 overlap=0\n"
-unfolding digits fault_of moved was_blocked overlapped
+unfolding digits fault_of has_fate
 type_without_items = refl
 
 -- each refusal, and a node that is held
 pub refusals : report (file (codes "adept 1\ntype t\nact A\nact B\nend\nactor ann\ncase c t\nphase\nann start c A\nann create c\nann create c\nann start c B\nann end c A\nann start c Z\nann start c A\nann start c A\nann end c finish\n")) ≡ codes "adept report 1\ntype t\n1 - define -> defined\n2 ann newest -> is 1\n3 ann newest -> is 1\ncase c t\n1 ann start A -> no-case\n2 ann create 1 -> created\n3 ann create 1 -> already\n4 ann start B -> not-ready N\n5 ann end A -> not-running A\n6 ann start Z -> no-node\n7 ann start A -> started\n8 ann start A -> not-ready R\n9 ann end finish -> not-running N\nstate 1 running own=0\nmarking start=C A=R B=N finish=N\nvalues\nitems A:ann\nsummary cases=1 finished=0 entries=9 migrated=0 blocked=0 overlap=0\n"
-unfolding digits fault_of moved was_blocked overlapped
+unfolding digits fault_of has_fate
 refusals = refl
 
 -- a node that is offered to everybody
 pub offered : report (file (codes "adept 1\ntype t\nact A\nact B\nend\nactor ann\ncase c t\nphase\nann create c\n")) ≡ codes "adept report 1\ntype t\n1 - define -> defined\n2 ann newest -> is 1\ncase c t\n1 ann create 1 -> created\nstate 1 running own=0\nmarking start=C A=A B=N finish=N\nvalues\nitems A@0\nsummary cases=1 finished=0 entries=1 migrated=0 blocked=0 overlap=0\n"
-unfolding digits fault_of moved was_blocked overlapped
+unfolding digits fault_of has_fate
 offered = refl
 
 -- a case that nobody called
 pub not_created : report (file (codes "adept 1\ntype t\nact A\nact B\nend\nactor ann\ncase c t\nphase\n")) ≡ codes "adept report 1\ntype t\n1 - define -> defined\ncase c t\nstate none\nsummary cases=1 finished=0 entries=0 migrated=0 blocked=0 overlap=0\n"
-unfolding digits fault_of moved was_blocked overlapped
+unfolding digits fault_of has_fate
 not_created = refl
 
 -- ---- what no file of this form reaches: values, choices, and refusals with data
@@ -165,14 +165,14 @@ names = refl
 
 -- a change that is blocked is no migration
 pub totals_of_migrations : migration_totals (
-      record { caller = 1; event = event.Migrate version_2; reply = reply.Migrated 2 }
-      ∷ record { caller = 1; event = event.Change []; reply = reply.Blocked 3 (entry.Start 2 1 []) }
-      ∷ record { caller = 1; event = event.Migrate version_2; reply = reply.Overlap (name.Node 2) }
-      ∷ record { caller = 1; event = event.Migrate version_2; reply = reply.Blocked 3 (entry.Start 2 1 []) }
-      ∷ record { caller = 1; event = event.Migrate version_2; reply = reply.Migrated 2 }
-      ∷ record { caller = 1; event = event.Migrate version_2; reply = reply.Finished }
-      ∷ []) ≡ codes " migrated=2 blocked=1 overlap=1\n"
-unfolding digits moved was_blocked overlapped
+    record { caller = 1; event = event.Migrate version_2; reply = reply.Migrated 2 }
+    ∷ record { caller = 1; event = event.Change []; reply = reply.Blocked 3 (entry.Start 2 1 []) }
+    ∷ record { caller = 1; event = event.Migrate version_2; reply = reply.Overlap (name.Node 2) }
+    ∷ record { caller = 1; event = event.Migrate version_2; reply = reply.Blocked 3 (entry.Start 2 1 []) }
+    ∷ record { caller = 1; event = event.Migrate version_2; reply = reply.Migrated 2 }
+    ∷ record { caller = 1; event = event.Migrate version_2; reply = reply.Finished }
+    ∷ []) ≡ codes " migrated=2 blocked=1 overlap=1\n"
+unfolding digits has_fate
 totals_of_migrations = refl
 
 abbrev changed_case : LiveModel

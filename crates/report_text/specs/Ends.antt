@@ -1,5 +1,5 @@
 -- How a case ended.
-use Rattle.std.specs.Prelude.{ℕ, Bool, List, [], ◌∷◌, ◌++◌, flat_map, length, Option, Some, None, if◌then◌else◌, codes, decimal}
+use Rattle.std.specs.Prelude.{ℕ, Bool, [], ◌++◌, flat_map, length, Option, Some, None, if◌then◌else◌, codes, decimal}
 use Rattle.case_core.specs.CaseModel.{LiveModel, state_of, value_now}
 use Rattle.case_core.specs.Shown.{is_finished, item_of, items_of}
 use Rattle.case_core.specs.declared.items.Item.{Item}

@@ -1,11 +1,12 @@
 -- What became of the migrations in a journal.
-use Rattle.std.specs.Prelude.{ℕ, Bool, true, false, ◌&&◌, List}
-use Rattle.std.specs.List.{count_by}
+use Rattle.std.specs.Prelude.{Bool, true, false, ◌&&◌}
 use Rattle.case_core.specs.declared.events.Event.{Event}
 use Rattle.case_core.specs.declared.events.Event.TheVariants as event
 use Rattle.case_core.specs.declared.replies.Reply.{Reply}
 use Rattle.case_core.specs.declared.replies.Reply.TheVariants as reply
 use Rattle.report_text.specs.declared.runs.CaseEntry.{CaseEntry}
+use Rattle.report_text.specs.declared.totals.Fate.{Fate}
+use Rattle.report_text.specs.declared.totals.Fate.TheVariants as fate
 
 -- a change may be blocked, too, and is no migration
 abbrev pub is_migration : Event → Bool
@@ -24,21 +25,11 @@ abbrev pub says_overlap : Reply → Bool
 says_overlap (reply.Overlap name) = true
 says_overlap _ = false
 
--- the migrations that moved the case, those that were blocked, and those that overlapped
-unfoldable pub moved : CaseEntry → Bool
-moved e = is_migration e.event && says_migrated e.reply
+abbrev pub says : Fate → Reply → Bool
+says fate.Migrated r = says_migrated r
+says fate.Blocked r = says_blocked r
+says fate.Overlap r = says_overlap r
 
-unfoldable pub was_blocked : CaseEntry → Bool
-was_blocked e = is_migration e.event && says_blocked e.reply
-
-unfoldable pub overlapped : CaseEntry → Bool
-overlapped e = is_migration e.event && says_overlap e.reply
-
-abbrev pub count_moved : List CaseEntry → ℕ
-count_moved journal = count_by moved journal
-
-abbrev pub count_blocked : List CaseEntry → ℕ
-count_blocked journal = count_by was_blocked journal
-
-abbrev pub count_overlapped : List CaseEntry → ℕ
-count_overlapped journal = count_by overlapped journal
+-- whether the entry is a migration with that fate
+unfoldable pub has_fate : Fate → CaseEntry → Bool
+has_fate f e = is_migration e.event && says f e.reply

@@ -1,16 +1,18 @@
 -- The text of a report.
-use Rattle.std.specs.Prelude.{ℕ, Bool, false, List, [], ◌∷◌, ◌++◌, length, Option, Some, None, if◌then◌else◌, codes, decimal}
+use Rattle.std.specs.Prelude.{Bool, false, List, ◌++◌, length, Option, Some, None, if◌then◌else◌, codes, decimal}
+use Rattle.std.specs.List.{count_by}
 use Rattle.case_core.specs.CaseModel.{LiveModel}
 use Rattle.case_core.specs.Shown.{is_finished}
 use Rattle.process_text.specs.Lines.{Bytes}
 use Rattle.process_text.specs.declared.files.File.{File}
 use Rattle.report_text.specs.Ends.{end_text}
 use Rattle.report_text.specs.Journals.{kind_line, case_line, numbered}
-use Rattle.report_text.specs.Migrations.{count_moved, count_blocked, count_overlapped}
+use Rattle.report_text.specs.Migrations.{has_fate}
 use Rattle.report_text.specs.declared.runs.Run.{Run}
 use Rattle.report_text.specs.declared.runs.CaseEntry.{CaseEntry}
 use Rattle.report_text.specs.declared.runs.ClosedCase.{ClosedCase}
 use Rattle.report_text.specs.declared.runs.ClosedKind.{ClosedKind}
+use Rattle.report_text.specs.declared.totals.Fate.TheVariants as fate
 
 -- the type and its calls
 abbrev pub type_head : File → Bytes
@@ -39,9 +41,9 @@ case_totals c = codes "summary cases=1 finished=" ++ (one_or_none (is_done c.mac
 
 abbrev pub migration_totals : List CaseEntry → Bytes
 migration_totals journal =
-    codes " migrated=" ++ (decimal (count_moved journal)
-    ++ (codes " blocked=" ++ (decimal (count_blocked journal)
-    ++ (codes " overlap=" ++ (decimal (count_overlapped journal) ++ codes "\n")))))
+    codes " migrated=" ++ (decimal (count_by (has_fate fate.Migrated) journal)
+    ++ (codes " blocked=" ++ (decimal (count_by (has_fate fate.Blocked) journal)
+    ++ (codes " overlap=" ++ (decimal (count_by (has_fate fate.Overlap) journal) ++ codes "\n")))))
 
 abbrev pub summary : File → Run → Bytes
 summary f r = case_totals r.case ++ migration_totals r.case.journal

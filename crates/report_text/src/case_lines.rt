@@ -67,11 +67,7 @@ fn put_event<K: Sink>(sink: &mut K, ok: bool, file: &File, event: &Event) -> boo
             ..
         } => put_end(sink, ok, file, *node, writes, *choice),
         Event::Change(ops) => {
-            put_pieces(
-                sink,
-                ok,
-                &[b"change ", number.format(ops.len()).as_bytes()],
-            )
+            put_pieces(sink, ok, &[b"change ", number.format(ops.len()).as_bytes()])
         }
         Event::Migrate(version) => {
             put_pieces(

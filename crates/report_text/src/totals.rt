@@ -1,13 +1,22 @@
 // The totals of a report.
-ghost use Rattle.std.specs.Prelude.{◌≡◌};
+ghost use Rattle.std.specs.Prelude.{◌≡◌, if◌then◌else◌};
+ghost use Rattle.std.specs.List.{count_by};
 ghost use Rattle.adept_io.specs.Written.{Gives};
-ghost use Rattle.report_text.specs.Migrations.{count_blocked, count_moved, count_overlapped, is_migration, moved, overlapped, says_blocked, says_migrated, says_overlap, was_blocked};
+ghost use Rattle.report_text.specs.Migrations.{has_fate, is_migration, says, says_blocked, says_migrated, says_overlap};
 ghost use Rattle.report_text.specs.Report.{case_totals, is_done, migration_totals, one_or_none};
 
 use crate::runs::{CaseEntry, ClosedCase};
 use adept_io::{Sink, put_pieces};
 use case_core::{Event, Reply};
 use itoa::Buffer;
+
+/// What a migration may come to.
+#[derive(Clone, Copy)]
+pub enum Fate {
+    Migrated,
+    Blocked,
+    Overlap,
+}
 
 /// Whether the case is finished, and how many calls were made of it.
 pub fn put_case_totals<K: Sink>(sink: &mut K, ok: bool, case: &ClosedCase) -> bool
@@ -54,53 +63,48 @@ pub fn put_migration_totals<K: Sink>(sink: &mut K, ok: bool, journal: &[CaseEntr
         ok,
         &[
             b" migrated=",
-            migrated.format(count_moved(journal)).as_bytes(),
+            migrated.format(count(journal, Fate::Migrated)).as_bytes(),
             b" blocked=",
-            blocked.format(count_blocked(journal)).as_bytes(),
+            blocked.format(count(journal, Fate::Blocked)).as_bytes(),
             b" overlap=",
-            overlap.format(count_overlapped(journal)).as_bytes(),
+            overlap.format(count(journal, Fate::Overlap)).as_bytes(),
             b"\n",
         ],
     )
 }
 
-fn count_moved(journal: &[CaseEntry]) -> usize
-    ensures { result ≡ count_moved journal.now }
+// How many migrations had that fate.
+fn count(journal: &[CaseEntry], fate: Fate) -> usize
+    ensures { result ≡ count_by (has_fate fate) journal.now }
 {
-    journal.iter().filter(|entry| moved(entry)).count()
+    let mut count = 0;
+    for entry in journal {
+        count += one_if(has_fate(entry, fate));
+    }
+    count
 }
 
-fn count_blocked(journal: &[CaseEntry]) -> usize
-    ensures { result ≡ count_blocked journal.now }
+fn one_if(there: bool) -> usize
+    ensures { result ≡ (if there then 1 else 0) }
 {
-    journal.iter().filter(|entry| was_blocked(entry)).count()
+    if there { 1 } else { 0 }
 }
 
-fn count_overlapped(journal: &[CaseEntry]) -> usize
-    ensures { result ≡ count_overlapped journal.now }
+#[tactic(auto, unfolding(crate::specs::Migrations::has_fate))]
+fn has_fate(entry: &CaseEntry, fate: Fate) -> bool
+    ensures { result ≡ has_fate fate entry.now }
 {
-    journal.iter().filter(|entry| overlapped(entry)).count()
+    is_migration(&entry.event) && says(&entry.reply, fate)
 }
 
-#[tactic(auto, unfolding(crate::specs::Migrations::moved))]
-fn moved(entry: &CaseEntry) -> bool
-    ensures { result ≡ moved entry.now }
+fn says(reply: &Reply, fate: Fate) -> bool
+    ensures { result ≡ says fate reply.now }
 {
-    is_migration(&entry.event) && says_migrated(&entry.reply)
-}
-
-#[tactic(auto, unfolding(crate::specs::Migrations::was_blocked))]
-fn was_blocked(entry: &CaseEntry) -> bool
-    ensures { result ≡ was_blocked entry.now }
-{
-    is_migration(&entry.event) && says_blocked(&entry.reply)
-}
-
-#[tactic(auto, unfolding(crate::specs::Migrations::overlapped))]
-fn overlapped(entry: &CaseEntry) -> bool
-    ensures { result ≡ overlapped entry.now }
-{
-    is_migration(&entry.event) && says_overlap(&entry.reply)
+    match fate {
+        Fate::Migrated => says_migrated(reply),
+        Fate::Blocked => says_blocked(reply),
+        Fate::Overlap => says_overlap(reply),
+    }
 }
 
 // A change may be blocked, too, and is no migration.

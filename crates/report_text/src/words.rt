@@ -128,13 +128,7 @@ pub fn put_and_element<K: Sink>(
 }
 
 #[tactic(auto, using(adept_io::proofs::Sent::gives_then))]
-fn put_node_element<K: Sink>(
-    sink: &mut K,
-    ok: bool,
-    file: &File,
-    node: u32,
-    element: u32,
-) -> bool
+fn put_node_element<K: Sink>(sink: &mut K, ok: bool, file: &File, node: u32, element: u32) -> bool
     ensures { Gives K.written K.faults ok result sink.old sink.new (node_and_element file.now node element) }
 {
     let mut buffer = Buffer::new();
