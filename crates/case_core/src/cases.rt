@@ -227,7 +227,7 @@ impl Case {
 impl Machine for Case {
     ghost use Rattle.case_core.specs.Ages.{age, weight};
     ghost use Rattle.case_core.specs.Kept.{KeptIn};
-ghost use Rattle.case_core.specs.Machine.{next_case};
+    ghost use Rattle.case_core.specs.Machine.{next_case};
     ghost use Rattle.case_core.specs.Shown.{shown};
 
     type Event = Event;
