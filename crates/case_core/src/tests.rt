@@ -70,8 +70,8 @@ fn schema_of(alloc: Global, body: Items) -> Schema {
     Schema::new(alloc, 0, 1, body)
 }
 
-fn version_of(alloc: Global, schema: &Schema) -> Option<Version> {
-    first(alloc, 7, schema).ok()
+fn version_of(alloc: Global, schema: Result<Schema, NoMemory>) -> Option<Version> {
+    first(alloc, 7, &schema.ok()?).ok()
 }
 
 // ---- events
@@ -145,30 +145,49 @@ fn is_same(reply: &Reply, other: &Reply) -> bool {
     }
 }
 
+// What a case answered, as one letter.
+fn letter_of(reply: &Reply) -> u8 {
+    match reply {
+        Reply::Created => b'c',
+        Reply::Started(_) => b's',
+        Reply::Ended => b'e',
+        Reply::Repeated => b'r',
+        Reply::Changed => b'g',
+        Reply::Migrated(_) => b'm',
+        Reply::NotReady(_) => b'n',
+        Reply::Blocked(_, _) => b'b',
+        Reply::NotNewer(_) => b'o',
+        Reply::OtherType => b't',
+        _ => b'?',
+    }
+}
+
+fn answer(alloc: Global, case: &mut Case, event: &Event) -> u8 {
+    match tell(alloc, case, event) {
+        Some(reply) => letter_of(&reply),
+        None => b'-',
+    }
+}
+
 // Does the node from start to end, with no choice.
 fn work(alloc: Global, case: &mut Case, node: u32) -> bool {
-    let started = tell(alloc, case, &start(alloc, node));
-    let ended = tell(alloc, case, &end(alloc, node, None));
-    matches!(
-        (started, ended),
-        (Some(Reply::Started(_)), Some(Reply::Ended))
-    )
+    answer(alloc, case, &start(alloc, node)) == b's'
+        && answer(alloc, case, &end(alloc, node, None)) == b'e'
 }
 
-// Does a split or a loop's end with this choice.
-fn choose(alloc: Global, case: &mut Case, node: u32, choice: u16) -> bool {
-    let started = tell(alloc, case, &start(alloc, node));
-    let ended = tell(alloc, case, &end(alloc, node, Some(choice)));
-    matches!(started, Some(Reply::Started(_)))
-        && matches!(ended, Some(Reply::Ended | Reply::Repeated))
+// Does a split or a loop's end with this choice, and answers what its end does.
+fn choose(alloc: Global, case: &mut Case, node: u32, choice: u16) -> u8 {
+    answer(alloc, case, &start(alloc, node));
+    answer(alloc, case, &end(alloc, node, Some(choice)))
 }
 
-fn created(alloc: Global, version: &Version) -> Option<Case> {
+fn case_on(alloc: Global, schema: Result<Schema, NoMemory>) -> Option<Case> {
+    let version = version_of(alloc, schema)?;
     let mut case = Case::new(7);
-    let reply = tell(alloc, &mut case, &Event::Create(version.share().ok()?));
-    match reply {
-        Some(Reply::Created) => Some(case),
-        _ => None,
+    if answer(alloc, &mut case, &Event::Create(version)) == b'c' {
+        Some(case)
+    } else {
+        None
     }
 }
 
@@ -222,9 +241,8 @@ fn choice_schema(alloc: Global) -> Result<Schema, NoMemory> {
 #[test]
 fn branch_not_chosen_is_skipped(rt: HostRuntime) -> Result<(), Fail> {
     let alloc = rt.alloc();
-    let version = version_of(alloc, &choice_schema(alloc)?).ok_or("a version")?;
-    let mut case = created(alloc, &version).ok_or("a case")?;
-    assert!(rt; choose(alloc, &mut case, 2, 0));
+    let mut case = case_on(alloc, choice_schema(alloc)).ok_or("a case")?;
+    assert_eq!(rt; choose(alloc, &mut case, 2, 0), b'e');
     assert!(rt; are(&case, &[0, 2, 3], State::Completed));
     assert!(rt; are(&case, &[4], State::Skipped));
     assert!(rt; are(&case, &[5], State::Activated));
@@ -249,11 +267,9 @@ fn waiting_schema(alloc: Global) -> Result<Schema, NoMemory> {
 #[test]
 fn skipped_source_lets_its_target_go(rt: HostRuntime) -> Result<(), Fail> {
     let alloc = rt.alloc();
-    let version = version_of(alloc, &waiting_schema(alloc)?).ok_or("a version")?;
-    let mut case = created(alloc, &version).ok_or("a case")?;
-    let early = tell(alloc, &mut case, &start(alloc, 7));
-    assert!(rt; matches!(early, Some(Reply::NotReady(State::NotActivated))));
-    assert!(rt; choose(alloc, &mut case, 4, 0));
+    let mut case = case_on(alloc, waiting_schema(alloc)).ok_or("a case")?;
+    assert_eq!(rt; answer(alloc, &mut case, &start(alloc, 7)), b'n');
+    assert_eq!(rt; choose(alloc, &mut case, 4, 0), b'e');
     assert!(rt; are(&case, &[0, 2, 4, 5], State::Completed));
     assert!(rt; are(&case, &[6], State::Skipped));
     assert!(rt; are(&case, &[7], State::Activated));
@@ -282,9 +298,9 @@ fn writing_schema(alloc: Global) -> Result<Schema, NoMemory> {
     Ok(schema)
 }
 
-// What the start of node 4 read, where it was started.
-fn first_read(reply: Option<Reply>) -> Option<Option<i64>> {
-    match reply {
+// What the start of node 4 reads, where it is started.
+fn first_read(alloc: Global, case: &mut Case) -> Option<Option<i64>> {
+    match tell(alloc, case, &start(alloc, 4)) {
         Some(Reply::Started(reads)) => match reads.get(0) {
             Some((0, Some(Value::Int(number)))) => Some(Some(*number)),
             Some((0, None)) => Some(None),
@@ -294,39 +310,33 @@ fn first_read(reply: Option<Reply>) -> Option<Option<i64>> {
     }
 }
 
-fn end_with_seven(alloc: Global) -> Result<Event, NoMemory> {
-    Ok(Event::End {
+// Ends node 7 with the value 7.
+fn end_with_seven(alloc: Global, case: &mut Case) -> Option<u8> {
+    let event = Event::End {
         node: 7,
         user: ANN,
-        writes: Writes::of_one(alloc, (0, Value::Int(7)))?,
+        writes: Writes::of_one(alloc, (0, Value::Int(7))).ok()?,
         choice: None,
-    })
+    };
+    Some(answer(alloc, case, &event))
+}
+
+// The first round of the loop: nothing is read, 7 is written, and the loop goes on.
+fn one_round(alloc: Global, case: &mut Case) -> bool {
+    first_read(alloc, case) == Some(None)
+        && answer(alloc, case, &end(alloc, 4, None)) == b'e'
+        && choose(alloc, case, 5, 1) == b'e'
+        && answer(alloc, case, &start(alloc, 7)) == b's'
+        && end_with_seven(alloc, case) == Some(b'e')
+        && choose(alloc, case, 3, 1) == b'r'
 }
 
 #[test]
 fn writes_outlive_the_cut(rt: HostRuntime) -> Result<(), Fail> {
     let alloc = rt.alloc();
-    let version = version_of(alloc, &writing_schema(alloc)?).ok_or("a version")?;
-    let mut case = created(alloc, &version).ok_or("a case")?;
-    let empty = tell(alloc, &mut case, &start(alloc, 4));
-    assert_eq!(rt; first_read(empty), Some(None));
-    assert!(rt;
-        matches!(
-            tell(alloc, &mut case, &end(alloc, 4, None)),
-            Some(Reply::Ended)
-        )
-    );
-    assert!(rt; choose(alloc, &mut case, 5, 1));
-    tell(alloc, &mut case, &start(alloc, 7));
-    assert!(rt;
-        matches!(
-            tell(alloc, &mut case, &end_with_seven(alloc)?),
-            Some(Reply::Ended)
-        )
-    );
-    assert!(rt; choose(alloc, &mut case, 3, 1));
-    let filled = tell(alloc, &mut case, &start(alloc, 4));
-    assert_eq!(rt; first_read(filled), Some(Some(7)));
+    let mut case = case_on(alloc, writing_schema(alloc)).ok_or("a case")?;
+    assert!(rt; one_round(alloc, &mut case));
+    assert_eq!(rt; first_read(alloc, &mut case), Some(Some(7)));
     assert!(rt; trail_is(&case, &[(6, b'W'), (8, b'A'), (9, b'S')]));
     assert_eq!(rt; case.holder(4), Some(ANN));
     Ok(())
@@ -351,12 +361,10 @@ fn skipping_schema(alloc: Global) -> Result<Schema, NoMemory> {
 #[test]
 fn loop_repeats_beside_what_was_skipped(rt: HostRuntime) -> Result<(), Fail> {
     let alloc = rt.alloc();
-    let version = version_of(alloc, &skipping_schema(alloc)?).ok_or("a version")?;
-    let mut case = created(alloc, &version).ok_or("a case")?;
-    assert!(rt; choose(alloc, &mut case, 8, 1));
-    assert!(rt; work(alloc, &mut case, 11));
-    assert!(rt; work(alloc, &mut case, 6));
-    assert!(rt; choose(alloc, &mut case, 5, 1));
+    let mut case = case_on(alloc, skipping_schema(alloc)).ok_or("a case")?;
+    assert_eq!(rt; choose(alloc, &mut case, 8, 1), b'e');
+    assert!(rt; work(alloc, &mut case, 11) && work(alloc, &mut case, 6));
+    assert_eq!(rt; choose(alloc, &mut case, 5, 1), b'r');
     assert!(rt; are(&case, &[10], State::Skipped));
     assert!(rt; are(&case, &[4, 9, 11], State::Completed));
     assert!(rt; are(&case, &[6], State::Activated));
@@ -383,23 +391,23 @@ fn insert(node: u32, after: u32) -> Op {
     }
 }
 
+fn inserts(alloc: Global, case: &mut Case, node: u32, after: u32) -> u8 {
+    match change(alloc, insert(node, after)) {
+        Ok(event) => answer(alloc, case, &event),
+        Err(_) => b'-',
+    }
+}
+
 #[test]
 fn change_before_what_began(rt: HostRuntime) -> Result<(), Fail> {
     let alloc = rt.alloc();
-    let version = version_of(alloc, &pair_schema(alloc)?).ok_or("a version")?;
-    let mut case = created(alloc, &version).ok_or("a case")?;
+    let mut case = case_on(alloc, pair_schema(alloc)).ok_or("a case")?;
     assert!(rt; work(alloc, &mut case, 2));
-    assert!(rt;
-        matches!(
-            tell(alloc, &mut case, &change(alloc, insert(4, 2))?),
-            Some(Reply::Changed)
-        )
-    );
+    assert_eq!(rt; inserts(alloc, &mut case, 4, 2), b'g');
     assert!(rt; are(&case, &[4], State::Activated));
     assert!(rt; work(alloc, &mut case, 4));
-    tell(alloc, &mut case, &start(alloc, 3));
-    let late = tell(alloc, &mut case, &change(alloc, insert(5, 4))?);
-    assert!(rt; matches!(late, Some(Reply::Blocked(5, Entry::Start { node: 3, .. }))));
+    assert_eq!(rt; answer(alloc, &mut case, &start(alloc, 3)), b's');
+    assert_eq!(rt; inserts(alloc, &mut case, 5, 4), b'b');
     assert_eq!(rt; case.own(), 1);
     Ok(())
 }
@@ -427,37 +435,64 @@ fn exchange_schema(alloc: Global) -> Result<Schema, NoMemory> {
     Ok(schema_of(alloc, body))
 }
 
+// The position and the node of the start that blocks a change.
+fn blocked_start(reply: Option<Reply>) -> Option<(u32, u32)> {
+    match reply {
+        Some(Reply::Blocked(position, Entry::Start { node, .. })) => Some((position, node)),
+        _ => None,
+    }
+}
+
+fn moves_blocked_at(alloc: Global, case: &mut Case) -> Option<(u32, u32)> {
+    let moves = two_moves(alloc).ok()?;
+    blocked_start(tell(alloc, case, &moves))
+}
+
 // A node that was done would be skipped on the new schema: the first entry that fails is its own start.
 #[test]
 fn skip_goes_before_an_end(rt: HostRuntime) -> Result<(), Fail> {
     let alloc = rt.alloc();
-    let version = version_of(alloc, &exchange_schema(alloc)?).ok_or("a version")?;
-    let mut case = created(alloc, &version).ok_or("a case")?;
-    assert!(rt; choose(alloc, &mut case, 2, 0));
-    assert!(rt; work(alloc, &mut case, 6));
-    assert!(rt; work(alloc, &mut case, 7));
-    let reply = tell(alloc, &mut case, &two_moves(alloc)?);
-    assert!(rt; matches!(reply, Some(Reply::Blocked(5, Entry::Start { node: 7, .. }))));
+    let mut case = case_on(alloc, exchange_schema(alloc)).ok_or("a case")?;
+    assert_eq!(rt; choose(alloc, &mut case, 2, 0), b'e');
+    assert!(rt; work(alloc, &mut case, 6) && work(alloc, &mut case, 7));
+    assert_eq!(rt; moves_blocked_at(alloc, &mut case), Some((5, 7)));
+    Ok(())
+}
+
+fn newer_version(alloc: Global, version: &Version) -> Option<Version> {
+    let ops = Ops::of_one(alloc, insert(4, 2)).ok()?;
+    evolve(alloc, version, &ops).ok()
+}
+
+fn migrates(alloc: Global, case: &mut Case, version: &Version) -> u8 {
+    match version.share() {
+        Ok(version) => answer(alloc, case, &Event::Migrate(version)),
+        Err(_) => b'-',
+    }
+}
+
+#[test]
+fn case_migrates(rt: HostRuntime) -> Result<(), Fail> {
+    let alloc = rt.alloc();
+    let version = version_of(alloc, pair_schema(alloc)).ok_or("a version")?;
+    let newer = newer_version(alloc, &version).ok_or("a version")?;
+    let mut case = case_on(alloc, pair_schema(alloc)).ok_or("a case")?;
+    assert_eq!(rt; migrates(alloc, &mut case, &version), b'o');
+    assert_eq!(rt; migrates(alloc, &mut case, &newer), b'm');
+    assert!(rt; are(&case, &[2], State::Activated));
     Ok(())
 }
 
 #[test]
-fn migration_and_other_types(rt: HostRuntime) -> Result<(), Fail> {
+fn version_of_another_type(rt: HostRuntime) -> Result<(), Fail> {
     let alloc = rt.alloc();
-    let version = version_of(alloc, &pair_schema(alloc)?).ok_or("a version")?;
-    let newer = evolve(alloc, &version, &Ops::of_one(alloc, insert(4, 2))?)
+    let other = first(alloc, 8, &pair_schema(alloc)?)
         .ok()
         .ok_or("a version")?;
-    let mut case = created(alloc, &version).ok_or("a case")?;
-    assert!(rt; work(alloc, &mut case, 2));
-    let same = tell(alloc, &mut case, &Event::Migrate(version.share()?));
-    assert!(rt; matches!(same, Some(Reply::NotNewer(1))));
-    let moved = tell(alloc, &mut case, &Event::Migrate(newer.share()?));
-    assert!(rt; matches!(moved, Some(Reply::Migrated(2))));
-    assert!(rt; are(&case, &[4], State::Activated));
-    let mut stranger = Case::new(8);
-    let other = tell(alloc, &mut stranger, &Event::Create(version.share()?));
-    assert!(rt; matches!(other, Some(Reply::OtherType)));
+    let mut case = case_on(alloc, pair_schema(alloc)).ok_or("a case")?;
+    assert_eq!(rt; migrates(alloc, &mut case, &other), b't');
+    let mut stranger = Case::new(7);
+    assert_eq!(rt; answer(alloc, &mut stranger, &Event::Create(other)), b't');
     Ok(())
 }
 
