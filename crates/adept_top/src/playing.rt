@@ -1,6 +1,5 @@
 // The command `play`.
 ghost use Rattle.std.specs.Prelude.{◌≡◌, ◌≢◌, ◌⊎◌, ◌+◌, ◌≤◌, length, IsTrue, IfSome, IsSomeAnd, Some, None};
-ghost use Rattle.wsm_sound.specs.Ordered.{IsInOrder};
 ghost use Rattle.std.specs.Io.KnownBytes.{Appends, IsAtEnd};
 ghost use Rattle.adept_io.specs.Counts.{Rose};
 ghost use Rattle.adept_io.specs.Read.{ConsumesMany};
@@ -10,6 +9,7 @@ ghost use Rattle.process_text.specs.Meaning.{file};
 ghost use Rattle.process_text.specs.Refusals.{early};
 ghost use Rattle.report_text.specs.Report.{text};
 ghost use Rattle.report_text.specs.Serial.{serial};
+ghost use Rattle.wsm_schema.specs.Flat.{cards_of};
 
 use crate::outcomes::Outcome;
 use crate::serial::serial_run;
@@ -67,7 +67,7 @@ fn play_bytes<K: Sink>(alloc: Global, bytes: &[u8], sink: &mut K) -> Outcome
 
 // Works the lines of a file and writes the report.
 fn play_file<K: Sink>(alloc: Global, file: &File, sink: &mut K) -> Outcome
-    requires in_order { IsInOrder file.now.kind.schema }
+    requires small { length (cards_of file.now.kind.schema) ≤ 1024 }
     requires within { length file.now.lines ≤ 60000 }
     ensures done { result.status ≡ 0 → (result.run ≡ Some (serial file.now)) × Appends (K.written sink.old) (K.written sink.new) (text file.now (serial file.now)) }
     ensures unwritten { result.status ≡ 4 → Rose (K.faults sink.old) (K.faults sink.new) }

@@ -2,13 +2,14 @@
 ghost use Rattle.std.specs.Prelude.{◌≡◌, ◌+◌, ◌≤◌, length, IfOk, OnOk};
 ghost use Rattle.case_core.specs.Ages.{age, weight};
 ghost use Rattle.report_text.specs.Serial.{acted, actor, call_case, call_kind, opening, worked, serial};
-ghost use Rattle.type_core.specs.Machine.{DefinesInOrder, next_kind};
-ghost use Rattle.wsm_sound.specs.Ordered.{IsInOrder};
+ghost use Rattle.type_core.specs.Machine.{next_kind, weight as kind_weight};
+ghost use Rattle.wsm_schema.specs.Flat.{cards_of};
 
 use case_core::{Case, Event};
 use process_text::{Act, File, Line};
 use report_text::{CaseEntry, CaseJournal, ClosedCase, ClosedKind, KindEntry, KindJournal, Run};
 use std::alloc::Global;
+use turn_cell::Machine;
 use type_core::{Kind, KindEvent, KindReply};
 use wsm_schema::{NoMemory, RoleList, Writes};
 
@@ -20,7 +21,7 @@ const ACTOR: u32 = 1;
 
 /// The run that makes the calls of all lines in file order, behind the definition of the type.
 pub fn serial_run(alloc: Global, file: &File) -> Result<Run, NoMemory>
-    requires in_order { IsInOrder file.now.kind.schema }
+    requires small { length (cards_of file.now.kind.schema) ≤ 1024 }
     requires within { length file.now.lines ≤ 60000 }
     ensures { IfOk result (λ run. run ≡ serial file.now) }
 {
@@ -33,7 +34,7 @@ pub fn serial_run(alloc: Global, file: &File) -> Result<Run, NoMemory>
 
 // The type with its definition, and the case before any line.
 fn opening(alloc: Global, file: &File) -> Result<Run, NoMemory>
-    requires { IsInOrder file.now.kind.schema }
+    requires { length (cards_of file.now.kind.schema) ≤ 1024 }
     ensures { IfOk result (λ run. run ≡ opening file.now) }
 {
     let mut kind = ClosedKind {
@@ -87,7 +88,12 @@ fn create(alloc: Global, run: &mut Run) -> Result<(), NoMemory>
 {
     match call_kind(alloc, &mut run.kind, ACTOR, KindEvent::Newest)? {
         KindReply::Is(version) => call_case(alloc, &mut run.case, Event::Create(version)),
-        KindReply::Defined | KindReply::Already | KindReply::NoType => Ok(()),
+        KindReply::Defined
+        | KindReply::Installed(_)
+        | KindReply::Already
+        | KindReply::NoType
+        | KindReply::VersionLimit
+        | KindReply::Unsound(_) => Ok(()),
     }
 }
 
@@ -98,7 +104,7 @@ fn call_kind(
     caller: u32,
     event: KindEvent,
 ) -> Result<KindReply, NoMemory>
-    requires { DefinesInOrder event }
+    requires { kind_weight event ≤ 4000000000 }
     ensures kind { IfOk result (λ reply. kind.new ≡ call_kind caller event kind.old) }
     ensures reply { IfOk result (λ reply. reply ≡ (next_kind kind.old.machine event).1) }
 {

@@ -1,9 +1,9 @@
 // Reading a process file.
 ghost use Rattle.std.specs.Prelude.{◌≡◌, ◌≤◌, length, IfOk, IfErr, Some};
-ghost use Rattle.wsm_sound.specs.Ordered.{IsInOrder};
 ghost use Rattle.process_text.specs.Lines.{lines_of};
 ghost use Rattle.process_text.specs.Meaning.{file, read_lines, opening};
 ghost use Rattle.process_text.specs.Refusals.{Refuses, early};
+ghost use Rattle.wsm_schema.specs.Flat.{cards_of};
 
 use crate::files::File;
 use crate::refusals::{FileRefusal, Refused, Why};
@@ -50,7 +50,7 @@ fn early(alloc: Global) -> Result<Refused, NoMemory>
 pub fn read_file(alloc: Global, bytes: &[u8]) -> Result<File, FileRefusal>
     requires { length bytes.now ≤ 16777216 }
     ensures file { IfOk result (λ read. file bytes.now ≡ Some read) }
-    ensures in_order { IfOk result (λ read. IsInOrder read.kind.schema) }
+    ensures small { IfOk result (λ read. length (cards_of read.kind.schema) ≤ 1024) }
     ensures within { IfOk result (λ read. length read.lines ≤ 60000) }
     ensures refused { IfErr result (λ refusal. Refuses bytes.now refusal) }
 {

@@ -1,18 +1,39 @@
 -- Reports, computed from the definitions alone: from the bytes of a process file to the bytes of its report.
-use Rattle.std.specs.Prelude.{◌≡◌, pos, negsuc, List, [], ◌∷◌, ◌++◌, Option, Some, None, refl, codes}
+use Rattle.std.specs.Prelude.{◌≡◌, pos, negsuc, List, [], ◌∷◌, ◌++◌, flat_map, Option, Some, None, refl, codes}
 use Rattle.std.specs.Fmt.{digits}
+use Rattle.case_core.specs.CaseModel.{LiveModel}
 use Rattle.case_core.specs.declared.events.Event.TheVariants as event
 use Rattle.case_core.specs.declared.replies.Reply.TheVariants as reply
 use Rattle.process_text.specs.Lines.{Bytes}
 use Rattle.process_text.specs.Meaning.{file}
 use Rattle.process_text.specs.declared.files.File.{File}
-use Rattle.report_text.specs.Journals.{case_line, reply_text}
-use Rattle.report_text.specs.Report.{text}
+use Rattle.report_text.specs.Ends.{state_line}
+use Rattle.report_text.specs.Faults.{fault_text}
+use Rattle.report_text.specs.Journals.{case_line, kind_line, reply_text}
+use Rattle.report_text.specs.Migrations.{has_fate}
+use Rattle.report_text.specs.Names.{name_text}
+use Rattle.report_text.specs.Report.{migration_totals, text}
 use Rattle.report_text.specs.Serial.{serial}
 use Rattle.report_text.specs.Words.{value_text}
 use Rattle.wsm_lists.specs.declared.values.Value.TheVariants as value
+use Rattle.type_core.specs.declared.events.KindEvent.TheVariants as kind_event
+use Rattle.type_core.specs.declared.replies.KindReply.TheVariants as kind_reply
+use Rattle.wsm_foot.specs.declared.names.Name.{Name}
+use Rattle.wsm_foot.specs.declared.names.Name.TheVariants as name
+use Rattle.wsm_ops.specs.declared.faults.OpWhy.{OpWhy}
+use Rattle.wsm_ops.specs.declared.faults.OpWhy.TheVariants as why
+use Rattle.wsm_ops.specs.declared.operations.Op.TheVariants as op
 use Rattle.wsm_schema.specs.SchemaModel.{plain}
+use Rattle.wsm_schema.specs.Trail.{no_trail}
 use Rattle.wsm_schema.specs.Tree.{nothing}
+use Rattle.wsm_schema.specs.declared.entries.Entry.TheVariants as entry
+use Rattle.wsm_schema.specs.declared.faults.BlockFault.TheVariants as block
+use Rattle.wsm_schema.specs.declared.faults.DataFault.TheVariants as on_data
+use Rattle.wsm_schema.specs.declared.faults.LimitKind.TheVariants as limit
+use Rattle.wsm_sound.specs.Faults.{fault_of}
+use Rattle.wsm_sound.specs.VersionModel.{VersionModel}
+use Rattle.wsm_sound.specs.declared.faults.Fault.{Fault}
+use Rattle.wsm_sound.specs.declared.faults.Fault.TheVariants as fault
 
 -- the report of a file's serial run
 abbrev report : Option File → Bytes
@@ -20,26 +41,26 @@ report None = []
 report (Some f) = text f (serial f)
 
 pub sequence_of_two : report (file (codes "adept 1\ntype t\nact A\nact B\nend\nactor ann\ncase c t\nphase\nann create c\nann start c A\nann end c A\nann start c B\nann end c B\n")) ≡ codes "adept report 1\ntype t\n1 - define -> defined\n2 ann newest -> is 1\ncase c t\n1 ann create 1 -> created\n2 ann start A -> started\n3 ann end A -> ended\n4 ann start B -> started\n5 ann end B -> ended\nstate 1 finished own=0\nmarking start=C A=C B=C finish=C\nvalues\nitems\nsummary cases=1 finished=1 entries=5 migrated=0 blocked=0 overlap=0\n"
-unfolding digits
+unfolding digits fault_of has_fate
 sequence_of_two = refl
 
 pub type_without_items : report (file (codes "adept 1\ntype t\nend\nactor ann\ncase c t\nphase\nann create c\n")) ≡ codes "adept report 1\ntype t\n1 - define -> defined\n2 ann newest -> is 1\ncase c t\n1 ann create 1 -> created\nstate 1 finished own=0\nmarking start=C finish=C\nvalues\nitems\nsummary cases=1 finished=1 entries=1 migrated=0 blocked=0 overlap=0\n"
-unfolding digits
+unfolding digits fault_of has_fate
 type_without_items = refl
 
 -- each refusal, and a node that is held
 pub refusals : report (file (codes "adept 1\ntype t\nact A\nact B\nend\nactor ann\ncase c t\nphase\nann start c A\nann create c\nann create c\nann start c B\nann end c A\nann start c Z\nann start c A\nann start c A\nann end c finish\n")) ≡ codes "adept report 1\ntype t\n1 - define -> defined\n2 ann newest -> is 1\n3 ann newest -> is 1\ncase c t\n1 ann start A -> no-case\n2 ann create 1 -> created\n3 ann create 1 -> already\n4 ann start B -> not-ready N\n5 ann end A -> not-running A\n6 ann start Z -> no-node\n7 ann start A -> started\n8 ann start A -> not-ready R\n9 ann end finish -> not-running N\nstate 1 running own=0\nmarking start=C A=R B=N finish=N\nvalues\nitems A:ann\nsummary cases=1 finished=0 entries=9 migrated=0 blocked=0 overlap=0\n"
-unfolding digits
+unfolding digits fault_of has_fate
 refusals = refl
 
 -- a node that is offered to everybody
 pub offered : report (file (codes "adept 1\ntype t\nact A\nact B\nend\nactor ann\ncase c t\nphase\nann create c\n")) ≡ codes "adept report 1\ntype t\n1 - define -> defined\n2 ann newest -> is 1\ncase c t\n1 ann create 1 -> created\nstate 1 running own=0\nmarking start=C A=A B=N finish=N\nvalues\nitems A@0\nsummary cases=1 finished=0 entries=1 migrated=0 blocked=0 overlap=0\n"
-unfolding digits
+unfolding digits fault_of has_fate
 offered = refl
 
 -- a case that nobody called
 pub not_created : report (file (codes "adept 1\ntype t\nact A\nact B\nend\nactor ann\ncase c t\nphase\n")) ≡ codes "adept report 1\ntype t\n1 - define -> defined\ncase c t\nstate none\nsummary cases=1 finished=0 entries=0 migrated=0 blocked=0 overlap=0\n"
-unfolding digits
+unfolding digits fault_of has_fate
 not_created = refl
 
 -- ---- what no file of this form reaches: values, choices, and refusals with data
@@ -60,3 +81,103 @@ start_with_reads = refl
 pub no_branch : reply_text a_file (reply.NoBranch None) ++ reply_text a_file (reply.NotHolder 1) ++ reply_text a_file (reply.NotAllowed 3) ≡ codes "no-branch -not-holder annnot-allowed 3"
 unfolding digits
 no_branch = refl
+
+-- ---- changes, versions and migrations
+abbrev version_2 : VersionModel
+version_2 = record { type_no = 0; number = 2; schema = plain 0 1 nothing; lineage = [] ∷ [] }
+
+abbrev case_lines : List Bytes
+case_lines =
+    case_line a_file 1 (record { caller = 1; event = event.Change (op.DeleteActivity 2 ∷ op.InsertSync 2 9 ∷ []); reply = reply.Changed })
+    ∷ case_line a_file 2 (record { caller = 1; event = event.Change []; reply = reply.Unsound (fault.Op (record { index = 2; why = why.NoSync })) })
+    ∷ case_line a_file 3 (record { caller = 1; event = event.Migrate version_2; reply = reply.Blocked 3 (entry.Start 2 1 []) })
+    ∷ case_line a_file 4 (record { caller = 0; event = event.Migrate version_2; reply = reply.Migrated 2 })
+    ∷ case_line a_file 5 (record { caller = 1; event = event.Migrate version_2; reply = reply.NotNewer 2 })
+    ∷ case_line a_file 6 (record { caller = 1; event = event.Migrate version_2; reply = reply.Overlap (name.GapAfter 2) })
+    ∷ case_line a_file 7 (record { caller = 1; event = event.Migrate version_2; reply = reply.Finished })
+    ∷ []
+
+pub changes_and_migrations : flat_map (λ l. l) case_lines ≡ codes "1 ann change 2 -> changed\n2 ann change 0 -> unsound op 2 no-sync\n3 ann migrate 2 -> blocked 3 start A\n4 - migrate 2 -> migrated 2\n5 ann migrate 2 -> not-newer 2\n6 ann migrate 2 -> overlap gap-after A\n7 ann migrate 2 -> finished\n"
+unfolding digits
+changes_and_migrations = refl
+
+pub blocked_entries : reply_text a_file (reply.Blocked 4 (entry.End 2 [] None)) ++ reply_text a_file (reply.Blocked 5 (entry.Again 9 [])) ++ reply_text a_file (reply.Blocked 6 (entry.Wrote [])) ≡ codes "blocked 4 end Ablocked 5 again 9blocked 6 wrote"
+unfolding digits
+blocked_entries = refl
+
+abbrev kind_lines : List Bytes
+kind_lines =
+    kind_line a_file 1 (record { caller = 0; event = kind_event.Define (plain 0 1 nothing); reply = kind_reply.Unsound (fault.Block (block.Limit limit.Depth)) })
+    ∷ kind_line a_file 2 (record { caller = 1; event = kind_event.Install (op.DeleteActivity 2 ∷ []); reply = kind_reply.Installed 2 })
+    ∷ kind_line a_file 3 (record { caller = 1; event = kind_event.Install []; reply = kind_reply.VersionLimit })
+    ∷ kind_line a_file 4 (record { caller = 1; event = kind_event.Newest; reply = kind_reply.Is version_2 })
+    ∷ []
+
+pub versions : flat_map (λ l. l) kind_lines ≡ codes "1 - define -> unsound limit depth\n2 ann install 1 -> installed 2\n3 ann install 0 -> version-limit\n4 ann newest -> is 2\n"
+unfolding digits
+versions = refl
+
+abbrev line_of : (Fault → Bytes) → Fault → Bytes
+line_of show x = show x ++ codes "\n"
+
+abbrev op_fault : OpWhy → Fault
+op_fault w = fault.Op (record { index = 12; why = w })
+
+abbrev op_faults : List Fault
+op_faults =
+    op_fault (why.NoNode 2) ∷ op_fault (why.NodeThere 0) ∷ op_fault (why.WrongKind 1) ∷ op_fault (why.SelfTarget 9)
+    ∷ op_fault why.NoSync ∷ op_fault why.SyncThere ∷ op_fault why.NoEdge ∷ op_fault why.EdgeThere ∷ op_fault why.ElementThere ∷ []
+
+pub faults_of_operations : flat_map (line_of (fault_text a_file)) op_faults ≡ codes "op 12 no-node A\nop 12 node-there start\nop 12 wrong-kind finish\nop 12 self-target 9\nop 12 no-sync\nop 12 sync-there\nop 12 no-edge\nop 12 edge-there\nop 12 element-there\n"
+unfolding digits
+faults_of_operations = refl
+
+abbrev limits : List Fault
+limits =
+    fault.Block (block.Limit limit.Nodes) ∷ fault.Block (block.Limit limit.Depth) ∷ fault.Block (block.Limit limit.Syncs)
+    ∷ fault.Block (block.Limit limit.Elements) ∷ fault.Block (block.Limit limit.Reads) ∷ fault.Block (block.Limit limit.Writes) ∷ []
+
+pub faults_of_limits : flat_map (line_of (fault_text a_file)) limits ≡ codes "limit nodes\nlimit depth\nlimit syncs\nlimit elements\nlimit reads\nlimit writes\n"
+faults_of_limits = refl
+
+abbrev block_faults : List Fault
+block_faults =
+    fault.Block (block.Twice 2) ∷ fault.Block (block.FewBranches 9) ∷ fault.Block (block.CodeTwice 2 65535)
+    ∷ fault.Block (block.SyncEnd 2 0) ∷ fault.Block (block.SyncPlace 2 9) ∷ fault.Block (block.SyncLoop 9 2) ∷ fault.Block (block.SyncCycle 2 1) ∷ []
+
+pub faults_of_blocks : flat_map (line_of (fault_text a_file)) block_faults ≡ codes "twice A\nfew-branches 9\ncode-twice A 65535\nsync-end A start\nsync-place A 9\nsync-loop 9 A\nsync-cycle A finish\n"
+unfolding digits
+faults_of_blocks = refl
+
+abbrev data_faults : List Fault
+data_faults = fault.Data (on_data.Unknown 2 7) ∷ fault.Data (on_data.Missing 9 0) ∷ fault.Data (on_data.ParallelWrite 2 9 3) ∷ []
+
+pub faults_of_data : flat_map (line_of (fault_text a_file)) data_faults ≡ codes "unknown A 7\nmissing 9 0\nparallel-write A 9 3\n"
+unfolding digits
+faults_of_data = refl
+
+abbrev overlap_line : Name → Bytes
+overlap_line n = name_text a_file n ++ codes "\n"
+
+pub names : flat_map overlap_line (name.Node 2 ∷ name.GapAfter 0 ∷ name.GapHead 2 1 ∷ name.Sync 2 9 ∷ name.Read 2 7 ∷ name.Write 9 0 ∷ name.Element 7 ∷ name.Role 2 ∷ []) ≡ codes "node A\ngap-after start\ngap-head A 1\nsync A 9\nread A 7\nwrite 9 0\nelement 7\nrole A\n"
+unfolding digits
+names = refl
+
+-- a change that is blocked is no migration
+pub totals_of_migrations : migration_totals (
+    record { caller = 1; event = event.Migrate version_2; reply = reply.Migrated 2 }
+    ∷ record { caller = 1; event = event.Change []; reply = reply.Blocked 3 (entry.Start 2 1 []) }
+    ∷ record { caller = 1; event = event.Migrate version_2; reply = reply.Overlap (name.Node 2) }
+    ∷ record { caller = 1; event = event.Migrate version_2; reply = reply.Blocked 3 (entry.Start 2 1 []) }
+    ∷ record { caller = 1; event = event.Migrate version_2; reply = reply.Migrated 2 }
+    ∷ record { caller = 1; event = event.Migrate version_2; reply = reply.Finished }
+    ∷ []) ≡ codes " migrated=2 blocked=1 overlap=1\n"
+unfolding digits has_fate
+totals_of_migrations = refl
+
+abbrev changed_case : LiveModel
+changed_case = record { base = version_2; own = op.DeleteActivity 2 ∷ op.InsertSync 2 9 ∷ []; schema = plain 0 1 nothing; trail = no_trail }
+
+pub own_operations : state_line changed_case ≡ codes "state 2 finished own=2\n"
+unfolding digits
+own_operations = refl

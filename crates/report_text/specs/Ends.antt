@@ -1,5 +1,5 @@
 -- How a case ended.
-use Rattle.std.specs.Prelude.{ℕ, Bool, List, [], ◌∷◌, ◌++◌, flat_map, Option, Some, None, if◌then◌else◌, codes, decimal}
+use Rattle.std.specs.Prelude.{ℕ, Bool, [], ◌++◌, flat_map, length, Option, Some, None, if◌then◌else◌, codes, decimal}
 use Rattle.case_core.specs.CaseModel.{LiveModel, state_of, value_now}
 use Rattle.case_core.specs.Shown.{is_finished, item_of, items_of}
 use Rattle.case_core.specs.declared.items.Item.{Item}
@@ -16,9 +16,9 @@ use Rattle.wsm_schema.specs.declared.states.Spot.{Spot}
 abbrev pub progress : Bool → Bytes
 progress finished = if finished then codes " finished" else codes " running"
 
--- the version that the case stands on, and whether it is finished; as yet no case has operations of its own
+-- the version that the case stands on, whether it is finished, and how many operations of its own it has
 abbrev pub state_line : LiveModel → Bytes
-state_line l = codes "state " ++ (decimal l.base.number ++ (progress (is_finished l) ++ codes " own=0\n"))
+state_line l = codes "state " ++ (decimal l.base.number ++ (progress (is_finished l) ++ (codes " own=" ++ (decimal (length l.own) ++ codes "\n"))))
 
 -- the state of each node, in document order
 abbrev pub mark_text : File → LiveModel → Card → Bytes

@@ -1,5 +1,8 @@
 pub mod Serial
 pub mod Words
+pub mod Faults
+pub mod Names
 pub mod Journals
 pub mod Ends
+pub mod Migrations
 pub mod Report

@@ -1,5 +1,5 @@
 -- The calls of a file's lines, and the run that makes them in file order.
-use Rattle.std.specs.Prelude.{ℕ, List, [], ◌∷◌, ◌++◌, fold, None}
+use Rattle.std.specs.Prelude.{ℕ, [], ◌∷◌, ◌++◌, fold, None}
 use Rattle.case_core.specs.CaseModel.{not_created}
 use Rattle.case_core.specs.Machine.{next_case}
 use Rattle.case_core.specs.declared.events.Event.{Event}

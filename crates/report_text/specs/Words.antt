@@ -1,5 +1,5 @@
 -- The words of a report.
-use Rattle.std.specs.Prelude.{◌≡◌, ℕ, ◌<◌, ◌==◌, Bool, true, ◌||◌, List, [], ◌∷◌, ◌++◌, flat_map, length, take, slice_index, slice_get, Option, Some, None, if◌then◌else◌, codes, decimal}
+use Rattle.std.specs.Prelude.{◌≡◌, ℕ, ◌<◌, ◌==◌, Bool, true, ◌||◌, [], ◌∷◌, ◌++◌, flat_map, length, take, slice_index, slice_get, Option, Some, None, if◌then◌else◌, codes, decimal}
 use Rattle.std.specs.Fmt.{signed_decimal}
 use Rattle.process_text.specs.Lines.{Bytes}
 use Rattle.process_text.specs.declared.files.File.{File}
@@ -72,3 +72,15 @@ letter state.Activated = codes "A"
 letter state.Running = codes "R"
 letter state.Completed = codes "C"
 letter state.Skipped = codes "S"
+
+-- two nodes
+abbrev pub node_and_node : File → ℕ → ℕ → Bytes
+node_and_node f m n = node_text f m ++ (codes " " ++ node_text f n)
+
+-- a node and an element
+abbrev pub node_and_element : File → ℕ → ℕ → Bytes
+node_and_element f n d = node_text f n ++ listed_element d
+
+-- a node and the code of one of its branches
+abbrev pub node_and_code : File → ℕ → ℕ → Bytes
+node_and_code f n code = node_text f n ++ (codes " " ++ decimal code)

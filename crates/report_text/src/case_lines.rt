@@ -1,18 +1,24 @@
 // The lines of a case's journal.
 ghost use Rattle.std.specs.Prelude.{◌≡◌, ◌++◌, flat_map, codes, decimal};
 ghost use Rattle.adept_io.specs.Written.{Gives};
-ghost use Rattle.report_text.specs.Journals.{choice_text, case_line, end_event_text, event_text, numbered, reply_rest, reply_text, reply_word, wrong_choice};
-ghost use Rattle.report_text.specs.Words.{caller_text, letter, listed_element, node_text};
+ghost use Rattle.report_text.specs.Faults.{fault_text};
+ghost use Rattle.report_text.specs.Journals.{blocked_text, case_line, choice_text, end_event_text, entry_text, event_text, numbered, position_text, reply_rest, reply_text, reply_word, wrong_choice};
+ghost use Rattle.report_text.specs.Names.{name_text};
+ghost use Rattle.report_text.specs.Words.{caller_text, letter, listed_element};
 
+use crate::faults::put_fault;
+use crate::footprints::put_name;
 use crate::kind_lines::put_line_start;
 use crate::runs::CaseEntry;
 use crate::values::{put_reads, put_writes};
-use crate::words::{caller_word, letter, node_word, put_element};
+use crate::words::{caller_word, letter, put_element, put_of_node};
 use adept_io::{Sink, put, put_pieces};
 use case_core::{Event, Reply};
 use itoa::Buffer;
 use process_text::File;
-use wsm_schema::{State, Writes};
+use wsm_foot::Name;
+use wsm_schema::{Entry, State, Writes};
+use wsm_sound::Fault;
 
 /// The lines of the journal, numbered from 1.
 pub fn put_case_journal<K: Sink>(sink: &mut K, ok: bool, file: &File, journal: &[CaseEntry]) -> bool
@@ -53,22 +59,24 @@ fn put_event<K: Sink>(sink: &mut K, ok: bool, file: &File, event: &Event) -> boo
                 &[b"create ", number.format(version.number()).as_bytes()],
             )
         }
-        Event::Start { node, .. } => put_on_node(sink, ok, b"start ", file, *node),
+        Event::Start { node, .. } => put_of_node(sink, ok, b"start ", file, *node),
         Event::End {
             node,
             writes,
             choice,
             ..
         } => put_end(sink, ok, file, *node, writes, *choice),
+        Event::Change(ops) => {
+            put_pieces(sink, ok, &[b"change ", number.format(ops.len()).as_bytes()])
+        }
+        Event::Migrate(version) => {
+            put_pieces(
+                sink,
+                ok,
+                &[b"migrate ", number.format(version.number()).as_bytes()],
+            )
+        }
     }
-}
-
-// What is done with a node.
-fn put_on_node<K: Sink>(sink: &mut K, ok: bool, verb: &'static [u8], file: &File, node: u32) -> bool
-    ensures { Gives K.written K.faults ok result sink.old sink.new (verb.now ++ node_text file.now node) }
-{
-    let mut buffer = Buffer::new();
-    put_pieces(sink, ok, &[verb, node_word(file, node, &mut buffer)])
 }
 
 fn put_end<K: Sink>(
@@ -81,7 +89,7 @@ fn put_end<K: Sink>(
 ) -> bool
     ensures { Gives K.written K.faults ok result sink.old sink.new (end_event_text file.now node writes.now choice) }
 {
-    let ok = put_on_node(sink, ok, b"end ", file, node);
+    let ok = put_of_node(sink, ok, b"end ", file, node);
     let ok = put_choice(sink, ok, choice);
     put_writes(sink, ok, writes.as_slice())
 }
@@ -123,6 +131,13 @@ fn reply_word(reply: &Reply) -> &'static [u8]
         Reply::WrongWrites(_) => b"wrong-writes",
         Reply::NoBranch(_) => b"no-branch",
         Reply::OtherType => b"other-type",
+        Reply::Changed => b"changed",
+        Reply::Migrated(_) => b"migrated",
+        Reply::Finished => b"finished",
+        Reply::Unsound(_) => b"unsound",
+        Reply::Blocked(..) => b"blocked",
+        Reply::NotNewer(_) => b"not-newer",
+        Reply::Overlap(_) => b"overlap",
     }
 }
 
@@ -135,17 +150,24 @@ fn put_reply_rest<K: Sink>(sink: &mut K, ok: bool, file: &File, reply: &Reply) -
         Reply::Started(reads) => put_reads(sink, ok, reads.as_slice()),
         Reply::NotReady(state) => put_state(sink, ok, *state),
         Reply::NotRunning(state) => put_state(sink, ok, *state),
-        Reply::NotAllowed(role) => put_role(sink, ok, *role),
+        Reply::NotAllowed(role) => put_spaced(sink, ok, *role),
+        Reply::Migrated(number) => put_spaced(sink, ok, *number),
+        Reply::NotNewer(number) => put_spaced(sink, ok, *number),
         Reply::NotHolder(user) => put_user(sink, ok, file, *user),
         Reply::WrongWrites(elements) => put_elements(sink, ok, elements.as_slice()),
         Reply::NoBranch(choice) => put_wrong_choice(sink, ok, *choice),
+        Reply::Unsound(fault) => put_why_unsound(sink, ok, file, *fault),
+        Reply::Blocked(position, entry) => put_blocked(sink, ok, file, *position, entry),
+        Reply::Overlap(name) => put_overlap(sink, ok, file, *name),
         Reply::Created
         | Reply::Ended
         | Reply::Repeated
         | Reply::Already
         | Reply::NoCase
         | Reply::NoNode
-        | Reply::OtherType => ok,
+        | Reply::OtherType
+        | Reply::Changed
+        | Reply::Finished => ok,
     }
 }
 
@@ -155,11 +177,12 @@ fn put_state<K: Sink>(sink: &mut K, ok: bool, state: State) -> bool
     put_pieces(sink, ok, &[b" ", letter(state)])
 }
 
-fn put_role<K: Sink>(sink: &mut K, ok: bool, role: u32) -> bool
-    ensures { Gives K.written K.faults ok result sink.old sink.new (codes " " ++ decimal role) }
+// A number behind a space.
+fn put_spaced<K: Sink>(sink: &mut K, ok: bool, number: u32) -> bool
+    ensures { Gives K.written K.faults ok result sink.old sink.new (codes " " ++ decimal number) }
 {
-    let mut number = Buffer::new();
-    put_pieces(sink, ok, &[b" ", number.format(role).as_bytes()])
+    let mut buffer = Buffer::new();
+    put_pieces(sink, ok, &[b" ", buffer.format(number).as_bytes()])
 }
 
 fn put_user<K: Sink>(sink: &mut K, ok: bool, file: &File, user: u32) -> bool
@@ -187,4 +210,47 @@ fn put_elements<K: Sink>(sink: &mut K, ok: bool, elements: &[u32]) -> bool
         well = put_element(sink, well, *element);
     }
     well
+}
+
+#[tactic(auto, using(adept_io::proofs::Sent::gives_then))]
+fn put_why_unsound<K: Sink>(sink: &mut K, ok: bool, file: &File, fault: Fault) -> bool
+    ensures { Gives K.written K.faults ok result sink.old sink.new (codes " " ++ fault_text file.now fault) }
+{
+    let ok = put(sink, ok, b" ");
+    put_fault(sink, ok, file, fault)
+}
+
+#[tactic(auto, using(adept_io::proofs::Sent::gives_then))]
+fn put_overlap<K: Sink>(sink: &mut K, ok: bool, file: &File, name: Name) -> bool
+    ensures { Gives K.written K.faults ok result sink.old sink.new (codes " " ++ name_text file.now name) }
+{
+    let ok = put(sink, ok, b" ");
+    put_name(sink, ok, file, name)
+}
+
+// The first entry that fails on the other schema, behind its position.
+#[tactic(auto, using(adept_io::proofs::Sent::gives_then))]
+fn put_blocked<K: Sink>(sink: &mut K, ok: bool, file: &File, position: u32, entry: &Entry) -> bool
+    ensures { Gives K.written K.faults ok result sink.old sink.new (blocked_text file.now position entry.now) }
+{
+    let ok = put_position(sink, ok, position);
+    put_entry(sink, ok, file, entry)
+}
+
+fn put_position<K: Sink>(sink: &mut K, ok: bool, position: u32) -> bool
+    ensures { Gives K.written K.faults ok result sink.old sink.new (position_text position) }
+{
+    let mut number = Buffer::new();
+    put_pieces(sink, ok, &[b" ", number.format(position).as_bytes(), b" "])
+}
+
+fn put_entry<K: Sink>(sink: &mut K, ok: bool, file: &File, entry: &Entry) -> bool
+    ensures { Gives K.written K.faults ok result sink.old sink.new (entry_text file.now entry.now) }
+{
+    match entry {
+        Entry::Start { node, .. } => put_of_node(sink, ok, b"start ", file, *node),
+        Entry::End { node, .. } => put_of_node(sink, ok, b"end ", file, *node),
+        Entry::Again { node, .. } => put_of_node(sink, ok, b"again ", file, *node),
+        Entry::Wrote { .. } => put(sink, ok, b"wrote"),
+    }
 }

@@ -39,6 +39,7 @@ fn put_state_line<K: Sink>(sink: &mut K, ok: bool, live: &Live) -> bool
     ensures { Gives K.written K.faults ok result sink.old sink.new (state_line live.now) }
 {
     let mut number = Buffer::new();
+    let mut own = Buffer::new();
     put_pieces(
         sink,
         ok,
@@ -46,7 +47,9 @@ fn put_state_line<K: Sink>(sink: &mut K, ok: bool, live: &Live) -> bool
             b"state ",
             number.format(live.base().number()).as_bytes(),
             progress(live.is_finished()),
-            b" own=0\n",
+            b" own=",
+            own.format(live.own().len()).as_bytes(),
+            b"\n",
         ],
     )
 }

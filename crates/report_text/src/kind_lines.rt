@@ -1,14 +1,17 @@
 // The lines of a type's journal.
 ghost use Rattle.std.specs.Prelude.{◌≡◌, ◌++◌, codes, decimal};
 ghost use Rattle.adept_io.specs.Written.{Gives};
+ghost use Rattle.report_text.specs.Faults.{fault_text};
 ghost use Rattle.report_text.specs.Journals.{line_start, kind_event_text, kind_reply_text, kind_line, numbered};
 
+use crate::faults::put_fault;
 use crate::runs::KindEntry;
 use crate::words::caller_word;
 use adept_io::{Sink, put, put_number, put_pieces};
 use itoa::Buffer;
 use process_text::File;
 use type_core::{KindEvent, KindReply};
+use wsm_sound::Fault;
 
 /// The lines of the journal, numbered from 1.
 pub fn put_kind_journal<K: Sink>(sink: &mut K, ok: bool, file: &File, journal: &[KindEntry]) -> bool
@@ -33,7 +36,7 @@ fn put_kind_line<K: Sink>(
     let ok = put_line_start(sink, ok, file, place, entry.caller);
     let ok = put_kind_event(sink, ok, &entry.event);
     let ok = put(sink, ok, b" -> ");
-    let ok = put_kind_reply(sink, ok, &entry.reply);
+    let ok = put_kind_reply(sink, ok, file, &entry.reply);
     put(sink, ok, b"\n")
 }
 
@@ -54,18 +57,33 @@ pub fn put_line_start<K: Sink>(sink: &mut K, ok: bool, file: &File, place: u64, 
 fn put_kind_event<K: Sink>(sink: &mut K, ok: bool, event: &KindEvent) -> bool
     ensures { Gives K.written K.faults ok result sink.old sink.new (kind_event_text event.now) }
 {
+    let mut number = Buffer::new();
     match event {
         KindEvent::Define(_) => put(sink, ok, b"define"),
+        KindEvent::Install(ops) => {
+            put_pieces(
+                sink,
+                ok,
+                &[b"install ", number.format(ops.len()).as_bytes()],
+            )
+        }
         KindEvent::Newest => put(sink, ok, b"newest"),
     }
 }
 
-fn put_kind_reply<K: Sink>(sink: &mut K, ok: bool, reply: &KindReply) -> bool
-    ensures { Gives K.written K.faults ok result sink.old sink.new (kind_reply_text reply.now) }
+fn put_kind_reply<K: Sink>(sink: &mut K, ok: bool, file: &File, reply: &KindReply) -> bool
+    ensures { Gives K.written K.faults ok result sink.old sink.new (kind_reply_text file.now reply.now) }
 {
     let mut number = Buffer::new();
     match reply {
         KindReply::Defined => put(sink, ok, b"defined"),
+        KindReply::Installed(version) => {
+            put_pieces(
+                sink,
+                ok,
+                &[b"installed ", number.format(*version).as_bytes()],
+            )
+        }
         KindReply::Is(version) => {
             put_pieces(
                 sink,
@@ -75,5 +93,15 @@ fn put_kind_reply<K: Sink>(sink: &mut K, ok: bool, reply: &KindReply) -> bool
         }
         KindReply::Already => put(sink, ok, b"already"),
         KindReply::NoType => put(sink, ok, b"no-type"),
+        KindReply::VersionLimit => put(sink, ok, b"version-limit"),
+        KindReply::Unsound(fault) => put_unsound(sink, ok, file, *fault),
     }
+}
+
+#[tactic(auto, using(adept_io::proofs::Sent::gives_then))]
+fn put_unsound<K: Sink>(sink: &mut K, ok: bool, file: &File, fault: Fault) -> bool
+    ensures { Gives K.written K.faults ok result sink.old sink.new (codes "unsound " ++ fault_text file.now fault) }
+{
+    let ok = put(sink, ok, b"unsound ");
+    put_fault(sink, ok, file, fault)
 }

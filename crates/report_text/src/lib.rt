@@ -5,9 +5,12 @@
 
 mod case_lines;
 mod ends;
+mod faults;
+mod footprints;
 mod kind_lines;
 mod report;
 mod runs;
+mod totals;
 mod values;
 mod words;
 

@@ -3,14 +3,14 @@ ghost use Rattle.std.specs.Prelude.{◌≡◌, ◌≤◌, ◌++◌, codes, OnErr
 ghost use Rattle.std.specs.Io.KnownBytes.{Appends};
 ghost use Rattle.adept_io.specs.Counts.{Rose};
 ghost use Rattle.adept_io.specs.Written.{AppendsPrefix, Gives};
-ghost use Rattle.report_text.specs.Report.{case_head, case_text, is_done, kind_text, one_or_none, summary, text, type_head};
+ghost use Rattle.report_text.specs.Report.{case_head, case_text, kind_text, summary, text, type_head};
 
 use crate::case_lines::put_case_journal;
 use crate::ends::put_end;
 use crate::kind_lines::put_kind_journal;
 use crate::runs::{ClosedCase, ClosedKind, Run};
+use crate::totals::{put_case_totals, put_migration_totals};
 use adept_io::{Failed, Sink, put, put_pieces};
-use itoa::Buffer;
 use process_text::File;
 
 /// Writes the report of a run of the file. Where a write fails, the first bytes of the report may have been written.
@@ -86,36 +86,10 @@ fn put_case_head<K: Sink>(sink: &mut K, ok: bool, file: &File) -> bool
     )
 }
 
-// The totals. As yet they speak of one case, and nothing migrates.
+// The totals. As yet they speak of one case.
 fn put_summary<K: Sink>(sink: &mut K, ok: bool, _file: &File, run: &Run) -> bool
     ensures { Gives K.written K.faults ok result sink.old sink.new (summary _file.now run.now) }
 {
-    let mut number = Buffer::new();
-    put_pieces(
-        sink,
-        ok,
-        &[
-            b"summary cases=1 finished=",
-            one_or_none(is_done(&run.case)),
-            b" entries=",
-            number.format(run.case.journal.len()).as_bytes(),
-            b" migrated=0 blocked=0 overlap=0\n",
-        ],
-    )
-}
-
-fn one_or_none(there: bool) -> &'static [u8]
-    ensures { result.now ≡ one_or_none there }
-{
-    if there { b"1" } else { b"0" }
-}
-
-// Whether the case is finished.
-fn is_done(case: &ClosedCase) -> bool
-    ensures { result ≡ is_done case.now.machine.live }
-{
-    match case.machine.live() {
-        None => false,
-        Some(live) => live.is_finished(),
-    }
+    let ok = put_case_totals(sink, ok, &run.case);
+    put_migration_totals(sink, ok, run.case.journal.as_slice())
 }

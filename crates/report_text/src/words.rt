@@ -1,9 +1,9 @@
 // The words of a report.
-ghost use Rattle.std.specs.Prelude.{◌≡◌, ◌++◌, codes};
+ghost use Rattle.std.specs.Prelude.{◌≡◌, ◌++◌, codes, decimal};
 ghost use Rattle.adept_io.specs.Written.{Gives};
-ghost use Rattle.report_text.specs.Words.{node_text, caller_text, letter, node_then, listed_element, element_is};
+ghost use Rattle.report_text.specs.Words.{caller_text, element_is, letter, listed_element, node_and_code, node_and_element, node_and_node, node_text, node_then};
 
-use adept_io::{Sink, put_pieces};
+use adept_io::{Sink, put, put_pieces};
 use itoa::Buffer;
 use process_text::File;
 use wsm_schema::State;
@@ -70,4 +70,100 @@ pub fn put_element_is<K: Sink>(sink: &mut K, ok: bool, element: u32) -> bool
 {
     let mut number = Buffer::new();
     put_pieces(sink, ok, &[b" ", number.format(element).as_bytes(), b"="])
+}
+
+/// A node, and what is said of it before it.
+pub fn put_of_node<K: Sink>(
+    sink: &mut K,
+    ok: bool,
+    before: &'static [u8],
+    file: &File,
+    node: u32,
+) -> bool
+    ensures { Gives K.written K.faults ok result sink.old sink.new (before.now ++ node_text file.now node) }
+{
+    let mut buffer = Buffer::new();
+    put_pieces(sink, ok, &[before, node_word(file, node, &mut buffer)])
+}
+
+/// Two nodes, and what is said of them before them.
+#[tactic(auto, using(adept_io::proofs::Sent::gives_then))]
+pub fn put_and_node<K: Sink>(
+    sink: &mut K,
+    ok: bool,
+    before: &'static [u8],
+    file: &File,
+    node: u32,
+    other: u32,
+) -> bool
+    ensures { Gives K.written K.faults ok result sink.old sink.new (before.now ++ node_and_node file.now node other) }
+{
+    let ok = put(sink, ok, before);
+    put_nodes(sink, ok, file, node, other)
+}
+
+#[tactic(auto, using(adept_io::proofs::Sent::gives_then))]
+fn put_nodes<K: Sink>(sink: &mut K, ok: bool, file: &File, node: u32, other: u32) -> bool
+    ensures { Gives K.written K.faults ok result sink.old sink.new (node_and_node file.now node other) }
+{
+    let mut buffer = Buffer::new();
+    let ok = put(sink, ok, node_word(file, node, &mut buffer));
+    put_of_node(sink, ok, b" ", file, other)
+}
+
+/// A node and an element, and what is said of them before them.
+#[tactic(auto, using(adept_io::proofs::Sent::gives_then))]
+pub fn put_and_element<K: Sink>(
+    sink: &mut K,
+    ok: bool,
+    before: &'static [u8],
+    file: &File,
+    node: u32,
+    element: u32,
+) -> bool
+    ensures { Gives K.written K.faults ok result sink.old sink.new (before.now ++ node_and_element file.now node element) }
+{
+    let ok = put(sink, ok, before);
+    put_node_element(sink, ok, file, node, element)
+}
+
+#[tactic(auto, using(adept_io::proofs::Sent::gives_then))]
+fn put_node_element<K: Sink>(sink: &mut K, ok: bool, file: &File, node: u32, element: u32) -> bool
+    ensures { Gives K.written K.faults ok result sink.old sink.new (node_and_element file.now node element) }
+{
+    let mut buffer = Buffer::new();
+    let ok = put(sink, ok, node_word(file, node, &mut buffer));
+    put_element(sink, ok, element)
+}
+
+/// A node and the code of one of its branches, and what is said of them before them.
+#[tactic(auto, using(adept_io::proofs::Sent::gives_then))]
+pub fn put_and_code<K: Sink>(
+    sink: &mut K,
+    ok: bool,
+    before: &'static [u8],
+    file: &File,
+    node: u32,
+    code: u16,
+) -> bool
+    ensures { Gives K.written K.faults ok result sink.old sink.new (before.now ++ node_and_code file.now node code) }
+{
+    let ok = put(sink, ok, before);
+    put_node_code(sink, ok, file, node, code)
+}
+
+#[tactic(auto, using(adept_io::proofs::Sent::gives_then))]
+fn put_node_code<K: Sink>(sink: &mut K, ok: bool, file: &File, node: u32, code: u16) -> bool
+    ensures { Gives K.written K.faults ok result sink.old sink.new (node_and_code file.now node code) }
+{
+    let mut buffer = Buffer::new();
+    let ok = put(sink, ok, node_word(file, node, &mut buffer));
+    put_code(sink, ok, code)
+}
+
+fn put_code<K: Sink>(sink: &mut K, ok: bool, code: u16) -> bool
+    ensures { Gives K.written K.faults ok result sink.old sink.new (codes " " ++ decimal code) }
+{
+    let mut number = Buffer::new();
+    put_pieces(sink, ok, &[b" ", number.format(code).as_bytes()])
 }

@@ -1,10 +1,10 @@
 use Rattle.std.proofs.Common.{◌≡◌, Some, rules}
 use Rattle.process_text.specs.Meaning.{file}
-use Rattle.process_text.proofs.InOrder.{file-in_order, file-within}
+use Rattle.process_text.proofs.Sizes.{file-small, file-within}
 use Rattle.process_text.proofs.reading.read_file.Goals as goal
 
-pub returns-in-Some-clause-in_order : goal.returns-in-Some-clause-in_order
-returns-in-Some-clause-in_order c = let found : file c.args.bytes.now ≡ Some c.in-Some.file = search rules in file-in_order c.args.bytes.now c.in-Some.file found
+pub returns-in-Some-clause-small : goal.returns-in-Some-clause-small
+returns-in-Some-clause-small c = let found : file c.args.bytes.now ≡ Some c.in-Some.file = search rules in file-small c.args.bytes.now c.in-Some.file found
 
 pub returns-in-Some-clause-within : goal.returns-in-Some-clause-within
 returns-in-Some-clause-within c = let found : file c.args.bytes.now ≡ Some c.in-Some.file = search rules in file-within c.args.bytes.now c.in-Some.file found

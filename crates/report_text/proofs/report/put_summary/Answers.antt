@@ -1,10 +1,10 @@
-use Rattle.std.proofs.Common.{◌≡◌, refl, length, decimal}
-use Rattle.report_text.specs.Report.{is_done, one_or_none}
+use Rattle.std.proofs.Common.{ap}
+use Rattle.adept_io.proofs.Sent.{gives_then}
+use Rattle.report_text.specs.Report.{migration_totals}
 use Rattle.report_text.proofs.Rows.{gives_as}
 use Rattle.report_text.proofs.report.put_summary.Goals as goal
 
 pub returns : goal.returns
 returns g c =
-    let finished : c.one_or_none.result.now ≡ one_or_none (is_done c.args.run.now.case.machine.live) = cc in
-    let entries : c.as_bytes.result.now ≡ decimal (length c.args.run.now.case.journal) = cc in
-    gives_as _ _ _ _ _ _ _ _ c.put_pieces.ensures (rw (finished, entries) refl)
+    gives_then _ _ _ _ _ _ _ _ _ _ c.put_case_totals-ok.ensures
+    (gives_as _ _ _ _ _ _ _ _ c.put_migration_totals.ensures (ap migration_totals c.as_slice.ensures))

@@ -1,8 +1,8 @@
-use Rattle.std.proofs.Common.{◌≡◌, ◌+◌, Some, None, ◌++◌, length, take, drop, ap, sym, ◌∙◌, append_assoc, arith}
+use Rattle.std.proofs.Common.{◌≡◌, ◌+◌, None, ◌++◌, take, drop, ap, sym, ◌∙◌, append_assoc}
 use Rattle.std.specs.List.{flat_map, position}
 use Rattle.std.proofs.lemmas.List.{drop-drop}
 use Rattle.adept_io.proofs.Sent.{gives_then}
-use Rattle.report_text.specs.Words.{EndsRun, escaped, is_escaped}
+use Rattle.report_text.specs.Words.{escaped, is_escaped}
 use Rattle.report_text.proofs.Escapes.{EndsRun-from_position, flat_map-escaped-none, flat_map-escaped-split}
 use Rattle.report_text.proofs.Rows.{gives_as}
 use Rattle.report_text.proofs.values.put_escaped.Goals as goal
