@@ -13,7 +13,9 @@ fn played(alloc: Global, source: &mut MemorySource, sink: &mut MemorySink) -> u8
 }
 
 fn one_call(alloc: Global, number: u64) -> Result<Calls, NoMemory> {
-    Calls::of_one(alloc, number)
+    let mut calls = Calls::new(alloc);
+    calls.push(number)?;
+    Ok(calls)
 }
 
 fn file(alloc: Global) -> Result<Bytes, NoMemory> {
