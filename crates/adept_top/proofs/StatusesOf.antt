@@ -2,8 +2,8 @@
 use Rattle.std.proofs.Common.{◌≡◌, ℕ, ◌≤◌, List, length, refl, Some, None}
 use Rattle.std.proofs.lemmas.Bool.{le-ltb}
 use Rattle.adept_top.specs.Statuses.{most_bytes, status_of}
-use Rattle.process_text.specs.Meaning.{file}
-use Rattle.process_text.specs.declared.files.File.{File}
+use Rattle.first_text.specs.Meaning.{file}
+use Rattle.first_text.specs.declared.files.File.{File}
 
 pub status_of-file : (bytes : List ℕ) (f : File) → length bytes ≤ most_bytes → file bytes ≡ Some f → status_of bytes ≡ 0
 status_of-file bytes f within is = rw (le-ltb most_bytes (length bytes) within, is) refl

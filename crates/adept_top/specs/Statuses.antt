@@ -1,7 +1,7 @@
 -- The statuses with which a run of the program ends.
 use Rattle.std.specs.Prelude.{ℕ, Bool, ◌||◌, List, length, ◌==◌, nat_lt, if◌then◌else◌}
 use Rattle.std.specs.Option.{is_some}
-use Rattle.process_text.specs.Meaning.{file}
+use Rattle.first_text.specs.Meaning.{file}
 
 -- the most bytes that an input may have
 abbrev pub most_bytes : ℕ

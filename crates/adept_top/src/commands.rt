@@ -6,8 +6,8 @@ ghost use Rattle.adept_io.specs.Read.{ConsumesMany};
 ghost use Rattle.adept_io.specs.Written.{AppendsPrefix};
 ghost use Rattle.adept_top.specs.Commands.{is_last, is_play};
 ghost use Rattle.adept_top.specs.Statuses.{is_play_status, most_bytes, status_of};
-ghost use Rattle.process_text.specs.Meaning.{file};
-ghost use Rattle.process_text.specs.Refusals.{early};
+ghost use Rattle.first_text.specs.Meaning.{file};
+ghost use Rattle.first_text.specs.Refusals.{early};
 ghost use Rattle.report_text.specs.Report.{text};
 ghost use Rattle.report_text.specs.Serial.{serial};
 

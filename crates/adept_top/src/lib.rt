@@ -5,6 +5,8 @@ mod commands;
 mod outcomes;
 mod playing;
 mod serial;
+#[cfg(test)]
+mod tests;
 
 pub use commands::adept;
 pub use outcomes::Outcome;

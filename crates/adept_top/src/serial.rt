@@ -6,7 +6,7 @@ ghost use Rattle.type_core.specs.Machine.{next_kind, weight as kind_weight};
 ghost use Rattle.wsm_schema.specs.Flat.{cards_of};
 
 use case_core::{Case, Event};
-use process_text::{Act, File, Line};
+use first_text::{Act, File, Line};
 use report_text::{CaseEntry, CaseJournal, ClosedCase, ClosedKind, KindEntry, KindJournal, Run};
 use std::alloc::Global;
 use turn_cell::Machine;

@@ -2,3 +2,4 @@ pub mod AgesOfSteps
 pub mod States
 pub mod Keeping
 pub mod Fairness
+pub mod Starts

@@ -1,5 +1,5 @@
 -- What stays true of a case from its creation on.
-use Rattle.std.specs.Prelude.{◌≡◌, ◌<◌, ◌^◌, true, length, Ok}
+use Rattle.std.specs.Prelude.{◌≡◌, ◌<◌, ◌^◌, true, length, Option, Some, None, Ok}
 use Rattle.case_core.specs.CaseModel.{LiveModel, replay_of_case}
 use Rattle.wsm_ops.specs.Apply.{applied}
 use Rattle.wsm_sound.specs.Flattened.{IsChecked}
@@ -16,3 +16,7 @@ pub record Kept (l : LiveModel) : Type 0 where
   pub replays : is_whole (replay_of_case l) ≡ true
   pub rises : Rises 1 l.trail.next l.trail.entries
   pub once : agains_once l.trail.entries ≡ true
+
+abbrev pub KeptIn : Option LiveModel → Type 0
+KeptIn None = Unit {0}
+KeptIn (Some l) = Kept l

@@ -1,13 +1,18 @@
 -- What a case promises of what it shows.
-use Rattle.std.specs.Prelude.{◌≡◌, ℕ, Bool, true, false, ◌||◌, ◌==◌, List, [], ◌∷◌, Option, Some, None, is_some}
+use Rattle.std.specs.Prelude.{◌≡◌, ℕ, Bool, true, false, ◌||◌, ◌==◌, List, [], ◌∷◌, Option, Some, None, is_some, if◌then◌else◌}
 use Rattle.std.specs.List.{list_any}
 use Rattle.case_core.specs.CaseModel.{CaseModel, LiveModel}
+use Rattle.case_core.specs.declared.events.Event.{Event}
+use Rattle.case_core.specs.declared.events.Event.TheVariants as event
 use Rattle.case_core.specs.declared.items.Item.{Item}
 use Rattle.case_core.specs.declared.items.Item.TheVariants as item
+use Rattle.case_core.specs.declared.replies.Reply.{Reply}
+use Rattle.case_core.specs.declared.replies.Reply.TheVariants as reply
 use Rattle.case_core.specs.declared.views.View.{View}
 use Rattle.case_core.specs.declared.views.View.TheVariants as view
 use Rattle.wsm_lists.specs.Rows.{AllRows}
 use Rattle.wsm_lists.specs.Values.{Written, value_in}
+use Rattle.wsm_lists.specs.declared.values.Value.{Value}
 use Rattle.wsm_schema.specs.Flat.{cards_of, card_at}
 use Rattle.wsm_schema.specs.SchemaModel.{SchemaModel}
 use Rattle.wsm_schema.specs.Sound.{writes_of}
@@ -51,3 +56,17 @@ IsFairCase (Some l) shown = IsFair l shown
 
 abbrev pub IsFairView : CaseModel → View → Type 0
 IsFairView s shown = IsFairCase s.live shown
+
+-- each element that a node must read had a value when it was started
+abbrev pub value_read : ℕ → List (ℕ × Option Value) → Option Value
+value_read d [] = None
+value_read d (r ∷ rs) = if r.0 == d then r.1 else value_read d rs
+
+abbrev pub ReadsAll : LiveModel → ℕ → Reply → Type 0
+ReadsAll l node (reply.Started reads) =
+    (c : Card) → card_at node (cards_of l.schema) ≡ Some c → AllRows (λ r. r.1 ≡ true → is_some (value_read r.0 reads) ≡ true) c.reads
+ReadsAll l node _ = Unit {0}
+
+abbrev pub StartsFilled : Option LiveModel → Event → Reply → Type 0
+StartsFilled (Some l) (event.Start node user roles) r = ReadsAll l node r
+StartsFilled _ _ r = Unit {0}

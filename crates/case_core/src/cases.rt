@@ -3,8 +3,9 @@ ghost use Rattle.std.specs.Prelude.{◌≡◌, ◌==◌, ◌+◌, ◌≤◌, tru
 ghost use Rattle.std.specs.Option.{option_copied, option_map};
 ghost use Rattle.case_core.specs.Ages.{age, weight};
 ghost use Rattle.case_core.specs.CaseModel.{not_created};
+ghost use Rattle.case_core.specs.Kept.{KeptIn};
 ghost use Rattle.case_core.specs.Machine.{next_case};
-ghost use Rattle.case_core.specs.Promises.{IsFairView, goes_on};
+ghost use Rattle.case_core.specs.Promises.{IsFairView, StartsFilled, goes_on};
 ghost use Rattle.case_core.specs.Shown.{own_of, shown, shown_state, shown_holder};
 
 use crate::events::Event;
@@ -54,8 +55,12 @@ impl Case {
         ensures first { IfOk result (λ replies. replies.0 ≡ (next_case self.old event.now).1) }
         ensures second { IfOk result (λ replies. replies.1 ≡ (next_case self.old event.now).1) }
         ensures age { IfOk result (λ replies. age self.new ≤ age self.old + weight event.now) }
+
+        // A start that is accepted read a value for each element that the node must read.
+        ensures filled { IfOk result (λ replies. StartsFilled self.old.live event.now replies.0) }
         ensures err { OnErr result (self.new ≡ self.old) }
     {
+        let _ = self.live();
         self.answer(alloc, event)
     }
 
@@ -141,11 +146,15 @@ impl Case {
         }
     }
 
-    /// The case, where it is created.
+    /// The case, where it is created, and what it keeps then: its schema is sound and is its own operations applied to
+    /// its version's, its trail replays whole on it, and repeats no loop's end twice.
     pub fn live(&self) -> Option<&Live>
-        ensures { option_copied result ≡ self.now.live }
+        ensures live { option_copied result ≡ self.now.live }
+        ensures kept { KeptIn self.now.live }
     {
-        self.live.as_ref()
+        let live = self.live.as_ref()?;
+        let _ = live.base();
+        Some(live)
     }
 
     /// What was started and ended. None where the case is not created.
@@ -217,6 +226,7 @@ impl Case {
 
 impl Machine for Case {
     ghost use Rattle.case_core.specs.Ages.{age, weight};
+    ghost use Rattle.case_core.specs.Kept.{KeptIn};
     ghost use Rattle.case_core.specs.Machine.{next_case};
     ghost use Rattle.case_core.specs.Shown.{shown};
 

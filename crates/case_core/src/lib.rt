@@ -8,6 +8,8 @@ mod items;
 mod live;
 mod replies;
 mod showing;
+#[cfg(test)]
+mod tests;
 mod views;
 mod work;
 

@@ -1,5 +1,7 @@
 pub mod AtEnd
 pub mod Examples
-pub mod Noted
-pub mod Sizes
-pub mod Splits
+pub mod FileExamples
+pub mod FaultExamples
+pub mod ReadingExamples
+pub mod SoundExamples
+pub mod SpacedWords

@@ -1,8 +1,9 @@
-pub mod Lines
-pub mod Word
-pub mod Names
-pub mod Forms
-pub mod Sequence
-pub mod Shown
-pub mod Meaning
-pub mod Refusals
+pub mod FaultWords
+pub mod RefusalTexts
+pub mod Outcomes
+pub mod Steps
+pub mod Declaring
+pub mod Typing
+pub mod Scripting
+pub mod Operating
+pub mod Reading

@@ -1,46 +1,81 @@
 // A process file, read.
-use crate::names::Name64;
-use wsm_schema::{Listing, Schema};
+use file_names::{Name64, Names};
+use wsm_lists::{Listing, RoleList, Writes};
+use wsm_ops::Ops;
+use wsm_schema::Schema;
+use wsm_sound::CaseId;
 
-/// Names by their numbers: the name at an index has that number.
-pub type Names = Listing<Name64>;
-
-/// Script lines in file order.
-pub type Lines = Listing<Line>;
-
-/// A process type.
+/// A process type. The type at an index has that number.
 #[derive(Drop)]
 pub struct TypeDecl {
     pub name: Name64,
     pub schema: Schema,
 }
 
-/// A script line. `at` is its physical line, from 1, and `order` counts the script lines from 1.
-#[derive(Clone, Copy, PartialEq, Eq, Debug)]
+/// An actor with the roles in the order given. The actor at an index has the number after it.
+#[derive(Drop)]
+pub struct ActorDecl {
+    pub name: Name64,
+    pub roles: RoleList,
+}
+
+/// A case.
+#[derive(Drop)]
+pub struct CaseDecl {
+    pub name: Name64,
+    pub id: CaseId,
+}
+
+/// Process types in order of declaration.
+pub type TypeDecls = Listing<TypeDecl>;
+
+/// Actors in order of declaration.
+pub type ActorDecls = Listing<ActorDecl>;
+
+/// Cases in order of declaration.
+pub type CaseDecls = Listing<CaseDecl>;
+
+/// The script lines of a phase, in file order.
+pub type Lines = Listing<Line>;
+
+/// The phases in file order.
+pub type Phases = Listing<Lines>;
+
+/// What a script line does. Nodes, types and elements are numbers.
+#[derive(Drop)]
+pub enum Act {
+    /// The case comes to be.
+    Create(CaseId),
+    /// The node is started.
+    Start(CaseId, u32),
+    /// The node is ended with these writes, in the order given, and with a choice.
+    End(CaseId, u32, Writes, Option<u16>),
+    /// The case's schema is changed.
+    Change(CaseId, Ops),
+    /// The type gets a new version.
+    Install(u32, Ops),
+    /// Each case of the type moves to the newest version.
+    Migrate(u32),
+}
+
+/// A script line. `at` is its physical line, from 1, `order` counts the script lines of the file from 1, and `actor` counts
+/// the actors from 1.
+#[derive(Drop)]
 pub struct Line {
     pub at: u32,
     pub order: u32,
+    pub actor: u32,
     pub act: Act,
 }
 
-/// What a script line does. As yet a file has one actor and one case, and each line is theirs.
-#[derive(Clone, Copy, PartialEq, Eq, Debug)]
-pub enum Act {
-    /// The case comes to be.
-    Create,
-    /// The node with this number is started.
-    Start(u32),
-    /// The node with this number is ended.
-    End(u32),
-}
-
-/// A process file: the names of nodes, the type with its schema, the actor, the case, and the lines of the phase. Node 0
-/// is `start` and node 1 `finish`; the others are numbered in order of first occurrence.
+/// A process file. Nodes and elements are numbered over the whole file in order of first occurrence; node 0 is `start`
+/// and node 1 `finish`.
 #[derive(Drop)]
 pub struct File {
     pub nodes: Names,
-    pub kind: TypeDecl,
-    pub actor: Name64,
-    pub case: Name64,
-    pub lines: Lines,
+    pub elements: Names,
+    pub types: TypeDecls,
+    pub actors: ActorDecls,
+    pub cases: CaseDecls,
+    pub phases: Phases,
 }

@@ -1,11 +1,56 @@
 // Why a file is refused.
-use adept_io::{Bytes, NoMemory};
+use adept_io::Bytes;
+use wsm_lists::NoMemory;
+use wsm_sound::Fault;
+
+/// What a file may have no more of.
+#[derive(Clone, Copy, PartialEq, Eq, Debug)]
+pub enum FileLimit {
+    /// The bytes of a name: 64.
+    Name,
+    /// The bytes of a text: 256.
+    Text,
+    /// Types: 64.
+    Types,
+    /// Actors: 32.
+    Actors,
+    /// Cases: 4,096.
+    Cases,
+    /// Phases: 256.
+    Phases,
+    /// Script lines: 60,000.
+    Lines,
+    /// Lines that install: 1,024.
+    Installs,
+    /// Operations in a group: 256.
+    Ops,
+    /// Migrations of a case: 65,536, where a line that migrates counts once for each declared case of its type.
+    Migrations,
+    /// Roles of an actor: 32.
+    Roles,
+    /// Open blocks: 64.
+    Depth,
+}
 
 /// Why a file is refused.
 #[derive(Clone, Copy, PartialEq, Eq, Debug)]
 pub enum Why {
-    /// The bytes are not in the grammar that is read as yet.
-    Early,
+    /// The first line that says something is not the header.
+    Header,
+    /// The last line has no line feed, or the file ends inside a type or a group.
+    Unended,
+    /// The line is not UTF-8.
+    NotText,
+    /// The line has none of the forms for its place.
+    Form,
+    /// An actor, a case or a type was not declared before.
+    Unknown,
+    /// What the line declares or lists stood before.
+    Twice,
+    /// One past a limit.
+    Limit(FileLimit),
+    /// The type that ends is not sound.
+    Unsound(Fault),
 }
 
 /// A refusal: the physical line, from 1, the reason, and the reason's text.

@@ -1,96 +1,80 @@
 // A file while its lines are read.
-ghost use Rattle.std.specs.Prelude.{◌≡◌, IfOk};
-ghost use Rattle.process_text.specs.Shown.{shown};
-ghost use Rattle.process_text.specs.Meaning.{opening, step, finished};
+use crate::files::{ActorDecl, CaseDecl, Lines, Phases, TypeDecl};
+use crate::refusals::Why;
+use file_drafts::Draft;
+use file_names::{DeclaredList, NameTable};
+use wsm_lists::NoMemory;
+use wsm_ops::Ops;
+use wsm_sound::CaseId;
 
-use crate::files::{File, Lines, TypeDecl};
-use crate::forms::{declaration_line, script_line, type_line};
-use crate::names::Name64;
-use crate::node_names::NodeNames;
-use crate::sequences::Sequence;
-use adept_io::NoMemory;
-use std::alloc::Global;
+/// What a group of operations changes: a case, or a type.
+#[derive(Clone, Copy, PartialEq, Eq, Debug)]
+pub enum Target {
+    Case(CaseId),
+    Type(u32),
+}
 
-/// A type whose end was not read yet.
+/// A group whose end was not read yet, with the line that began it.
 #[derive(Drop)]
-pub struct Draft {
-    pub name: Name64,
-    pub items: Sequence,
+pub struct Group {
+    pub at: u32,
+    pub order: u32,
+    pub actor: u32,
+    pub target: Target,
+    pub ops: Ops,
 }
 
 /// Where the next line stands.
 #[derive(Drop)]
 pub enum Place {
+    /// Before the header.
     Head,
+    /// Outside of types and phases.
     Outside,
+    /// In a type.
     InType(Draft),
-    InPhase,
+    /// In a phase, behind these lines of it.
+    InPhase(Lines),
+    /// In a group, behind these lines of its phase.
+    InGroup(Lines, Group),
 }
 
-/// What was read so far.
+/// How many script lines, installs and migrations of cases there were.
+#[derive(Clone, Copy, PartialEq, Eq, Debug)]
+pub struct Counts {
+    pub lines: u32,
+    pub installs: u32,
+    pub migrations: u32,
+}
+
+/// What was read so far. The open phase is not among the phases.
 #[derive(Drop)]
 pub struct Contents {
-    pub nodes: NodeNames,
-    pub kind: Option<TypeDecl>,
-    pub actor: Option<Name64>,
-    pub case: Option<Name64>,
-    pub lines: Lines,
+    pub nodes: NameTable,
+    pub elements: NameTable,
+    pub types: DeclaredList<TypeDecl>,
+    pub actors: DeclaredList<ActorDecl>,
+    pub cases: DeclaredList<CaseDecl>,
+    pub phases: Phases,
+    pub counts: Counts,
 }
 
-/// What was read so far, and where the next line stands.
-#[derive(Drop)]
-pub struct State {
-    pub place: Place,
-    pub contents: Contents,
+/// Why a line is not taken in.
+#[derive(Clone, Copy, PartialEq, Eq, Debug)]
+pub enum Stop {
+    /// The line is refused.
+    Refused(Why),
+    /// There was not enough memory.
+    NoMemory,
 }
 
-impl State {
-    /// Before the first line.
-    pub fn opening(alloc: Global) -> Result<State, NoMemory>
-        ensures { IfOk result (λ state. state ≡ opening) }
-    {
-        Ok(State {
-            place: Place::Head,
-            contents: Contents {
-                nodes: NodeNames::start_and_finish(alloc)?,
-                kind: None,
-                actor: None,
-                case: None,
-                lines: Lines::new(alloc),
-            },
-        })
-    }
+impl From<NoMemory> for Stop {
+    ghost use Rattle.std.specs.Prelude.{◌≡◌};
+    ghost use Rattle.process_text.specs.declared.states.Stop.TheVariants as stop;
 
-    /// The state behind a line of these words. None where no such line may stand here.
-    pub fn step(self, alloc: Global, at: u32, words: &[&[u8]]) -> Result<Option<State>, NoMemory>
-        ensures { IfOk result (λ next. next ≡ step self at (shown words.now)) }
-    {
-        let State { place, contents } = self;
-        match place {
-            Place::Head => Ok(contents.headed(words)),
-            Place::Outside => match declaration_line(words) {
-                None => Ok(None),
-                Some(line) => contents.declared(alloc, line),
-            },
-            Place::InType(draft) => match type_line(words) {
-                None => Ok(None),
-                Some(line) => contents.typed(alloc, draft, line),
-            },
-            Place::InPhase => match script_line(words) {
-                None => Ok(None),
-                Some(line) => contents.scripted(alloc, at, line),
-            },
-        }
-    }
+    ghost from_gives = { λ _ e. e ≡ stop.NoMemory };
 
-    /// The file, where one may end here.
-    pub fn finished(self, alloc: Global) -> Result<Option<File>, NoMemory>
-        ensures { IfOk result (λ file. file ≡ finished self) }
-    {
-        let State { place, contents } = self;
-        match place {
-            Place::Head | Place::Outside | Place::InType(_) => Ok(None),
-            Place::InPhase => contents.finished(alloc),
-        }
+    fn from(_error: NoMemory) -> Stop {
+        Stop::NoMemory
     }
 }

@@ -4,9 +4,9 @@ use Rattle.std.specs.Fmt.{digits}
 use Rattle.case_core.specs.CaseModel.{LiveModel}
 use Rattle.case_core.specs.declared.events.Event.TheVariants as event
 use Rattle.case_core.specs.declared.replies.Reply.TheVariants as reply
-use Rattle.process_text.specs.Lines.{Bytes}
-use Rattle.process_text.specs.Meaning.{file}
-use Rattle.process_text.specs.declared.files.File.{File}
+use Rattle.first_text.specs.Lines.{Bytes}
+use Rattle.first_text.specs.Meaning.{file}
+use Rattle.first_text.specs.declared.files.File.{File}
 use Rattle.report_text.specs.Ends.{state_line}
 use Rattle.report_text.specs.Faults.{fault_text}
 use Rattle.report_text.specs.Journals.{case_line, kind_line, reply_text}

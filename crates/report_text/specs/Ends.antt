@@ -4,8 +4,8 @@ use Rattle.case_core.specs.CaseModel.{LiveModel, state_of, value_now}
 use Rattle.case_core.specs.Shown.{is_finished, item_of, items_of}
 use Rattle.case_core.specs.declared.items.Item.{Item}
 use Rattle.case_core.specs.declared.items.Item.TheVariants as item
-use Rattle.process_text.specs.Lines.{Bytes}
-use Rattle.process_text.specs.declared.files.File.{File}
+use Rattle.first_text.specs.Lines.{Bytes}
+use Rattle.first_text.specs.declared.files.File.{File}
 use Rattle.report_text.specs.Words.{node_then, caller_text, assigned, letter}
 use Rattle.wsm_lists.specs.declared.values.ElementKind.{ElementKind}
 use Rattle.wsm_lists.specs.declared.values.Value.{Value}

@@ -4,8 +4,8 @@ use Rattle.case_core.specs.declared.events.Event.{Event}
 use Rattle.case_core.specs.declared.events.Event.TheVariants as event
 use Rattle.case_core.specs.declared.replies.Reply.{Reply}
 use Rattle.case_core.specs.declared.replies.Reply.TheVariants as reply
-use Rattle.process_text.specs.Lines.{Bytes}
-use Rattle.process_text.specs.declared.files.File.{File}
+use Rattle.first_text.specs.Lines.{Bytes}
+use Rattle.first_text.specs.declared.files.File.{File}
 use Rattle.report_text.specs.Faults.{fault_text}
 use Rattle.report_text.specs.Names.{name_text}
 use Rattle.report_text.specs.Words.{node_text, listed_element, caller_text, assigned, read_text, letter}

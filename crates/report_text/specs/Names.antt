@@ -1,7 +1,7 @@
 -- The texts of the names of what operations change and use.
 use Rattle.std.specs.Prelude.{◌++◌, codes}
-use Rattle.process_text.specs.Lines.{Bytes}
-use Rattle.process_text.specs.declared.files.File.{File}
+use Rattle.first_text.specs.Lines.{Bytes}
+use Rattle.first_text.specs.declared.files.File.{File}
 use Rattle.report_text.specs.Words.{node_text, element_text, node_and_node, node_and_element, node_and_code}
 use Rattle.wsm_foot.specs.declared.names.Name.{Name}
 use Rattle.wsm_foot.specs.declared.names.Name.TheVariants as name

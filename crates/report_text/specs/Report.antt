@@ -3,8 +3,8 @@ use Rattle.std.specs.Prelude.{Bool, false, List, ◌++◌, length, Option, Some,
 use Rattle.std.specs.List.{count_by}
 use Rattle.case_core.specs.CaseModel.{LiveModel}
 use Rattle.case_core.specs.Shown.{is_finished}
-use Rattle.process_text.specs.Lines.{Bytes}
-use Rattle.process_text.specs.declared.files.File.{File}
+use Rattle.first_text.specs.Lines.{Bytes}
+use Rattle.first_text.specs.declared.files.File.{File}
 use Rattle.report_text.specs.Ends.{end_text}
 use Rattle.report_text.specs.Journals.{kind_line, case_line, numbered}
 use Rattle.report_text.specs.Migrations.{has_fate}

@@ -4,10 +4,10 @@ use Rattle.case_core.specs.CaseModel.{not_created}
 use Rattle.case_core.specs.Machine.{next_case}
 use Rattle.case_core.specs.declared.events.Event.{Event}
 use Rattle.case_core.specs.declared.events.Event.TheVariants as event
-use Rattle.process_text.specs.declared.files.File.{File}
-use Rattle.process_text.specs.declared.files.Line.{Line}
-use Rattle.process_text.specs.declared.files.Act.{Act}
-use Rattle.process_text.specs.declared.files.Act.TheVariants as act
+use Rattle.first_text.specs.declared.files.File.{File}
+use Rattle.first_text.specs.declared.files.Line.{Line}
+use Rattle.first_text.specs.declared.files.Act.{Act}
+use Rattle.first_text.specs.declared.files.Act.TheVariants as act
 use Rattle.report_text.specs.declared.runs.Run.{Run}
 use Rattle.report_text.specs.declared.runs.ClosedCase.{ClosedCase}
 use Rattle.report_text.specs.declared.runs.ClosedKind.{ClosedKind}

@@ -1,8 +1,8 @@
 -- The words of a report.
 use Rattle.std.specs.Prelude.{◌≡◌, ℕ, ◌<◌, ◌==◌, Bool, true, ◌||◌, [], ◌∷◌, ◌++◌, flat_map, length, take, slice_index, slice_get, Option, Some, None, if◌then◌else◌, codes, decimal}
 use Rattle.std.specs.Fmt.{signed_decimal}
-use Rattle.process_text.specs.Lines.{Bytes}
-use Rattle.process_text.specs.declared.files.File.{File}
+use Rattle.first_text.specs.Lines.{Bytes}
+use Rattle.first_text.specs.declared.files.File.{File}
 use Rattle.wsm_lists.specs.declared.values.Value.{Value}
 use Rattle.wsm_lists.specs.declared.values.Value.TheVariants as value
 use Rattle.wsm_schema.specs.declared.states.State.{State}

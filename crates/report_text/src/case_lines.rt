@@ -15,7 +15,7 @@ use crate::words::{caller_word, letter, put_element, put_of_node};
 use adept_io::{Sink, put, put_pieces};
 use case_core::{Event, Reply};
 use itoa::Buffer;
-use process_text::File;
+use first_text::File;
 use wsm_foot::Name;
 use wsm_schema::{Entry, State, Writes};
 use wsm_sound::Fault;

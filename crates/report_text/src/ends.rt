@@ -12,7 +12,7 @@ use crate::words::{caller_word, letter, put_node};
 use adept_io::{Sink, put, put_number, put_pieces};
 use case_core::Live;
 use itoa::Buffer;
-use process_text::File;
+use first_text::File;
 use wsm_rules::is_worked_on;
 use wsm_schema::{Card, ElementKind, Spot, State};
 

@@ -5,7 +5,7 @@ ghost use Rattle.report_text.specs.Names.{name_text};
 use crate::words::{put_and_code, put_and_element, put_and_node, put_of_node};
 use adept_io::{Sink, put_pieces};
 use itoa::Buffer;
-use process_text::File;
+use first_text::File;
 use wsm_foot::Name;
 
 /// The name of something that operations change or use.

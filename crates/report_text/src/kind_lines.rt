@@ -9,7 +9,7 @@ use crate::runs::KindEntry;
 use crate::words::caller_word;
 use adept_io::{Sink, put, put_number, put_pieces};
 use itoa::Buffer;
-use process_text::File;
+use first_text::File;
 use type_core::{KindEvent, KindReply};
 use wsm_sound::Fault;
 

@@ -11,7 +11,7 @@ use crate::kind_lines::put_kind_journal;
 use crate::runs::{ClosedCase, ClosedKind, Run};
 use crate::totals::{put_case_totals, put_migration_totals};
 use adept_io::{Failed, Sink, put, put_pieces};
-use process_text::File;
+use first_text::File;
 
 /// Writes the report of a run of the file. Where a write fails, the first bytes of the report may have been written.
 pub fn write_run<K: Sink>(file: &File, run: &Run, sink: &mut K) -> Result<(), Failed>

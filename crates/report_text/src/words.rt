@@ -5,7 +5,7 @@ ghost use Rattle.report_text.specs.Words.{caller_text, element_is, letter, liste
 
 use adept_io::{Sink, put, put_pieces};
 use itoa::Buffer;
-use process_text::File;
+use first_text::File;
 use wsm_schema::State;
 
 /// The name of a node, or its number where the file does not name it.

@@ -1,0 +1,59 @@
+-- The forms of lines: one set for each place where a line may stand.
+use Rattle.std.specs.Prelude.{ℕ, Bool, List, Option}
+use Rattle.wsm_lists.specs.declared.values.ElementKind.{ElementKind}
+use Rattle.wsm_lists.specs.declared.values.Value.{Value}
+use Rattle.file_words.specs.Lines.{Bytes}
+
+-- a line outside of types and phases
+pub data Declaration : Type 0 where
+  a_type : (name : Bytes) → Declaration
+  an_actor : (name : Bytes) (roles : List ℕ) → Declaration
+  a_case : (name kind : Bytes) → Declaration
+  first_phase : Declaration
+
+-- a line of a type
+pub data TypeLine : Type 0 where
+  activity : (node : Bytes) (role : ℕ) → TypeLine
+  opens_and : (split join : Bytes) → TypeLine
+  opens_xor : (split join : Bytes) (role : ℕ) → TypeLine
+  opens_branch : (code : ℕ) → TypeLine
+  opens_loop : (start end : Bytes) (role : ℕ) → TypeLine
+  closes_block : TypeLine
+  a_sync : (source target : Bytes) → TypeLine
+  an_element : (element : Bytes) (kind : ElementKind) → TypeLine
+  a_read : (node element : Bytes) (mandatory : Bool) → TypeLine
+  a_write : (node element : Bytes) → TypeLine
+  type_end : TypeLine
+
+-- what an actor does
+pub data Deed : Type 0 where
+  to_create : (case : Bytes) → Deed
+  to_start : (case node : Bytes) → Deed
+  to_end : (case node : Bytes) (choice : Option ℕ) (writes : List (Bytes × Value)) → Deed
+  to_change : (case : Bytes) → Deed
+  to_install : (kind : Bytes) → Deed
+  to_migrate : (kind : Bytes) → Deed
+
+-- a line of a phase
+pub data ScriptLine : Type 0 where
+  next_phase : ScriptLine
+  a_deed : (actor : Bytes) → Deed → ScriptLine
+
+-- where an operation puts a node
+pub data Place : Type 0 where
+  behind : (node : Bytes) → Place
+  at_head : (split : Bytes) (code : ℕ) → Place
+
+-- a line of a group of operations
+pub data OperationLine : Type 0 where
+  insert : (node : Bytes) (role : ℕ) (place : Place) → OperationLine
+  parallel : (node : Bytes) (role : ℕ) (split join first last : Bytes) → OperationLine
+  conditional : (node : Bytes) (role : ℕ) (split join : Bytes) (place : Place) → OperationLine
+  delete : (node : Bytes) → OperationLine
+  move : (node : Bytes) (place : Place) → OperationLine
+  sync unsync : (source target : Bytes) → OperationLine
+  element : (element : Bytes) (kind : ElementKind) → OperationLine
+  read : (node element : Bytes) (mandatory : Bool) → OperationLine
+  unread write unwrite : (node element : Bytes) → OperationLine
+  set_role : (node : Bytes) (role : ℕ) → OperationLine
+  group_end : OperationLine

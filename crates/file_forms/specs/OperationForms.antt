@@ -1,0 +1,122 @@
+-- Lines of a group of operations.
+use Rattle.std.specs.Prelude.{ℕ, List, [], ◌∷◌, length, ◌==◌, Option, Some, None, option_map, if◌then◌else◌, codes}
+use Rattle.std.specs.Option.{option_or}
+use Rattle.file_words.specs.Lines.{Bytes}
+use Rattle.file_words.specs.Words.{is}
+use Rattle.file_words.specs.Names.{name}
+use Rattle.file_words.specs.Numbers.{role, code}
+use Rattle.file_forms.specs.Forms.{Place, behind, at_head, OperationLine, insert, parallel, conditional, delete, move, sync, unsync, element, read, unread, write, unwrite, set_role, group_end}
+use Rattle.file_forms.specs.PieceForms.{◌>>=◌, nothing_more, only, one_name, two_names, two_names_ahead, element_and_kind, read_edge}
+
+abbrev pub name_and_code : List Bytes → Option (Bytes × ℕ)
+name_and_code [] = None
+name_and_code (s ∷ ws) = do
+  x ← name s
+  c ← only ws >>= code
+  Some (x, c)
+
+abbrev pub place : List Bytes → Option Place
+place [] = None
+place (k ∷ ws) =
+    if is (codes "after") k then option_map behind (one_name ws)
+    else (if is (codes "head") k then option_map (λ p. at_head p.0 p.1) (name_and_code ws)
+    else None)
+
+abbrev pub role_number_ahead : List Bytes → Option (ℕ × List Bytes)
+role_number_ahead [] = None
+role_number_ahead (r ∷ ws) = option_map (λ n. (n, ws)) (role r)
+
+-- `role` and a role, or else nothing, which is role 0, and the words behind
+abbrev pub role_ahead : List Bytes → Option (ℕ × List Bytes)
+role_ahead [] = Some (0, [])
+role_ahead (k ∷ ws) = if is (codes "role") k then role_number_ahead ws else Some (0, k ∷ ws)
+
+-- a new node, its role, and the words behind
+abbrev pub new_node : List Bytes → Option (Bytes × ℕ × List Bytes)
+new_node [] = None
+new_node (n ∷ ws) = do
+  x ← name n
+  r ← role_ahead ws
+  Some (x, r.0, r.1)
+
+-- `with` and two names, and the words behind
+abbrev pub with_block : List Bytes → Option (Bytes × Bytes × List Bytes)
+with_block [] = None
+with_block (k ∷ ws) = if is (codes "with") k then two_names_ahead ws else None
+
+-- the last item is the first where it is not written
+abbrev pub last_item : Bytes → List Bytes → Option Bytes
+last_item first ws = if length ws == 0 then Some first else one_name ws
+
+abbrev pub first_and_last : List Bytes → Option (Bytes × Bytes)
+first_and_last [] = None
+first_and_last (a ∷ ws) = do
+  x ← name a
+  y ← last_item x ws
+  Some (x, y)
+
+abbrev pub around_items : List Bytes → Option (Bytes × Bytes)
+around_items [] = None
+around_items (k ∷ ws) = if is (codes "around") k then first_and_last ws else None
+
+abbrev pub insert_line : List Bytes → Option OperationLine
+insert_line ws = do
+  n ← new_node ws
+  p ← place n.2
+  Some (insert n.0 n.1 p)
+
+abbrev pub parallel_line : List Bytes → Option OperationLine
+parallel_line ws = do
+  n ← new_node ws
+  b ← with_block n.2
+  i ← around_items b.2
+  Some (parallel n.0 n.1 b.0 b.1 i.0 i.1)
+
+abbrev pub conditional_line : List Bytes → Option OperationLine
+conditional_line ws = do
+  n ← new_node ws
+  b ← with_block n.2
+  p ← place b.2
+  Some (conditional n.0 n.1 b.0 b.1 p)
+
+abbrev pub move_line : List Bytes → Option OperationLine
+move_line [] = None
+move_line (n ∷ ws) = do
+  x ← name n
+  p ← place ws
+  Some (move x p)
+
+abbrev pub role_line : List Bytes → Option OperationLine
+role_line [] = None
+role_line (n ∷ ws) = do
+  x ← name n
+  r ← only ws >>= role
+  Some (set_role x r)
+
+-- operations that change the tree of blocks, and the end of the group
+abbrev pub tree_operation : Bytes → List Bytes → Option OperationLine
+tree_operation k ws =
+    if is (codes "insert") k then insert_line ws
+    else (if is (codes "parallel") k then parallel_line ws
+    else (if is (codes "conditional") k then conditional_line ws
+    else (if is (codes "delete") k then option_map delete (one_name ws)
+    else (if is (codes "move") k then move_line ws
+    else (if is (codes "end") k then nothing_more group_end ws
+    else None)))))
+
+-- operations on edges, elements and roles
+abbrev pub list_operation : Bytes → List Bytes → Option OperationLine
+list_operation k ws =
+    if is (codes "sync") k then option_map (λ p. sync p.0 p.1) (two_names ws)
+    else (if is (codes "unsync") k then option_map (λ p. unsync p.0 p.1) (two_names ws)
+    else (if is (codes "element") k then option_map (λ p. element p.0 p.1) (element_and_kind ws)
+    else (if is (codes "read") k then option_map (λ p. read p.0 p.1 p.2) (read_edge ws)
+    else (if is (codes "unread") k then option_map (λ p. unread p.0 p.1) (two_names ws)
+    else (if is (codes "write") k then option_map (λ p. write p.0 p.1) (two_names ws)
+    else (if is (codes "unwrite") k then option_map (λ p. unwrite p.0 p.1) (two_names ws)
+    else (if is (codes "role") k then role_line ws
+    else None)))))))
+
+abbrev pub operation_line : List Bytes → Option OperationLine
+operation_line [] = None
+operation_line (k ∷ ws) = option_or (tree_operation k ws) (list_operation k ws)

@@ -1,0 +1,93 @@
+-- Pieces of lines that several forms share.
+use Rattle.std.specs.Prelude.{ℕ, Bool, true, false, List, [], ◌∷◌, Option, Some, None, option_map, if◌then◌else◌, codes}
+use Rattle.wsm_lists.specs.declared.values.ElementKind.{ElementKind}
+use Rattle.wsm_lists.specs.declared.values.ElementKind.TheVariants as kind
+use Rattle.file_words.specs.Lines.{Bytes}
+use Rattle.file_words.specs.Words.{is}
+use Rattle.file_words.specs.Names.{name}
+use Rattle.file_words.specs.Numbers.{role}
+
+infixl 10 ◌>>=◌
+abbrev pub ◌>>=◌ : {A B : Type 0} → Option A → (A → Option B) → Option B
+None >>= f = None
+(Some x) >>= f = f x
+
+abbrev pub nothing_more : {A : Type 0} → A → List Bytes → Option A
+nothing_more x [] = Some x
+nothing_more x (w ∷ ws) = None
+
+-- the one word of a list
+abbrev pub only : List Bytes → Option Bytes
+only [] = None
+only (w ∷ ws) = nothing_more w ws
+
+abbrev pub one_name : List Bytes → Option Bytes
+one_name ws = only ws >>= name
+
+abbrev pub two_names : List Bytes → Option (Bytes × Bytes)
+two_names [] = None
+two_names (a ∷ ws) = do
+  x ← name a
+  y ← one_name ws
+  Some (x, y)
+
+-- a name, and the words behind it
+abbrev pub name_ahead : List Bytes → Option (Bytes × List Bytes)
+name_ahead [] = None
+name_ahead (w ∷ ws) = option_map (λ x. (x, ws)) (name w)
+
+abbrev pub two_names_ahead : List Bytes → Option (Bytes × Bytes × List Bytes)
+two_names_ahead ws = do
+  a ← name_ahead ws
+  b ← name_ahead a.1
+  Some (a.0, b.0, b.1)
+
+-- nothing, which is role 0, or `role` and a role
+abbrev pub role_at_end : List Bytes → Option ℕ
+role_at_end [] = Some 0
+role_at_end (k ∷ ws) = if is (codes "role") k then only ws >>= role else None
+
+abbrev pub name_and_role : List Bytes → Option (Bytes × ℕ)
+name_and_role [] = None
+name_and_role (n ∷ ws) = do
+  x ← name n
+  r ← role_at_end ws
+  Some (x, r)
+
+abbrev pub two_names_and_role : List Bytes → Option (Bytes × Bytes × ℕ)
+two_names_and_role [] = None
+two_names_and_role (n ∷ ws) = do
+  x ← name n
+  p ← name_and_role ws
+  Some (x, p.0, p.1)
+
+abbrev pub element_kind : Bytes → Option ElementKind
+element_kind w =
+    if is (codes "int") w then Some kind.Int
+    else (if is (codes "text") w then Some kind.Text else None)
+
+abbrev pub element_and_kind : List Bytes → Option (Bytes × ElementKind)
+element_and_kind [] = None
+element_and_kind (e ∷ ws) = do
+  x ← name e
+  k ← only ws >>= element_kind
+  Some (x, k)
+
+-- a read is mandatory, unless the word `optional` says that it is not
+abbrev pub is_mandatory : List Bytes → Option Bool
+is_mandatory [] = Some true
+is_mandatory (w ∷ ws) = if is (codes "optional") w then nothing_more false ws else None
+
+abbrev pub element_read : List Bytes → Option (Bytes × Bool)
+element_read [] = None
+element_read (e ∷ ws) = do
+  x ← name e
+  m ← is_mandatory ws
+  Some (x, m)
+
+abbrev pub read_edge : List Bytes → Option (Bytes × Bytes × Bool)
+read_edge [] = None
+read_edge (n ∷ ws) = do
+  x ← name n
+  p ← element_read ws
+  Some (x, p.0, p.1)

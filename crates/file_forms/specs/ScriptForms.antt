@@ -1,0 +1,62 @@
+-- Lines of a phase.
+use Rattle.std.specs.Prelude.{ℕ, ◌&&◌, List, [], ◌∷◌, length, ◌==◌, Option, Some, None, option_map, if◌then◌else◌, codes}
+use Rattle.wsm_lists.specs.declared.values.Value.{Value}
+use Rattle.file_words.specs.Lines.{Bytes}
+use Rattle.file_words.specs.Words.{is}
+use Rattle.file_words.specs.Names.{name}
+use Rattle.file_words.specs.Numbers.{code}
+use Rattle.file_words.specs.Pairs.{pair}
+use Rattle.file_forms.specs.Forms.{Deed, to_create, to_start, to_end, to_change, to_install, to_migrate, ScriptLine, next_phase, a_deed}
+use Rattle.file_forms.specs.PieceForms.{◌>>=◌, one_name, two_names, two_names_ahead}
+
+abbrev pub pairs : List Bytes → Option (List (Bytes × Value))
+pairs [] = Some []
+pairs (w ∷ ws) = do
+  p ← pair w
+  ps ← pairs ws
+  Some (p ∷ ps)
+
+abbrev pub code_ahead : List Bytes → Option (Option ℕ × List Bytes)
+code_ahead [] = None
+code_ahead (c ∷ ws) = option_map (λ n. (Some n, ws)) (code c)
+
+-- `choice` and a code, or else nothing, and the words behind: no pair is the word `choice`
+abbrev pub choice_ahead : List Bytes → Option (Option ℕ × List Bytes)
+choice_ahead [] = Some (None, [])
+choice_ahead (k ∷ ws) = if is (codes "choice") k then code_ahead ws else Some (None, k ∷ ws)
+
+abbrev pub end_behind : Bytes → Bytes → List Bytes → Option Deed
+end_behind case node ws = do
+  choice ← choice_ahead ws
+  writes ← pairs choice.1
+  Some (to_end case node choice.0 writes)
+
+abbrev pub end_deed : List Bytes → Option Deed
+end_deed ws = do
+  p ← two_names_ahead ws
+  end_behind p.0 p.1 p.2
+
+-- what an actor does, but for an end
+abbrev pub plain_deed : Bytes → List Bytes → Option Deed
+plain_deed k ws =
+    if is (codes "create") k then option_map to_create (one_name ws)
+    else (if is (codes "start") k then option_map (λ p. to_start p.0 p.1) (two_names ws)
+    else (if is (codes "change") k then option_map to_change (one_name ws)
+    else (if is (codes "install") k then option_map to_install (one_name ws)
+    else (if is (codes "migrate") k then option_map to_migrate (one_name ws)
+    else None))))
+
+abbrev pub deed : List Bytes → Option Deed
+deed [] = None
+deed (k ∷ ws) = if is (codes "end") k then end_deed ws else plain_deed k ws
+
+abbrev pub deed_line : Bytes → List Bytes → Option ScriptLine
+deed_line a ws = do
+  actor ← name a
+  d ← deed ws
+  Some (a_deed actor d)
+
+-- an actor may be called `phase`
+abbrev pub script_line : List Bytes → Option ScriptLine
+script_line [] = None
+script_line (k ∷ ws) = if is (codes "phase") k && length ws == 0 then Some next_phase else deed_line k ws

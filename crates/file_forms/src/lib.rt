@@ -1,0 +1,18 @@
+//! The form of a line of a process file, from its words alone.
+//!
+//! There is one set of forms for each place where a line may stand: outside of types and phases, in a type, in a phase, and
+//! in a group of operations. Names and texts may have any length here.
+#![tactic(auto)]
+
+mod declarations;
+mod operation_lines;
+mod pieces;
+mod script_lines;
+#[cfg(test)]
+mod tests;
+mod type_lines;
+
+pub use declarations::{Declaration, declaration_line, is_header};
+pub use operation_lines::{OperationLine, Place, operation_line};
+pub use script_lines::{Deed, ScriptLine, WriteWords, script_line};
+pub use type_lines::{TypeLine, type_line};

@@ -1,0 +1,346 @@
+// Lines of a group of operations.
+ghost use Rattle.std.specs.Prelude.{◌≡◌, option_map};
+ghost use Rattle.file_words.specs.Shown.{shown, shown_name};
+ghost use Rattle.file_forms.specs.OperationForms.{name_and_code, place, role_number_ahead, role_ahead, new_node, with_block, last_item, first_and_last, around_items, insert_line, parallel_line, conditional_line, move_line, role_line, tree_operation, list_operation, operation_line};
+ghost use Rattle.file_forms.specs.Shown.{shown_names, shown_with, shown_behind, shown_two_ahead, shown_new_node, shown_place, shown_operation};
+
+use crate::pieces::{element_and_kind, one_name, only, read_edge, two_names, two_names_ahead};
+use file_words::{NameWord, code, role};
+use wsm_lists::ElementKind;
+
+/// Where an operation puts a node.
+#[derive(Clone, Copy)]
+pub enum Place<'a> {
+    /// Directly behind this node.
+    After(NameWord<'a>),
+    /// At the head of the split's branch with this code.
+    Head { split: NameWord<'a>, code: u16 },
+}
+
+/// A line of a group of operations. A role that is not written is 0.
+#[derive(Clone, Copy)]
+pub enum OperationLine<'a> {
+    Insert {
+        node: NameWord<'a>,
+        role: u32,
+        place: Place<'a>,
+    },
+    /// The last item is the first where it is not written.
+    Parallel {
+        node: NameWord<'a>,
+        role: u32,
+        split: NameWord<'a>,
+        join: NameWord<'a>,
+        first: NameWord<'a>,
+        last: NameWord<'a>,
+    },
+    Conditional {
+        node: NameWord<'a>,
+        role: u32,
+        split: NameWord<'a>,
+        join: NameWord<'a>,
+        place: Place<'a>,
+    },
+    Delete(NameWord<'a>),
+    Move {
+        node: NameWord<'a>,
+        place: Place<'a>,
+    },
+    Sync {
+        source: NameWord<'a>,
+        target: NameWord<'a>,
+    },
+    Unsync {
+        source: NameWord<'a>,
+        target: NameWord<'a>,
+    },
+    Element {
+        element: NameWord<'a>,
+        kind: ElementKind,
+    },
+    Read {
+        node: NameWord<'a>,
+        element: NameWord<'a>,
+        mandatory: bool,
+    },
+    Unread {
+        node: NameWord<'a>,
+        element: NameWord<'a>,
+    },
+    Write {
+        node: NameWord<'a>,
+        element: NameWord<'a>,
+    },
+    Unwrite {
+        node: NameWord<'a>,
+        element: NameWord<'a>,
+    },
+    Role {
+        node: NameWord<'a>,
+        role: u32,
+    },
+    GroupEnd,
+}
+
+fn name_and_code<'a>(words: &[&'a [u8]]) -> Option<(NameWord<'a>, u16)>
+    ensures { option_map shown_with result ≡ name_and_code (shown words.now) }
+{
+    match words {
+        [] => None,
+        [word, rest @ ..] => {
+            let name = NameWord::of(*word)?;
+            let code = code(only(rest)?)?;
+            Some((name, code))
+        }
+    }
+}
+
+fn place_of<'a>(words: &[&'a [u8]]) -> Option<Place<'a>>
+    ensures { option_map shown_place result ≡ place (shown words.now) }
+{
+    match words {
+        [] => None,
+        [keyword, rest @ ..] => {
+            if *keyword == b"after".as_slice() {
+                Some(Place::After(one_name(rest)?))
+            } else if *keyword == b"head".as_slice() {
+                let (split, code) = name_and_code(rest)?;
+                Some(Place::Head { split, code })
+            } else {
+                None
+            }
+        }
+    }
+}
+
+fn role_number_ahead<'a, 'b>(words: &'b [&'a [u8]]) -> Option<(u32, &'b [&'a [u8]])>
+    ensures { option_map shown_behind result ≡ role_number_ahead (shown words.now) }
+{
+    match words {
+        [] => None,
+        [word, rest @ ..] => {
+            let number = role(*word)?;
+            Some((number, rest))
+        }
+    }
+}
+
+/// A role where one is written, and the words behind it.
+fn role_ahead<'a, 'b>(words: &'b [&'a [u8]]) -> Option<(u32, &'b [&'a [u8]])>
+    ensures { option_map shown_behind result ≡ role_ahead (shown words.now) }
+{
+    match words {
+        [] => Some((0, words)),
+        [keyword, rest @ ..] => {
+            if *keyword == b"role".as_slice() {
+                role_number_ahead(rest)
+            } else {
+                Some((0, words))
+            }
+        }
+    }
+}
+
+/// A new node, its role, and the words behind them.
+fn new_node<'a, 'b>(words: &'b [&'a [u8]]) -> Option<(NameWord<'a>, u32, &'b [&'a [u8]])>
+    ensures { option_map shown_new_node result ≡ new_node (shown words.now) }
+{
+    match words {
+        [] => None,
+        [word, rest @ ..] => {
+            let node = NameWord::of(*word)?;
+            let (role, behind) = role_ahead(rest)?;
+            Some((node, role, behind))
+        }
+    }
+}
+
+/// The split and the join of a new block, and the words behind them.
+fn with_block<'a, 'b>(words: &'b [&'a [u8]]) -> Option<(NameWord<'a>, NameWord<'a>, &'b [&'a [u8]])>
+    ensures { option_map shown_two_ahead result ≡ with_block (shown words.now) }
+{
+    match words {
+        [] => None,
+        [keyword, rest @ ..] => {
+            if *keyword == b"with".as_slice() {
+                two_names_ahead(rest)
+            } else {
+                None
+            }
+        }
+    }
+}
+
+fn last_item<'a>(first: NameWord<'a>, words: &[&'a [u8]]) -> Option<NameWord<'a>>
+    ensures { option_map shown_name result ≡ last_item first.entry.bytes.now (shown words.now) }
+{
+    if words.is_empty() {
+        Some(first)
+    } else {
+        one_name(words)
+    }
+}
+
+fn first_and_last<'a>(words: &[&'a [u8]]) -> Option<(NameWord<'a>, NameWord<'a>)>
+    ensures { option_map shown_names result ≡ first_and_last (shown words.now) }
+{
+    match words {
+        [] => None,
+        [word, rest @ ..] => {
+            let first = NameWord::of(*word)?;
+            let last = last_item(first, rest)?;
+            Some((first, last))
+        }
+    }
+}
+
+/// The items that a new block goes round.
+fn around_items<'a>(words: &[&'a [u8]]) -> Option<(NameWord<'a>, NameWord<'a>)>
+    ensures { option_map shown_names result ≡ around_items (shown words.now) }
+{
+    match words {
+        [] => None,
+        [keyword, rest @ ..] => {
+            if *keyword == b"around".as_slice() {
+                first_and_last(rest)
+            } else {
+                None
+            }
+        }
+    }
+}
+
+fn insert_line<'a>(words: &[&'a [u8]]) -> Option<OperationLine<'a>>
+    ensures { option_map shown_operation result ≡ insert_line (shown words.now) }
+{
+    let (node, role, rest) = new_node(words)?;
+    let place = place_of(rest)?;
+    Some(OperationLine::Insert { node, role, place })
+}
+
+fn parallel_line<'a>(words: &[&'a [u8]]) -> Option<OperationLine<'a>>
+    ensures { option_map shown_operation result ≡ parallel_line (shown words.now) }
+{
+    let (node, role, behind) = new_node(words)?;
+    let (split, join, rest) = with_block(behind)?;
+    let (first, last) = around_items(rest)?;
+    Some(OperationLine::Parallel {
+        node,
+        role,
+        split,
+        join,
+        first,
+        last,
+    })
+}
+
+fn conditional_line<'a>(words: &[&'a [u8]]) -> Option<OperationLine<'a>>
+    ensures { option_map shown_operation result ≡ conditional_line (shown words.now) }
+{
+    let (node, role, behind) = new_node(words)?;
+    let (split, join, rest) = with_block(behind)?;
+    let place = place_of(rest)?;
+    Some(OperationLine::Conditional {
+        node,
+        role,
+        split,
+        join,
+        place,
+    })
+}
+
+fn move_line<'a>(words: &[&'a [u8]]) -> Option<OperationLine<'a>>
+    ensures { option_map shown_operation result ≡ move_line (shown words.now) }
+{
+    match words {
+        [] => None,
+        [word, rest @ ..] => {
+            let node = NameWord::of(*word)?;
+            let place = place_of(rest)?;
+            Some(OperationLine::Move { node, place })
+        }
+    }
+}
+
+fn role_line<'a>(words: &[&'a [u8]]) -> Option<OperationLine<'a>>
+    ensures { option_map shown_operation result ≡ role_line (shown words.now) }
+{
+    match words {
+        [] => None,
+        [word, rest @ ..] => {
+            let node = NameWord::of(*word)?;
+            let role = role(only(rest)?)?;
+            Some(OperationLine::Role { node, role })
+        }
+    }
+}
+
+/// An operation that changes the tree of blocks, or the end of the group.
+fn tree_operation<'a>(keyword: &[u8], words: &[&'a [u8]]) -> Option<OperationLine<'a>>
+    ensures { option_map shown_operation result ≡ tree_operation keyword.now (shown words.now) }
+{
+    if keyword == b"insert".as_slice() {
+        insert_line(words)
+    } else if keyword == b"parallel".as_slice() {
+        parallel_line(words)
+    } else if keyword == b"conditional".as_slice() {
+        conditional_line(words)
+    } else if keyword == b"delete".as_slice() {
+        Some(OperationLine::Delete(one_name(words)?))
+    } else if keyword == b"move".as_slice() {
+        move_line(words)
+    } else if keyword == b"end".as_slice() && words.is_empty() {
+        Some(OperationLine::GroupEnd)
+    } else {
+        None
+    }
+}
+
+/// An operation on edges, elements or roles.
+fn list_operation<'a>(keyword: &[u8], words: &[&'a [u8]]) -> Option<OperationLine<'a>>
+    ensures { option_map shown_operation result ≡ list_operation keyword.now (shown words.now) }
+{
+    if keyword == b"sync".as_slice() {
+        let (source, target) = two_names(words)?;
+        Some(OperationLine::Sync { source, target })
+    } else if keyword == b"unsync".as_slice() {
+        let (source, target) = two_names(words)?;
+        Some(OperationLine::Unsync { source, target })
+    } else if keyword == b"element".as_slice() {
+        let (element, kind) = element_and_kind(words)?;
+        Some(OperationLine::Element { element, kind })
+    } else if keyword == b"read".as_slice() {
+        let (node, element, mandatory) = read_edge(words)?;
+        Some(OperationLine::Read {
+            node,
+            element,
+            mandatory,
+        })
+    } else if keyword == b"unread".as_slice() {
+        let (node, element) = two_names(words)?;
+        Some(OperationLine::Unread { node, element })
+    } else if keyword == b"write".as_slice() {
+        let (node, element) = two_names(words)?;
+        Some(OperationLine::Write { node, element })
+    } else if keyword == b"unwrite".as_slice() {
+        let (node, element) = two_names(words)?;
+        Some(OperationLine::Unwrite { node, element })
+    } else if keyword == b"role".as_slice() {
+        role_line(words)
+    } else {
+        None
+    }
+}
+
+/// The form of a line of a group of operations.
+pub fn operation_line<'a>(words: &[&'a [u8]]) -> Option<OperationLine<'a>>
+    ensures { option_map shown_operation result ≡ operation_line (shown words.now) }
+{
+    match words {
+        [] => None,
+        [keyword, rest @ ..] => match tree_operation(*keyword, rest) {
+            Some(line) => Some(line),
+            None => list_operation(*keyword, rest),
+        },
+    }
+}

@@ -1,0 +1,35 @@
+// What a file declares, by name.
+ghost use Rattle.std.specs.Prelude.{◌≡◌, [], ◌∷◌, ◌++◌, OnOk, IfOk};
+ghost use Rattle.file_names.specs.Names.{noted};
+
+use crate::name_tables::NameTable;
+use file_words::{NameWord, NoMemory};
+use std::alloc::Global;
+use wsm_lists::Listing;
+
+/// Names with what they were declared as, both in order of declaration.
+#[derive(Drop)]
+pub struct DeclaredList<T: Drop> {
+    pub names: NameTable,
+    pub items: Listing<T>,
+}
+
+impl<T: Drop> DeclaredList<T> {
+    /// Nothing is declared.
+    pub fn new(alloc: Global) -> Self
+        ensures { result ≡ record { names = []; items = [] } }
+    {
+        DeclaredList {
+            names: NameTable::new(alloc),
+            items: Listing::new(alloc),
+        }
+    }
+
+    /// One more declaration.
+    pub fn push(&mut self, alloc: Global, name: NameWord<'_>, item: T) -> Result<(), NoMemory>
+        ensures { OnOk result (self.new ≡ record { names = noted self.old.names name.entry.bytes.now; items = self.old.items ++ item ∷ [] }) }
+    {
+        self.names.note(alloc, name)?;
+        self.items.push(item)
+    }
+}

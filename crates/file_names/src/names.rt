@@ -1,0 +1,89 @@
+// Names.
+ghost use Rattle.std.specs.Prelude.{◌≡◌, true, Some, None, IfOk, if◌then◌else◌};
+ghost use Rattle.file_names.specs.ShortNames.{is_short_name};
+
+use file_words::{NameWord, NoMemory};
+use std::alloc::{AllocError, Global};
+use std::marker::Model;
+use wsm_lists::Listing;
+
+/// How many bytes a name may have.
+const MAX_NAME: usize = 64;
+
+/// A name: 1 to 64 ASCII letters, digits, `_`, `-` and `.`, of which the first is a letter or `_`.
+#[derive(Drop)]
+pub struct Name64 {
+    bytes: Vec<u8>,
+}
+
+impl Model for Name64 {
+    ghost use Rattle.std.specs.Prelude.{◌≡◌, ℕ, List, true};
+    ghost use Rattle.file_names.specs.ShortNames.{is_short_name};
+
+    ghost Value = { List ℕ };
+
+    ghost view = { λ a. a.bytes.items };
+
+    ghost invariant = { λ a. is_short_name a.bytes.items ≡ true };
+}
+
+/// Names by their numbers: the name at an index has that number.
+pub type Names = Listing<Name64>;
+
+impl Name64 {
+    /// The name of these bytes. None where they are no name.
+    pub fn of(alloc: Global, bytes: &[u8]) -> Result<Option<Name64>, NoMemory>
+        ensures { IfOk result (λ name. name ≡ (if is_short_name bytes.now then Some bytes.now else None)) }
+    {
+        match NameWord::of(bytes) {
+            None => Ok(None),
+            Some(word) => {
+                if word.bytes.len() > MAX_NAME {
+                    return Ok(None);
+                }
+                Ok(Some(Name64::of_word(alloc, word)?))
+            }
+        }
+    }
+
+    /// The name of a word. The reader refuses a line with a longer name first; here it counts as want of memory.
+    pub fn of_word(alloc: Global, word: NameWord<'_>) -> Result<Name64, NoMemory>
+        ensures { IfOk result (λ name. name ≡ word.entry.bytes.now) }
+    {
+        if word.bytes.len() > MAX_NAME {
+            return Err(AllocError);
+        }
+        Ok(Name64 {
+            bytes: Vec::from_slice(alloc, word.bytes)?,
+        })
+    }
+
+    pub(crate) fn from_bytes(bytes: Vec<u8>) -> Name64
+        requires { is_short_name bytes.items ≡ true }
+        ensures { result ≡ bytes.items }
+    {
+        Name64 { bytes }
+    }
+
+    /// The name as a word.
+    pub fn word(&self) -> NameWord<'_>
+        ensures { result.bytes.now ≡ self.now }
+    {
+        NameWord { bytes: &self.bytes }
+    }
+
+    pub(crate) fn into_bytes(self) -> Vec<u8>
+        ensures bytes { result.items ≡ self }
+        ensures name { is_short_name result.items ≡ true }
+    {
+        self.bytes
+    }
+
+    /// The bytes of the name.
+    pub fn bytes(&self) -> &[u8]
+        ensures bytes { result.now ≡ self.now }
+        ensures name { is_short_name result.now ≡ true }
+    {
+        &self.bytes
+    }
+}

@@ -1,0 +1,44 @@
+-- The first word of a line, and those behind it.
+use Rattle.std.proofs.Common.{◌≡◌, ℕ, suc, true, false, List, [], ◌∷◌, filter, take, drop, length, refl, ap, sym, ◌∙◌, IsTrue, inl, inr, arith, ◌<◌, rules}
+use Rattle.std.proofs.lemmas.Bool.{cases_Bool}
+use Rattle.file_words.specs.Lines.{Bytes}
+use Rattle.file_words.specs.Words.{cuts, behind, fields, is_word, words_of, word_end, begins_word}
+use Rattle.file_words.specs.declared.words.Quote.{Quote}
+use Rattle.file_words.specs.declared.words.Quote.TheVariants.{Outside, Inside, Escaped}
+
+-- a blank that cuts stands outside, and so does what follows it
+pub cut_is_outside : (q : Quote) (b : ℕ) → cuts q b ≡ true → q ≡ Outside
+cut_is_outside Outside b is_cut = refl
+cut_is_outside Inside b is_cut = cc
+cut_is_outside Escaped b is_cut = cc
+
+-- a blank in front changes nothing
+pub words_past_blank : (b : ℕ) (bs : Bytes) → cuts Outside b ≡ true → words_of (b ∷ bs) ≡ filter is_word (fields (behind Outside b) bs)
+words_past_blank b bs is_cut = rw is_cut refl
+
+-- the first field is what stands before the first cut, and the rest are those behind it
+pub fields_split : (q : Quote) (bs : Bytes) → (tail : List Bytes) × (fields q bs ≡ take (word_end q bs) bs ∷ tail) × (filter is_word tail ≡ words_of (drop (word_end q bs) bs))
+fields_split q [] = ([], refl, refl)
+fields_split q (b ∷ bs) =
+    let goes_on = fields_split (behind q b) bs in
+    elim (cases_Bool (cuts q b)) [
+      | inl is_cut ↦
+          let here : q ≡ Outside = cut_is_outside q b is_cut in
+          let cut_here : cuts Outside b ≡ true = rw here at is_cut in
+          let same : filter is_word (fields (behind q b) bs) ≡ words_of (b ∷ bs) = rw here (sym (words_past_blank b bs cut_here)) in
+          (fields (behind q b) bs, rw is_cut refl, rw is_cut same)
+      | inr other ↦ (goes_on.0, rw (other, goes_on.1) refl, rw other goes_on.2)
+    ]
+
+-- a word that is not empty, where no blank stands in front
+pub begun : (b : ℕ) (bs : Bytes) → IsTrue (begins_word (b ∷ bs)) → cuts Outside b ≡ false
+begun b bs w = search rules
+
+-- the first word, and the words behind it
+pub first_word_split : (bs : Bytes) → IsTrue (begins_word bs) → 0 < length bs → words_of bs ≡ take (word_end Outside bs) bs ∷ words_of (drop (word_end Outside bs) bs)
+first_word_split [] w more = absurd (omega (arith, more))
+first_word_split (b ∷ bs) w more =
+    let split = fields_split Outside (b ∷ bs) in
+    let no_cut : cuts Outside b ≡ false = begun b bs w in
+    let behind_it : filter is_word split.0 ≡ words_of (drop (suc (word_end (behind Outside b) bs)) (b ∷ bs)) = rw no_cut at split.2 in
+    ap (filter is_word) split.1 ∙ rw no_cut (ap (λ ws. (b ∷ take (word_end (behind Outside b) bs) bs) ∷ ws) behind_it)

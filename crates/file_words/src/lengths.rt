@@ -1,0 +1,56 @@
+// Names and texts that are too long.
+ghost use Rattle.std.specs.Prelude.{◌≡◌};
+ghost use Rattle.file_words.specs.Texts.{text};
+ghost use Rattle.file_words.specs.Lengths.{has_long_text, long, first_long};
+ghost use Rattle.file_words.specs.Shown.{shown};
+
+use crate::pairs::parts_at_equals;
+use crate::texts::text_len;
+
+/// How many bytes a name and a text may have.
+const MAX_NAME: usize = 64;
+
+const MAX_TEXT: usize = 256;
+
+/// What is too long: a name of more than 64 bytes, or a text of more than 256.
+#[derive(Clone, Copy, PartialEq, Eq, Debug)]
+pub enum TooLong {
+    Name,
+    Text,
+}
+
+fn has_long_text(word: &[u8]) -> bool
+    ensures { result ≡ has_long_text (text word.now) }
+{
+    match text_len(word) {
+        None => false,
+        Some(len) => len > MAX_TEXT,
+    }
+}
+
+/// What a word has that is too long.
+fn long(word: &[u8]) -> Option<TooLong>
+    ensures { result ≡ long word.now }
+{
+    let (name, value) = parts_at_equals(word).unwrap_or((word, b""));
+    if name.len() > MAX_NAME {
+        Some(TooLong::Name)
+    } else if has_long_text(value) {
+        Some(TooLong::Text)
+    } else {
+        None
+    }
+}
+
+/// What the first word has that has something too long, in a line whose form is right.
+pub fn first_long(words: &[&[u8]]) -> Option<TooLong>
+    ensures { result ≡ first_long (shown words.now) }
+{
+    for word in words {
+        let found = long(*word);
+        if found.is_some() {
+            return found;
+        }
+    }
+    None
+}

@@ -1,0 +1,115 @@
+// Words of a line.
+ghost use Rattle.std.specs.Prelude.{◌≡◌, ◌≤◌, length, IfOk, IsTrue, MatchOption, [], ◌∷◌};
+ghost use Rattle.file_words.specs.declared.words.Quote.TheVariants.{Outside};
+ghost use Rattle.file_words.specs.Words.{cuts, behind, words_of, word_end, begins_word, is_comment, is_skipped};
+ghost use Rattle.file_words.specs.Shown.{shown};
+
+use std::alloc::Global;
+use wsm_lists::NoMemory;
+
+/// Where a byte of a line stands: outside a quoted text, inside one, or there behind a backslash.
+#[derive(Clone, Copy, PartialEq, Eq, Debug)]
+pub enum Quote {
+    Outside,
+    Inside,
+    Escaped,
+}
+
+fn behind(quote: Quote, byte: u8) -> Quote
+    ensures { result ≡ behind quote byte }
+{
+    match quote {
+        Quote::Outside => if byte == b'"' {
+            Quote::Inside
+        } else {
+            Quote::Outside
+        },
+        Quote::Inside => if byte == b'\\' {
+            Quote::Escaped
+        } else if byte == b'"' {
+            Quote::Outside
+        } else {
+            Quote::Inside
+        },
+        Quote::Escaped => Quote::Inside,
+    }
+}
+
+fn cuts(quote: Quote, byte: u8) -> bool
+    ensures { result ≡ cuts quote byte }
+{
+    match quote {
+        Quote::Outside => byte == b' ' || byte == b'\t',
+        Quote::Inside | Quote::Escaped => false,
+    }
+}
+
+/// The line without the blanks at its front.
+fn skip_blanks(line: &[u8]) -> &[u8]
+    ensures same { words_of result.now ≡ words_of line.now }
+    ensures word { IsTrue (begins_word result.now) }
+{
+    let mut rest = line;
+    while let [b' ' | b'\t', more @ ..] = rest {
+        rest = more;
+    }
+    rest
+}
+
+/// How long the word is that begins the line.
+fn word_end(line: &[u8]) -> usize
+    ensures within { result ≤ length line.now }
+    ensures end { result ≡ word_end Outside line.now }
+{
+    let mut quote = Quote::Outside;
+    let mut i = 0;
+    while i < line.len() && !cuts(quote, line[i]) {
+        quote = behind(quote, line[i]);
+        i += 1;
+    }
+    i
+}
+
+/// The first word, and the line behind it.
+fn first_word(line: &[u8]) -> Option<(&[u8], &[u8])>
+    ensures { MatchOption result (words_of line.now ≡ []) (λ p. words_of line.now ≡ p.0.now ∷ words_of p.1.now) }
+{
+    let rest = skip_blanks(line);
+    if rest.is_empty() {
+        return None;
+    }
+    let (word, more) = rest.split_at(word_end(rest));
+    Some((word, more))
+}
+
+/// The words of a line, which stay where they lie. Inside a quoted text a blank separates nothing.
+pub fn words_of<'a>(alloc: Global, line: &'a [u8]) -> Result<Vec<&'a [u8]>, NoMemory>
+    ensures { IfOk result (λ ws. shown ws.items ≡ words_of line.now) }
+{
+    let mut all: Vec<&'a [u8]> = Vec::new(alloc);
+    let mut rest = line;
+    while let Some((word, more)) = first_word(rest) {
+        all.push(word)?;
+        rest = more;
+    }
+    Ok(all)
+}
+
+fn is_comment(word: &[u8]) -> bool
+    ensures { result ≡ is_comment word.now }
+{
+    match word {
+        [] => false,
+        [first, ..] => *first == b'#',
+    }
+}
+
+/// Whether a line of these words says nothing: it has none, or it is a comment.
+pub fn is_skipped(words: &[&[u8]]) -> bool
+    ensures { result ≡ is_skipped (shown words.now) }
+{
+    match words {
+        [] => true,
+        [first, ..] => is_comment(*first),
+    }
+}

@@ -1,0 +1,5 @@
+pub mod AtEnd
+pub mod Examples
+pub mod Noted
+pub mod Sizes
+pub mod Splits

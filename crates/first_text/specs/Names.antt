@@ -1,0 +1,16 @@
+-- Names get numbers in order of first occurrence.
+use Rattle.std.specs.Prelude.{ℕ, suc, Bool, List, [], ◌∷◌, ◌++◌, if◌then◌else◌, bytes_eq}
+use Rattle.std.specs.List.{list_any}
+use Rattle.first_text.specs.Lines.{Bytes}
+
+abbrev pub is_listed : Bytes → List Bytes → Bool
+is_listed n names = list_any (λ m. bytes_eq n m) names
+
+-- the names with one more, unless it is there
+abbrev pub noted : List Bytes → Bytes → List Bytes
+noted names n = if is_listed n names then names else names ++ n ∷ []
+
+-- the place of a name
+abbrev pub number_of : List Bytes → Bytes → ℕ
+number_of [] n = 0
+number_of (m ∷ ms) n = if bytes_eq n m then 0 else suc (number_of ms n)

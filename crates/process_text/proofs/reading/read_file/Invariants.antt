@@ -1,0 +1,14 @@
+use Rattle.std.proofs.Common.{◌≡◌, ◌≤◌, ◌+◌, length, Ok}
+use Rattle.file_words.specs.Lines.{lines_of}
+use Rattle.process_text.specs.Steps.{at_place}
+use Rattle.process_text.specs.Reading.{read_from, file}
+use Rattle.process_text.proofs.reading.read_file.Given as goal
+
+abbrev pub invariant-loop-line : goal.invariant-loop-line
+invariant-loop-line l = record {
+  counted : l.at + length l.rest ≤ 1 + length l.bytes;
+  left : read_from (Ok (at_place l.place l.contents)) l.at (lines_of l.rest).left (lines_of l.rest).ended ≡ file l.bytes;
+}
+
+abbrev pub decreases-loop-line : goal.decreases-loop-line
+decreases-loop-line l = length l.rest
