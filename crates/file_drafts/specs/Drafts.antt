@@ -1,5 +1,5 @@
 -- A type while its lines are read: open blocks, the innermost first, and the parts of that one.
-use Rattle.std.specs.Prelude.{ℕ, Bool, true, false, List, [], ◌∷◌, ◌++◌, Option, Some, None}
+use Rattle.std.specs.Prelude.{ℕ, Bool, List, [], ◌∷◌, ◌++◌, Option, Some, None}
 use Rattle.wsm_lists.specs.Rows.{put_row}
 use Rattle.wsm_lists.specs.Keys.{both, first, first_two, put_role}
 use Rattle.wsm_lists.specs.declared.values.ElementKind.{ElementKind}
@@ -10,7 +10,6 @@ use Rattle.file_words.specs.Lines.{Bytes}
 use Rattle.file_drafts.specs.declared.frames.Frame.{Frame}
 use Rattle.file_drafts.specs.declared.frames.Frame.TheVariants as frame
 use Rattle.file_drafts.specs.declared.frames.OpenGate.{OpenGate}
-use Rattle.file_drafts.specs.declared.frames.OpenLoop.{OpenLoop}
 use Rattle.file_drafts.specs.declared.frames.GateKind.{GateKind}
 use Rattle.file_drafts.specs.declared.frames.GateKind.TheVariants as kind
 use Rattle.file_drafts.specs.declared.drafts.Draft.{Draft}

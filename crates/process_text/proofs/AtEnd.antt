@@ -1,6 +1,6 @@
 -- The end of a file, and the first line that is refused.
 use Rattle.std.proofs.Common.{◌≡◌, ℕ, List, length, ◌+◌, false, refl, ap, ◌==◌, ◌∷◌}
-use Rattle.std.specs.Prelude.{Result, Ok, Err}
+use Rattle.std.specs.Prelude.{Ok, Err}
 use Rattle.file_words.specs.Lines.{Bytes, without_return}
 use Rattle.process_text.specs.Steps.{State, Step}
 use Rattle.process_text.specs.Reading.{step, finished, refused, at_line, read_from}

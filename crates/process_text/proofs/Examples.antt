@@ -1,5 +1,5 @@
 -- Files and refusals, computed from the definitions alone.
-use Rattle.std.specs.Prelude.{◌≡◌, ℕ, List, [], ◌∷◌, ◌++◌, Result, Ok, Err, refl, codes}
+use Rattle.std.specs.Prelude.{◌≡◌, ℕ, [], Result, Ok, Err, refl, codes}
 use Rattle.std.specs.Str.{is_utf8, chars}
 use Rattle.wsm_sound.specs.Faults.{fault_of}
 use Rattle.file_words.specs.Lines.{Bytes}

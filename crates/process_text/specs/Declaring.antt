@@ -1,5 +1,5 @@
 -- Declarations.
-use Rattle.std.specs.Prelude.{ℕ, Bool, List, [], ◌∷◌, ◌++◌, length, nat_lt, nat_le, count_by, ◌==◌, Option, Some, None, Ok}
+use Rattle.std.specs.Prelude.{ℕ, List, [], ◌∷◌, ◌++◌, length, nat_lt, nat_le, count_by, ◌==◌, Option, Some, None, Ok}
 use Rattle.std.specs.Option.{option_or}
 use Rattle.wsm_schema.specs.SchemaModel.{SchemaModel}
 use Rattle.file_words.specs.Lines.{Bytes}

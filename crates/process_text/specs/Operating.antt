@@ -1,10 +1,9 @@
 -- Lines of a group of operations. Names get their numbers in the order of the line.
-use Rattle.std.specs.Prelude.{ℕ, List, [], ◌∷◌, ◌++◌, length, nat_le, Option, Some, None, Ok}
+use Rattle.std.specs.Prelude.{List, [], ◌∷◌, ◌++◌, length, nat_le, Option, Some, None, Ok}
 use Rattle.wsm_ops.specs.declared.operations.Op.{Op}
 use Rattle.wsm_ops.specs.declared.operations.Op.TheVariants as op
 use Rattle.wsm_ops.specs.declared.operations.Gap.{Gap}
 use Rattle.wsm_ops.specs.declared.operations.Gap.TheVariants as gap
-use Rattle.file_words.specs.Lines.{Bytes}
 use Rattle.file_forms.specs.Forms.{Place, behind, at_head, OperationLine, insert, parallel, conditional, delete, move, sync, unsync, element, read, unread, write, unwrite, set_role, group_end}
 use Rattle.process_text.specs.Steps.{Step, at_place, unless, over, node_in, with_node, element_in, with_element}
 use Rattle.process_text.specs.declared.files.Line.{Line}

@@ -1,5 +1,5 @@
 -- Which answer stands for which outcome.
-use Rattle.std.specs.Prelude.{◌≡◌, Result, Ok, Err}
+use Rattle.std.specs.Prelude.{◌≡◌, Result, Err}
 use Rattle.process_text.specs.declared.files.File.{File}
 use Rattle.process_text.specs.declared.refusals.Refused.{Refused}
 use Rattle.process_text.specs.declared.refusals.FileRefusal.{FileRefusal}

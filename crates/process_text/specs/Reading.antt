@@ -14,7 +14,7 @@ use Rattle.file_forms.specs.OperationForms.{operation_line}
 use Rattle.file_drafts.specs.Drafts.{around}
 use Rattle.file_drafts.specs.declared.drafts.Draft.{Draft}
 use Rattle.process_text.specs.RefusalTexts.{refusal}
-use Rattle.process_text.specs.Steps.{State, Step, at_place, opening, refuse}
+use Rattle.process_text.specs.Steps.{State, Step, opening, refuse}
 use Rattle.process_text.specs.Declaring.{declared, outside}
 use Rattle.process_text.specs.Typing.{fits_in, typed}
 use Rattle.process_text.specs.Scripting.{scripted}

@@ -1,5 +1,5 @@
 -- The text of a refusal.
-use Rattle.std.specs.Prelude.{ℕ, List, [], ◌∷◌, ◌++◌, flat_map, codes}
+use Rattle.std.specs.Prelude.{ℕ, List, ◌∷◌, ◌++◌, flat_map, codes}
 use Rattle.file_words.specs.Lines.{Bytes}
 use Rattle.process_text.specs.FaultWords.{fault_words}
 use Rattle.process_text.specs.declared.refusals.FileLimit.{FileLimit}

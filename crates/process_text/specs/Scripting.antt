@@ -1,10 +1,10 @@
 -- Lines of a phase.
-use Rattle.std.specs.Prelude.{ℕ, ◌+◌, Bool, List, [], ◌∷◌, ◌++◌, length, nat_lt, nat_le, slice_get, Option, Some, None, option_map, Ok}
+use Rattle.std.specs.Prelude.{ℕ, ◌+◌, List, [], ◌∷◌, ◌++◌, length, nat_lt, nat_le, slice_get, Option, Some, None, option_map}
 use Rattle.std.specs.Option.{option_or}
 use Rattle.wsm_lists.specs.declared.values.Value.{Value}
 use Rattle.wsm_sound.specs.declared.versions.CaseId.{CaseId}
 use Rattle.file_words.specs.Lines.{Bytes}
-use Rattle.file_names.specs.Names.{noted, place_of}
+use Rattle.file_names.specs.Names.{place_of}
 use Rattle.file_forms.specs.PieceForms.{◌>>=◌}
 use Rattle.file_forms.specs.Forms.{Deed, to_create, to_start, to_end, to_change, to_install, to_migrate, ScriptLine, next_phase, a_deed}
 use Rattle.process_text.specs.Steps.{State, Step, at_place, refuse, unless, over, node_in, with_node, element_in, with_element}
@@ -15,7 +15,6 @@ use Rattle.process_text.specs.declared.files.Act.TheVariants as act
 use Rattle.process_text.specs.declared.refusals.FileLimit.TheVariants as limit
 use Rattle.process_text.specs.declared.refusals.Why.TheVariants as why
 use Rattle.process_text.specs.declared.states.Contents.{Contents}
-use Rattle.process_text.specs.declared.states.Counts.{Counts}
 use Rattle.process_text.specs.declared.states.Target.{Target}
 use Rattle.process_text.specs.declared.states.Target.TheVariants as target
 use Rattle.process_text.specs.declared.states.Place.TheVariants as place

@@ -1,7 +1,7 @@
 -- What was read so far, where the next line stands, and what a line makes of it.
-use Rattle.std.specs.Prelude.{ℕ, Bool, List, [], ◌∷◌, Option, Some, None, Result, Ok, Err, if◌then◌else◌, codes}
+use Rattle.std.specs.Prelude.{ℕ, Bool, [], ◌∷◌, Option, Some, None, Result, Ok, Err, if◌then◌else◌, codes}
 use Rattle.file_words.specs.Lines.{Bytes}
-use Rattle.file_names.specs.Names.{is_listed, noted, number_of}
+use Rattle.file_names.specs.Names.{noted, number_of}
 use Rattle.process_text.specs.declared.refusals.FileLimit.{FileLimit}
 use Rattle.process_text.specs.declared.refusals.Why.{Why}
 use Rattle.process_text.specs.declared.refusals.Why.TheVariants as why
