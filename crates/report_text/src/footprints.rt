@@ -4,8 +4,8 @@ ghost use Rattle.report_text.specs.Names.{name_text};
 
 use crate::words::{put_and_code, put_and_element, put_and_node, put_of_node};
 use adept_io::{Sink, put_pieces};
-use itoa::Buffer;
 use first_text::File;
+use itoa::Buffer;
 use wsm_foot::Name;
 
 /// The name of something that operations change or use.

@@ -8,8 +8,8 @@ use crate::faults::put_fault;
 use crate::runs::KindEntry;
 use crate::words::caller_word;
 use adept_io::{Sink, put, put_number, put_pieces};
-use itoa::Buffer;
 use first_text::File;
+use itoa::Buffer;
 use type_core::{KindEvent, KindReply};
 use wsm_sound::Fault;
 

@@ -4,8 +4,8 @@ ghost use Rattle.adept_io.specs.Written.{Gives};
 ghost use Rattle.report_text.specs.Words.{caller_text, element_is, letter, listed_element, node_and_code, node_and_element, node_and_node, node_text, node_then};
 
 use adept_io::{Sink, put, put_pieces};
-use itoa::Buffer;
 use first_text::File;
+use itoa::Buffer;
 use wsm_schema::State;
 
 /// The name of a node, or its number where the file does not name it.
