@@ -10,4 +10,4 @@ returns g c =
     let file = c.args.file.now in
     gives_then _ _ _ _ _ _ _ _ _ _ c.put_case_head-ok.ensures
     (gives_then _ _ _ _ _ _ _ _ _ _ (gives_as _ _ _ _ _ _ _ _ c.put_case_journal-ok.ensures (ap (numbered (case_line file) 1) c.as_slice.ensures))
-    (gives_as _ _ _ _ _ _ _ _ c.put_end.ensures (ap (end_text file) c.live.ensures)))
+    (gives_as _ _ _ _ _ _ _ _ c.put_end.ensures (ap (end_text file) c.live.ensures.live)))
