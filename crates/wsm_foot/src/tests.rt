@@ -2,8 +2,8 @@
 use crate::*;
 use std::alloc::Global;
 use std::test::Fail;
+use wsm_lists::{ElementKind, NoMemory};
 use wsm_ops::{Gap, Op, Ops};
-use wsm_schema::{ElementKind, NoMemory};
 
 // Two operations.
 fn two(alloc: Global, first: Op, second: Op) -> Result<Ops, NoMemory> {
