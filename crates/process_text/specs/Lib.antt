@@ -7,3 +7,4 @@ pub mod Typing
 pub mod Scripting
 pub mod Operating
 pub mod Reading
+pub mod Sizes

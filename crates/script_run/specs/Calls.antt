@@ -1,0 +1,105 @@
+-- The calls of script lines.
+use Rattle.std.specs.Prelude.{ℕ, ◌-◌, Bool, ◌&&◌, ◌==◌, List, [], ◌∷◌, ◌++◌, map, slice_get, slice_set, position, Option, Some, None, if◌then◌else◌}
+use Rattle.case_core.specs.Machine.{next_case}
+use Rattle.case_core.specs.declared.events.Event.{Event}
+use Rattle.case_core.specs.declared.events.Event.TheVariants as event
+use Rattle.process_text.specs.declared.files.Act.{Act}
+use Rattle.process_text.specs.declared.files.Act.TheVariants as act
+use Rattle.process_text.specs.declared.files.ActorDecl.{ActorDecl}
+use Rattle.process_text.specs.declared.files.CaseDecl.{CaseDecl}
+use Rattle.process_text.specs.declared.files.File.{File}
+use Rattle.process_text.specs.declared.files.Line.{Line}
+use Rattle.script_run.specs.declared.runs.ClosedCase.{ClosedCase}
+use Rattle.script_run.specs.declared.runs.ClosedKind.{ClosedKind}
+use Rattle.script_run.specs.declared.runs.Run.{Run}
+use Rattle.type_core.specs.Machine.{next_kind}
+use Rattle.type_core.specs.declared.events.KindEvent.{KindEvent}
+use Rattle.type_core.specs.declared.events.KindEvent.TheVariants as kind_event
+use Rattle.type_core.specs.declared.replies.KindReply.{KindReply}
+use Rattle.type_core.specs.declared.replies.KindReply.TheVariants as kind_reply
+use Rattle.wsm_sound.specs.VersionModel.{VersionModel}
+use Rattle.wsm_sound.specs.declared.versions.CaseId.{CaseId}
+
+-- a call is a step of the machine and an entry of the journal
+abbrev pub call_kind : ℕ → KindEvent → ClosedKind → ClosedKind
+call_kind caller e k =
+    let step = next_kind k.machine e in
+    record { machine = step.0; journal = k.journal ++ record { caller = caller; event = e; reply = step.1 } ∷ [] }
+
+abbrev pub call_case : ℕ → Event → ClosedCase → ClosedCase
+call_case caller e c =
+    let step = next_case c.machine e in
+    record { machine = step.0; journal = c.journal ++ record { caller = caller; event = e; reply = step.1 } ∷ [] }
+
+-- the item at an index changed; where there is none, nothing is
+abbrev pub put_back : {X : Type 0} → (X → X) → ℕ → List X → Option X → List X
+put_back f i xs None = xs
+put_back f i xs (Some x) = slice_set xs i (f x)
+
+abbrev pub changed_at : {X : Type 0} → (X → X) → ℕ → List X → List X
+changed_at f i xs = put_back f i xs (slice_get xs i)
+
+abbrev pub changed_where : {X : Type 0} → (X → X) → Option ℕ → List X → List X
+changed_where f None xs = xs
+changed_where f (Some i) xs = changed_at f i xs
+
+-- where a case was declared
+abbrev pub is_of : CaseId → CaseDecl → Bool
+is_of c d = d.id.type_no == c.type_no && d.id.place == c.place
+
+abbrev pub place_of : File → CaseId → Option ℕ
+place_of f c = position (is_of c) f.cases
+
+-- the roles of the actor with a number, from 1
+abbrev pub roles_in : Option ActorDecl → List ℕ
+roles_in None = []
+roles_in (Some a) = a.roles
+
+abbrev pub roles_of : File → ℕ → List ℕ
+roles_of f a = roles_in (slice_get f.actors (a - 1))
+
+-- one call of a type, of a case, and of each case of a type
+abbrev pub on_kind : ℕ → ℕ → KindEvent → Run → Run
+on_kind caller t e r = record { kinds = changed_at (call_kind caller e) t r.kinds; cases = r.cases }
+
+abbrev pub on_case : File → ℕ → CaseId → Event → Run → Run
+on_case f caller c e r = record { kinds = r.kinds; cases = changed_where (call_case caller e) (place_of f c) r.cases }
+
+abbrev pub if_of_type : ℕ → (ClosedCase → ClosedCase) → ClosedCase → ClosedCase
+if_of_type t f c = if c.machine.type_no == t then f c else c
+
+abbrev pub on_each : ℕ → ℕ → Event → Run → Run
+on_each caller t e r = record { kinds = r.kinds; cases = map (if_of_type t (call_case caller e)) r.cases }
+
+-- the version that a type answers where it is asked for the newest
+abbrev pub version_in : KindReply → Option VersionModel
+version_in (kind_reply.Is v) = Some v
+version_in _ = None
+
+abbrev pub newest_in : Option ClosedKind → Option VersionModel
+newest_in None = None
+newest_in (Some k) = version_in (next_kind k.machine kind_event.Newest).1
+
+abbrev pub newest : ℕ → Run → Option VersionModel
+newest t r = newest_in (slice_get r.kinds t)
+
+-- the calls with that version; there are none where the type answers none
+abbrev pub created : File → ℕ → CaseId → Option VersionModel → Run → Run
+created f caller c None r = r
+created f caller c (Some v) r = on_case f caller c (event.Create v) r
+
+abbrev pub migrated : ℕ → ℕ → Option VersionModel → Run → Run
+migrated caller t None r = r
+migrated caller t (Some v) r = on_each caller t (event.Migrate v) r
+
+-- the calls of a line, one after another
+abbrev pub acted : File → ℕ → Act → Run → Run
+acted f caller (act.Create c) r = created f caller c (newest c.type_no r) (on_kind caller c.type_no kind_event.Newest r)
+acted f caller (act.Start c n) r = on_case f caller c (event.Start n caller (roles_of f caller)) r
+acted f caller (act.End c n writes choice) r = on_case f caller c (event.End n caller writes choice) r
+acted f caller (act.Change c ops) r = on_case f caller c (event.Change ops) r
+acted f caller (act.Install t ops) r = on_kind caller t (kind_event.Install ops) r
+acted f caller (act.Migrate t) r = migrated caller t (newest t r) (on_kind caller t kind_event.Newest r)
+
+abbrev pub worked : File → Run → Line → Run
+worked f r l = acted f l.actor l.act r

@@ -1,0 +1,50 @@
+-- What the types answer to the lines that install, in file order. No other line changes a type.
+use Rattle.std.specs.Prelude.{ℕ, ◌+◌, List, [], ◌∷◌, ◌++◌, fold, slice_get, Option, Some, None}
+use Rattle.process_text.specs.declared.files.Act.{Act}
+use Rattle.process_text.specs.declared.files.Act.TheVariants as act
+use Rattle.process_text.specs.declared.files.File.{File}
+use Rattle.process_text.specs.declared.files.Line.{Line}
+use Rattle.process_text.specs.declared.files.TypeDecl.{TypeDecl}
+use Rattle.script_run.specs.Calls.{changed_at}
+use Rattle.script_run.specs.declared.runs.Verdict.{Verdict}
+use Rattle.type_core.specs.KindModel.{KindModel, not_defined}
+use Rattle.type_core.specs.Machine.{next_kind}
+use Rattle.type_core.specs.declared.events.KindEvent.{KindEvent}
+use Rattle.type_core.specs.declared.events.KindEvent.TheVariants as kind_event
+use Rattle.wsm_ops.specs.declared.operations.Op.{Op}
+
+-- the types, and what they answered so far
+pub record Checking : Type 0 where
+  pub kinds : List KindModel
+  pub verdicts : List Verdict
+
+abbrev pub stepped : KindEvent → KindModel → KindModel
+stepped e k = (next_kind k e).0
+
+abbrev pub defined_from : ℕ → List TypeDecl → List KindModel
+defined_from t [] = []
+defined_from t (d ∷ ds) = stepped (kind_event.Define d.schema) (not_defined t) ∷ defined_from (t + 1) ds
+
+-- what the type with this number answers, where it is there
+abbrev pub verdict : ℕ → ℕ → KindEvent → Option KindModel → List Verdict
+verdict at t e None = []
+verdict at t e (Some k) = record { at = at; type_no = t; reply = (next_kind k e).1 } ∷ []
+
+abbrev pub judged : ℕ → ℕ → KindEvent → Checking → Checking
+judged at t e s = record {
+  kinds = changed_at (stepped e) t s.kinds;
+  verdicts = s.verdicts ++ verdict at t e (slice_get s.kinds t);
+}
+
+abbrev pub judged_act : ℕ → Act → Checking → Checking
+judged_act at (act.Install t ops) s = judged at t (kind_event.Install ops) s
+judged_act at _ s = s
+
+abbrev pub judged_line : Checking → Line → Checking
+judged_line s l = judged_act l.at l.act s
+
+abbrev pub judged_phase : Checking → List Line → Checking
+judged_phase s lines = fold judged_line s lines
+
+abbrev pub verdicts : File → List Verdict
+verdicts f = (fold judged_phase (record { kinds = defined_from 0 f.types; verdicts = [] }) f.phases).verdicts

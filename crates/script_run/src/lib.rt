@@ -1,0 +1,17 @@
+//! The run of a process file's script on one thread: the calls of its lines in file order, and what its installs come to.
+//!
+//! A call is a step of a type's or a case's machine, and an entry of that machine's journal.
+#![tactic(auto)]
+
+mod calls;
+mod checking;
+mod runs;
+mod serial;
+
+pub use checking::verdicts;
+pub use runs::{
+    CaseEntry, CaseJournal, ClosedCase, ClosedCases, ClosedKind, ClosedKinds, KindEntry,
+    KindJournal, Run, Verdict, Verdicts,
+};
+pub use serial::serial_run;
+pub use wsm_lists::NoMemory;

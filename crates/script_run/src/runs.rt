@@ -1,0 +1,64 @@
+// What a run leaves behind.
+use case_core::{Case, Event, Reply};
+use type_core::{Kind, KindEvent, KindReply};
+use wsm_lists::Listing;
+
+/// A call of a case: who made it, the event, and the reply. The caller is the actor's number, or 0 for the program itself.
+#[derive(Drop)]
+pub struct CaseEntry {
+    pub caller: u32,
+    pub event: Event,
+    pub reply: Reply,
+}
+
+/// A call of a type: who made it, the event, and the reply. The caller is the actor's number, or 0 for the program itself.
+#[derive(Drop)]
+pub struct KindEntry {
+    pub caller: u32,
+    pub event: KindEvent,
+    pub reply: KindReply,
+}
+
+/// The calls of a case, in order.
+pub type CaseJournal = Listing<CaseEntry>;
+
+/// The calls of a type, in order.
+pub type KindJournal = Listing<KindEntry>;
+
+/// A case at the end of a run, and the calls that were made of it.
+#[derive(Drop)]
+pub struct ClosedCase {
+    pub machine: Case,
+    pub journal: CaseJournal,
+}
+
+/// A type at the end of a run, and the calls that were made of it.
+#[derive(Drop)]
+pub struct ClosedKind {
+    pub machine: Kind,
+    pub journal: KindJournal,
+}
+
+/// Cases in order of declaration.
+pub type ClosedCases = Listing<ClosedCase>;
+
+/// Types in order of declaration.
+pub type ClosedKinds = Listing<ClosedKind>;
+
+/// The end of a run: each type and each case of the file, in order of declaration.
+#[derive(Drop)]
+pub struct Run {
+    pub kinds: ClosedKinds,
+    pub cases: ClosedCases,
+}
+
+/// What a type answers to a script line that installs a version. `at` is the line's physical line, from 1.
+#[derive(Drop)]
+pub struct Verdict {
+    pub at: u32,
+    pub type_no: u32,
+    pub reply: KindReply,
+}
+
+/// The verdicts on the lines that install, in file order.
+pub type Verdicts = Listing<Verdict>;
