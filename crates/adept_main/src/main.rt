@@ -3,7 +3,7 @@
 
 use adept_io::{StdSink, StdSource};
 use adept_top::{Outcome, adept};
-use first_text::Refused;
+use process_text::Refused;
 use std::io::{self, ErrorKind};
 use std::process::ExitCode;
 use std::{env, str};

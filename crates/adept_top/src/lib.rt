@@ -3,12 +3,10 @@
 
 mod commands;
 mod outcomes;
-mod playing;
-mod serial;
+mod performing;
 #[cfg(test)]
 mod tests;
+mod words;
 
-pub use commands::adept;
+pub use commands::{adept, check_only, play};
 pub use outcomes::Outcome;
-pub use playing::play;
-pub use serial::serial_run;

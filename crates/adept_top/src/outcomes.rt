@@ -1,7 +1,7 @@
 // How a run of the program ends.
 ghost use Rattle.std.specs.Prelude.{◌≡◌, None};
 
-use first_text::Refused;
+use process_text::Refused;
 use report_text::Run;
 
 /// How a run of the program ends.

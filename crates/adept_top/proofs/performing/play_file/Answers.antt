@@ -1,8 +1,8 @@
 use Rattle.std.proofs.Common.{◌≡◌, ◌∙◌, ap, subst, Some}
 use Rattle.std.specs.Io.KnownBytes.{Appends}
 use Rattle.report_text.specs.Report.{text}
-use Rattle.report_text.specs.Serial.{serial}
-use Rattle.adept_top.proofs.playing.play_file.Goals as goal
+use Rattle.script_run.specs.Serial.{serial}
+use Rattle.adept_top.proofs.performing.play_file.Goals as goal
 
 pub returns-in-Ok-clause-done : goal.returns-in-Ok-clause-done
 returns-in-Ok-clause-done g c = λ zero.
