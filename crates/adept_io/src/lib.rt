@@ -8,6 +8,8 @@
 use std::alloc::AllocError;
 use thiserror::Error;
 
+pub mod gathering;
+mod held;
 pub mod lists;
 pub mod memory;
 pub mod reading;
@@ -19,6 +21,7 @@ pub mod sure;
 mod tests;
 pub mod writing;
 
+pub use gathering::{Text, write_gathered};
 pub use lists::{Bytes, Calls};
 pub use memory::{MemorySink, MemorySource};
 pub use reading::{ReadRefusal, read_to_limit};

@@ -1,7 +1,7 @@
 // What no contract says: that the calls succeed where memory is there, and the forms over std at concrete types.
 use crate::{
-    Bytes, Calls, MemorySink, MemorySource, ReadRefusal, StdSink, StdSource, put, put_integer,
-    put_line, put_number, put_pieces, read_to_limit, write_all,
+    Bytes, Calls, MemorySink, MemorySource, ReadRefusal, Sink, StdSink, StdSource, Text, put,
+    put_integer, put_line, put_number, put_pieces, read_to_limit, write_all, write_gathered,
 };
 use std::test::Fail;
 
@@ -67,5 +67,31 @@ fn reader_and_writer_of_std(rt: HostRuntime) -> Result<(), Fail> {
         sink.into_inner().as_slice(),
         b"case 12 is done\nleft -3".as_slice()
     );
+    Ok(())
+}
+
+// Bytes as a text.
+#[derive(Drop)]
+struct Plain<'a> {
+    bytes: &'a [u8],
+}
+
+impl Text for Plain<'_> {
+    ghost bytes = { λ plain. plain.bytes.now };
+
+    fn put<K: Sink>(&self, sink: &mut K, ok: bool) -> bool {
+        put(sink, ok, self.bytes)
+    }
+}
+
+#[test]
+fn more_is_gathered_than_is_held_at_once(rt: HostRuntime) -> Result<(), Fail> {
+    let bytes = vec![in rt.alloc(); 7u8; 10_000]?;
+    let mut sink = MemorySink::new(rt.alloc(), 10_000, 10, Calls::new(rt.alloc()))?;
+    let text = Plain {
+        bytes: bytes.as_slice(),
+    };
+    assert!(rt; write_gathered(&mut sink, &text).is_ok());
+    assert_eq!(rt; sink.bytes(), bytes.as_slice());
     Ok(())
 }

@@ -1,5 +1,5 @@
 // Writing all of some bytes, in whatever pieces the sink takes them.
-ghost use Rattle.std.specs.Prelude.{◌≡◌, ℕ, ℤ, List, [], ◌∷◌, ◌++◌, ◌≤◌, OnOk, OnErr, decimal};
+ghost use Rattle.std.specs.Prelude.{◌≡◌, ℕ, ℤ, List, [], ◌∷◌, ◌++◌, ◌≤◌, OnOk, OnErr, decimal, length, take};
 ghost use Rattle.std.specs.Fmt.{signed_decimal};
 ghost use Rattle.std.specs.List.{flat_map};
 ghost use Rattle.std.specs.Io.KnownBytes.{Appends};
@@ -9,6 +9,25 @@ ghost use Rattle.adept_io.specs.Written.{AppendsPrefix, Gives};
 use crate::{Failed, Sink};
 use itoa::Buffer;
 
+// Writes bytes until all are written or a write fails, and answers how many were written.
+pub(crate) fn write_most<K: Sink>(sink: &mut K, bytes: &[u8]) -> (usize, Result<(), Failed>)
+    ensures bound { result.0 ≤ length bytes.now }
+    ensures all { OnOk result.1 (result.0 ≡ length bytes.now) }
+    ensures bytes { Appends (K.written sink.old) (K.written sink.new) (take result.0 bytes.now) }
+    ensures rose { OnErr result.1 (Rose (K.faults sink.old) (K.faults sink.new)) }
+    ensures never_falls { K.faults sink.old ≤ K.faults sink.new }
+{
+    let mut sent = 0;
+    while sent < bytes.len() {
+        let (_, rest) = bytes.split_at(sent);
+        match sink.write(rest) {
+            Ok(count) => sent += count,
+            Err(failed) => return (sent, Err(failed)),
+        }
+    }
+    (sent, Ok(()))
+}
+
 /// Writes all of the bytes. Where a write fails, the first of them may have been written.
 pub fn write_all<K: Sink>(sink: &mut K, bytes: &[u8]) -> Result<(), Failed>
     ensures all { OnOk result (Appends (K.written sink.old) (K.written sink.new) bytes.now) }
@@ -16,12 +35,8 @@ pub fn write_all<K: Sink>(sink: &mut K, bytes: &[u8]) -> Result<(), Failed>
     ensures rose { OnErr result (Rose (K.faults sink.old) (K.faults sink.new)) }
     ensures never_falls { K.faults sink.old ≤ K.faults sink.new }
 {
-    let mut sent = 0;
-    while sent < bytes.len() {
-        let (_, rest) = bytes.split_at(sent);
-        sent += sink.write(rest)?;
-    }
-    Ok(())
+    let (_, answer) = write_most(sink, bytes);
+    answer
 }
 
 /// Writes all of the bytes where all went well before, and answers whether all went well. After a failure nothing more

@@ -1,4 +1,7 @@
 pub mod AtEnd
+pub mod Kept
+pub mod KeptByLines
+pub mod Bounds
 pub mod Examples
 pub mod FileExamples
 pub mod FaultExamples

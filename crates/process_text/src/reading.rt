@@ -3,6 +3,7 @@ ghost use Rattle.std.specs.Prelude.{◌≡◌, ◌≤◌, [], ◌∷◌, ◌++�
 ghost use Rattle.process_text.specs.Outcomes.{Tells};
 ghost use Rattle.process_text.specs.Steps.{at_place};
 ghost use Rattle.process_text.specs.Reading.{file_of, finished_in, finished, at_line, file};
+ghost use Rattle.process_text.specs.Sizes.{IsBounded};
 
 use crate::files::{File, Lines};
 use crate::refusals::{FileRefusal, Why};
@@ -76,6 +77,7 @@ impl Contents {
 pub fn read_file(alloc: Global, bytes: &[u8]) -> Result<File, FileRefusal>
     requires { length bytes.now ≤ 16777216 }
     ensures file { IfOk result (λ read. file bytes.now ≡ Ok read) }
+    ensures bounded { IfOk result (λ read. IsBounded read) }
     ensures refused { IfErr result (λ refusal. Tells (file bytes.now) refusal) }
 {
     let mut contents = Contents::new(alloc)?;

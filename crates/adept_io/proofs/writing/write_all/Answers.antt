@@ -1,13 +1,6 @@
-use Rattle.std.proofs.Common.{arith}
-use Rattle.adept_io.proofs.Sent.{Appends-take}
+use Rattle.adept_io.proofs.Sent.{AppendsPrefix-take}
+use Rattle.adept_io.proofs.Taken.{OnErr-from}
 use Rattle.adept_io.proofs.writing.write_all.Goals as goal
 
-pub loop-sent-preserved : goal.loop-sent-preserved
-loop-sent-preserved g c =
-    let sunk = g.K.Sink.written in
-    let piece = rw c.split_at.ensures.back at c.in_ok-sent.ensures.bytes in
-    record {
-      within = omega (arith, c.in_ok-sent.ensures.bound, c.split_at.ensures.back_len, c.loop-sent.invariant.within);
-      appends = Appends-take (sunk c.args.sink.now) (sunk c.loop-sent.sink) (sunk c.write.new.self) c.loop-sent.sent c.in_ok-sent.field-0 c.args.bytes.now c.loop-sent.invariant.appends piece;
-      never_falls = omega (arith, c.loop-sent.invariant.never_falls, c.in_ok-sent.ensures.never_falls);
-    }
+pub returns-clause-part : goal.returns-clause-part
+returns-clause-part g c = OnErr-from _ _ (AppendsPrefix-take _ _ c.write_most-answer.result.0 c.args.bytes.now c.write_most-answer.ensures.bytes)

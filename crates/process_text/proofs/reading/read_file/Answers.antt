@@ -1,0 +1,12 @@
+use Rattle.std.proofs.Common.{◌≡◌, Ok, IfOk, rules}
+use Rattle.std.proofs.lemmas.Result.{IfOk-weaker}
+use Rattle.process_text.specs.Reading.{file}
+use Rattle.process_text.specs.Sizes.{IsBounded}
+use Rattle.process_text.specs.declared.files.File.{File}
+use Rattle.process_text.proofs.Bounds.{file-bounded}
+use Rattle.process_text.proofs.reading.read_file.Goals as goal
+
+pub returns-clause-bounded : goal.returns-clause-bounded
+returns-clause-bounded c =
+    let found : IfOk c.finished.result (λ read. file c.args.bytes.now ≡ Ok read) = search rules in
+    IfOk-weaker c.finished.result (λ (read : File). file c.args.bytes.now ≡ Ok read) IsBounded (λ f is. file-bounded c.args.bytes.now f is) found
