@@ -1,20 +1,24 @@
 -- Reports, computed from the definitions alone: from the bytes of a process file to the bytes of its report.
-use Rattle.std.specs.Prelude.{◌≡◌, pos, negsuc, List, [], ◌∷◌, ◌++◌, flat_map, Option, Some, None, refl, codes}
+use Rattle.std.specs.Prelude.{◌≡◌, pos, negsuc, List, [], ◌∷◌, ◌++◌, flat_map, Some, None, Result, Ok, Err, refl, codes}
 use Rattle.std.specs.Fmt.{digits}
-use Rattle.case_core.specs.CaseModel.{LiveModel}
+use Rattle.std.specs.Str.{is_utf8, chars}
+use Rattle.case_core.specs.CaseModel.{CaseModel, LiveModel}
 use Rattle.case_core.specs.declared.events.Event.TheVariants as event
 use Rattle.case_core.specs.declared.replies.Reply.TheVariants as reply
-use Rattle.first_text.specs.Lines.{Bytes}
-use Rattle.first_text.specs.Meaning.{file}
-use Rattle.first_text.specs.declared.files.File.{File}
+use Rattle.file_words.specs.Lines.{Bytes}
+use Rattle.process_text.specs.Reading.{file}
+use Rattle.process_text.specs.declared.files.File.{File}
+use Rattle.process_text.specs.declared.refusals.Refused.{Refused}
 use Rattle.report_text.specs.Ends.{state_line}
 use Rattle.report_text.specs.Faults.{fault_text}
 use Rattle.report_text.specs.Journals.{case_line, kind_line, reply_text}
 use Rattle.report_text.specs.Migrations.{has_fate}
 use Rattle.report_text.specs.Names.{name_text}
-use Rattle.report_text.specs.Report.{migration_totals, text}
-use Rattle.report_text.specs.Serial.{serial}
+use Rattle.report_text.specs.Report.{case_totals, migration_totals, text}
 use Rattle.report_text.specs.Words.{value_text}
+use Rattle.script_run.specs.Serial.{serial}
+use Rattle.script_run.specs.declared.runs.CaseEntry.{CaseEntry}
+use Rattle.script_run.specs.declared.runs.ClosedCase.{ClosedCase}
 use Rattle.wsm_lists.specs.declared.values.Value.TheVariants as value
 use Rattle.type_core.specs.declared.events.KindEvent.TheVariants as kind_event
 use Rattle.type_core.specs.declared.replies.KindReply.TheVariants as kind_reply
@@ -36,41 +40,40 @@ use Rattle.wsm_sound.specs.declared.faults.Fault.{Fault}
 use Rattle.wsm_sound.specs.declared.faults.Fault.TheVariants as fault
 
 -- the report of a file's serial run
-abbrev report : Option File → Bytes
-report None = []
-report (Some f) = text f (serial f)
-
-pub sequence_of_two : report (file (codes "adept 1\ntype t\nact A\nact B\nend\nactor ann\ncase c t\nphase\nann create c\nann start c A\nann end c A\nann start c B\nann end c B\n")) ≡ codes "adept report 1\ntype t\n1 - define -> defined\n2 ann newest -> is 1\ncase c t\n1 ann create 1 -> created\n2 ann start A -> started\n3 ann end A -> ended\n4 ann start B -> started\n5 ann end B -> ended\nstate 1 finished own=0\nmarking start=C A=C B=C finish=C\nvalues\nitems\nsummary cases=1 finished=1 entries=5 migrated=0 blocked=0 overlap=0\n"
-unfolding digits fault_of has_fate
-sequence_of_two = refl
-
-pub type_without_items : report (file (codes "adept 1\ntype t\nend\nactor ann\ncase c t\nphase\nann create c\n")) ≡ codes "adept report 1\ntype t\n1 - define -> defined\n2 ann newest -> is 1\ncase c t\n1 ann create 1 -> created\nstate 1 finished own=0\nmarking start=C finish=C\nvalues\nitems\nsummary cases=1 finished=1 entries=1 migrated=0 blocked=0 overlap=0\n"
-unfolding digits fault_of has_fate
-type_without_items = refl
+abbrev pub report : Result File Refused → Bytes
+report (Ok f) = text f (serial f)
+report (Err r) = []
 
 -- each refusal, and a node that is held
 pub refusals : report (file (codes "adept 1\ntype t\nact A\nact B\nend\nactor ann\ncase c t\nphase\nann start c A\nann create c\nann create c\nann start c B\nann end c A\nann start c Z\nann start c A\nann start c A\nann end c finish\n")) ≡ codes "adept report 1\ntype t\n1 - define -> defined\n2 ann newest -> is 1\n3 ann newest -> is 1\ncase c t\n1 ann start A -> no-case\n2 ann create 1 -> created\n3 ann create 1 -> already\n4 ann start B -> not-ready N\n5 ann end A -> not-running A\n6 ann start Z -> no-node\n7 ann start A -> started\n8 ann start A -> not-ready R\n9 ann end finish -> not-running N\nstate 1 running own=0\nmarking start=C A=R B=N finish=N\nvalues\nitems A:ann\nsummary cases=1 finished=0 entries=9 migrated=0 blocked=0 overlap=0\n"
-unfolding digits fault_of has_fate
+unfolding is_utf8 chars lib.Utf8.encode digits fault_of has_fate
 refusals = refl
 
 -- a node that is offered to everybody
 pub offered : report (file (codes "adept 1\ntype t\nact A\nact B\nend\nactor ann\ncase c t\nphase\nann create c\n")) ≡ codes "adept report 1\ntype t\n1 - define -> defined\n2 ann newest -> is 1\ncase c t\n1 ann create 1 -> created\nstate 1 running own=0\nmarking start=C A=A B=N finish=N\nvalues\nitems A@0\nsummary cases=1 finished=0 entries=1 migrated=0 blocked=0 overlap=0\n"
-unfolding digits fault_of has_fate
+unfolding is_utf8 chars lib.Utf8.encode digits fault_of has_fate
 offered = refl
 
 -- a case that nobody called
 pub not_created : report (file (codes "adept 1\ntype t\nact A\nact B\nend\nactor ann\ncase c t\nphase\n")) ≡ codes "adept report 1\ntype t\n1 - define -> defined\ncase c t\nstate none\nsummary cases=1 finished=0 entries=0 migrated=0 blocked=0 overlap=0\n"
-unfolding digits fault_of has_fate
+unfolding is_utf8 chars lib.Utf8.encode digits fault_of has_fate
 not_created = refl
 
 -- ---- what no file of this form reaches: values, choices, and refusals with data
 abbrev a_file : File
-a_file = record { nodes = codes "start" ∷ codes "finish" ∷ codes "A" ∷ []; kind = record { name = codes "t"; schema = plain 0 1 nothing }; actor = codes "ann"; case = codes "c"; lines = [] }
+a_file = record {
+  nodes = codes "start" ∷ codes "finish" ∷ codes "A" ∷ [];
+  elements = codes "d" ∷ [];
+  types = record { name = codes "t"; schema = plain 0 1 nothing } ∷ [];
+  actors = record { name = codes "ann"; roles = [] } ∷ [];
+  cases = [];
+  phases = [];
+}
 
 pub text_with_quotes : value_text (value.Text (codes "a\"b\\c")) ≡ codes "\"a\\\"b\\\\c\""
 text_with_quotes = refl
 
-pub end_with_values : case_line a_file 12 (record { caller = 0; event = event.End 2 1 ((0, value.Int (pos 0)) ∷ (3, value.Text []) ∷ []) (Some 4); reply = reply.WrongWrites (0 ∷ 7 ∷ []) }) ≡ codes "12 - end A choice 4 0=0 3=\"\" -> wrong-writes 0 7\n"
+pub end_with_values : case_line a_file 12 (record { caller = 0; event = event.End 2 1 ((0, value.Int (pos 0)) ∷ (3, value.Text []) ∷ []) (Some 4); reply = reply.WrongWrites (0 ∷ 7 ∷ []) }) ≡ codes "12 - end A choice 4 d=0 3=\"\" -> wrong-writes d 7\n"
 unfolding digits
 end_with_values = refl
 
@@ -152,26 +155,43 @@ faults_of_blocks = refl
 abbrev data_faults : List Fault
 data_faults = fault.Data (on_data.Unknown 2 7) ∷ fault.Data (on_data.Missing 9 0) ∷ fault.Data (on_data.ParallelWrite 2 9 3) ∷ []
 
-pub faults_of_data : flat_map (line_of (fault_text a_file)) data_faults ≡ codes "unknown A 7\nmissing 9 0\nparallel-write A 9 3\n"
+pub faults_of_data : flat_map (line_of (fault_text a_file)) data_faults ≡ codes "unknown A 7\nmissing 9 d\nparallel-write A 9 3\n"
 unfolding digits
 faults_of_data = refl
 
 abbrev overlap_line : Name → Bytes
 overlap_line n = name_text a_file n ++ codes "\n"
 
-pub names : flat_map overlap_line (name.Node 2 ∷ name.GapAfter 0 ∷ name.GapHead 2 1 ∷ name.Sync 2 9 ∷ name.Read 2 7 ∷ name.Write 9 0 ∷ name.Element 7 ∷ name.Role 2 ∷ []) ≡ codes "node A\ngap-after start\ngap-head A 1\nsync A 9\nread A 7\nwrite 9 0\nelement 7\nrole A\n"
+pub names : flat_map overlap_line (name.Node 2 ∷ name.GapAfter 0 ∷ name.GapHead 2 1 ∷ name.Sync 2 9 ∷ name.Read 2 7 ∷ name.Write 9 0 ∷ name.Element 7 ∷ name.Role 2 ∷ []) ≡ codes "node A\ngap-after start\ngap-head A 1\nsync A 9\nread A 7\nwrite 9 d\nelement 7\nrole A\n"
 unfolding digits
 names = refl
 
 -- a change that is blocked is no migration
-pub totals_of_migrations : migration_totals (
-    record { caller = 1; event = event.Migrate version_2; reply = reply.Migrated 2 }
+abbrev one_case : List CaseEntry
+one_case =
+    record { caller = 1; event = event.Migrate version_2; reply = reply.Blocked 3 (entry.Start 2 1 []) }
     ∷ record { caller = 1; event = event.Change []; reply = reply.Blocked 3 (entry.Start 2 1 []) }
     ∷ record { caller = 1; event = event.Migrate version_2; reply = reply.Overlap (name.Node 2) }
-    ∷ record { caller = 1; event = event.Migrate version_2; reply = reply.Blocked 3 (entry.Start 2 1 []) }
     ∷ record { caller = 1; event = event.Migrate version_2; reply = reply.Migrated 2 }
+    ∷ []
+
+abbrev another_case : List CaseEntry
+another_case =
+    record { caller = 1; event = event.Migrate version_2; reply = reply.Migrated 2 }
     ∷ record { caller = 1; event = event.Migrate version_2; reply = reply.Finished }
-    ∷ []) ≡ codes " migrated=2 blocked=1 overlap=1\n"
+    ∷ []
+
+abbrev a_machine : CaseModel
+a_machine = record { type_no = 0; live = None }
+
+abbrev closed_cases : List ClosedCase
+closed_cases = record { machine = a_machine; journal = one_case } ∷ record { machine = a_machine; journal = another_case } ∷ []
+
+pub totals_of_cases : case_totals closed_cases ≡ codes "summary cases=2 finished=0 entries=6 "
+unfolding digits
+totals_of_cases = refl
+
+pub totals_of_migrations : migration_totals closed_cases ≡ codes "migrated=2 blocked=1 overlap=1\n"
 unfolding digits has_fate
 totals_of_migrations = refl
 

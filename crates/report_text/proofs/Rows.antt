@@ -1,10 +1,11 @@
 -- Rows that are written one after another.
-use Rattle.std.proofs.Common.{◌≡◌, Bool, ℕ, zero, suc, ◌+◌, ◌<◌, List, [], ◌∷◌, ◌++◌, length, get_or, take, Option, refl, ap, sym, ◌∙◌, subst, append_assoc, append-nil, arith}
+use Rattle.std.proofs.Common.{◌≡◌, Bool, ℕ, zero, suc, ◌+◌, ◌<◌, List, [], ◌∷◌, ◌++◌, length, get_or, take, Option, refl, ap, sym, ◌∙◌, subst, append_assoc, append-nil, ◌⊎◌, inl, inr, arith}
 use Rattle.std.specs.List.{flat_map}
 use Rattle.std.proofs.lemmas.Grind.{flat_map-append}
 use Rattle.adept_io.proofs.Sent.{gives_then, flat_map-take_more}
 use Rattle.adept_io.specs.Written.{Gives}
 use Rattle.report_text.specs.Journals.{numbered}
+use Rattle.report_text.specs.Report.{side_by_side}
 
 -- the same text in other words
 pub gives_as : {S : Type 0} (written : S → Option (List ℕ)) (faults : S → ℕ) (p q : Bool) (a b : S) (t u : List ℕ) → Gives written faults p q a b t → t ≡ u → Gives written faults p q a b u
@@ -54,3 +55,16 @@ gives_line {S} {X} written faults p q r a b c line xs i x is within first second
     let Q : ℕ → Type 0 = λ n. Gives written faults q r b c (line n (get_or xs i x)) in
     let next : i + 1 ≡ 1 + i = omega arith in
     rw (numbered-take_more line 1 xs i x within) (gives_then written faults p q r a b c (numbered line 1 (take i xs)) (line (1 + i) (get_or xs i x)) first (subst Q next (subst P is second)))
+
+-- two lists side by side, of which one has come to its end
+pub side_by_side-ended : {D C : Type 0} (part : D → C → List ℕ) (ds : List D) (cs : List C) → (ds ≡ []) ⊎ (cs ≡ []) → side_by_side part ds cs ≡ []
+side_by_side-ended part [] cs ended = refl
+side_by_side-ended part (d ∷ ds) [] ended = refl
+side_by_side-ended part (d ∷ ds) (c ∷ cs) (inl e) = cc
+side_by_side-ended part (d ∷ ds) (c ∷ cs) (inr e) = cc
+
+-- what was written, the next pair, and what is left
+pub side_by_side-next : {D C : Type 0} (part : D → C → List ℕ) (ds es : List D) (cs bs : List C) (d : D) (c : C) (sent whole : List ℕ) → ds ≡ d ∷ es → cs ≡ c ∷ bs →
+    sent ++ side_by_side part ds cs ≡ whole → (sent ++ part d c) ++ side_by_side part es bs ≡ whole
+side_by_side-next part ds es cs bs d c sent whole first second so_far =
+    append_assoc sent (part d c) (side_by_side part es bs) ∙ rw (first, second) at so_far

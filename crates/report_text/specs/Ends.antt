@@ -4,8 +4,8 @@ use Rattle.case_core.specs.CaseModel.{LiveModel, state_of, value_now}
 use Rattle.case_core.specs.Shown.{is_finished, item_of, items_of}
 use Rattle.case_core.specs.declared.items.Item.{Item}
 use Rattle.case_core.specs.declared.items.Item.TheVariants as item
-use Rattle.first_text.specs.Lines.{Bytes}
-use Rattle.first_text.specs.declared.files.File.{File}
+use Rattle.file_words.specs.Lines.{Bytes}
+use Rattle.process_text.specs.declared.files.File.{File}
 use Rattle.report_text.specs.Words.{node_then, caller_text, assigned, letter}
 use Rattle.wsm_lists.specs.declared.values.ElementKind.{ElementKind}
 use Rattle.wsm_lists.specs.declared.values.Value.{Value}
@@ -28,15 +28,15 @@ abbrev pub marking_line : File → LiveModel → Bytes
 marking_line f l = codes "marking" ++ (flat_map (mark_text f l) (cards_of l.schema) ++ codes "\n")
 
 -- the value of each element that has one, ascending by element
-abbrev pub assigned_now : ℕ → Option Value → Bytes
-assigned_now d None = []
-assigned_now d (Some v) = assigned (d, v)
+abbrev pub assigned_now : File → ℕ → Option Value → Bytes
+assigned_now f d None = []
+assigned_now f d (Some v) = assigned f (d, v)
 
-abbrev pub value_now_text : LiveModel → ℕ × ElementKind → Bytes
-value_now_text l e = assigned_now e.0 (value_now l e.0)
+abbrev pub value_now_text : File → LiveModel → ℕ × ElementKind → Bytes
+value_now_text f l e = assigned_now f e.0 (value_now l e.0)
 
-abbrev pub values_line : LiveModel → Bytes
-values_line l = codes "values" ++ (flat_map (value_now_text l) l.schema.elements ++ codes "\n")
+abbrev pub values_line : File → LiveModel → Bytes
+values_line f l = codes "values" ++ (flat_map (value_now_text f l) l.schema.elements ++ codes "\n")
 
 -- the work items, ascending by node
 abbrev pub item_text : File → Item → Bytes
@@ -51,7 +51,7 @@ abbrev pub items_line : File → LiveModel → Bytes
 items_line f l = codes "items" ++ (flat_map (item_text f) (items_of l) ++ codes "\n")
 
 abbrev pub live_text : File → LiveModel → Bytes
-live_text f l = state_line l ++ (marking_line f l ++ (values_line l ++ items_line f l))
+live_text f l = state_line l ++ (marking_line f l ++ (values_line f l ++ items_line f l))
 
 abbrev pub end_text : File → Option LiveModel → Bytes
 end_text f None = codes "state none\n"

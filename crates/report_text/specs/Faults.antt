@@ -1,7 +1,7 @@
 -- The texts of faults.
 use Rattle.std.specs.Prelude.{ℕ, ◌++◌, codes, decimal}
-use Rattle.first_text.specs.Lines.{Bytes}
-use Rattle.first_text.specs.declared.files.File.{File}
+use Rattle.file_words.specs.Lines.{Bytes}
+use Rattle.process_text.specs.declared.files.File.{File}
 use Rattle.report_text.specs.Words.{node_text, node_and_node, node_and_element, node_and_code}
 use Rattle.wsm_ops.specs.declared.faults.OpFault.{OpFault}
 use Rattle.wsm_ops.specs.declared.faults.OpWhy.{OpWhy}

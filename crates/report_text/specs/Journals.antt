@@ -4,13 +4,13 @@ use Rattle.case_core.specs.declared.events.Event.{Event}
 use Rattle.case_core.specs.declared.events.Event.TheVariants as event
 use Rattle.case_core.specs.declared.replies.Reply.{Reply}
 use Rattle.case_core.specs.declared.replies.Reply.TheVariants as reply
-use Rattle.first_text.specs.Lines.{Bytes}
-use Rattle.first_text.specs.declared.files.File.{File}
+use Rattle.file_words.specs.Lines.{Bytes}
+use Rattle.process_text.specs.declared.files.File.{File}
 use Rattle.report_text.specs.Faults.{fault_text}
 use Rattle.report_text.specs.Names.{name_text}
 use Rattle.report_text.specs.Words.{node_text, listed_element, caller_text, assigned, read_text, letter}
-use Rattle.report_text.specs.declared.runs.CaseEntry.{CaseEntry}
-use Rattle.report_text.specs.declared.runs.KindEntry.{KindEntry}
+use Rattle.script_run.specs.declared.runs.CaseEntry.{CaseEntry}
+use Rattle.script_run.specs.declared.runs.KindEntry.{KindEntry}
 use Rattle.type_core.specs.declared.events.KindEvent.{KindEvent}
 use Rattle.type_core.specs.declared.events.KindEvent.TheVariants as kind_event
 use Rattle.type_core.specs.declared.replies.KindReply.{KindReply}
@@ -25,7 +25,7 @@ choice_text None = []
 choice_text (Some code) = codes " choice " ++ decimal code
 
 abbrev pub end_event_text : File → ℕ → Written → Option ℕ → Bytes
-end_event_text f node writes choice = codes "end " ++ node_text f node ++ (choice_text choice ++ flat_map assigned writes)
+end_event_text f node writes choice = codes "end " ++ node_text f node ++ (choice_text choice ++ flat_map (assigned f) writes)
 
 abbrev pub event_text : File → Event → Bytes
 event_text f (event.Create version) = codes "create " ++ decimal version.number
@@ -77,12 +77,12 @@ blocked_text f position e = position_text position ++ entry_text f e
 
 -- what stands behind the word
 abbrev pub reply_rest : File → Reply → Bytes
-reply_rest f (reply.Started reads) = flat_map read_text reads
+reply_rest f (reply.Started reads) = flat_map (read_text f) reads
 reply_rest f (reply.NotReady s) = codes " " ++ letter s
 reply_rest f (reply.NotAllowed role) = codes " " ++ decimal role
 reply_rest f (reply.NotRunning s) = codes " " ++ letter s
 reply_rest f (reply.NotHolder user) = codes " " ++ caller_text f user
-reply_rest f (reply.WrongWrites elements) = flat_map listed_element elements
+reply_rest f (reply.WrongWrites elements) = flat_map (listed_element f) elements
 reply_rest f (reply.NoBranch choice) = wrong_choice choice
 reply_rest f (reply.Migrated number) = codes " " ++ decimal number
 reply_rest f (reply.Unsound fault) = codes " " ++ fault_text f fault

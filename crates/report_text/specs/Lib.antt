@@ -1,4 +1,3 @@
-pub mod Serial
 pub mod Words
 pub mod Faults
 pub mod Names
@@ -6,3 +5,4 @@ pub mod Journals
 pub mod Ends
 pub mod Migrations
 pub mod Report
+pub mod Check

@@ -1,10 +1,12 @@
 -- What became of the migrations in a journal.
-use Rattle.std.specs.Prelude.{Bool, true, false, ◌&&◌}
+use Rattle.std.specs.Prelude.{ℕ, Bool, true, false, ◌&&◌}
+use Rattle.std.specs.List.{count_by}
 use Rattle.case_core.specs.declared.events.Event.{Event}
 use Rattle.case_core.specs.declared.events.Event.TheVariants as event
 use Rattle.case_core.specs.declared.replies.Reply.{Reply}
 use Rattle.case_core.specs.declared.replies.Reply.TheVariants as reply
-use Rattle.report_text.specs.declared.runs.CaseEntry.{CaseEntry}
+use Rattle.script_run.specs.declared.runs.CaseEntry.{CaseEntry}
+use Rattle.script_run.specs.declared.runs.ClosedCase.{ClosedCase}
 use Rattle.report_text.specs.declared.totals.Fate.{Fate}
 use Rattle.report_text.specs.declared.totals.Fate.TheVariants as fate
 
@@ -33,3 +35,7 @@ says fate.Overlap r = says_overlap r
 -- whether the entry is a migration with that fate
 unfoldable pub has_fate : Fate → CaseEntry → Bool
 has_fate f e = is_migration e.event && says f e.reply
+
+-- the migrations of a case with that fate
+abbrev pub with_fate : Fate → ClosedCase → ℕ
+with_fate f c = count_by (has_fate f) c.journal

@@ -1,7 +1,7 @@
 -- The texts of the names of what operations change and use.
 use Rattle.std.specs.Prelude.{◌++◌, codes}
-use Rattle.first_text.specs.Lines.{Bytes}
-use Rattle.first_text.specs.declared.files.File.{File}
+use Rattle.file_words.specs.Lines.{Bytes}
+use Rattle.process_text.specs.declared.files.File.{File}
 use Rattle.report_text.specs.Words.{node_text, element_text, node_and_node, node_and_element, node_and_code}
 use Rattle.wsm_foot.specs.declared.names.Name.{Name}
 use Rattle.wsm_foot.specs.declared.names.Name.TheVariants as name
@@ -13,5 +13,5 @@ name_text f (name.GapHead split code) = codes "gap-head " ++ node_and_code f spl
 name_text f (name.Sync source target) = codes "sync " ++ node_and_node f source target
 name_text f (name.Read n element) = codes "read " ++ node_and_element f n element
 name_text f (name.Write n element) = codes "write " ++ node_and_element f n element
-name_text f (name.Element element) = codes "element " ++ element_text element
+name_text f (name.Element element) = codes "element " ++ element_text f element
 name_text f (name.Role n) = codes "role " ++ node_text f n

@@ -1,52 +1,72 @@
 -- The text of a report.
-use Rattle.std.specs.Prelude.{Bool, false, List, ◌++◌, length, Option, Some, None, if◌then◌else◌, codes, decimal}
-use Rattle.std.specs.List.{count_by}
+use Rattle.std.specs.Prelude.{ℕ, Bool, false, List, [], ◌∷◌, ◌++◌, length, Option, Some, None, codes, decimal}
+use Rattle.std.specs.List.{count_by, sum_by}
 use Rattle.case_core.specs.CaseModel.{LiveModel}
 use Rattle.case_core.specs.Shown.{is_finished}
-use Rattle.first_text.specs.Lines.{Bytes}
-use Rattle.first_text.specs.declared.files.File.{File}
+use Rattle.file_words.specs.Lines.{Bytes}
+use Rattle.process_text.specs.declared.files.CaseDecl.{CaseDecl}
+use Rattle.process_text.specs.declared.files.File.{File}
+use Rattle.process_text.specs.declared.files.TypeDecl.{TypeDecl}
 use Rattle.report_text.specs.Ends.{end_text}
 use Rattle.report_text.specs.Journals.{kind_line, case_line, numbered}
-use Rattle.report_text.specs.Migrations.{has_fate}
-use Rattle.report_text.specs.declared.runs.Run.{Run}
-use Rattle.report_text.specs.declared.runs.CaseEntry.{CaseEntry}
-use Rattle.report_text.specs.declared.runs.ClosedCase.{ClosedCase}
-use Rattle.report_text.specs.declared.runs.ClosedKind.{ClosedKind}
+use Rattle.report_text.specs.Migrations.{with_fate}
+use Rattle.report_text.specs.Words.{type_text}
 use Rattle.report_text.specs.declared.totals.Fate.TheVariants as fate
+use Rattle.script_run.specs.declared.runs.ClosedCase.{ClosedCase}
+use Rattle.script_run.specs.declared.runs.ClosedKind.{ClosedKind}
+use Rattle.script_run.specs.declared.runs.Run.{Run}
 
--- the type and its calls
-abbrev pub type_head : File → Bytes
-type_head f = codes "type " ++ (f.kind.name ++ codes "\n")
+-- what is written of declarations and their ends, side by side, as long as there are both
+abbrev pub side_by_side : {D C : Type 0} → (D → C → Bytes) → List D → List C → Bytes
+side_by_side part [] cs = []
+side_by_side part (d ∷ ds) [] = []
+side_by_side part (d ∷ ds) (c ∷ cs) = part d c ++ side_by_side part ds cs
 
-abbrev pub kind_text : File → ClosedKind → Bytes
-kind_text f k = type_head f ++ numbered (kind_line f) 1 k.journal
+-- a type and its calls
+abbrev pub type_head : TypeDecl → Bytes
+type_head d = codes "type " ++ (d.name ++ codes "\n")
 
--- the case, its calls, and how it ended
-abbrev pub case_head : File → Bytes
-case_head f = codes "case " ++ (f.case ++ (codes " " ++ (f.kind.name ++ codes "\n")))
+abbrev pub kind_text : File → TypeDecl → ClosedKind → Bytes
+kind_text f d k = type_head d ++ numbered (kind_line f) 1 k.journal
 
-abbrev pub case_text : File → ClosedCase → Bytes
-case_text f c = case_head f ++ (numbered (case_line f) 1 c.journal ++ end_text f c.machine.live)
+abbrev pub kinds_text : File → List TypeDecl → List ClosedKind → Bytes
+kinds_text f types kinds = side_by_side (kind_text f) types kinds
 
--- the totals: whether the one case is finished, how many calls were made of it, and what became of its migrations
-abbrev pub is_done : Option LiveModel → Bool
-is_done None = false
-is_done (Some l) = is_finished l
+-- a case, its calls, and how it ended
+abbrev pub case_head : File → CaseDecl → Bytes
+case_head f d = codes "case " ++ (d.name ++ ((codes " " ++ type_text f d.id.type_no) ++ codes "\n"))
 
-abbrev pub one_or_none : Bool → Bytes
-one_or_none b = if b then codes "1" else codes "0"
+abbrev pub case_text : File → CaseDecl → ClosedCase → Bytes
+case_text f d c = case_head f d ++ (numbered (case_line f) 1 c.journal ++ end_text f c.machine.live)
 
-abbrev pub case_totals : ClosedCase → Bytes
-case_totals c = codes "summary cases=1 finished=" ++ (one_or_none (is_done c.machine.live) ++ (codes " entries=" ++ decimal (length c.journal)))
+abbrev pub cases_text : File → List CaseDecl → List ClosedCase → Bytes
+cases_text f cases closed = side_by_side (case_text f) cases closed
 
-abbrev pub migration_totals : List CaseEntry → Bytes
-migration_totals journal =
-    codes " migrated=" ++ (decimal (count_by (has_fate fate.Migrated) journal)
-    ++ (codes " blocked=" ++ (decimal (count_by (has_fate fate.Blocked) journal)
-    ++ (codes " overlap=" ++ (decimal (count_by (has_fate fate.Overlap) journal) ++ codes "\n")))))
+-- the totals: the cases, how many of them are finished, how many calls were made of them, and what became of their migrations
+abbrev pub is_done_live : Option LiveModel → Bool
+is_done_live None = false
+is_done_live (Some l) = is_finished l
+
+abbrev pub is_done : ClosedCase → Bool
+is_done c = is_done_live c.machine.live
+
+abbrev pub calls_of : ClosedCase → ℕ
+calls_of c = length c.journal
+
+abbrev pub case_totals : List ClosedCase → Bytes
+case_totals cases =
+    codes "summary cases=" ++ (decimal (length cases)
+    ++ (codes " finished=" ++ (decimal (count_by is_done cases)
+    ++ (codes " entries=" ++ (decimal (sum_by calls_of cases) ++ codes " ")))))
+
+abbrev pub migration_totals : List ClosedCase → Bytes
+migration_totals cases =
+    codes "migrated=" ++ (decimal (sum_by (with_fate fate.Migrated) cases)
+    ++ (codes " blocked=" ++ (decimal (sum_by (with_fate fate.Blocked) cases)
+    ++ (codes " overlap=" ++ (decimal (sum_by (with_fate fate.Overlap) cases) ++ codes "\n")))))
 
 abbrev pub summary : File → Run → Bytes
-summary f r = case_totals r.case ++ migration_totals r.case.journal
+summary f r = case_totals r.cases ++ migration_totals r.cases
 
 abbrev pub text : File → Run → Bytes
-text f r = codes "adept report 1\n" ++ (kind_text f r.kind ++ (case_text f r.case ++ summary f r))
+text f r = codes "adept report 1\n" ++ (kinds_text f f.types r.kinds ++ (cases_text f f.cases r.cases ++ summary f r))

@@ -1,8 +1,10 @@
 -- The words of a report.
-use Rattle.std.specs.Prelude.{◌≡◌, ℕ, ◌<◌, ◌==◌, Bool, true, ◌||◌, [], ◌∷◌, ◌++◌, flat_map, length, take, slice_index, slice_get, Option, Some, None, if◌then◌else◌, codes, decimal}
+use Rattle.std.specs.Prelude.{◌≡◌, ℕ, ◌-◌, ◌<◌, ◌==◌, Bool, true, ◌||◌, [], ◌∷◌, ◌++◌, flat_map, length, take, slice_index, slice_get, Option, Some, None, if◌then◌else◌, codes, decimal}
 use Rattle.std.specs.Fmt.{signed_decimal}
-use Rattle.first_text.specs.Lines.{Bytes}
-use Rattle.first_text.specs.declared.files.File.{File}
+use Rattle.file_words.specs.Lines.{Bytes}
+use Rattle.process_text.specs.declared.files.ActorDecl.{ActorDecl}
+use Rattle.process_text.specs.declared.files.File.{File}
+use Rattle.process_text.specs.declared.files.TypeDecl.{TypeDecl}
 use Rattle.wsm_lists.specs.declared.values.Value.{Value}
 use Rattle.wsm_lists.specs.declared.values.Value.TheVariants as value
 use Rattle.wsm_schema.specs.declared.states.State.{State}
@@ -16,13 +18,24 @@ name_or_number (Some name) n = name
 abbrev pub node_text : File → ℕ → Bytes
 node_text f n = name_or_number (slice_get f.nodes n) n
 
--- as yet a file names no elements
-abbrev pub element_text : ℕ → Bytes
-element_text d = decimal d
+abbrev pub element_text : File → ℕ → Bytes
+element_text f d = name_or_number (slice_get f.elements d) d
 
--- the program itself is caller 0, and the file's one actor is caller 1
+-- the name of a type
+abbrev pub type_name : Option TypeDecl → ℕ → Bytes
+type_name None t = decimal t
+type_name (Some d) t = d.name
+
+abbrev pub type_text : File → ℕ → Bytes
+type_text f t = type_name (slice_get f.types t) t
+
+-- the program itself is caller 0, and actors are numbered from 1
+abbrev pub actor_name : Option ActorDecl → ℕ → Bytes
+actor_name None a = decimal a
+actor_name (Some d) a = d.name
+
 abbrev pub caller_text : File → ℕ → Bytes
-caller_text f n = if n == 0 then codes "-" else (if n == 1 then f.actor else decimal n)
+caller_text f a = if a == 0 then codes "-" else actor_name (slice_get f.actors (a - 1)) a
 
 -- in a quoted text, " and \ stand behind a \
 abbrev pub is_escaped : ℕ → Bool
@@ -49,18 +62,18 @@ value_or_none None = codes "-"
 value_or_none (Some v) = value_text v
 
 -- an element behind a space, and what it is
-abbrev pub element_is : ℕ → Bytes
-element_is d = codes " " ++ (element_text d ++ codes "=")
+abbrev pub element_is : File → ℕ → Bytes
+element_is f d = codes " " ++ (element_text f d ++ codes "=")
 
-abbrev pub assigned : ℕ × Value → Bytes
-assigned w = element_is w.0 ++ value_text w.1
+abbrev pub assigned : File → ℕ × Value → Bytes
+assigned f w = element_is f w.0 ++ value_text w.1
 
-abbrev pub read_text : ℕ × Option Value → Bytes
-read_text r = element_is r.0 ++ value_or_none r.1
+abbrev pub read_text : File → ℕ × Option Value → Bytes
+read_text f r = element_is f r.0 ++ value_or_none r.1
 
 -- an element behind a space
-abbrev pub listed_element : ℕ → Bytes
-listed_element d = codes " " ++ element_text d
+abbrev pub listed_element : File → ℕ → Bytes
+listed_element f d = codes " " ++ element_text f d
 
 -- a node behind a space, with what stands behind it
 abbrev pub node_then : File → ℕ → Bytes → Bytes
@@ -79,7 +92,7 @@ node_and_node f m n = node_text f m ++ (codes " " ++ node_text f n)
 
 -- a node and an element
 abbrev pub node_and_element : File → ℕ → ℕ → Bytes
-node_and_element f n d = node_text f n ++ listed_element d
+node_and_element f n d = node_text f n ++ listed_element f d
 
 -- a node and the code of one of its branches
 abbrev pub node_and_code : File → ℕ → ℕ → Bytes

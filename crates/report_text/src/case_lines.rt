@@ -9,12 +9,12 @@ ghost use Rattle.report_text.specs.Words.{caller_text, letter, listed_element};
 use crate::faults::put_fault;
 use crate::footprints::put_name;
 use crate::kind_lines::put_line_start;
-use crate::runs::CaseEntry;
+use script_run::CaseEntry;
 use crate::values::{put_reads, put_writes};
 use crate::words::{caller_word, letter, put_element, put_of_node};
 use adept_io::{Sink, put, put_pieces};
 use case_core::{Event, Reply};
-use first_text::File;
+use process_text::File;
 use itoa::Buffer;
 use wsm_foot::Name;
 use wsm_schema::{Entry, State, Writes};
@@ -91,7 +91,7 @@ fn put_end<K: Sink>(
 {
     let ok = put_of_node(sink, ok, b"end ", file, node);
     let ok = put_choice(sink, ok, choice);
-    put_writes(sink, ok, writes.as_slice())
+    put_writes(sink, ok, file, writes.as_slice())
 }
 
 #[tactic(auto, using(adept_io::proofs::Sent::gives_nothing))]
@@ -147,14 +147,14 @@ fn put_reply_rest<K: Sink>(sink: &mut K, ok: bool, file: &File, reply: &Reply) -
     ensures { Gives K.written K.faults ok result sink.old sink.new (reply_rest file.now reply.now) }
 {
     match reply {
-        Reply::Started(reads) => put_reads(sink, ok, reads.as_slice()),
+        Reply::Started(reads) => put_reads(sink, ok, file, reads.as_slice()),
         Reply::NotReady(state) => put_state(sink, ok, *state),
         Reply::NotRunning(state) => put_state(sink, ok, *state),
         Reply::NotAllowed(role) => put_spaced(sink, ok, *role),
         Reply::Migrated(number) => put_spaced(sink, ok, *number),
         Reply::NotNewer(number) => put_spaced(sink, ok, *number),
         Reply::NotHolder(user) => put_user(sink, ok, file, *user),
-        Reply::WrongWrites(elements) => put_elements(sink, ok, elements.as_slice()),
+        Reply::WrongWrites(elements) => put_elements(sink, ok, file, elements.as_slice()),
         Reply::NoBranch(choice) => put_wrong_choice(sink, ok, *choice),
         Reply::Unsound(fault) => put_why_unsound(sink, ok, file, *fault),
         Reply::Blocked(position, entry) => put_blocked(sink, ok, file, *position, entry),
@@ -202,12 +202,12 @@ fn put_wrong_choice<K: Sink>(sink: &mut K, ok: bool, choice: Option<u16>) -> boo
     }
 }
 
-fn put_elements<K: Sink>(sink: &mut K, ok: bool, elements: &[u32]) -> bool
-    ensures { Gives K.written K.faults ok result sink.old sink.new (flat_map listed_element elements.now) }
+fn put_elements<K: Sink>(sink: &mut K, ok: bool, file: &File, elements: &[u32]) -> bool
+    ensures { Gives K.written K.faults ok result sink.old sink.new (flat_map (listed_element file.now) elements.now) }
 {
     let mut well = ok;
     for element in elements {
-        well = put_element(sink, well, *element);
+        well = put_element(sink, well, file, *element);
     }
     well
 }

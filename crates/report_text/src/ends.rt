@@ -11,7 +11,7 @@ use crate::values::put_assigned;
 use crate::words::{caller_word, letter, put_node};
 use adept_io::{Sink, put, put_number, put_pieces};
 use case_core::Live;
-use first_text::File;
+use process_text::File;
 use itoa::Buffer;
 use wsm_rules::is_worked_on;
 use wsm_schema::{Card, ElementKind, Spot, State};
@@ -31,7 +31,7 @@ fn put_live<K: Sink>(sink: &mut K, ok: bool, file: &File, live: &Live) -> bool
 {
     let ok = put_state_line(sink, ok, live);
     let ok = put_marking_line(sink, ok, file, live);
-    let ok = put_values_line(sink, ok, live);
+    let ok = put_values_line(sink, ok, file, live);
     put_items_line(sink, ok, file, live)
 }
 
@@ -86,31 +86,44 @@ fn put_mark<K: Sink>(sink: &mut K, ok: bool, file: &File, live: &Live, card: &Ca
     put(sink, ok, letter(live.state(card.node)))
 }
 
-fn put_values_line<K: Sink>(sink: &mut K, ok: bool, live: &Live) -> bool
-    ensures { Gives K.written K.faults ok result sink.old sink.new (values_line live.now) }
+fn put_values_line<K: Sink>(sink: &mut K, ok: bool, file: &File, live: &Live) -> bool
+    ensures { Gives K.written K.faults ok result sink.old sink.new (values_line file.now live.now) }
 {
     let ok = put(sink, ok, b"values");
-    let ok = put_values(sink, ok, live, live.checked().schema().elements.as_slice());
+    let elements = live.checked().schema().elements.as_slice();
+    let ok = put_values(sink, ok, file, live, elements);
     put(sink, ok, b"\n")
 }
 
-fn put_values<K: Sink>(sink: &mut K, ok: bool, live: &Live, elements: &[(u32, ElementKind)]) -> bool
-    ensures { Gives K.written K.faults ok result sink.old sink.new (flat_map (value_now_text live.now) elements.now) }
+fn put_values<K: Sink>(
+    sink: &mut K,
+    ok: bool,
+    file: &File,
+    live: &Live,
+    elements: &[(u32, ElementKind)],
+) -> bool
+    ensures { Gives K.written K.faults ok result sink.old sink.new (flat_map (value_now_text file.now live.now) elements.now) }
 {
     let mut well = ok;
     for element in elements {
-        well = put_value_now(sink, well, live, element);
+        well = put_value_now(sink, well, file, live, element);
     }
     well
 }
 
 #[tactic(auto, using(adept_io::proofs::Sent::gives_nothing))]
-fn put_value_now<K: Sink>(sink: &mut K, ok: bool, live: &Live, element: &(u32, ElementKind)) -> bool
-    ensures { Gives K.written K.faults ok result sink.old sink.new (value_now_text live.now element.now) }
+fn put_value_now<K: Sink>(
+    sink: &mut K,
+    ok: bool,
+    file: &File,
+    live: &Live,
+    element: &(u32, ElementKind),
+) -> bool
+    ensures { Gives K.written K.faults ok result sink.old sink.new (value_now_text file.now live.now element.now) }
 {
     match live.value(element.0) {
         None => ok,
-        Some(value) => put_assigned(sink, ok, element.0, value),
+        Some(value) => put_assigned(sink, ok, file, element.0, value),
     }
 }
 

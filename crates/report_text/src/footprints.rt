@@ -2,17 +2,15 @@
 ghost use Rattle.adept_io.specs.Written.{Gives};
 ghost use Rattle.report_text.specs.Names.{name_text};
 
-use crate::words::{put_and_code, put_and_element, put_and_node, put_of_node};
-use adept_io::{Sink, put_pieces};
-use first_text::File;
-use itoa::Buffer;
+use crate::words::{put_and_code, put_and_element, put_and_node, put_of_element, put_of_node};
+use adept_io::Sink;
+use process_text::File;
 use wsm_foot::Name;
 
 /// The name of something that operations change or use.
 pub fn put_name<K: Sink>(sink: &mut K, ok: bool, file: &File, name: Name) -> bool
     ensures { Gives K.written K.faults ok result sink.old sink.new (name_text file.now name) }
 {
-    let mut number = Buffer::new();
     match name {
         Name::Node(node) => put_of_node(sink, ok, b"node ", file, node),
         Name::GapAfter(node) => put_of_node(sink, ok, b"gap-after ", file, node),
@@ -20,9 +18,7 @@ pub fn put_name<K: Sink>(sink: &mut K, ok: bool, file: &File, name: Name) -> boo
         Name::Sync(source, target) => put_and_node(sink, ok, b"sync ", file, source, target),
         Name::Read(node, element) => put_and_element(sink, ok, b"read ", file, node, element),
         Name::Write(node, element) => put_and_element(sink, ok, b"write ", file, node, element),
-        Name::Element(element) => {
-            put_pieces(sink, ok, &[b"element ", number.format(element).as_bytes()])
-        }
+        Name::Element(element) => put_of_element(sink, ok, b"element ", file, element),
         Name::Role(node) => put_of_node(sink, ok, b"role ", file, node),
     }
 }

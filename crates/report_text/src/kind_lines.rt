@@ -5,10 +5,10 @@ ghost use Rattle.report_text.specs.Faults.{fault_text};
 ghost use Rattle.report_text.specs.Journals.{line_start, kind_event_text, kind_reply_text, kind_line, numbered};
 
 use crate::faults::put_fault;
-use crate::runs::KindEntry;
+use script_run::KindEntry;
 use crate::words::caller_word;
 use adept_io::{Sink, put, put_number, put_pieces};
-use first_text::File;
+use process_text::File;
 use itoa::Buffer;
 use type_core::{KindEvent, KindReply};
 use wsm_sound::Fault;
@@ -71,7 +71,8 @@ fn put_kind_event<K: Sink>(sink: &mut K, ok: bool, event: &KindEvent) -> bool
     }
 }
 
-fn put_kind_reply<K: Sink>(sink: &mut K, ok: bool, file: &File, reply: &KindReply) -> bool
+/// What a type answers.
+pub fn put_kind_reply<K: Sink>(sink: &mut K, ok: bool, file: &File, reply: &KindReply) -> bool
     ensures { Gives K.written K.faults ok result sink.old sink.new (kind_reply_text file.now reply.now) }
 {
     let mut number = Buffer::new();

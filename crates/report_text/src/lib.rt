@@ -1,19 +1,25 @@
 //! The report of a run: its text as definitions, and what writes exactly that text to a sink, without taking memory.
 //!
-//! The report has the calls of the type and of the case, line by line, then how the case ended, and a line of totals.
+//! The report has the calls of each type and of each case, line by line, how each case ended, and a line of totals. What is
+//! told of a file that is checked alone has a line for each type and for each install.
 #![tactic(auto)]
 
 mod case_lines;
+mod checks;
 mod ends;
 mod faults;
 mod footprints;
 mod kind_lines;
 mod report;
-mod runs;
 mod totals;
 mod values;
 mod words;
 
 pub use adept_io::Failed;
+pub use checks::write_verdicts;
+pub use process_text::File;
 pub use report::{write_run, write_summary};
-pub use runs::{CaseEntry, CaseJournal, ClosedCase, ClosedKind, KindEntry, KindJournal, Run};
+pub use script_run::{
+    CaseEntry, CaseJournal, ClosedCase, ClosedCases, ClosedKind, ClosedKinds, KindEntry,
+    KindJournal, Run, Verdict, Verdicts,
+};

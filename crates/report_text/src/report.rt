@@ -3,15 +3,16 @@ ghost use Rattle.std.specs.Prelude.{◌≡◌, ◌≤◌, ◌++◌, codes, OnErr
 ghost use Rattle.std.specs.Io.KnownBytes.{Appends};
 ghost use Rattle.adept_io.specs.Counts.{Rose};
 ghost use Rattle.adept_io.specs.Written.{AppendsPrefix, Gives};
-ghost use Rattle.report_text.specs.Report.{case_head, case_text, kind_text, summary, text, type_head};
+ghost use Rattle.report_text.specs.Report.{case_head, case_text, cases_text, kind_text, kinds_text, summary, text, type_head};
 
 use crate::case_lines::put_case_journal;
 use crate::ends::put_end;
 use crate::kind_lines::put_kind_journal;
-use crate::runs::{ClosedCase, ClosedKind, Run};
 use crate::totals::{put_case_totals, put_migration_totals};
+use crate::words::put_type;
 use adept_io::{Failed, Sink, put, put_pieces};
-use first_text::File;
+use process_text::{CaseDecl, File, TypeDecl};
+use script_run::{ClosedCase, ClosedKind, Run};
 
 /// Writes the report of a run of the file. Where a write fails, the first bytes of the report may have been written.
 pub fn write_run<K: Sink>(file: &File, run: &Run, sink: &mut K) -> Result<(), Failed>
@@ -43,53 +44,103 @@ fn put_report<K: Sink>(sink: &mut K, ok: bool, file: &File, run: &Run) -> bool
     ensures { Gives K.written K.faults ok result sink.old sink.new (text file.now run.now) }
 {
     let ok = put(sink, ok, b"adept report 1\n");
-    let ok = put_kind(sink, ok, file, &run.kind);
-    let ok = put_case(sink, ok, file, &run.case);
+    let ok = put_all_kinds(sink, ok, file, run);
+    let ok = put_all_cases(sink, ok, file, run);
     put_summary(sink, ok, file, run)
 }
 
-#[tactic(auto, using(adept_io::proofs::Sent::gives_then))]
-fn put_kind<K: Sink>(sink: &mut K, ok: bool, file: &File, kind: &ClosedKind) -> bool
-    ensures { Gives K.written K.faults ok result sink.old sink.new (kind_text file.now kind.now) }
+fn put_all_kinds<K: Sink>(sink: &mut K, ok: bool, file: &File, run: &Run) -> bool
+    ensures { Gives K.written K.faults ok result sink.old sink.new (kinds_text file.now file.now.types run.now.kinds) }
 {
-    let ok = put_type_head(sink, ok, file);
+    put_kinds(sink, ok, file, file.types.as_slice(), run.kinds.as_slice())
+}
+
+// The types, each with its calls.
+fn put_kinds<K: Sink>(
+    sink: &mut K,
+    ok: bool,
+    file: &File,
+    types: &[TypeDecl],
+    kinds: &[ClosedKind],
+) -> bool
+    ensures { Gives K.written K.faults ok result sink.old sink.new (kinds_text file.now types.now kinds.now) }
+{
+    let mut well = ok;
+    for (decl, kind) in types.iter().zip(kinds) {
+        well = put_kind(sink, well, file, decl, kind);
+    }
+    well
+}
+
+fn put_kind<K: Sink>(
+    sink: &mut K,
+    ok: bool,
+    file: &File,
+    decl: &TypeDecl,
+    kind: &ClosedKind,
+) -> bool
+    ensures { Gives K.written K.faults ok result sink.old sink.new (kind_text file.now decl.now kind.now) }
+{
+    let ok = put_type_head(sink, ok, decl);
     put_kind_journal(sink, ok, file, kind.journal.as_slice())
 }
 
-fn put_type_head<K: Sink>(sink: &mut K, ok: bool, file: &File) -> bool
-    ensures { Gives K.written K.faults ok result sink.old sink.new (type_head file.now) }
+fn put_type_head<K: Sink>(sink: &mut K, ok: bool, decl: &TypeDecl) -> bool
+    ensures { Gives K.written K.faults ok result sink.old sink.new (type_head decl.now) }
 {
-    put_pieces(sink, ok, &[b"type ", file.kind.name.bytes(), b"\n"])
+    put_pieces(sink, ok, &[b"type ", decl.name.bytes(), b"\n"])
 }
 
-fn put_case<K: Sink>(sink: &mut K, ok: bool, file: &File, case: &ClosedCase) -> bool
-    ensures { Gives K.written K.faults ok result sink.old sink.new (case_text file.now case.now) }
+fn put_all_cases<K: Sink>(sink: &mut K, ok: bool, file: &File, run: &Run) -> bool
+    ensures { Gives K.written K.faults ok result sink.old sink.new (cases_text file.now file.now.cases run.now.cases) }
 {
-    let ok = put_case_head(sink, ok, file);
+    put_cases(sink, ok, file, file.cases.as_slice(), run.cases.as_slice())
+}
+
+// The cases, each with its calls and how it ended.
+fn put_cases<K: Sink>(
+    sink: &mut K,
+    ok: bool,
+    file: &File,
+    decls: &[CaseDecl],
+    cases: &[ClosedCase],
+) -> bool
+    ensures { Gives K.written K.faults ok result sink.old sink.new (cases_text file.now decls.now cases.now) }
+{
+    let mut well = ok;
+    for (decl, case) in decls.iter().zip(cases) {
+        well = put_case(sink, well, file, decl, case);
+    }
+    well
+}
+
+fn put_case<K: Sink>(
+    sink: &mut K,
+    ok: bool,
+    file: &File,
+    decl: &CaseDecl,
+    case: &ClosedCase,
+) -> bool
+    ensures { Gives K.written K.faults ok result sink.old sink.new (case_text file.now decl.now case.now) }
+{
+    let ok = put_case_head(sink, ok, file, decl);
     let ok = put_case_journal(sink, ok, file, case.journal.as_slice());
     put_end(sink, ok, file, case.machine.live())
 }
 
-fn put_case_head<K: Sink>(sink: &mut K, ok: bool, file: &File) -> bool
-    ensures { Gives K.written K.faults ok result sink.old sink.new (case_head file.now) }
+fn put_case_head<K: Sink>(sink: &mut K, ok: bool, file: &File, decl: &CaseDecl) -> bool
+    ensures { Gives K.written K.faults ok result sink.old sink.new (case_head file.now decl.now) }
 {
-    put_pieces(
-        sink,
-        ok,
-        &[
-            b"case ",
-            file.case.bytes(),
-            b" ",
-            file.kind.name.bytes(),
-            b"\n",
-        ],
-    )
+    let ok = put(sink, ok, b"case ");
+    let ok = put(sink, ok, decl.name.bytes());
+    let ok = put_type(sink, ok, b" ", file, decl.id.type_no);
+    put(sink, ok, b"\n")
 }
 
-// The totals. As yet they speak of one case.
+// The totals.
 fn put_summary<K: Sink>(sink: &mut K, ok: bool, _file: &File, run: &Run) -> bool
     ensures { Gives K.written K.faults ok result sink.old sink.new (summary _file.now run.now) }
 {
-    let ok = put_case_totals(sink, ok, &run.case);
-    put_migration_totals(sink, ok, run.case.journal.as_slice())
+    let ok = put_case_totals(sink, ok, run.cases.as_slice());
+    put_migration_totals(sink, ok, run.cases.as_slice())
 }

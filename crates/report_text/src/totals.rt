@@ -1,11 +1,11 @@
 // The totals of a report.
 ghost use Rattle.std.specs.Prelude.{◌≡◌, if◌then◌else◌};
-ghost use Rattle.std.specs.List.{count_by};
+ghost use Rattle.std.specs.List.{count_by, sum_by};
 ghost use Rattle.adept_io.specs.Written.{Gives};
-ghost use Rattle.report_text.specs.Migrations.{has_fate, is_migration, says, says_blocked, says_migrated, says_overlap};
-ghost use Rattle.report_text.specs.Report.{case_totals, is_done, migration_totals, one_or_none};
+ghost use Rattle.report_text.specs.Migrations.{has_fate, is_migration, says, says_blocked, says_migrated, says_overlap, with_fate};
+ghost use Rattle.report_text.specs.Report.{calls_of, case_totals, is_done, migration_totals};
 
-use crate::runs::{CaseEntry, ClosedCase};
+use script_run::{CaseEntry, ClosedCase};
 use adept_io::{Sink, put_pieces};
 use case_core::{Event, Reply};
 use itoa::Buffer;
@@ -18,32 +18,41 @@ pub enum Fate {
     Overlap,
 }
 
-/// Whether the case is finished, and how many calls were made of it.
-pub fn put_case_totals<K: Sink>(sink: &mut K, ok: bool, case: &ClosedCase) -> bool
-    ensures { Gives K.written K.faults ok result sink.old sink.new (case_totals case.now) }
+/// How many cases there are, how many of them are finished, and how many calls were made of them.
+pub fn put_case_totals<K: Sink>(sink: &mut K, ok: bool, cases: &[ClosedCase]) -> bool
+    ensures { Gives K.written K.faults ok result sink.old sink.new (case_totals cases.now) }
 {
-    let mut number = Buffer::new();
+    let mut all = Buffer::new();
+    let mut finished = Buffer::new();
+    let mut entries = Buffer::new();
     put_pieces(
         sink,
         ok,
         &[
-            b"summary cases=1 finished=",
-            one_or_none(is_done(case)),
+            b"summary cases=",
+            all.format(cases.len()).as_bytes(),
+            b" finished=",
+            finished.format(count_done(cases)).as_bytes(),
             b" entries=",
-            number.format(case.journal.len()).as_bytes(),
+            entries.format(count_calls(cases)).as_bytes(),
+            b" ",
         ],
     )
 }
 
-fn one_or_none(there: bool) -> &'static [u8]
-    ensures { result.now ≡ one_or_none there }
+fn count_done(cases: &[ClosedCase]) -> usize
+    ensures { result ≡ count_by is_done cases.now }
 {
-    if there { b"1" } else { b"0" }
+    let mut count = 0;
+    for case in cases {
+        count += one_if(is_done(case));
+    }
+    count
 }
 
 // Whether the case is finished.
 fn is_done(case: &ClosedCase) -> bool
-    ensures { result ≡ is_done case.now.machine.live }
+    ensures { result ≡ is_done case.now }
 {
     match case.machine.live() {
         None => false,
@@ -51,9 +60,19 @@ fn is_done(case: &ClosedCase) -> bool
     }
 }
 
-/// How many migrations moved the case, were blocked, and overlapped with the case's own operations.
-pub fn put_migration_totals<K: Sink>(sink: &mut K, ok: bool, journal: &[CaseEntry]) -> bool
-    ensures { Gives K.written K.faults ok result sink.old sink.new (migration_totals journal.now) }
+fn count_calls(cases: &[ClosedCase]) -> u128
+    ensures { result ≡ sum_by calls_of cases.now }
+{
+    let mut count = 0;
+    for case in cases {
+        count += case.journal.len() as u128;
+    }
+    count
+}
+
+/// How many migrations moved a case, were blocked, and overlapped with a case's own operations.
+pub fn put_migration_totals<K: Sink>(sink: &mut K, ok: bool, cases: &[ClosedCase]) -> bool
+    ensures { Gives K.written K.faults ok result sink.old sink.new (migration_totals cases.now) }
 {
     let mut migrated = Buffer::new();
     let mut blocked = Buffer::new();
@@ -62,18 +81,35 @@ pub fn put_migration_totals<K: Sink>(sink: &mut K, ok: bool, journal: &[CaseEntr
         sink,
         ok,
         &[
-            b" migrated=",
-            migrated.format(count(journal, Fate::Migrated)).as_bytes(),
+            b"migrated=",
+            migrated.format(count_fate(cases, Fate::Migrated)).as_bytes(),
             b" blocked=",
-            blocked.format(count(journal, Fate::Blocked)).as_bytes(),
+            blocked.format(count_fate(cases, Fate::Blocked)).as_bytes(),
             b" overlap=",
-            overlap.format(count(journal, Fate::Overlap)).as_bytes(),
+            overlap.format(count_fate(cases, Fate::Overlap)).as_bytes(),
             b"\n",
         ],
     )
 }
 
-// How many migrations had that fate.
+// How many migrations of all cases had that fate.
+fn count_fate(cases: &[ClosedCase], fate: Fate) -> u128
+    ensures { result ≡ sum_by (with_fate fate) cases.now }
+{
+    let mut count = 0;
+    for case in cases {
+        count += with_fate(case, fate) as u128;
+    }
+    count
+}
+
+fn with_fate(case: &ClosedCase, fate: Fate) -> usize
+    ensures { result ≡ with_fate fate case.now }
+{
+    count(case.journal.as_slice(), fate)
+}
+
+// How many migrations of a case had that fate.
 fn count(journal: &[CaseEntry], fate: Fate) -> usize
     ensures { result ≡ count_by (has_fate fate) journal.now }
 {

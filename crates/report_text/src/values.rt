@@ -6,6 +6,7 @@ ghost use Rattle.report_text.specs.Words.{EndsRun, escaped, is_escaped, text_in_
 
 use crate::words::put_element_is;
 use adept_io::{Sink, put, put_integer};
+use process_text::File;
 use wsm_schema::Value;
 
 /// A value: an integer in decimal, or a text in quotes.
@@ -65,10 +66,16 @@ fn put_run<K: Sink>(sink: &mut K, ok: bool, text: &[u8], at: usize) -> bool
 
 /// An element behind a space, and its value.
 #[tactic(auto, using(adept_io::proofs::Sent::gives_then))]
-pub fn put_assigned<K: Sink>(sink: &mut K, ok: bool, element: u32, value: &Value) -> bool
-    ensures { Gives K.written K.faults ok result sink.old sink.new (assigned (element, value.now)) }
+pub fn put_assigned<K: Sink>(
+    sink: &mut K,
+    ok: bool,
+    file: &File,
+    element: u32,
+    value: &Value,
+) -> bool
+    ensures { Gives K.written K.faults ok result sink.old sink.new (assigned file.now (element, value.now)) }
 {
-    let ok = put_element_is(sink, ok, element);
+    let ok = put_element_is(sink, ok, file, element);
     put_value(sink, ok, value)
 }
 
@@ -82,31 +89,36 @@ fn put_value_or_none<K: Sink>(sink: &mut K, ok: bool, value: &Option<Value>) -> 
 }
 
 #[tactic(auto, using(adept_io::proofs::Sent::gives_then))]
-fn put_read<K: Sink>(sink: &mut K, ok: bool, read: &(u32, Option<Value>)) -> bool
-    ensures { Gives K.written K.faults ok result sink.old sink.new (read_text read.now) }
+fn put_read<K: Sink>(sink: &mut K, ok: bool, file: &File, read: &(u32, Option<Value>)) -> bool
+    ensures { Gives K.written K.faults ok result sink.old sink.new (read_text file.now read.now) }
 {
-    let ok = put_element_is(sink, ok, read.0);
+    let ok = put_element_is(sink, ok, file, read.0);
     put_value_or_none(sink, ok, &read.1)
 }
 
 /// The values that a start read.
-pub fn put_reads<K: Sink>(sink: &mut K, ok: bool, reads: &[(u32, Option<Value>)]) -> bool
-    ensures { Gives K.written K.faults ok result sink.old sink.new (flat_map read_text reads.now) }
+pub fn put_reads<K: Sink>(
+    sink: &mut K,
+    ok: bool,
+    file: &File,
+    reads: &[(u32, Option<Value>)],
+) -> bool
+    ensures { Gives K.written K.faults ok result sink.old sink.new (flat_map (read_text file.now) reads.now) }
 {
     let mut well = ok;
     for read in reads {
-        well = put_read(sink, well, read);
+        well = put_read(sink, well, file, read);
     }
     well
 }
 
 /// The values that an end wrote.
-pub fn put_writes<K: Sink>(sink: &mut K, ok: bool, writes: &[(u32, Value)]) -> bool
-    ensures { Gives K.written K.faults ok result sink.old sink.new (flat_map assigned writes.now) }
+pub fn put_writes<K: Sink>(sink: &mut K, ok: bool, file: &File, writes: &[(u32, Value)]) -> bool
+    ensures { Gives K.written K.faults ok result sink.old sink.new (flat_map (assigned file.now) writes.now) }
 {
     let mut well = ok;
     for write in writes {
-        well = put_assigned(sink, well, write.0, &write.1);
+        well = put_assigned(sink, well, file, write.0, &write.1);
     }
     well
 }

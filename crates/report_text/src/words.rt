@@ -1,10 +1,10 @@
 // The words of a report.
 ghost use Rattle.std.specs.Prelude.{◌≡◌, ◌++◌, codes, decimal};
 ghost use Rattle.adept_io.specs.Written.{Gives};
-ghost use Rattle.report_text.specs.Words.{caller_text, element_is, letter, listed_element, node_and_code, node_and_element, node_and_node, node_text, node_then};
+ghost use Rattle.report_text.specs.Words.{caller_text, element_is, element_text, letter, listed_element, node_and_code, node_and_element, node_and_node, node_text, node_then, type_text};
 
 use adept_io::{Sink, put, put_pieces};
-use first_text::File;
+use process_text::File;
 use itoa::Buffer;
 use wsm_schema::State;
 
@@ -18,14 +18,36 @@ pub fn node_word<'a>(file: &'a File, node: u32, buffer: &'a mut Buffer) -> &'a [
     }
 }
 
-/// The name of a caller: `-` for the program itself, or the file's actor. Any other is printed as its number.
+/// The name of an element, or its number where the file does not name it.
+pub fn element_word<'a>(file: &'a File, element: u32, buffer: &'a mut Buffer) -> &'a [u8]
+    ensures { result.now ≡ element_text file.now element }
+{
+    match file.elements.get(element as usize) {
+        Some(name) => name.bytes(),
+        None => buffer.format(element).as_bytes(),
+    }
+}
+
+/// The name of a type, or its number where the file has no such type.
+pub fn type_word<'a>(file: &'a File, type_no: u32, buffer: &'a mut Buffer) -> &'a [u8]
+    ensures { result.now ≡ type_text file.now type_no }
+{
+    match file.types.get(type_no as usize) {
+        Some(decl) => decl.name.bytes(),
+        None => buffer.format(type_no).as_bytes(),
+    }
+}
+
+/// The name of a caller: `-` for the program itself, or an actor's. Where the file has no such actor it is the number.
 pub fn caller_word<'a>(file: &'a File, caller: u32, buffer: &'a mut Buffer) -> &'a [u8]
     ensures { result.now ≡ caller_text file.now caller }
 {
-    match caller {
-        0 => b"-",
-        1 => file.actor.bytes(),
-        _ => buffer.format(caller).as_bytes(),
+    if caller == 0 {
+        return b"-";
+    }
+    match file.actors.get(caller as usize - 1) {
+        Some(decl) => decl.name.bytes(),
+        None => buffer.format(caller).as_bytes(),
     }
 }
 
@@ -57,19 +79,36 @@ pub fn put_node<K: Sink>(
 }
 
 /// An element behind a space.
-pub fn put_element<K: Sink>(sink: &mut K, ok: bool, element: u32) -> bool
-    ensures { Gives K.written K.faults ok result sink.old sink.new (listed_element element) }
+pub fn put_element<K: Sink>(sink: &mut K, ok: bool, file: &File, element: u32) -> bool
+    ensures { Gives K.written K.faults ok result sink.old sink.new (listed_element file.now element) }
 {
-    let mut number = Buffer::new();
-    put_pieces(sink, ok, &[b" ", number.format(element).as_bytes()])
+    put_of_element(sink, ok, b" ", file, element)
+}
+
+/// An element, and what is said of it before it.
+pub fn put_of_element<K: Sink>(
+    sink: &mut K,
+    ok: bool,
+    before: &'static [u8],
+    file: &File,
+    element: u32,
+) -> bool
+    ensures { Gives K.written K.faults ok result sink.old sink.new (before.now ++ element_text file.now element) }
+{
+    let mut buffer = Buffer::new();
+    put_pieces(sink, ok, &[before, element_word(file, element, &mut buffer)])
 }
 
 /// An element behind a space, and the sign behind which its value stands.
-pub fn put_element_is<K: Sink>(sink: &mut K, ok: bool, element: u32) -> bool
-    ensures { Gives K.written K.faults ok result sink.old sink.new (element_is element) }
+pub fn put_element_is<K: Sink>(sink: &mut K, ok: bool, file: &File, element: u32) -> bool
+    ensures { Gives K.written K.faults ok result sink.old sink.new (element_is file.now element) }
 {
-    let mut number = Buffer::new();
-    put_pieces(sink, ok, &[b" ", number.format(element).as_bytes(), b"="])
+    let mut buffer = Buffer::new();
+    put_pieces(
+        sink,
+        ok,
+        &[b" ", element_word(file, element, &mut buffer), b"="],
+    )
 }
 
 /// A node, and what is said of it before it.
@@ -111,6 +150,20 @@ fn put_nodes<K: Sink>(sink: &mut K, ok: bool, file: &File, node: u32, other: u32
     put_of_node(sink, ok, b" ", file, other)
 }
 
+/// A type, and what stands before it.
+pub fn put_type<K: Sink>(
+    sink: &mut K,
+    ok: bool,
+    before: &'static [u8],
+    file: &File,
+    type_no: u32,
+) -> bool
+    ensures { Gives K.written K.faults ok result sink.old sink.new (before.now ++ type_text file.now type_no) }
+{
+    let mut buffer = Buffer::new();
+    put_pieces(sink, ok, &[before, type_word(file, type_no, &mut buffer)])
+}
+
 /// A node and an element, and what is said of them before them.
 #[tactic(auto, using(adept_io::proofs::Sent::gives_then))]
 pub fn put_and_element<K: Sink>(
@@ -133,7 +186,7 @@ fn put_node_element<K: Sink>(sink: &mut K, ok: bool, file: &File, node: u32, ele
 {
     let mut buffer = Buffer::new();
     let ok = put(sink, ok, node_word(file, node, &mut buffer));
-    put_element(sink, ok, element)
+    put_element(sink, ok, file, element)
 }
 
 /// A node and the code of one of its branches, and what is said of them before them.

@@ -1,5 +1,5 @@
 -- The calls of script lines.
-use Rattle.std.specs.Prelude.{ℕ, ◌-◌, Bool, ◌&&◌, ◌==◌, List, [], ◌∷◌, ◌++◌, map, slice_get, slice_set, position, Option, Some, None, if◌then◌else◌}
+use Rattle.std.specs.Prelude.{ℕ, ◌-◌, Bool, ◌&&◌, ◌==◌, List, [], ◌∷◌, ◌++◌, slice_get, slice_set, position, Option, Some, None, if◌then◌else◌}
 use Rattle.case_core.specs.Machine.{next_case}
 use Rattle.case_core.specs.declared.events.Event.{Event}
 use Rattle.case_core.specs.declared.events.Event.TheVariants as event
@@ -65,11 +65,17 @@ on_kind caller t e r = record { kinds = changed_at (call_kind caller e) t r.kind
 abbrev pub on_case : File → ℕ → CaseId → Event → Run → Run
 on_case f caller c e r = record { kinds = r.kinds; cases = changed_where (call_case caller e) (place_of f c) r.cases }
 
-abbrev pub if_of_type : ℕ → (ClosedCase → ClosedCase) → ClosedCase → ClosedCase
-if_of_type t f c = if c.machine.type_no == t then f c else c
+abbrev pub if_of_type : ℕ → (ClosedCase → ClosedCase) → CaseDecl → ClosedCase → ClosedCase
+if_of_type t f d c = if d.id.type_no == t then f c else c
 
-abbrev pub on_each : ℕ → ℕ → Event → Run → Run
-on_each caller t e r = record { kinds = r.kinds; cases = map (if_of_type t (call_case caller e)) r.cases }
+-- each case of a type changed, where the declarations tell the types
+abbrev pub each_of : ℕ → (ClosedCase → ClosedCase) → List CaseDecl → List ClosedCase → List ClosedCase
+each_of t f [] cs = cs
+each_of t f (d ∷ ds) [] = []
+each_of t f (d ∷ ds) (c ∷ cs) = if_of_type t f d c ∷ each_of t f ds cs
+
+abbrev pub on_each : File → ℕ → ℕ → Event → Run → Run
+on_each f caller t e r = record { kinds = r.kinds; cases = each_of t (call_case caller e) f.cases r.cases }
 
 -- the version that a type answers where it is asked for the newest
 abbrev pub version_in : KindReply → Option VersionModel
@@ -88,9 +94,9 @@ abbrev pub created : File → ℕ → CaseId → Option VersionModel → Run →
 created f caller c None r = r
 created f caller c (Some v) r = on_case f caller c (event.Create v) r
 
-abbrev pub migrated : ℕ → ℕ → Option VersionModel → Run → Run
-migrated caller t None r = r
-migrated caller t (Some v) r = on_each caller t (event.Migrate v) r
+abbrev pub migrated : File → ℕ → ℕ → Option VersionModel → Run → Run
+migrated f caller t None r = r
+migrated f caller t (Some v) r = on_each f caller t (event.Migrate v) r
 
 -- the calls of a line, one after another
 abbrev pub acted : File → ℕ → Act → Run → Run
@@ -99,7 +105,7 @@ acted f caller (act.Start c n) r = on_case f caller c (event.Start n caller (rol
 acted f caller (act.End c n writes choice) r = on_case f caller c (event.End n caller writes choice) r
 acted f caller (act.Change c ops) r = on_case f caller c (event.Change ops) r
 acted f caller (act.Install t ops) r = on_kind caller t (kind_event.Install ops) r
-acted f caller (act.Migrate t) r = migrated caller t (newest t r) (on_kind caller t kind_event.Newest r)
+acted f caller (act.Migrate t) r = migrated f caller t (newest t r) (on_kind caller t kind_event.Newest r)
 
 abbrev pub worked : File → Run → Line → Run
 worked f r l = acted f l.actor l.act r

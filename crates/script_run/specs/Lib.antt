@@ -1,3 +1,5 @@
 pub mod Calls
+pub mod Oldest
+pub mod Parts
 pub mod Serial
 pub mod Verdicts

@@ -1,11 +1,10 @@
 -- What the types answer to the lines that install, in file order. No other line changes a type.
-use Rattle.std.specs.Prelude.{ℕ, ◌+◌, List, [], ◌∷◌, ◌++◌, fold, slice_get, Option, Some, None}
+use Rattle.std.specs.Prelude.{ℕ, ◌+◌, List, [], ◌∷◌, ◌++◌, fold, slice_get, slice_set, Option, Some, None}
 use Rattle.process_text.specs.declared.files.Act.{Act}
 use Rattle.process_text.specs.declared.files.Act.TheVariants as act
 use Rattle.process_text.specs.declared.files.File.{File}
 use Rattle.process_text.specs.declared.files.Line.{Line}
 use Rattle.process_text.specs.declared.files.TypeDecl.{TypeDecl}
-use Rattle.script_run.specs.Calls.{changed_at}
 use Rattle.script_run.specs.declared.runs.Verdict.{Verdict}
 use Rattle.type_core.specs.KindModel.{KindModel, not_defined}
 use Rattle.type_core.specs.Machine.{next_kind}
@@ -26,15 +25,15 @@ defined_from t [] = []
 defined_from t (d ∷ ds) = stepped (kind_event.Define d.schema) (not_defined t) ∷ defined_from (t + 1) ds
 
 -- what the type with this number answers, where it is there
-abbrev pub verdict : ℕ → ℕ → KindEvent → Option KindModel → List Verdict
-verdict at t e None = []
-verdict at t e (Some k) = record { at = at; type_no = t; reply = (next_kind k e).1 } ∷ []
+abbrev pub judged_by : ℕ → ℕ → KindEvent → Checking → Option KindModel → Checking
+judged_by at t e s None = s
+judged_by at t e s (Some k) = record {
+  kinds = slice_set s.kinds t (stepped e k);
+  verdicts = s.verdicts ++ record { at = at; type_no = t; reply = (next_kind k e).1 } ∷ [];
+}
 
 abbrev pub judged : ℕ → ℕ → KindEvent → Checking → Checking
-judged at t e s = record {
-  kinds = changed_at (stepped e) t s.kinds;
-  verdicts = s.verdicts ++ verdict at t e (slice_get s.kinds t);
-}
+judged at t e s = judged_by at t e s (slice_get s.kinds t)
 
 abbrev pub judged_act : ℕ → Act → Checking → Checking
 judged_act at (act.Install t ops) s = judged at t (kind_event.Install ops) s

@@ -7,6 +7,8 @@ mod calls;
 mod checking;
 mod runs;
 mod serial;
+#[cfg(test)]
+mod tests;
 
 pub use checking::verdicts;
 pub use runs::{

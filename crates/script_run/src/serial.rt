@@ -1,17 +1,193 @@
 // The serial run.
-ghost use Rattle.std.specs.Prelude.{◌≡◌, IfOk};
-ghost use Rattle.process_text.specs.Sizes.{IsBounded};
-ghost use Rattle.script_run.specs.Serial.{serial};
+ghost use Rattle.std.specs.Prelude.{◌≡◌, ◌+◌, ◌≤◌, true, map, length, IfOk, OnOk};
+ghost use Rattle.std.specs.List.{list_all};
+ghost use Rattle.process_text.specs.Sizes.{IsBounded, is_small, line_effort, phase_effort};
+ghost use Rattle.script_run.specs.Calls.{acted, roles_of, worked};
+ghost use Rattle.script_run.specs.Oldest.{oldest};
+ghost use Rattle.script_run.specs.Parts.{run_of};
+ghost use Rattle.script_run.specs.Serial.{defined, kinds_from, opening, phase_worked, serial, uncalled};
+ghost use Rattle.wsm_schema.specs.Flat.{cards_of};
 
-use crate::runs::Run;
-use process_text::File;
+use crate::calls::{Working, call_kind};
+use crate::runs::{CaseJournal, ClosedCase, ClosedKind, KindJournal, Run};
+use case_core::{Case, Event};
+use process_text::{Act, CaseDecl, File, Line, TypeDecl};
 use std::alloc::{AllocError, Global};
-use wsm_lists::NoMemory;
+use type_core::{Kind, KindEvent};
+use wsm_lists::{NoMemory, RoleList};
+use wsm_sound::CaseId;
+
+/// The number of the program itself.
+const PROGRAM: u32 = 0;
 
 /// Makes the calls of all lines in file order, behind the definition of each type.
-pub fn serial_run(_alloc: Global, file: &File) -> Result<Run, NoMemory>
+pub fn serial_run(alloc: Global, file: &File) -> Result<Run, NoMemory>
     requires { IsBounded file.now }
     ensures { IfOk result (λ run. run ≡ serial file.now) }
 {
-    Err(AllocError)
+    let mut run = opening(alloc, file)?;
+    for lines in file.phases.as_slice() {
+        run.work_phase(alloc, file, lines.as_slice())?;
+    }
+    Ok(run.into_run())
+}
+
+// The types with their definitions, and the cases before any line.
+fn opening(alloc: Global, file: &File) -> Result<Working, NoMemory>
+    requires { list_all is_small file.now.types ≡ true }
+    ensures run { IfOk result (λ new. run_of new ≡ opening file.now) }
+    ensures age { IfOk result (λ new. oldest new.cases.items ≡ 0) }
+{
+    Ok(Working {
+        kinds: defined_kinds(alloc, file.types.as_slice())?,
+        cases: uncalled_cases(alloc, file.cases.as_slice())?,
+    })
+}
+
+// The types behind their definitions, numbered from 0.
+fn defined_kinds(alloc: Global, types: &[TypeDecl]) -> Result<Vec<ClosedKind>, NoMemory>
+    requires { list_all is_small types.now ≡ true }
+    ensures { IfOk result (λ kinds. kinds.items ≡ kinds_from 0 types.now) }
+{
+    let mut kinds = Vec::new(alloc);
+    for (index, decl) in types.iter().enumerate() {
+        kinds.push(defined(alloc, number_at(index)?, decl)?)?;
+    }
+    Ok(kinds)
+}
+
+// The number of the type at an index. There is no memory for so many types that one would have no number.
+pub fn number_at(index: usize) -> Result<u32, NoMemory>
+    ensures { IfOk result (λ number. number ≡ index) }
+{
+    u32::try_from(index).map_err(|_| AllocError)
+}
+
+// A type behind its definition.
+fn defined(alloc: Global, number: u32, decl: &TypeDecl) -> Result<ClosedKind, NoMemory>
+    requires { length (cards_of decl.now.schema) ≤ 1024 }
+    ensures { IfOk result (λ kind. kind ≡ defined number decl.now) }
+{
+    let mut kind = ClosedKind {
+        machine: Kind::new(alloc, number),
+        journal: KindJournal::new(alloc),
+    };
+    let definition = KindEvent::Define(decl.schema.copy(alloc)?);
+    call_kind(alloc, &mut kind, PROGRAM, definition)?;
+    Ok(kind)
+}
+
+// The cases before any line.
+fn uncalled_cases(alloc: Global, decls: &[CaseDecl]) -> Result<Vec<ClosedCase>, NoMemory>
+    ensures { IfOk result (λ cases. cases.items ≡ map uncalled decls.now) }
+{
+    let mut cases = Vec::new(alloc);
+    for decl in decls {
+        cases.push(ClosedCase {
+            machine: Case::new(decl.id.type_no),
+            journal: CaseJournal::new(alloc),
+        })?;
+    }
+    Ok(cases)
+}
+
+// The roles of the actor with a number, from 1.
+fn roles_of(alloc: Global, file: &File, actor: u32) -> Result<RoleList, NoMemory>
+    ensures { IfOk result (λ roles. roles ≡ roles_of file.now actor) }
+{
+    let index = (actor as usize).saturating_sub(1);
+    match file.actors.get(index) {
+        None => Ok(RoleList::new(alloc)),
+        Some(decl) => decl.roles.copy(alloc),
+    }
+}
+
+impl Working {
+    // The calls of a phase, line by line.
+    fn work_phase(&mut self, alloc: Global, file: &File, lines: &[Line]) -> Result<(), NoMemory>
+        requires { oldest self.old.cases.items + phase_effort lines.now ≤ 4000000000 }
+        ensures run { OnOk result (run_of self.new ≡ phase_worked file.now (run_of self.old) lines.now) }
+        ensures age { OnOk result (oldest self.new.cases.items ≤ oldest self.old.cases.items + phase_effort lines.now) }
+    {
+        for line in lines {
+            self.work(alloc, file, line)?;
+        }
+        Ok(())
+    }
+
+    // The calls of a line.
+    fn work(&mut self, alloc: Global, file: &File, line: &Line) -> Result<(), NoMemory>
+        requires { oldest self.old.cases.items + line_effort line.now ≤ 4000000000 }
+        ensures run { OnOk result (run_of self.new ≡ worked file.now (run_of self.old) line.now) }
+        ensures age { OnOk result (oldest self.new.cases.items ≤ oldest self.old.cases.items + line_effort line.now) }
+    {
+        let caller = line.actor;
+        match &line.act {
+            Act::Create(id) => self.create(alloc, file, caller, *id),
+            Act::Start(id, node) => {
+                let event = Event::Start {
+                    node: *node,
+                    user: caller,
+                    roles: roles_of(alloc, file, caller)?,
+                };
+                self.on_case(alloc, file, caller, *id, event)
+            }
+            Act::End(id, node, writes, choice) => {
+                let event = Event::End {
+                    node: *node,
+                    user: caller,
+                    writes: writes.duplicate(alloc)?,
+                    choice: *choice,
+                };
+                self.on_case(alloc, file, caller, *id, event)
+            }
+            Act::Change(id, ops) => {
+                let event = Event::Change(ops.copy(alloc)?);
+                self.on_case(alloc, file, caller, *id, event)
+            }
+            Act::Install(type_no, ops) => {
+                let event = KindEvent::Install(ops.copy(alloc)?);
+                self.on_kind(alloc, caller, *type_no, event)
+            }
+            Act::Migrate(type_no) => self.migrate(alloc, file, caller, *type_no),
+        }
+    }
+
+    // The type is asked for its newest version, and the case is created on it.
+    fn create(
+        &mut self,
+        alloc: Global,
+        file: &File,
+        caller: u32,
+        id: CaseId,
+    ) -> Result<(), NoMemory>
+        requires { oldest self.old.cases.items ≤ 4000000000 }
+        ensures run { OnOk result (run_of self.new ≡ acted file.now caller (Act.Create id) (run_of self.old)) }
+        ensures age { OnOk result (oldest self.new.cases.items ≤ oldest self.old.cases.items) }
+    {
+        match self.newest(alloc, caller, id.type_no)? {
+            None => Ok(()),
+            Some(version) => self.on_case(alloc, file, caller, id, Event::Create(version)),
+        }
+    }
+
+    // The type is asked for its newest version, and each of its cases is to move to it.
+    fn migrate(
+        &mut self,
+        alloc: Global,
+        file: &File,
+        caller: u32,
+        type_no: u32,
+    ) -> Result<(), NoMemory>
+        requires { oldest self.old.cases.items ≤ 4000000000 }
+        ensures run { OnOk result (run_of self.new ≡ acted file.now caller (Act.Migrate type_no) (run_of self.old)) }
+        ensures age { OnOk result (oldest self.new.cases.items ≤ oldest self.old.cases.items) }
+    {
+        match self.newest(alloc, caller, type_no)? {
+            None => Ok(()),
+            Some(version) => {
+                self.on_each(alloc, file, caller, type_no, &Event::Migrate(version))
+            }
+        }
+    }
 }

@@ -5,4 +5,4 @@ use Rattle.report_text.specs.Words.{listed_element}
 use Rattle.report_text.proofs.case_lines.put_elements.Given as goal
 
 abbrev pub invariant-loop-element : goal.invariant-loop-element
-invariant-loop-element g l = Gives g.K.Sink.written g.K.Sink.faults l.ok l.well l.initial.sink l.sink (flat_map (listed_element) (take l.element-index l.elements))
+invariant-loop-element g l = Gives g.K.Sink.written g.K.Sink.faults l.ok l.well l.initial.sink l.sink (flat_map (listed_element l.file) (take l.element-index l.elements))

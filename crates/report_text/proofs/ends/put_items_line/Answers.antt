@@ -3,7 +3,7 @@ use Rattle.std.specs.List.{flat_map}
 use Rattle.adept_io.proofs.Sent.{gives_then}
 use Rattle.adept_io.specs.Written.{Gives}
 use Rattle.case_core.specs.Shown.{item_of, items_of, shown_spots}
-use Rattle.first_text.specs.Lines.{Bytes}
+use Rattle.file_words.specs.Lines.{Bytes}
 use Rattle.report_text.specs.Ends.{item_text, spot_text}
 use Rattle.report_text.proofs.Rows.{flat_map-flat_map}
 use Rattle.report_text.proofs.ends.put_items_line.Goals as goal

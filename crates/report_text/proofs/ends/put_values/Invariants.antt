@@ -5,4 +5,4 @@ use Rattle.report_text.specs.Ends.{value_now_text}
 use Rattle.report_text.proofs.ends.put_values.Given as goal
 
 abbrev pub invariant-loop-element : goal.invariant-loop-element
-invariant-loop-element g l = Gives g.K.Sink.written g.K.Sink.faults l.ok l.well l.initial.sink l.sink (flat_map (value_now_text l.live) (take l.element-index l.elements))
+invariant-loop-element g l = Gives g.K.Sink.written g.K.Sink.faults l.ok l.well l.initial.sink l.sink (flat_map (value_now_text l.file l.live) (take l.element-index l.elements))

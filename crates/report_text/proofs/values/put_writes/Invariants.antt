@@ -5,4 +5,4 @@ use Rattle.report_text.specs.Words.{assigned}
 use Rattle.report_text.proofs.values.put_writes.Given as goal
 
 abbrev pub invariant-loop-write : goal.invariant-loop-write
-invariant-loop-write g l = Gives g.K.Sink.written g.K.Sink.faults l.ok l.well l.initial.sink l.sink (flat_map (assigned) (take l.write-index l.writes))
+invariant-loop-write g l = Gives g.K.Sink.written g.K.Sink.faults l.ok l.well l.initial.sink l.sink (flat_map (assigned l.file) (take l.write-index l.writes))

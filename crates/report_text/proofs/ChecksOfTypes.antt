@@ -1,0 +1,20 @@
+-- What is told of files that are checked alone, from the bytes of the file.
+use Rattle.std.specs.Prelude.{◌≡◌, [], Result, Ok, Err, refl, codes}
+use Rattle.std.specs.Fmt.{digits}
+use Rattle.std.specs.Str.{is_utf8, chars}
+use Rattle.file_words.specs.Lines.{Bytes}
+use Rattle.process_text.specs.Reading.{file}
+use Rattle.process_text.specs.declared.files.File.{File}
+use Rattle.process_text.specs.declared.refusals.Refused.{Refused}
+use Rattle.report_text.specs.Check.{check_text}
+use Rattle.script_run.specs.Verdicts.{verdicts}
+use Rattle.wsm_sound.specs.Faults.{changed_by, fault_of}
+
+-- what is told of a file
+abbrev told_of : Result File Refused → Bytes
+told_of (Ok f) = check_text f (verdicts f)
+told_of (Err r) = []
+
+pub install_of_one : told_of (file (codes "adept 1\ntype t\nact A\nend\nactor ann\ncase c t\nphase\nann create c\nann start c A\nann end c A\nann install t\ninsert B after A\nend\nann migrate t\nann migrate t\n")) ≡ codes "type t 1 sound\nline 11 t installed 2\n"
+unfolding is_utf8 chars lib.Utf8.encode digits fault_of changed_by
+install_of_one = refl

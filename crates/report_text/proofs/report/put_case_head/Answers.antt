@@ -1,0 +1,10 @@
+use Rattle.std.proofs.Common.{sym}
+use Rattle.adept_io.proofs.Sent.{gives_then}
+use Rattle.report_text.proofs.Rows.{gives_as}
+use Rattle.report_text.proofs.report.put_case_head.Goals as goal
+
+pub returns : goal.returns
+returns g c =
+    gives_then _ _ _ _ _ _ _ _ _ _ c.put-ok.ensures
+    (gives_then _ _ _ _ _ _ _ _ _ _ (gives_as _ _ _ _ _ _ _ _ c.put-ok-2.ensures c.bytes.ensures.bytes)
+    (gives_then _ _ _ _ _ _ _ _ _ _ c.put_type-ok.ensures c.put.ensures))

@@ -1,0 +1,13 @@
+use Rattle.std.proofs.Common.{◌≡◌, ℕ, List, ◌++◌}
+use Rattle.std.specs.Iterator.Adapters.{zip_first, zip_second}
+use Rattle.std.specs.Slice.Iter.{iter_rest}
+use Rattle.adept_io.specs.Written.{Gives}
+use Rattle.report_text.specs.Report.{cases_text}
+use Rattle.report_text.proofs.report.put_cases.Given as goal
+
+abbrev pub invariant-loop-decl : goal.invariant-loop-decl
+invariant-loop-decl g l = record {
+  sent : List ℕ;
+  gives : Gives g.K.Sink.written g.K.Sink.faults l.ok l.well l.initial.sink l.sink sent;
+  whole : sent ++ cases_text l.file (iter_rest (zip_first l.decl-iterator)) (iter_rest (zip_second l.decl-iterator)) ≡ cases_text l.file l.decls l.cases;
+}

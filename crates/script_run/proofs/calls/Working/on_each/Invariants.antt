@@ -1,0 +1,9 @@
+use Rattle.std.proofs.Common.{◌≡◌, take}
+use Rattle.script_run.specs.Calls.{call_case, each_of}
+use Rattle.script_run.proofs.calls.Working.on_each.Given as goal
+
+abbrev pub invariant-loop-place : goal.invariant-loop-place
+invariant-loop-place l = record {
+  kinds : l.self.kinds.items ≡ l.initial.self.kinds.items;
+  cases : l.self.cases.items ≡ each_of l.type_no (call_case l.caller l.event) (take l.place l.file.cases) l.initial.self.cases.items;
+}
