@@ -7,9 +7,24 @@ ghost use Rattle.report_text.specs.Check.{check_text, sound_line, verdict_head, 
 
 use crate::kind_lines::put_kind_reply;
 use crate::words::put_type;
-use adept_io::{Failed, Sink, put, put_number, put_pieces};
+use adept_io::{Failed, Sink, Text, put, put_number, put_pieces, write_gathered};
 use process_text::{File, TypeDecl};
 use script_run::{Verdict, Verdicts};
+
+// What is told of a file that is checked alone.
+#[derive(Drop)]
+struct Check<'a> {
+    file: &'a File,
+    verdicts: &'a Verdicts,
+}
+
+impl Text for Check<'_> {
+    ghost bytes = { λ check. check_text check.file.now check.verdicts.now };
+
+    fn put<K: Sink>(&self, sink: &mut K, ok: bool) -> bool {
+        put_check(sink, ok, self.file, self.verdicts)
+    }
+}
 
 /// Writes a line for each type of the file, which is sound where the file was read, and a line for each verdict. Where a
 /// write fails, the first bytes of these may have been written.
@@ -22,11 +37,7 @@ pub fn write_verdicts<K: Sink>(
     ensures part { OnErr result (AppendsPrefix (K.written sink.old) (K.written sink.new) (check_text file.now verdicts.now)) }
     ensures rose { OnErr result (Rose (K.faults sink.old) (K.faults sink.new)) }
 {
-    if put_check(sink, true, file, verdicts) {
-        Ok(())
-    } else {
-        Err(Failed)
-    }
+    write_gathered(sink, &Check { file, verdicts })
 }
 
 fn put_check<K: Sink>(sink: &mut K, ok: bool, file: &File, verdicts: &Verdicts) -> bool

@@ -10,9 +10,39 @@ use crate::ends::put_end;
 use crate::kind_lines::put_kind_journal;
 use crate::totals::{put_case_totals, put_migration_totals};
 use crate::words::put_type;
-use adept_io::{Failed, Sink, put, put_pieces};
+use adept_io::{Failed, Sink, Text, put, put_pieces, write_gathered};
 use process_text::{CaseDecl, File, TypeDecl};
 use script_run::{ClosedCase, ClosedKind, Run};
+
+// The report of a run of the file.
+#[derive(Drop)]
+struct Report<'a> {
+    file: &'a File,
+    run: &'a Run,
+}
+
+impl Text for Report<'_> {
+    ghost bytes = { λ report. text report.file.now report.run.now };
+
+    fn put<K: Sink>(&self, sink: &mut K, ok: bool) -> bool {
+        put_report(sink, ok, self.file, self.run)
+    }
+}
+
+// The last line of that report.
+#[derive(Drop)]
+struct Summary<'a> {
+    file: &'a File,
+    run: &'a Run,
+}
+
+impl Text for Summary<'_> {
+    ghost bytes = { λ last. summary last.file.now last.run.now };
+
+    fn put<K: Sink>(&self, sink: &mut K, ok: bool) -> bool {
+        put_summary(sink, ok, self.file, self.run)
+    }
+}
 
 /// Writes the report of a run of the file. Where a write fails, the first bytes of the report may have been written.
 pub fn write_run<K: Sink>(file: &File, run: &Run, sink: &mut K) -> Result<(), Failed>
@@ -20,11 +50,7 @@ pub fn write_run<K: Sink>(file: &File, run: &Run, sink: &mut K) -> Result<(), Fa
     ensures part { OnErr result (AppendsPrefix (K.written sink.old) (K.written sink.new) (text file.now run.now)) }
     ensures rose { OnErr result (Rose (K.faults sink.old) (K.faults sink.new)) }
 {
-    if put_report(sink, true, file, run) {
-        Ok(())
-    } else {
-        Err(Failed)
-    }
+    write_gathered(sink, &Report { file, run })
 }
 
 /// Writes the last line of the report alone, as `write_run` writes the report.
@@ -33,11 +59,7 @@ pub fn write_summary<K: Sink>(file: &File, run: &Run, sink: &mut K) -> Result<()
     ensures part { OnErr result (AppendsPrefix (K.written sink.old) (K.written sink.new) (summary file.now run.now)) }
     ensures rose { OnErr result (Rose (K.faults sink.old) (K.faults sink.new)) }
 {
-    if put_summary(sink, true, file, run) {
-        Ok(())
-    } else {
-        Err(Failed)
-    }
+    write_gathered(sink, &Summary { file, run })
 }
 
 fn put_report<K: Sink>(sink: &mut K, ok: bool, file: &File, run: &Run) -> bool
