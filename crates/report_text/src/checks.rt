@@ -28,11 +28,7 @@ impl Text for Check<'_> {
 
 /// Writes a line for each type of the file, which is sound where the file was read, and a line for each verdict. Where a
 /// write fails, the first bytes of these may have been written.
-pub fn write_verdicts<K: Sink>(
-    file: &File,
-    verdicts: &Verdicts,
-    sink: &mut K,
-) -> Result<(), Failed>
+pub fn write_verdicts<K: Sink>(file: &File, verdicts: &Verdicts, sink: &mut K) -> Result<(), Failed>
     ensures all { OnOk result (Appends (K.written sink.old) (K.written sink.new) (check_text file.now verdicts.now)) }
     ensures part { OnErr result (AppendsPrefix (K.written sink.old) (K.written sink.new) (check_text file.now verdicts.now)) }
     ensures rose { OnErr result (Rose (K.faults sink.old) (K.faults sink.new)) }

@@ -11,8 +11,8 @@ use crate::values::put_assigned;
 use crate::words::{caller_word, letter, put_node};
 use adept_io::{Sink, put, put_number, put_pieces};
 use case_core::Live;
-use process_text::File;
 use itoa::Buffer;
+use process_text::File;
 use wsm_rules::is_worked_on;
 use wsm_schema::{Card, ElementKind, Spot, State};
 

@@ -5,8 +5,8 @@ ghost use Rattle.report_text.specs.Faults.{block_text, data_text, fault_text, li
 
 use crate::words::{put_and_code, put_and_element, put_and_node, put_of_node};
 use adept_io::{Sink, put, put_pieces};
-use process_text::File;
 use itoa::Buffer;
+use process_text::File;
 use wsm_ops::{OpFault, OpWhy};
 use wsm_schema::{BlockFault, DataFault, LimitKind};
 use wsm_sound::Fault;

@@ -5,11 +5,11 @@ ghost use Rattle.report_text.specs.Faults.{fault_text};
 ghost use Rattle.report_text.specs.Journals.{line_start, kind_event_text, kind_reply_text, kind_line, numbered};
 
 use crate::faults::put_fault;
-use script_run::KindEntry;
 use crate::words::caller_word;
 use adept_io::{Sink, put, put_number, put_pieces};
-use process_text::File;
 use itoa::Buffer;
+use process_text::File;
+use script_run::KindEntry;
 use type_core::{KindEvent, KindReply};
 use wsm_sound::Fault;
 

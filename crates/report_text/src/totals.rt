@@ -5,10 +5,10 @@ ghost use Rattle.adept_io.specs.Written.{Gives};
 ghost use Rattle.report_text.specs.Migrations.{has_fate, is_migration, says, says_blocked, says_migrated, says_overlap, with_fate};
 ghost use Rattle.report_text.specs.Report.{calls_of, case_totals, is_done, migration_totals};
 
-use script_run::{CaseEntry, ClosedCase};
 use adept_io::{Sink, put_pieces};
 use case_core::{Event, Reply};
 use itoa::Buffer;
+use script_run::{CaseEntry, ClosedCase};
 
 /// What a migration may come to.
 #[derive(Clone, Copy)]
@@ -82,7 +82,9 @@ pub fn put_migration_totals<K: Sink>(sink: &mut K, ok: bool, cases: &[ClosedCase
         ok,
         &[
             b"migrated=",
-            migrated.format(count_fate(cases, Fate::Migrated)).as_bytes(),
+            migrated
+                .format(count_fate(cases, Fate::Migrated))
+                .as_bytes(),
             b" blocked=",
             blocked.format(count_fate(cases, Fate::Blocked)).as_bytes(),
             b" overlap=",

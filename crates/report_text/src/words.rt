@@ -4,8 +4,8 @@ ghost use Rattle.adept_io.specs.Written.{Gives};
 ghost use Rattle.report_text.specs.Words.{caller_text, element_is, element_text, letter, listed_element, node_and_code, node_and_element, node_and_node, node_text, node_then, type_text};
 
 use adept_io::{Sink, put, put_pieces};
-use process_text::File;
 use itoa::Buffer;
+use process_text::File;
 use wsm_schema::State;
 
 /// The name of a node, or its number where the file does not name it.
@@ -96,7 +96,11 @@ pub fn put_of_element<K: Sink>(
     ensures { Gives K.written K.faults ok result sink.old sink.new (before.now ++ element_text file.now element) }
 {
     let mut buffer = Buffer::new();
-    put_pieces(sink, ok, &[before, element_word(file, element, &mut buffer)])
+    put_pieces(
+        sink,
+        ok,
+        &[before, element_word(file, element, &mut buffer)],
+    )
 }
 
 /// An element behind a space, and the sign behind which its value stands.
