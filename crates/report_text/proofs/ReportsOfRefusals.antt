@@ -1,0 +1,102 @@
+-- The report of one file with each reason for which operations are refused.
+use Rattle.std.specs.Prelude.{◌≡◌, ◌++◌, refl, codes}
+use Rattle.std.specs.Fmt.{digits}
+use Rattle.std.specs.Str.{is_utf8, chars}
+use Rattle.file_words.specs.Lines.{Bytes}
+use Rattle.process_text.specs.Reading.{file}
+use Rattle.report_text.proofs.Examples.{report}
+use Rattle.report_text.specs.Migrations.{has_fate}
+use Rattle.wsm_sound.specs.Faults.{changed_by, fault_of}
+
+abbrev operations_refused_for_each_reason_file : Bytes
+operations_refused_for_each_reason_file =
+    codes "adept 1\ntype t\nelement d int\nand p q\nbranch 0\nact A\nbranch 1\nact B\ndone\nxor s j\nbranch 0\nbranch 5\nact C\ndone\n"
+    ++ codes "loop l e\nact D\ndone\nact Z\nsync A B\nread A d optional\nwrite B d\nend\nactor ann\ncase c t\nphase\nann create c\n"
+    ++ codes "ann change c\ninsert A after Z\nend\nann change c\ninsert A after Nope\nend\nann change c\ninsert start after Z\nend\n"
+    ++ codes "ann change c\ninsert finish after Z\nend\nann change c\ninsert q after Nope\nend\nann change c\ninsert X after Nope\n"
+    ++ codes "end\nann change c\ninsert X after finish\nend\nann change c\ninsert X after p\nend\nann change c\ninsert X after s\nend\n"
+    ++ codes "ann change c\ninsert X after X\nend\nann change c\ninsert X head A 0\nend\nann change c\ninsert X head Nope 0\nend\n"
+    ++ codes "ann change c\ninsert X head s 1\nend\nann change c\ninsert X head j 0\nend\nann change c\ninsert X head l 0\nend\n"
+    ++ codes "ann change c\nparallel A with x y around Z\nend\nann change c\nparallel X with A B around Z\nend\nann change c\n"
+    ++ codes "parallel X with x B around Z\nend\nann change c\nparallel X with X y around Z\nend\nann change c\n"
+    ++ codes "parallel X with y y around Z\nend\nann change c\nparallel X with y X around Nope\nend\nann change c\n"
+    ++ codes "parallel X with x y around Nope\nend\nann change c\nparallel X with x y around Nope Nope2\nend\nann change c\n"
+    ++ codes "parallel X with x y around q\nend\nann change c\nparallel X with x y around q Nope\nend\nann change c\n"
+    ++ codes "parallel X with x y around start\nend\nann change c\nparallel X with x y around finish\nend\nann change c\n"
+    ++ codes "parallel X with x y around e\nend\nann change c\nparallel X with x y around A Nope\nend\nann change c\n"
+    ++ codes "parallel X with x y around A B\nend\nann change c\nparallel X with x y around p\nend\nann change c\n"
+    ++ codes "parallel X with x y around p j\nend\nann change c\nparallel X with x y around l l\nend\nann change c\n"
+    ++ codes "conditional A with x y after Z\nend\nann change c\nconditional A with x y after finish\nend\nann change c\n"
+    ++ codes "conditional X with x x after Z\nend\nann change c\nconditional X with x y after finish\nend\nann change c\n"
+    ++ codes "conditional X with x y head p 2\nend\nann change c\ndelete Nope\nend\nann change c\ndelete s\nend\nann change c\n"
+    ++ codes "delete start\nend\nann change c\nmove Nope after Z\nend\nann change c\nmove s after Z\nend\nann change c\n"
+    ++ codes "move s after s\nend\nann change c\nmove A after A\nend\nann change c\nmove A head A 0\nend\nann change c\n"
+    ++ codes "move A after Nope\nend\nann change c\nmove A after p\nend\nann change c\nsync Nope A\nend\nann change c\n"
+    ++ codes "sync Nope Nope2\nend\nann change c\nsync s Nope\nend\nann change c\nsync A Nope\nend\nann change c\nsync A s\nend\n"
+    ++ codes "ann change c\nsync A B\nend\nann change c\nunsync B A\nend\nann change c\nunsync Nope Nope\nend\nann change c\n"
+    ++ codes "element d text\nend\nann change c\nread Nope d\nend\nann change c\nread p d\nend\nann change c\nread A d\nend\n"
+    ++ codes "ann change c\nunread B d\nend\nann change c\nunread Nope d\nend\nann change c\nwrite Nope d\nend\nann change c\n"
+    ++ codes "write j d\nend\nann change c\nwrite l d\nend\nann change c\nwrite B d\nend\nann change c\nunwrite A d\nend\nann change c\n"
+    ++ codes "role Nope 1\nend\nann change c\nrole q 1\nend\nann change c\nrole finish 1\nend\nann change c\nrole A 1\ndelete Nope\nend\n"
+    ++ codes "ann change c\ninsert X after Z\ninsert X after A\nend\nann change c\ndelete A\nread A d\nend\nann change c\ndelete A\n"
+    ++ codes "unsync A B\nend\nann change c\ndelete A\nunread A d\nend\nann change c\nunsync A B\nsync A B\nunsync A B\nunsync A B\nend\n"
+    ++ codes "ann change c\nsync A C\nend\nann change c\nsync C A\nend\nann change c\nsync A A\nend\nann change c\nsync B A\nend\n"
+    ++ codes "ann change c\nmove A after D\nend\nann change c\nread Z nothing optional\nend\nann change c\nwrite Z nothing\nend\n"
+    ++ codes "ann change c\nunsync A B\nwrite A d\nend\nann change c\nread s d\ndelete B\nend\nann change c\nread D d\nwrite C d\n"
+    ++ codes "delete B\nend\nann change c\nread D d\nmove B head s 0\nend\nann change c\nelement f text\nread A f\nend\nann change c\n"
+    ++ codes "parallel X with x y around l e\nsync X D\nend\nann change c\nparallel X with x y around l e\nsync D X\nend\n"
+
+abbrev operations_refused_for_each_reason_report : Bytes
+operations_refused_for_each_reason_report =
+    codes "adept report 1\ntype t\n1 - define -> defined\n2 ann newest -> is 1\ncase c t\n1 ann create 1 -> created\n"
+    ++ codes "2 ann change 1 -> unsound op 1 node-there A\n3 ann change 1 -> unsound op 1 node-there A\n"
+    ++ codes "4 ann change 1 -> unsound op 1 node-there start\n5 ann change 1 -> unsound op 1 node-there finish\n"
+    ++ codes "6 ann change 1 -> unsound op 1 node-there q\n7 ann change 1 -> unsound op 1 no-node Nope\n"
+    ++ codes "8 ann change 1 -> unsound op 1 wrong-kind finish\n9 ann change 1 -> unsound op 1 wrong-kind p\n"
+    ++ codes "10 ann change 1 -> unsound op 1 wrong-kind s\n11 ann change 1 -> unsound op 1 no-node X\n"
+    ++ codes "12 ann change 1 -> unsound op 1 wrong-kind A\n13 ann change 1 -> unsound op 1 no-node Nope\n"
+    ++ codes "14 ann change 1 -> unsound op 1 wrong-kind s\n15 ann change 1 -> unsound op 1 wrong-kind j\n"
+    ++ codes "16 ann change 1 -> unsound op 1 wrong-kind l\n17 ann change 1 -> unsound op 1 node-there A\n"
+    ++ codes "18 ann change 1 -> unsound op 1 node-there A\n19 ann change 1 -> unsound op 1 node-there B\n"
+    ++ codes "20 ann change 1 -> unsound op 1 node-there X\n21 ann change 1 -> unsound op 1 node-there y\n"
+    ++ codes "22 ann change 1 -> unsound op 1 node-there X\n23 ann change 1 -> unsound op 1 no-node Nope\n"
+    ++ codes "24 ann change 1 -> unsound op 1 no-node Nope\n25 ann change 1 -> unsound op 1 wrong-kind q\n"
+    ++ codes "26 ann change 1 -> unsound op 1 wrong-kind q\n27 ann change 1 -> unsound op 1 wrong-kind start\n"
+    ++ codes "28 ann change 1 -> unsound op 1 wrong-kind finish\n29 ann change 1 -> unsound op 1 wrong-kind e\n"
+    ++ codes "30 ann change 1 -> unsound op 1 no-node Nope\n31 ann change 1 -> unsound op 1 wrong-kind B\n"
+    ++ codes "32 ann change 1 -> unsound op 1 wrong-kind p\n33 ann change 1 -> unsound op 1 wrong-kind j\n"
+    ++ codes "34 ann change 1 -> unsound op 1 wrong-kind l\n35 ann change 1 -> unsound op 1 node-there A\n"
+    ++ codes "36 ann change 1 -> unsound op 1 node-there A\n37 ann change 1 -> unsound op 1 node-there x\n"
+    ++ codes "38 ann change 1 -> unsound op 1 wrong-kind finish\n39 ann change 1 -> unsound op 1 wrong-kind p\n"
+    ++ codes "40 ann change 1 -> unsound op 1 no-node Nope\n41 ann change 1 -> unsound op 1 wrong-kind s\n"
+    ++ codes "42 ann change 1 -> unsound op 1 wrong-kind start\n43 ann change 1 -> unsound op 1 no-node Nope\n"
+    ++ codes "44 ann change 1 -> unsound op 1 wrong-kind s\n45 ann change 1 -> unsound op 1 wrong-kind s\n"
+    ++ codes "46 ann change 1 -> unsound op 1 self-target A\n47 ann change 1 -> unsound op 1 wrong-kind A\n"
+    ++ codes "48 ann change 1 -> unsound op 1 no-node Nope\n49 ann change 1 -> unsound op 1 wrong-kind p\n"
+    ++ codes "50 ann change 1 -> unsound op 1 no-node Nope\n51 ann change 1 -> unsound op 1 no-node Nope\n"
+    ++ codes "52 ann change 1 -> unsound op 1 wrong-kind s\n53 ann change 1 -> unsound op 1 no-node Nope\n"
+    ++ codes "54 ann change 1 -> unsound op 1 wrong-kind s\n55 ann change 1 -> unsound op 1 sync-there\n"
+    ++ codes "56 ann change 1 -> unsound op 1 no-sync\n57 ann change 1 -> unsound op 1 no-sync\n"
+    ++ codes "58 ann change 1 -> unsound op 1 element-there\n59 ann change 1 -> unsound op 1 no-node Nope\n"
+    ++ codes "60 ann change 1 -> unsound op 1 wrong-kind p\n61 ann change 1 -> unsound op 1 edge-there\n"
+    ++ codes "62 ann change 1 -> unsound op 1 no-edge\n63 ann change 1 -> unsound op 1 no-edge\n"
+    ++ codes "64 ann change 1 -> unsound op 1 no-node Nope\n65 ann change 1 -> unsound op 1 wrong-kind j\n"
+    ++ codes "66 ann change 1 -> unsound op 1 wrong-kind l\n67 ann change 1 -> unsound op 1 edge-there\n"
+    ++ codes "68 ann change 1 -> unsound op 1 no-edge\n69 ann change 1 -> unsound op 1 no-node Nope\n"
+    ++ codes "70 ann change 1 -> unsound op 1 wrong-kind q\n71 ann change 1 -> unsound op 1 wrong-kind finish\n"
+    ++ codes "72 ann change 2 -> unsound op 2 no-node Nope\n73 ann change 2 -> unsound op 2 node-there X\n"
+    ++ codes "74 ann change 2 -> unsound op 2 no-node A\n75 ann change 2 -> unsound op 2 no-sync\n"
+    ++ codes "76 ann change 2 -> unsound op 2 no-edge\n77 ann change 4 -> unsound op 4 no-sync\n"
+    ++ codes "78 ann change 1 -> unsound sync-place A C\n79 ann change 1 -> unsound sync-place C A\n"
+    ++ codes "80 ann change 1 -> unsound sync-place A A\n81 ann change 1 -> unsound sync-cycle B A\n"
+    ++ codes "82 ann change 1 -> unsound sync-place A B\n83 ann change 1 -> unsound unknown Z nothing\n"
+    ++ codes "84 ann change 1 -> unsound unknown Z nothing\n85 ann change 2 -> unsound parallel-write A B d\n"
+    ++ codes "86 ann change 2 -> unsound missing s d\n87 ann change 3 -> unsound missing D d\n"
+    ++ codes "88 ann change 2 -> unsound sync-place A B\n89 ann change 2 -> unsound missing A f\n"
+    ++ codes "90 ann change 2 -> unsound sync-loop X D\n91 ann change 2 -> unsound sync-loop D X\nstate 1 running own=0\n"
+    ++ codes "marking start=C p=C A=A B=N q=N s=N C=N j=N l=N D=N e=N Z=N finish=N\nvalues\nitems A@0\n"
+    ++ codes "summary cases=1 finished=0 entries=91 migrated=0 blocked=0 overlap=0\n"
+
+pub operations_refused_for_each_reason : report (file operations_refused_for_each_reason_file) ≡ operations_refused_for_each_reason_report
+unfolding is_utf8 chars lib.Utf8.encode digits fault_of has_fate changed_by
+operations_refused_for_each_reason = refl
