@@ -39,6 +39,7 @@ pub fn perform<S: Source, K: Sink>(
     ensures untouched { result.status ≢ 0 → result.status ≢ 4 → sink.new ≡ sink.old }
     ensures no_run { result.status ≢ 0 → result.status ≢ 4 → result.run ≡ None }
     ensures no_place { result.status ≢ 1 → result.place ≡ None }
+    ensures check_alone { command ≡ Command.Check → result.run ≡ None }
 
     // Where nothing fails and there is memory, the bytes alone decide.
     ensures exact { ¬ Rose (S.faults source.old) (S.faults source.new) → ¬ Rose (K.faults sink.old) (K.faults sink.new) → IfSome (S.left source.old) (λ bytes. (result.status ≡ status_of bytes) ⊎ (result.status ≡ 5)) }
@@ -61,6 +62,7 @@ fn perform_on<K: Sink>(command: Command, alloc: Global, bytes: &[u8], sink: &mut
     ensures untouched { result.status ≢ 0 → result.status ≢ 4 → sink.new ≡ sink.old }
     ensures no_run { result.status ≢ 0 → result.status ≢ 4 → result.run ≡ None }
     ensures no_place { result.status ≢ 1 → result.place ≡ None }
+    ensures check_alone { command ≡ Command.Check → result.run ≡ None }
     ensures statuses { (result.status ≡ status_of bytes.now) ⊎ (result.status ≡ 4) ⊎ (result.status ≡ 5) }
 {
     match read_file(alloc, bytes) {
@@ -83,6 +85,7 @@ fn perform_for<K: Sink>(command: Command, alloc: Global, file: &File, sink: &mut
     ensures untouched { result.status ≢ 0 → result.status ≢ 4 → sink.new ≡ sink.old }
     ensures no_run { result.status ≢ 0 → result.status ≢ 4 → result.run ≡ None }
     ensures no_place { result.place ≡ None }
+    ensures check_alone { command ≡ Command.Check → result.run ≡ None }
     ensures statuses { (result.status ≡ 0) ⊎ (result.status ≡ 4) ⊎ (result.status ≡ 5) }
 {
     match command {

@@ -29,11 +29,12 @@ type_name (Some d) t = d.name
 abbrev pub type_text : File → ℕ → Bytes
 type_text f t = type_name (slice_get f.types t) t
 
--- the program itself is caller 0, and actors are numbered from 1
+-- the name of an actor
 abbrev pub actor_name : Option ActorDecl → ℕ → Bytes
 actor_name None a = decimal a
 actor_name (Some d) a = d.name
 
+-- the program itself is caller 0, and actors are numbered from 1
 abbrev pub caller_text : File → ℕ → Bytes
 caller_text f a = if a == 0 then codes "-" else actor_name (slice_get f.actors (a - 1)) a
 

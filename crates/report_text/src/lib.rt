@@ -17,7 +17,6 @@ mod words;
 
 pub use adept_io::Failed;
 pub use checks::write_verdicts;
-pub use process_text::File;
 pub use report::{write_run, write_summary};
 pub use script_run::{
     CaseEntry, CaseJournal, ClosedCase, ClosedCases, ClosedKind, ClosedKinds, KindEntry,

@@ -1,4 +1,3 @@
-use Rattle.std.proofs.Common.{sym}
 use Rattle.adept_io.proofs.Sent.{gives_then}
 use Rattle.report_text.proofs.Rows.{gives_as}
 use Rattle.report_text.proofs.report.put_case_head.Goals as goal
