@@ -1,5 +1,6 @@
 pub mod Calls
 pub mod Oldest
 pub mod Parts
+pub mod Places
 pub mod Serial
 pub mod Verdicts

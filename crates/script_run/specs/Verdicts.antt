@@ -10,7 +10,6 @@ use Rattle.type_core.specs.KindModel.{KindModel, not_defined}
 use Rattle.type_core.specs.Machine.{next_kind}
 use Rattle.type_core.specs.declared.events.KindEvent.{KindEvent}
 use Rattle.type_core.specs.declared.events.KindEvent.TheVariants as kind_event
-use Rattle.wsm_ops.specs.declared.operations.Op.{Op}
 
 -- the types, and what they answered so far
 pub record Checking : Type 0 where

@@ -1,14 +1,14 @@
 // Calls of types and cases.
 ghost use Rattle.std.specs.Prelude.{◌≡◌, ◌+◌, ◌≤◌, slice_get, IfOk, IfSome, OnOk};
 ghost use Rattle.case_core.specs.Ages.{age, weight};
-ghost use Rattle.script_run.specs.Calls.{call_case, call_kind, changed_at, is_of, newest, on_case, on_each, on_kind, place_of, version_in};
+ghost use Rattle.script_run.specs.Calls.{call_case, call_kind, changed_at, newest, on_case, on_each, on_kind, version_in};
 ghost use Rattle.script_run.specs.Oldest.{oldest};
 ghost use Rattle.script_run.specs.Parts.{run_of};
 ghost use Rattle.type_core.specs.Machine.{next_kind, weight as kind_weight};
 
 use crate::runs::{CaseEntry, ClosedCase, ClosedCases, ClosedKind, ClosedKinds, KindEntry, Run};
+use crate::scripts::Script;
 use case_core::Event;
-use process_text::{CaseDecl, File};
 use std::alloc::Global;
 use turn_cell::Machine;
 use type_core::{KindEvent, KindReply};
@@ -78,16 +78,16 @@ impl Working {
     pub fn on_case(
         &mut self,
         alloc: Global,
-        file: &File,
+        script: &Script<'_>,
         caller: u32,
         id: CaseId,
         event: Event,
     ) -> Result<(), NoMemory>
         requires { oldest self.old.cases.items + weight event ≤ 4000000000 }
-        ensures run { OnOk result (run_of self.new ≡ on_case file.now caller id event (run_of self.old)) }
+        ensures run { OnOk result (run_of self.new ≡ on_case script.now.file.now caller id event (run_of self.old)) }
         ensures age { OnOk result (oldest self.new.cases.items ≤ oldest self.old.cases.items + weight event) }
     {
-        match place_of(file, id) {
+        match script.place_of(id) {
             None => Ok(()),
             Some(place) => self.on_case_at(alloc, place, caller, event),
         }
@@ -97,16 +97,16 @@ impl Working {
     pub fn on_each(
         &mut self,
         alloc: Global,
-        file: &File,
+        script: &Script<'_>,
         caller: u32,
         type_no: u32,
         event: &Event,
     ) -> Result<(), NoMemory>
         requires { oldest self.old.cases.items + weight event.now ≤ 4000000000 }
-        ensures run { OnOk result (run_of self.new ≡ on_each file.now caller type_no event.now (run_of self.old)) }
+        ensures run { OnOk result (run_of self.new ≡ on_each script.now.file.now caller type_no event.now (run_of self.old)) }
         ensures age { OnOk result (oldest self.new.cases.items ≤ oldest self.old.cases.items + weight event.now) }
     {
-        for (place, decl) in file.cases.as_slice().iter().enumerate() {
+        for (place, decl) in script.file.cases.as_slice().iter().enumerate() {
             if decl.id.type_no == type_no {
                 self.on_case_at(alloc, place, caller, event.copy(alloc)?)?;
             }
@@ -131,20 +131,6 @@ impl Working {
             Some(case) => call_case(alloc, case, caller, event),
         }
     }
-}
-
-// Where a case was declared.
-fn place_of(file: &File, id: CaseId) -> Option<usize>
-    ensures { result ≡ place_of file.now id }
-{
-    file.cases.iter().position(|decl| is_of(id, decl))
-}
-
-// Whether it is the declaration of the case.
-fn is_of(id: CaseId, decl: &CaseDecl) -> bool
-    ensures { result ≡ is_of id decl.now }
-{
-    decl.id.type_no == id.type_no && decl.id.place == id.place
 }
 
 // The version that a type answers where it is asked for the newest.

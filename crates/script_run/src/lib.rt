@@ -6,6 +6,7 @@
 mod calls;
 mod checking;
 mod runs;
+mod scripts;
 mod serial;
 #[cfg(test)]
 mod tests;

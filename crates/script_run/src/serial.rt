@@ -2,7 +2,7 @@
 ghost use Rattle.std.specs.Prelude.{◌≡◌, ◌+◌, ◌≤◌, true, map, length, IfOk, OnOk};
 ghost use Rattle.std.specs.List.{list_all};
 ghost use Rattle.process_text.specs.Sizes.{IsBounded, is_small, line_effort, phase_effort};
-ghost use Rattle.script_run.specs.Calls.{acted, roles_of, worked};
+ghost use Rattle.script_run.specs.Calls.{acted, worked};
 ghost use Rattle.script_run.specs.Oldest.{oldest};
 ghost use Rattle.script_run.specs.Parts.{run_of};
 ghost use Rattle.script_run.specs.Serial.{defined, kinds_from, opening, phase_worked, serial, uncalled};
@@ -10,11 +10,12 @@ ghost use Rattle.wsm_schema.specs.Flat.{cards_of};
 
 use crate::calls::{Working, call_kind};
 use crate::runs::{CaseJournal, ClosedCase, ClosedKind, KindJournal, Run};
+use crate::scripts::Script;
 use case_core::{Case, Event};
 use process_text::{Act, CaseDecl, File, Line, TypeDecl};
 use std::alloc::{AllocError, Global};
 use type_core::{Kind, KindEvent};
-use wsm_lists::{NoMemory, RoleList};
+use wsm_lists::NoMemory;
 use wsm_sound::CaseId;
 
 /// The number of the program itself.
@@ -25,9 +26,10 @@ pub fn serial_run(alloc: Global, file: &File) -> Result<Run, NoMemory>
     requires { IsBounded file.now }
     ensures { IfOk result (λ run. run ≡ serial file.now) }
 {
+    let script = Script::of(alloc, file)?;
     let mut run = opening(alloc, file)?;
     for lines in file.phases.as_slice() {
-        run.work_phase(alloc, file, lines.as_slice())?;
+        run.work_phase(alloc, &script, lines.as_slice())?;
     }
     Ok(run.into_run())
 }
@@ -91,46 +93,40 @@ fn uncalled_cases(alloc: Global, decls: &[CaseDecl]) -> Result<Vec<ClosedCase>, 
     Ok(cases)
 }
 
-// The roles of the actor with a number, from 1.
-fn roles_of(alloc: Global, file: &File, actor: u32) -> Result<RoleList, NoMemory>
-    ensures { IfOk result (λ roles. roles ≡ roles_of file.now actor) }
-{
-    let index = (actor as usize).saturating_sub(1);
-    match file.actors.get(index) {
-        None => Ok(RoleList::new(alloc)),
-        Some(decl) => decl.roles.copy(alloc),
-    }
-}
-
 impl Working {
     // The calls of a phase, line by line.
-    fn work_phase(&mut self, alloc: Global, file: &File, lines: &[Line]) -> Result<(), NoMemory>
+    fn work_phase(
+        &mut self,
+        alloc: Global,
+        script: &Script<'_>,
+        lines: &[Line],
+    ) -> Result<(), NoMemory>
         requires { oldest self.old.cases.items + phase_effort lines.now ≤ 4000000000 }
-        ensures run { OnOk result (run_of self.new ≡ phase_worked file.now (run_of self.old) lines.now) }
+        ensures run { OnOk result (run_of self.new ≡ phase_worked script.now.file.now (run_of self.old) lines.now) }
         ensures age { OnOk result (oldest self.new.cases.items ≤ oldest self.old.cases.items + phase_effort lines.now) }
     {
         for line in lines {
-            self.work(alloc, file, line)?;
+            self.work(alloc, script, line)?;
         }
         Ok(())
     }
 
     // The calls of a line.
-    fn work(&mut self, alloc: Global, file: &File, line: &Line) -> Result<(), NoMemory>
+    fn work(&mut self, alloc: Global, script: &Script<'_>, line: &Line) -> Result<(), NoMemory>
         requires { oldest self.old.cases.items + line_effort line.now ≤ 4000000000 }
-        ensures run { OnOk result (run_of self.new ≡ worked file.now (run_of self.old) line.now) }
+        ensures run { OnOk result (run_of self.new ≡ worked script.now.file.now (run_of self.old) line.now) }
         ensures age { OnOk result (oldest self.new.cases.items ≤ oldest self.old.cases.items + line_effort line.now) }
     {
         let caller = line.actor;
         match &line.act {
-            Act::Create(id) => self.create(alloc, file, caller, *id),
+            Act::Create(id) => self.create(alloc, script, caller, *id),
             Act::Start(id, node) => {
                 let event = Event::Start {
                     node: *node,
                     user: caller,
-                    roles: roles_of(alloc, file, caller)?,
+                    roles: script.roles_of(alloc, caller)?,
                 };
-                self.on_case(alloc, file, caller, *id, event)
+                self.on_case(alloc, script, caller, *id, event)
             }
             Act::End(id, node, writes, choice) => {
                 let event = Event::End {
@@ -139,17 +135,17 @@ impl Working {
                     writes: writes.duplicate(alloc)?,
                     choice: *choice,
                 };
-                self.on_case(alloc, file, caller, *id, event)
+                self.on_case(alloc, script, caller, *id, event)
             }
             Act::Change(id, ops) => {
                 let event = Event::Change(ops.copy(alloc)?);
-                self.on_case(alloc, file, caller, *id, event)
+                self.on_case(alloc, script, caller, *id, event)
             }
             Act::Install(type_no, ops) => {
                 let event = KindEvent::Install(ops.copy(alloc)?);
                 self.on_kind(alloc, caller, *type_no, event)
             }
-            Act::Migrate(type_no) => self.migrate(alloc, file, caller, *type_no),
+            Act::Migrate(type_no) => self.migrate(alloc, script, caller, *type_no),
         }
     }
 
@@ -157,17 +153,17 @@ impl Working {
     fn create(
         &mut self,
         alloc: Global,
-        file: &File,
+        script: &Script<'_>,
         caller: u32,
         id: CaseId,
     ) -> Result<(), NoMemory>
         requires { oldest self.old.cases.items ≤ 4000000000 }
-        ensures run { OnOk result (run_of self.new ≡ acted file.now caller (Act.Create id) (run_of self.old)) }
+        ensures run { OnOk result (run_of self.new ≡ acted script.now.file.now caller (Act.Create id) (run_of self.old)) }
         ensures age { OnOk result (oldest self.new.cases.items ≤ oldest self.old.cases.items) }
     {
         match self.newest(alloc, caller, id.type_no)? {
             None => Ok(()),
-            Some(version) => self.on_case(alloc, file, caller, id, Event::Create(version)),
+            Some(version) => self.on_case(alloc, script, caller, id, Event::Create(version)),
         }
     }
 
@@ -175,18 +171,18 @@ impl Working {
     fn migrate(
         &mut self,
         alloc: Global,
-        file: &File,
+        script: &Script<'_>,
         caller: u32,
         type_no: u32,
     ) -> Result<(), NoMemory>
         requires { oldest self.old.cases.items ≤ 4000000000 }
-        ensures run { OnOk result (run_of self.new ≡ acted file.now caller (Act.Migrate type_no) (run_of self.old)) }
+        ensures run { OnOk result (run_of self.new ≡ acted script.now.file.now caller (Act.Migrate type_no) (run_of self.old)) }
         ensures age { OnOk result (oldest self.new.cases.items ≤ oldest self.old.cases.items) }
     {
         match self.newest(alloc, caller, type_no)? {
             None => Ok(()),
             Some(version) => {
-                self.on_each(alloc, file, caller, type_no, &Event::Migrate(version))
+                self.on_each(alloc, script, caller, type_no, &Event::Migrate(version))
             }
         }
     }

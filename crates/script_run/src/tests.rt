@@ -65,7 +65,9 @@ fn case_is(run: &Run, place: usize, letters: &[u8]) -> bool {
         None => false,
         Some(case) => {
             case.journal.len() == letters.len()
-                && letters.iter().enumerate().all(|(index, letter)| case_letter(case.journal.get(index)) == *letter)
+                && letters.iter().enumerate().all(|(index, letter)| case_letter(
+                    case.journal.get(index),
+                ) == *letter)
         }
     }
 }
@@ -75,7 +77,9 @@ fn kind_is(run: &Run, type_no: usize, letters: &[u8]) -> bool {
         None => false,
         Some(kind) => {
             kind.journal.len() == letters.len()
-                && letters.iter().enumerate().all(|(index, letter)| kind_letter(kind.journal.get(index)) == *letter)
+                && letters.iter().enumerate().all(|(index, letter)| kind_letter(
+                    kind.journal.get(index),
+                ) == *letter)
         }
     }
 }

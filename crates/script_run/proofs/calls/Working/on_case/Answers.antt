@@ -1,4 +1,3 @@
-use Rattle.std.proofs.Common.{◌≡◌, rules}
 use Rattle.std.proofs.lemmas.Result.{on_ok_weaker}
 use Rattle.case_core.specs.Ages.{weight}
 use Rattle.script_run.proofs.Aging.{young-at, oldest-changed_at}

@@ -1,6 +1,5 @@
-use Rattle.std.proofs.Common.{◌≡◌, ◌+◌, ◌≤◌, drop, fold}
+use Rattle.std.proofs.Common.{◌≡◌, ◌+◌, ◌≤◌, drop}
 use Rattle.process_text.specs.Sizes.{phase_effort}
-use Rattle.script_run.specs.Calls.{worked}
 use Rattle.script_run.specs.Oldest.{oldest}
 use Rattle.script_run.specs.Parts.{run_of}
 use Rattle.script_run.specs.Serial.{phase_worked}
@@ -8,6 +7,6 @@ use Rattle.script_run.proofs.calls.Working.work_phase.Given as goal
 
 abbrev pub invariant-loop-line : goal.invariant-loop-line
 invariant-loop-line l = record {
-  run : phase_worked l.file (run_of l.self) (drop l.line-index l.lines) ≡ phase_worked l.file (run_of l.initial.self) l.lines;
+  run : phase_worked l.script.file.now (run_of l.self) (drop l.line-index l.lines) ≡ phase_worked l.script.file.now (run_of l.initial.self) l.lines;
   age : oldest l.self.cases.items + phase_effort (drop l.line-index l.lines) ≤ oldest l.initial.self.cases.items + phase_effort l.lines;
 }

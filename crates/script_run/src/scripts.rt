@@ -1,0 +1,60 @@
+// A file with what its lines are worked by.
+ghost use Rattle.std.specs.Prelude.{◌≡◌, IfOk};
+ghost use Rattle.script_run.specs.Calls.{place_of, roles_of};
+ghost use Rattle.script_run.specs.Places.{Indexes};
+
+use process_text::{CaseDecl, File};
+use std::alloc::Global;
+use std::collections::HashMap;
+use wsm_lists::{NoMemory, RoleList};
+use wsm_sound::CaseId;
+
+/// A file, and an index of its cases by their types and their places there.
+#[derive(Drop)]
+pub struct Script<'a> {
+    pub file: &'a File,
+    places: HashMap<(u32, u32), usize>,
+    ghost indexed: { Indexes places.entries file.now.cases },
+}
+
+impl<'a> Script<'a> {
+    /// The file with its index.
+    pub fn of(alloc: Global, file: &'a File) -> Result<Script<'a>, NoMemory>
+        ensures { IfOk result (λ script. script.file.now ≡ file.now) }
+    {
+        Ok(Script {
+            file,
+            places: places_of(alloc, file.cases.as_slice())?,
+        })
+    }
+
+    /// Where the case was declared.
+    pub fn place_of(&self, id: CaseId) -> Option<usize>
+        ensures { result ≡ place_of self.now.file.now id }
+    {
+        self.places.get(&(id.type_no, id.place)).copied()
+    }
+
+    /// The roles of the actor with a number, from 1.
+    pub fn roles_of(&self, alloc: Global, actor: u32) -> Result<RoleList, NoMemory>
+        ensures { IfOk result (λ roles. roles ≡ roles_of self.now.file.now actor) }
+    {
+        let index = (actor as usize).saturating_sub(1);
+        match self.file.actors.get(index) {
+            None => Ok(RoleList::new(alloc)),
+            Some(decl) => decl.roles.copy(alloc),
+        }
+    }
+}
+
+// The places of cases, from the last to the first.
+fn places_of(alloc: Global, decls: &[CaseDecl]) -> Result<HashMap<(u32, u32), usize>, NoMemory>
+    ensures { IfOk result (λ places. Indexes places.entries decls.now) }
+{
+    let mut places = HashMap::new(alloc);
+    for place in (0..decls.len()).rev() {
+        let id = decls[place].id;
+        let _ = places.insert((id.type_no, id.place), place)?;
+    }
+    Ok(places)
+}
