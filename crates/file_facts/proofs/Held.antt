@@ -1,0 +1,95 @@
+-- What holds behind each line that is read.
+use Rattle.std.proofs.Common.{◌≡◌, ◌≤◌, ◌<◌, ℕ, ◌+◌, Bool, true, false, List, [], length, refl, Option, Some, None}
+use Rattle.std.specs.Prelude.{IfOk}
+use Rattle.std.specs.Option.{option_or}
+use Rattle.wsm_lists.specs.Rows.{AllRows}
+use Rattle.file_names.specs.declared.declared.DeclaredList.{DeclaredList}
+use Rattle.process_text.specs.Steps.{State, Step, unless, over}
+use Rattle.process_text.specs.Scripting.{if_known}
+use Rattle.process_text.specs.Operating.{line_of_group}
+use Rattle.process_text.specs.declared.files.ActorDecl.{ActorDecl}
+use Rattle.process_text.specs.declared.files.CaseDecl.{CaseDecl}
+use Rattle.process_text.specs.declared.files.Line.{Line}
+use Rattle.process_text.specs.declared.files.TypeDecl.{TypeDecl}
+use Rattle.process_text.specs.declared.refusals.FileLimit.{FileLimit}
+use Rattle.process_text.specs.declared.refusals.Why.{Why}
+use Rattle.process_text.specs.declared.states.Contents.{Contents}
+use Rattle.process_text.specs.declared.states.Place.{Place}
+use Rattle.process_text.specs.declared.states.Place.TheVariants as place
+use Rattle.file_facts.specs.Facts.{lines_in, IsSound, HasType, ArePlaced, IsKnown}
+
+-- of declarations: nothing has more names than items, and what a file promises of them
+pub record AreDeclared (types : DeclaredList TypeDecl) (actors : DeclaredList ActorDecl) (cases : DeclaredList CaseDecl) : Type 0 where
+  pub type_names : length types.names ≤ length types.items
+  pub actor_names : length actors.names ≤ length actors.items
+  pub few_types : length types.items ≤ 64
+  pub few_actors : length actors.items ≤ 32
+  pub few_cases : length cases.items ≤ 4096
+  pub sound : AllRows IsSound types.items
+  pub typed : AllRows (HasType (length types.items)) cases.items
+  pub placed : ArePlaced cases.items
+
+abbrev pub HasDeclared : Contents → Type 0
+HasDeclared c = AreDeclared c.types c.actors c.cases
+
+-- before the first phase
+pub record IsBefore (types : DeclaredList TypeDecl) (actors : DeclaredList ActorDecl) (cases : DeclaredList CaseDecl) (phases : List (List Line)) (counted : ℕ) : Type 0 where
+  pub declared : AreDeclared types actors cases
+  pub within : counted ≤ 60000
+  pub no_phase : phases ≡ []
+
+abbrev pub Before : Contents → Type 0
+Before c = IsBefore c.types c.actors c.cases c.phases c.counts.lines
+
+abbrev pub KnownIn : Contents → Line → Type 0
+KnownIn c l = IsKnown (length c.types.items) (length c.actors.items) c.cases.items l
+
+-- in a phase: the lines of earlier phases, those of the open one and as many as were begun are counted, and all are known
+pub record IsScript (types : DeclaredList TypeDecl) (actors : DeclaredList ActorDecl) (cases : DeclaredList CaseDecl) (phases : List (List Line)) (counted : ℕ) (lines : List Line) (begun : ℕ) : Type 0 where
+  pub declared : AreDeclared types actors cases
+  pub within : counted ≤ 60000
+  pub all_counted : lines_in phases + length lines + begun ≤ counted
+  pub known_phases : AllRows (AllRows (IsKnown (length types.items) (length actors.items) cases.items)) phases
+  pub known_lines : AllRows (IsKnown (length types.items) (length actors.items) cases.items) lines
+
+abbrev pub Script : Contents → List Line → ℕ → Type 0
+Script c lines begun = IsScript c.types c.actors c.cases c.phases c.counts.lines lines begun
+
+-- a type that is open has room
+abbrev pub Typing : Contents → Type 0
+Typing c = Before c × (length c.types.items < 64)
+
+-- an open group would be a known line if it ended here
+abbrev pub HeldIn : Place → Contents → Type 0
+HeldIn place.Head c = Before c
+HeldIn place.Outside c = Before c
+HeldIn (place.InType d) c = Typing c
+HeldIn (place.InPhase lines) c = Script c lines 0
+HeldIn (place.InGroup lines g) c = Script c lines 1 × KnownIn c (line_of_group g)
+
+abbrev pub HeldState : State → Type 0
+HeldState s = HeldIn s.place s.contents
+
+abbrev pub HeldStep : Step → Type 0
+HeldStep o = IfOk o HeldState
+
+-- ---- a state behind tests
+pub unless-held : (o : Option Why) (c : Contents) (s : State) → (o ≡ None → HeldState s) → HeldStep (unless o c s)
+unless-held None c s h = h refl
+unless-held (Some w) c s h = tt
+
+pub same-held : (o : Option Why) (c : Contents) (s : State) → HeldState s → HeldStep (unless o c s)
+same-held None c s h = h
+same-held (Some w) c s h = tt
+
+pub found-held : {A : Type 0} (o : Option A) (go : A → Step) (c : Contents) → ((x : A) → o ≡ Some x → HeldStep (go x)) → HeldStep (if_known o go c)
+found-held None go c h = tt
+found-held (Some x) go c h = h x refl
+
+pub not_over : (test : Bool) (l : FileLimit) → over test l ≡ None → test ≡ false
+not_over true l h = absurd (cc)
+not_over false l h = refl
+
+pub neither : {X : Type 0} (a b : Option X) → option_or a b ≡ None → (a ≡ None) × (b ≡ None)
+neither None b h = (refl, h)
+neither (Some x) b h = absurd (cc)

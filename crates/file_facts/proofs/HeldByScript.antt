@@ -1,0 +1,207 @@
+-- What holds behind lines of a phase and of a group.
+use Rattle.std.proofs.Common.{◌≡◌, ◌≤◌, ◌<◌, ℕ, ◌+◌, true, false, List, [], ◌∷◌, ◌++◌, length, refl, arith, Option, Some, None}
+use Rattle.std.proofs.lemmas.Bool.{leb-false, eq-eqb, and_from}
+use Rattle.std.proofs.lemmas.List.{length_push}
+use Rattle.std.proofs.lemmas.List.Sums.{sum_by_push}
+use Rattle.std.proofs.lemmas.Option.{same_Some}
+use Rattle.std.specs.Prelude.{nat_le, slice_get, option_map}
+use Rattle.wsm_lists.proofs.Lists.{rows-append}
+use Rattle.wsm_lists.specs.declared.values.Value.{Value}
+use Rattle.wsm_ops.specs.declared.operations.Op.{Op}
+use Rattle.wsm_sound.specs.declared.versions.CaseId.{CaseId}
+use Rattle.file_words.specs.Lines.{Bytes}
+use Rattle.file_names.specs.Names.{place_of}
+use Rattle.file_forms.specs.PieceForms.{◌>>=◌}
+use Rattle.file_forms.specs.Forms.{Deed, to_create, to_start, to_end, to_change, to_install, to_migrate, ScriptLine, next_phase, a_deed}
+use Rattle.file_forms.specs.Forms.{Place, behind, at_head, OperationLine, insert, parallel, conditional, delete, move, sync, unsync, element, read, unread, write, unwrite, set_role, group_end}
+use Rattle.process_text.specs.Steps.{at_place, node_in, with_node, with_element}
+use Rattle.process_text.specs.Scripting.{case_in, actor_in, counted, line_of, with_line, with_group, changing, one_install, installing, migrating, with_elements, numbered, acted, with_phase, scripted}
+use Rattle.process_text.specs.Operating.{with_place, op_in, with_names, act_of, line_of_group, with_op, grouped, operated}
+use Rattle.process_text.specs.declared.files.Act.{Act}
+use Rattle.process_text.specs.declared.files.Act.TheVariants as act
+use Rattle.process_text.specs.declared.files.CaseDecl.{CaseDecl}
+use Rattle.process_text.specs.declared.files.Line.{Line}
+use Rattle.process_text.specs.declared.refusals.FileLimit.TheVariants as limit
+use Rattle.process_text.specs.declared.states.Contents.{Contents}
+use Rattle.process_text.specs.declared.states.Group.{Group}
+use Rattle.process_text.specs.declared.states.Target.{Target}
+use Rattle.process_text.specs.declared.states.Target.TheVariants as target
+use Rattle.process_text.specs.declared.states.Place.TheVariants as place
+use Rattle.file_facts.specs.Facts.{has_id, IsDeclared, IsKnownAct}
+use Rattle.file_facts.proofs.Held.{Script, KnownIn, HeldState, HeldStep, unless-held, same-held, found-held, not_over, neither}
+use Rattle.file_facts.proofs.Lists.{any-at, place_within}
+
+-- ---- what is found was declared
+own_id : (d : CaseDecl) → has_id d.id d ≡ true
+own_id d = and_from _ _ (eq-eqb d.id.type_no d.id.type_no refl) (eq-eqb d.id.place d.id.place refl)
+
+id_of : (cases : List CaseDecl) (i : ℕ) (o : Option CaseDecl) (id : CaseId) → slice_get cases i ≡ o → option_map (λ d. d.id) o ≡ Some id → IsDeclared id cases
+id_of cases i None id at is = absurd (cc)
+id_of cases i (Some d) id at is = let same : d.id ≡ id = same_Some d.id id is in rw (← same) (any-at (has_id d.id) cases i d at (own_id d))
+
+found_case : (cases : List CaseDecl) (o : Option ℕ) (id : CaseId) → (o >>= λ i. option_map (λ d. d.id) (slice_get cases i)) ≡ Some id → IsDeclared id cases
+found_case cases None id is = absurd (cc)
+found_case cases (Some i) id is = id_of cases i (slice_get cases i) id refl is
+
+case-known : (n : Bytes) (c : Contents) (id : CaseId) → case_in n c ≡ Some id → IsDeclared id c.cases.items
+case-known n c id is = found_case c.cases.items (place_of c.cases.names n) id is
+
+type-known : (n : Bytes) (lines : List Line) (begun : ℕ) (c : Contents) (t : ℕ) → place_of c.types.names n ≡ Some t → Script c lines begun → t < length c.types.items
+type-known n lines begun c t is h =
+    let within = place_within c.types.names n t is in
+    let names = h.declared.type_names in
+    omega (arith, within, names)
+
+-- actors are numbered from 1
+abbrev IsActor : ℕ → Contents → Type 0
+IsActor a c = (1 ≤ a) × (a ≤ length c.actors.items)
+
+next_number : (o : Option ℕ) (a m : ℕ) → ((i : ℕ) → o ≡ Some i → i < m) → option_map (λ i. i + 1) o ≡ Some a → (1 ≤ a) × (a ≤ m)
+next_number None a m below is = absurd (cc)
+next_number (Some i) a m below is =
+    let same : i + 1 ≡ a = same_Some (i + 1) a is in
+    let within = below i refl in
+    (omega (arith, same), omega (arith, same, within))
+
+actor-known : (n : Bytes) (lines : List Line) (begun : ℕ) (c : Contents) (a : ℕ) → actor_in n c ≡ Some a → Script c lines begun → IsActor a c
+actor-known n lines begun c a is h =
+    next_number (place_of c.actors.names n) a (length c.actors.items)
+    (λ i at. let within = place_within c.actors.names n i at in let names = h.declared.actor_names in omega (arith, within, names)) is
+
+-- ---- one line more, and one phase more
+line-added : (l : Line) (lines : List Line) (c : Contents) → KnownIn c l → nat_le 60000 c.counts.lines ≡ false → Script c lines 0 → Script (counted c) (lines ++ l ∷ []) 0
+line-added l lines c known below h = record {
+  declared = h.declared;
+  within = omega (arith, leb-false 60000 c.counts.lines below);
+  all_counted = let before = h.all_counted in omega (arith, before, length_push lines l);
+  known_phases = h.known_phases;
+  known_lines = rows-append (KnownIn c) lines (l ∷ []) h.known_lines (known, tt);
+}
+
+line-begun : (lines : List Line) (c : Contents) → nat_le 60000 c.counts.lines ≡ false → Script c lines 0 → Script (counted c) lines 1
+line-begun lines c below h = record {
+  declared = h.declared;
+  within = omega (arith, leb-false 60000 c.counts.lines below);
+  all_counted = let before = h.all_counted in omega (arith, before);
+  known_phases = h.known_phases;
+  known_lines = h.known_lines;
+}
+
+line-ended : (l : Line) (lines : List Line) (c : Contents) → KnownIn c l → Script c lines 1 → Script c (lines ++ l ∷ []) 0
+line-ended l lines c known h = record {
+  declared = h.declared;
+  within = h.within;
+  all_counted = let before = h.all_counted in omega (arith, before, length_push lines l);
+  known_phases = h.known_phases;
+  known_lines = rows-append (KnownIn c) lines (l ∷ []) h.known_lines (known, tt);
+}
+
+phase-added : (lines : List Line) (c : Contents) → Script c lines 0 → Script (with_phase lines c) [] 0
+phase-added lines c h = record {
+  declared = h.declared;
+  within = h.within;
+  all_counted = let before = h.all_counted in omega (arith, before, sum_by_push (λ (ls : List Line). length ls) c.phases lines);
+  known_phases = rows-append _ c.phases (lines ∷ []) h.known_phases (h.known_lines, tt);
+  known_lines = tt;
+}
+
+-- ---- lines of a phase
+with_line-held : (lines : List Line) (at actor : ℕ) (a : Act) (c : Contents) → IsActor actor c → IsKnownAct (length c.types.items) c.cases.items a → Script c lines 0 → HeldStep (with_line lines at actor a c)
+with_line-held lines at actor a c is known h =
+    unless-held _ c _ (λ none.
+    line-added (line_of at actor a c) lines c (record { from_1 = is.0; actor = is.1; act = known }) (not_over _ limit.Lines none) h)
+
+abbrev TargetKnown : Target → Contents → Type 0
+TargetKnown (target.Case id) c = IsDeclared id c.cases.items
+TargetKnown (target.«Type» t) c = t < length c.types.items
+
+-- the act of a group that has so few operations
+act-known : (t : Target) (ops : List Op) (c : Contents) → TargetKnown t c → length ops ≤ 256 → IsKnownAct (length c.types.items) c.cases.items (act_of t ops)
+act-known (target.Case id) ops c known few = (known, few)
+act-known (target.«Type» t) ops c known few = (known, few)
+
+target-known : (t : Target) (ops : List Op) (c : Contents) → IsKnownAct (length c.types.items) c.cases.items (act_of t ops) → TargetKnown t c
+target-known (target.Case id) ops c known = known.0
+target-known (target.«Type» t) ops c known = known.0
+
+with_group-held : (lines : List Line) (at actor : ℕ) (t : Target) (c : Contents) → IsActor actor c → TargetKnown t c → nat_le 60000 c.counts.lines ≡ false → Script c lines 0 → HeldState (with_group lines at actor t c)
+with_group-held lines at actor t c is known below h =
+    (line-begun lines c below h, record { from_1 = is.0; actor = is.1; act = act-known t [] c known (omega arith) })
+
+changing-held : (lines : List Line) (at actor : ℕ) (id : CaseId) (c : Contents) → IsActor actor c → IsDeclared id c.cases.items → Script c lines 0 → HeldStep (changing lines at actor id c)
+changing-held lines at actor id c is known h =
+    unless-held _ c _ (λ none. with_group-held lines at actor (target.Case id) c is known (not_over _ limit.Lines none) h)
+
+installing-held : (lines : List Line) (at actor t : ℕ) (c : Contents) → IsActor actor c → t < length c.types.items → Script c lines 0 → HeldStep (installing lines at actor t c)
+installing-held lines at actor t c is known h =
+    unless-held _ c _ (λ none. with_group-held lines at actor (target.«Type» t) (one_install c) is known (not_over _ limit.Lines (neither _ _ none).0) h)
+
+migrating-held : (lines : List Line) (at actor t : ℕ) (c : Contents) → IsActor actor c → t < length c.types.items → Script c lines 0 → HeldStep (migrating lines at actor t c)
+migrating-held lines at actor t c is known h =
+    unless-held _ c _ (λ none.
+    line-added (line_of at actor (act.Migrate t) c) lines c (record { from_1 = is.0; actor = is.1; act = known }) (not_over _ limit.Lines (neither _ _ none).0) h)
+
+elements-held : (ws : List (Bytes × Value)) (actor : ℕ) (id : CaseId) (lines : List Line) (c : Contents) →
+    IsActor actor c → IsDeclared id c.cases.items → Script c lines 0 →
+    IsActor actor (with_elements ws c) × IsDeclared id (with_elements ws c).cases.items × Script (with_elements ws c) lines 0
+elements-held [] actor id lines c is known h = (is, known, h)
+elements-held (w ∷ ws) actor id lines c is known h = elements-held ws actor id lines (with_element w.0 c) is known h
+
+acted-held : (d : Deed) (actor : ℕ) (lines : List Line) (at : ℕ) (c : Contents) → IsActor actor c → Script c lines 0 → HeldStep (acted d actor lines at c)
+acted-held (to_create n) actor lines at c is h = found-held (case_in n c) _ c (λ id found. with_line-held lines at actor (act.Create id) c is (case-known n c id found) h)
+acted-held (to_start n node) actor lines at c is h =
+    found-held (case_in n c) _ c (λ id found. with_line-held lines at actor (act.Start id (node_in node c)) (with_node node c) is (case-known n c id found) h)
+acted-held (to_end n node choice writes) actor lines at c is h =
+    let c1 = with_node node c in
+    found-held (case_in n c) _ c (λ id found.
+    let k = elements-held writes actor id lines c1 is (case-known n c id found) h in
+    with_line-held lines at actor (act.End id (node_in node c) (numbered writes c1) choice) (with_elements writes c1) k.0 k.1 k.2)
+acted-held (to_change n) actor lines at c is h = found-held (case_in n c) _ c (λ id found. changing-held lines at actor id c is (case-known n c id found) h)
+acted-held (to_install n) actor lines at c is h =
+    found-held (place_of c.types.names n) _ c (λ t found. installing-held lines at actor t c is (type-known n lines 0 c t found h) h)
+acted-held (to_migrate n) actor lines at c is h =
+    found-held (place_of c.types.names n) _ c (λ t found. migrating-held lines at actor t c is (type-known n lines 0 c t found h) h)
+
+pub scripted-held : (l : ScriptLine) (lines : List Line) (at : ℕ) (c : Contents) → Script c lines 0 → HeldStep (scripted l lines at c)
+scripted-held next_phase lines at c h = same-held _ c _ (phase-added lines c h)
+scripted-held (a_deed a d) lines at c h = found-held (actor_in a c) _ c (λ actor found. acted-held d actor lines at c (actor-known a lines 0 c actor found h) h)
+
+-- ---- lines of a group
+abbrev InGroup : List Line → Group → Contents → Type 0
+InGroup lines g c = Script c lines 1 × KnownIn c (line_of_group g)
+
+place-held : (p : Place) (lines : List Line) (g : Group) (c : Contents) → InGroup lines g c → InGroup lines g (with_place p c)
+place-held (behind n) lines g c h = h
+place-held (at_head n code) lines g c h = h
+
+names-held : (l : OperationLine) (lines : List Line) (g : Group) (c : Contents) → InGroup lines g c → InGroup lines g (with_names l c)
+names-held (insert n r p) lines g c h = place-held p lines g (with_node n c) h
+names-held (parallel n r s j a b) lines g c h = h
+names-held (conditional n r s j p) lines g c h = place-held p lines g (with_node j (with_node s (with_node n c))) h
+names-held (delete n) lines g c h = h
+names-held (move n p) lines g c h = place-held p lines g (with_node n c) h
+names-held (sync a b) lines g c h = h
+names-held (unsync a b) lines g c h = h
+names-held (element e k) lines g c h = h
+names-held (read n e m) lines g c h = h
+names-held (unread n e) lines g c h = h
+names-held (write n e) lines g c h = h
+names-held (unwrite n e) lines g c h = h
+names-held (set_role n r) lines g c h = h
+names-held group_end lines g c h = h
+
+-- one operation more, while there are fewer than 256
+op-known : (o : Op) (g : Group) (c : Contents) → length g.ops < 256 → KnownIn c (line_of_group g) → KnownIn c (line_of_group (with_op o g))
+op-known o g c few h = record {
+  from_1 = h.from_1;
+  actor = h.actor;
+  act = act-known g.target (g.ops ++ o ∷ []) c (target-known g.target g.ops c h.act) (omega (arith, few, length_push g.ops o));
+}
+
+grouped-held : (o : Option Op) (g : Group) (lines : List Line) (c : Contents) → InGroup lines g c → HeldStep (grouped o g lines c)
+grouped-held None g lines c h = line-ended (line_of_group g) lines c h.1 h.0
+grouped-held (Some o) g lines c h =
+    unless-held _ c (at_place (place.InGroup lines (with_op o g)) c) (λ none. (h.0, op-known o g c (leb-false 256 (length g.ops) (not_over _ limit.Ops none)) h.1))
+
+pub operated-held : (l : OperationLine) (g : Group) (lines : List Line) (c : Contents) → Script c lines 1 → KnownIn c (line_of_group g) → HeldStep (operated l g lines c)
+operated-held l g lines c h known = grouped-held (op_in l c) g lines (with_names l c) (names-held l lines g c (h, known))

@@ -1,0 +1,7 @@
+pub mod Lists
+pub mod Held
+pub mod HeldByDeclarations
+pub mod HeldByScript
+pub mod Workable
+pub mod Cases
+pub mod Examples

@@ -1,0 +1,144 @@
+-- What holds of each file that is read.
+use Rattle.std.proofs.Common.{◌≡◌, ℕ, ◌+◌, ◌==◌, Bool, true, false, List, [], ◌∷◌, ◌++◌, length, refl, subst, arith, Option, Some, None, Result, Ok, Err}
+use Rattle.std.proofs.lemmas.List.Sums.{sum_by_push}
+use Rattle.std.proofs.lemmas.Option.{slice_get_within}
+use Rattle.std.specs.Prelude.{IfOk, if◌then◌else◌}
+use Rattle.std.specs.Str.{is_utf8}
+use Rattle.wsm_lists.proofs.Lists.{rows-append}
+use Rattle.file_words.specs.Lines.{Bytes, lines_of, without_return}
+use Rattle.file_words.specs.Words.{words_of, is_skipped}
+use Rattle.file_words.specs.Lengths.{first_long}
+use Rattle.file_words.specs.declared.lengths.TooLong.{TooLong}
+use Rattle.file_forms.specs.DeclarationForms.{is_header, declaration_line}
+use Rattle.file_forms.specs.TypeForms.{type_line}
+use Rattle.file_forms.specs.ScriptForms.{script_line}
+use Rattle.file_forms.specs.OperationForms.{operation_line}
+use Rattle.process_text.specs.Steps.{State, Step, opening, refuse}
+use Rattle.process_text.specs.Declaring.{declared, outside}
+use Rattle.process_text.specs.Typing.{typed}
+use Rattle.process_text.specs.Scripting.{scripted}
+use Rattle.process_text.specs.Operating.{operated}
+use Rattle.process_text.specs.Reading.{unless_long, formed, fitting, unless_not_text, step_in, step_words, step, file_of, finished_in, finished, at_line, read_from, file}
+use Rattle.process_text.specs.Sizes.{IsBounded}
+use Rattle.process_text.specs.declared.files.File.{File}
+use Rattle.process_text.specs.declared.files.Line.{Line}
+use Rattle.process_text.specs.declared.refusals.Refused.{Refused}
+use Rattle.process_text.specs.declared.refusals.Why.{Why}
+use Rattle.process_text.specs.declared.refusals.Why.TheVariants as why
+use Rattle.process_text.specs.declared.states.Contents.{Contents}
+use Rattle.process_text.specs.declared.states.Place.{Place}
+use Rattle.process_text.specs.declared.states.Place.TheVariants as place
+use Rattle.process_text.proofs.Bounds.{file-bounded}
+use Rattle.file_facts.specs.Facts.{IsWorkable}
+use Rattle.file_facts.proofs.Held.{Before, Script, HeldIn, HeldState, HeldStep}
+use Rattle.file_facts.proofs.HeldByDeclarations.{declared-held, typed-held}
+use Rattle.file_facts.proofs.HeldByScript.{scripted-held, operated-held}
+
+-- ---- a line
+if-held : (test : Bool) (s o : Step) → HeldStep s → HeldStep o → HeldStep (if test then s else o)
+if-held true s o h k = h
+if-held false s o h k = k
+
+long-held : (l : Option TooLong) (c : Contents) (s : Step) → HeldStep s → HeldStep (unless_long l c s)
+long-held None c s h = h
+long-held (Some l) c s h = tt
+
+formed-held : {F : Type 0} (o : Option F) (ws : List Bytes) (go : F → Step) (c : Contents) → ((f : F) → HeldStep (go f)) → HeldStep (formed o ws go c)
+formed-held None ws go c h = tt
+formed-held (Some f) ws go c h = long-held (first_long ws) c (go f) (h f)
+
+text-held : (test : Bool) (c : Contents) (s : Step) → HeldStep s → HeldStep (unless_not_text test c s)
+text-held true c s h = h
+text-held false c s h = tt
+
+step_in-held : (p : Place) (at : ℕ) (line : Bytes) (ws : List Bytes) (c : Contents) → HeldIn p c → HeldStep (step_in p at line ws c)
+step_in-held place.Head at line ws c h = if-held (is_header ws) (Ok (outside c)) (refuse c why.Header) h tt
+step_in-held place.Outside at line ws c h =
+    text-held (is_utf8 line) c _ (formed-held (declaration_line ws) ws (λ d. declared d c) c (λ d. declared-held d c h))
+step_in-held (place.InType d) at line ws c h =
+    text-held (is_utf8 line) c _ (formed-held (fitting d (type_line ws)) ws (λ l. typed l d c) c (λ l. typed-held l d c h))
+step_in-held (place.InPhase lines) at line ws c h =
+    text-held (is_utf8 line) c _ (formed-held (script_line ws) ws (λ l. scripted l lines at c) c (λ l. scripted-held l lines at c h))
+step_in-held (place.InGroup lines g) at line ws c h =
+    text-held (is_utf8 line) c _ (formed-held (operation_line ws) ws (λ l. operated l g lines c) c (λ l. operated-held l g lines c h.0 h.1))
+
+step-held : (s : State) (at : ℕ) (line : Bytes) (ws : List Bytes) → HeldState s → HeldStep (step_words s at line ws)
+step-held s at line ws h = if-held (is_skipped ws) (Ok s) (step_in s.place at line ws s.contents) h (step_in-held s.place at line ws s.contents h)
+
+-- ---- the end of a file
+-- the sizes of the types come from another lemma
+abbrev IsReady : File → Type 0
+IsReady f = IsBounded f → IsWorkable f
+
+without_phase : (c : Contents) → Before c → IsReady (file_of c c.phases)
+without_phase c h b = record {
+  types = h.declared.few_types;
+  actors = h.declared.few_actors;
+  cases = h.declared.few_cases;
+  lines = rw h.no_phase (omega arith);
+  small = b.small;
+  sound = h.declared.sound;
+  typed = h.declared.typed;
+  placed = h.declared.placed;
+  known = rw h.no_phase tt;
+}
+
+with_last_phase : (lines : List Line) (c : Contents) → Script c lines 0 → IsReady (file_of c (c.phases ++ lines ∷ []))
+with_last_phase lines c h b = record {
+  types = h.declared.few_types;
+  actors = h.declared.few_actors;
+  cases = h.declared.few_cases;
+  lines = let counted = h.all_counted in omega (arith, counted, h.within, sum_by_push (λ (ls : List Line). length ls) c.phases lines);
+  small = b.small;
+  sound = h.declared.sound;
+  typed = h.declared.typed;
+  placed = h.declared.placed;
+  known = rows-append _ c.phases (lines ∷ []) h.known_phases (h.known_lines, tt);
+}
+
+finished_in-ready : (p : Place) (c : Contents) → HeldIn p c → IfOk (finished_in p c) IsReady
+finished_in-ready place.Head c h = tt
+finished_in-ready place.Outside c h = without_phase c h
+finished_in-ready (place.InType d) c h = tt
+finished_in-ready (place.InPhase lines) c h = with_last_phase lines c h
+finished_in-ready (place.InGroup lines g) c h = tt
+
+ended-ready : (test : Bool) (s : State) → HeldState s → IfOk (if test then finished_in s.place s.contents else Err (why.Unended, s.contents)) IsReady
+ended-ready true s h = finished_in-ready s.place s.contents h
+ended-ready false s h = tt
+
+-- ---- all lines
+at_line-holds : {T : Type 0} (P : T → Type 0) (at : ℕ) (o : Result T (Why × Contents)) → IfOk o P → IfOk (at_line at o) P
+at_line-holds P at (Ok x) h = h
+at_line-holds P at (Err p) h = tt
+
+read_from-ready : (o : Result State Refused) (at : ℕ) (left : Bytes) (ls : List Bytes) → IfOk o HeldState → IfOk (read_from o at left ls) IsReady
+read_from-ready (Err r) at left ls h = tt
+read_from-ready (Ok s) at left [] h = at_line-holds IsReady at (finished s left) (ended-ready (length left == 0) s h)
+read_from-ready (Ok s) at left (l ∷ ls) h =
+    let line = without_return l in
+    read_from-ready (at_line at (step s at line)) (at + 1) left ls (at_line-holds HeldState at (step s at line) (step-held s at line (words_of line) h))
+
+opening-held : HeldState opening
+opening-held = record {
+  declared = record {
+    type_names = omega arith;
+    actor_names = omega arith;
+    few_types = omega arith;
+    few_actors = omega arith;
+    few_cases = omega arith;
+    sound = tt;
+    typed = tt;
+    placed = λ k d at. absurd (omega (arith, slice_get_within [] k d at));
+  };
+  within = omega arith;
+  no_phase = refl;
+}
+
+file-ready : (bytes : Bytes) (f : File) → file bytes ≡ Ok f → IsReady f
+file-ready bytes f is =
+    subst (λ (o : Result File Refused). IfOk o IsReady) is (read_from-ready (Ok opening) 1 (lines_of bytes).left (lines_of bytes).ended opening-held)
+
+-- the lines of a file that is read can be worked
+pub file-workable : (bytes : Bytes) (f : File) → file bytes ≡ Ok f → IsWorkable f
+file-workable bytes f is = file-ready bytes f is (file-bounded bytes f is)

@@ -1,0 +1,63 @@
+-- What holds of each file that is read, for those who work its lines.
+use Rattle.std.specs.Prelude.{ℕ, ◌≡◌, ◌≤◌, ◌<◌, ◌==◌, ◌&&◌, Bool, true, List, length, take, slice_get, Some, None}
+use Rattle.std.specs.List.{list_all, list_any, sum_by}
+use Rattle.wsm_lists.specs.Rows.{AllRows}
+use Rattle.wsm_sound.specs.Faults.{fault_of}
+use Rattle.wsm_sound.specs.declared.versions.CaseId.{CaseId}
+use Rattle.process_text.specs.Declaring.{cases_of}
+use Rattle.process_text.specs.Sizes.{is_small}
+use Rattle.process_text.specs.declared.files.Act.{Act}
+use Rattle.process_text.specs.declared.files.Act.TheVariants as act
+use Rattle.process_text.specs.declared.files.CaseDecl.{CaseDecl}
+use Rattle.process_text.specs.declared.files.File.{File}
+use Rattle.process_text.specs.declared.files.Line.{Line}
+use Rattle.process_text.specs.declared.files.TypeDecl.{TypeDecl}
+
+-- how many script lines there are in all phases
+abbrev pub lines_in : List (List Line) → ℕ
+lines_in phases = sum_by (λ lines. length lines) phases
+
+abbrev pub IsSound : TypeDecl → Type 0
+IsSound t = fault_of t.schema ≡ None
+
+-- the type of a case is one of so many
+abbrev pub HasType : ℕ → CaseDecl → Type 0
+HasType types d = d.id.type_no < types
+
+-- each case has the place that counts the cases of its type before it
+abbrev pub ArePlaced : List CaseDecl → Type 0
+ArePlaced cases = (k : ℕ) (d : CaseDecl) → slice_get cases k ≡ Some d → d.id.place ≡ cases_of d.id.type_no (take k cases)
+
+-- whether a case was declared with an id
+abbrev pub has_id : CaseId → CaseDecl → Bool
+has_id c d = d.id.type_no == c.type_no && d.id.place == c.place
+
+abbrev pub IsDeclared : CaseId → List CaseDecl → Type 0
+IsDeclared c cases = list_any (has_id c) cases ≡ true
+
+-- the case or the type of an act was declared, and its operations are not too many
+abbrev pub IsKnownAct : ℕ → List CaseDecl → Act → Type 0
+IsKnownAct types cases (act.Create c) = IsDeclared c cases
+IsKnownAct types cases (act.Start c node) = IsDeclared c cases
+IsKnownAct types cases (act.End c node writes choice) = IsDeclared c cases
+IsKnownAct types cases (act.Change c ops) = IsDeclared c cases × (length ops ≤ 256)
+IsKnownAct types cases (act.Install t ops) = (t < types) × (length ops ≤ 256)
+IsKnownAct types cases (act.Migrate t) = t < types
+
+-- a line of one of so many actors, on what was declared
+pub record IsKnown (types actors : ℕ) (cases : List CaseDecl) (l : Line) : Type 0 where
+  pub from_1 : 1 ≤ l.actor
+  pub actor : l.actor ≤ actors
+  pub act : IsKnownAct types cases l.act
+
+-- what those who work a file need of it
+pub record IsWorkable (f : File) : Type 0 where
+  pub types : length f.types ≤ 64
+  pub actors : length f.actors ≤ 32
+  pub cases : length f.cases ≤ 4096
+  pub lines : lines_in f.phases ≤ 60000
+  pub small : list_all is_small f.types ≡ true
+  pub sound : AllRows IsSound f.types
+  pub typed : AllRows (HasType (length f.types)) f.cases
+  pub placed : ArePlaced f.cases
+  pub known : AllRows (AllRows (IsKnown (length f.types) (length f.actors) f.cases)) f.phases
