@@ -17,7 +17,7 @@ use Rattle.report_text.specs.Names.{name_text}
 use Rattle.report_text.specs.Report.{case_totals, migration_totals, text}
 use Rattle.report_text.specs.Words.{value_text}
 use Rattle.script_run.specs.Serial.{serial}
-use Rattle.script_run.specs.declared.runs.CaseEntry.{CaseEntry}
+use Rattle.script_run.specs.Entries.{CaseEntry}
 use Rattle.script_run.specs.declared.runs.ClosedCase.{ClosedCase}
 use Rattle.wsm_lists.specs.declared.values.Value.TheVariants as value
 use Rattle.type_core.specs.declared.events.KindEvent.TheVariants as kind_event

@@ -9,8 +9,7 @@ use Rattle.process_text.specs.declared.files.File.{File}
 use Rattle.report_text.specs.Faults.{fault_text}
 use Rattle.report_text.specs.Names.{name_text}
 use Rattle.report_text.specs.Words.{node_text, listed_element, caller_text, assigned, read_text, letter}
-use Rattle.script_run.specs.declared.runs.CaseEntry.{CaseEntry}
-use Rattle.script_run.specs.declared.runs.KindEntry.{KindEntry}
+use Rattle.script_run.specs.Entries.{CaseEntry, KindEntry}
 use Rattle.type_core.specs.declared.events.KindEvent.{KindEvent}
 use Rattle.type_core.specs.declared.events.KindEvent.TheVariants as kind_event
 use Rattle.type_core.specs.declared.replies.KindReply.{KindReply}

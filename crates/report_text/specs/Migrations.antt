@@ -5,7 +5,7 @@ use Rattle.case_core.specs.declared.events.Event.{Event}
 use Rattle.case_core.specs.declared.events.Event.TheVariants as event
 use Rattle.case_core.specs.declared.replies.Reply.{Reply}
 use Rattle.case_core.specs.declared.replies.Reply.TheVariants as reply
-use Rattle.script_run.specs.declared.runs.CaseEntry.{CaseEntry}
+use Rattle.script_run.specs.Entries.{CaseEntry}
 use Rattle.script_run.specs.declared.runs.ClosedCase.{ClosedCase}
 use Rattle.report_text.specs.declared.totals.Fate.{Fate}
 use Rattle.report_text.specs.declared.totals.Fate.TheVariants as fate

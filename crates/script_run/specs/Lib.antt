@@ -1,4 +1,5 @@
 pub mod Calls
+pub mod Entries
 pub mod Oldest
 pub mod Parts
 pub mod Places

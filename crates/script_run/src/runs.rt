@@ -1,23 +1,14 @@
 // What a run leaves behind.
-use case_core::{Case, Event, Reply};
-use type_core::{Kind, KindEvent, KindReply};
+use case_core::Case;
+use turn_cell::Entry;
+use type_core::{Kind, KindReply};
 use wsm_lists::Listing;
 
 /// A call of a case: who made it, the event, and the reply. The caller is the actor's number, or 0 for the program itself.
-#[derive(Drop)]
-pub struct CaseEntry {
-    pub caller: u32,
-    pub event: Event,
-    pub reply: Reply,
-}
+pub type CaseEntry = Entry<Case>;
 
 /// A call of a type: who made it, the event, and the reply. The caller is the actor's number, or 0 for the program itself.
-#[derive(Drop)]
-pub struct KindEntry {
-    pub caller: u32,
-    pub event: KindEvent,
-    pub reply: KindReply,
-}
+pub type KindEntry = Entry<Kind>;
 
 /// The calls of a case, in order.
 pub type CaseJournal = Listing<CaseEntry>;

@@ -1,0 +1,5 @@
+pub mod OnMachines
+pub mod OncePerLine
+pub mod Joined
+pub mod Callers
+pub mod Examples

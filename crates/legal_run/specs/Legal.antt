@@ -1,0 +1,104 @@
+-- Which runs of a file are legal.
+use Rattle.std.specs.Prelude.{◌≡◌, ℕ, ◌≤◌, ◌==◌, List, [], ◌∷◌, length, take, flat_map, count_by, slice_get, Some, All}
+use mathlib.Core.List.{IsPrefix}
+use Rattle.case_core.specs.CaseModel.{CaseModel, not_created}
+use Rattle.case_core.specs.Machine.{next_case}
+use Rattle.case_core.specs.declared.events.Event.{Event}
+use Rattle.case_core.specs.declared.replies.Reply.{Reply}
+use Rattle.legal_run.specs.LineCalls.{Call, on_kind, on_case, AreCallsOfLines, lines_of}
+use Rattle.process_text.specs.declared.files.CaseDecl.{CaseDecl}
+use Rattle.process_text.specs.declared.files.File.{File}
+use Rattle.process_text.specs.declared.files.Line.{Line}
+use Rattle.process_text.specs.declared.files.TypeDecl.{TypeDecl}
+use Rattle.script_run.specs.Calls.{roles_of}
+use Rattle.script_run.specs.Entries.{KindEntry}
+use Rattle.script_run.specs.Serial.{program}
+use Rattle.script_run.specs.declared.runs.ClosedCase.{ClosedCase}
+use Rattle.script_run.specs.declared.runs.ClosedKind.{ClosedKind}
+use Rattle.script_run.specs.declared.runs.Run.{Run}
+use Rattle.turn_cell.specs.History.{IsLegal, calls_of, entry, state_after}
+use Rattle.turn_cell.specs.declared.journal.Entry.{Entry}
+use Rattle.type_core.specs.KindModel.{KindModel, not_defined}
+use Rattle.type_core.specs.Machine.{next_kind}
+use Rattle.type_core.specs.declared.events.KindEvent.{KindEvent}
+use Rattle.type_core.specs.declared.events.KindEvent.TheVariants as event
+use Rattle.type_core.specs.declared.replies.KindReply.{KindReply}
+use Rattle.type_core.specs.declared.replies.KindReply.TheVariants as reply
+
+-- the machines that types and cases are
+abbrev pub kind_after : KindModel → KindEvent → KindModel
+kind_after k e = (next_kind k e).0
+
+abbrev pub kind_reply : KindModel → KindEvent → KindReply
+kind_reply k e = (next_kind k e).1
+
+abbrev pub case_after : CaseModel → Event → CaseModel
+case_after c e = (next_case c e).0
+
+abbrev pub case_reply : CaseModel → Event → Reply
+case_reply c e = (next_case c e).1
+
+-- the numbers of the actors
+abbrev pub IsActor : File → ℕ → Type 0
+IsActor f a = (1 ≤ a) × (a ≤ length f.actors)
+
+-- how many cases a type has
+abbrev pub cases_of : File → ℕ → ℕ
+cases_of f t = count_by (λ d. d.id.type_no == t) f.cases
+
+-- what each actor did in a phase
+abbrev pub Trace : Type 0
+Trace = ℕ → List Call
+
+-- in a phase each actor did what its lines stand for, in file order
+abbrev pub IsTrace : File → List Line → Trace → Type 0
+IsTrace f lines trace = (a : ℕ) → IsActor f a → AreCallsOfLines (cases_of f) (roles_of f a) a (lines_of a lines) (trace a)
+
+-- one trace for each phase
+abbrev pub AreTraces : File → List (List Line) → List Trace → Type 0
+AreTraces f [] [] = Unit {0}
+AreTraces f (lines ∷ phases) (trace ∷ traces) = IsTrace f lines trace × AreTraces f phases traces
+AreTraces f _ _ = ⊥
+
+-- what an actor did in some phases
+abbrev pub done_by : ℕ → List Trace → List Call
+done_by a traces = flat_map (λ trace. trace a) traces
+
+module _ {M E R W S : Type 0} (f : File) (on : List Call → List (Entry M E R W S)) where
+  -- the entries of each actor are its calls
+  abbrev pub HasCalls : List Trace → List (Entry M E R W S) → Type 0
+  HasCalls traces journal = (a : ℕ) → IsActor f a → calls_of a journal ≡ on (done_by a traces)
+
+  -- so it is in the journal, and behind each phase in a beginning of it: no entry of a phase stands before one of an earlier phase
+  pub record IsByPhases (traces : List Trace) (journal : List (Entry M E R W S)) : Type 0 where
+    pub whole : HasCalls traces journal
+    pub behind : (k : ℕ) → k ≤ length f.phases → (start : List (Entry M E R W S)) × IsPrefix start journal × HasCalls (take k traces) start
+
+-- each entry is an actor's
+abbrev pub AreOfActors : {M E R W S : Type 0} → File → List (Entry M E R W S) → Type 0
+AreOfActors f entries = All (λ e. IsActor f e.caller) entries
+
+-- a type at the end: the program defined it, and each other call is an actor's
+pub record IsLegalKind (f : File) (traces : List Trace) (t : ℕ) (d : TypeDecl) (k : ClosedKind) : Type 0 where
+  pub legal : IsLegal kind_after kind_reply (not_defined t) k.journal
+  pub machine : k.machine ≡ state_after kind_after (not_defined t) k.journal
+  pub others : List KindEntry
+  pub defined : k.journal ≡ entry program (event.Define d.schema) reply.Defined ∷ others
+  pub callers : AreOfActors f others
+  pub calls : IsByPhases f (on_kind t) traces k.journal
+
+-- a case at the end: each call is an actor's
+pub record IsLegalCase (f : File) (traces : List Trace) (d : CaseDecl) (c : ClosedCase) : Type 0 where
+  pub legal : IsLegal case_after case_reply (not_created d.id.type_no) c.journal
+  pub machine : c.machine ≡ state_after case_after (not_created d.id.type_no) c.journal
+  pub callers : AreOfActors f c.journal
+  pub calls : IsByPhases f (on_case d.id) traces c.journal
+
+-- A legal run of a file: each type and each case of the file is legal by the same traces of its lines.
+pub record Legal (f : File) (r : Run) : Type 0 where
+  pub traces : List Trace
+  pub of_lines : AreTraces f f.phases traces
+  pub types : length r.kinds ≡ length f.types
+  pub decls : length r.cases ≡ length f.cases
+  pub kinds : (t : ℕ) (d : TypeDecl) (k : ClosedKind) → slice_get f.types t ≡ Some d → slice_get r.kinds t ≡ Some k → IsLegalKind f traces t d k
+  pub cases : (i : ℕ) (d : CaseDecl) (c : ClosedCase) → slice_get f.cases i ≡ Some d → slice_get r.cases i ≡ Some c → IsLegalCase f traces d c

@@ -1,0 +1,86 @@
+-- The calls that script lines stand for.
+use Rattle.std.specs.Prelude.{◌≡◌, ℕ, ◌+◌, ◌≤◌, ◌==◌, ◌&&◌, ◌⊎◌, Bool, List, [], ◌∷◌, ◌++◌, length, filter, Option, Some, None, if◌then◌else◌}
+use Rattle.case_core.specs.declared.events.Event.{Event}
+use Rattle.case_core.specs.declared.events.Event.TheVariants as event
+use Rattle.case_core.specs.declared.replies.Reply.{Reply}
+use Rattle.process_text.specs.declared.files.Act.{Act}
+use Rattle.process_text.specs.declared.files.Act.TheVariants as act
+use Rattle.process_text.specs.declared.files.Line.{Line}
+use Rattle.script_run.specs.Entries.{CaseEntry, KindEntry}
+use Rattle.turn_cell.specs.History.{entry}
+use Rattle.type_core.specs.declared.events.KindEvent.TheVariants as kind_event
+use Rattle.type_core.specs.declared.replies.KindReply.{KindReply}
+use Rattle.type_core.specs.declared.replies.KindReply.TheVariants as kind_reply
+use Rattle.wsm_sound.specs.VersionModel.{VersionModel}
+use Rattle.wsm_sound.specs.declared.versions.CaseId.{CaseId}
+
+-- a call with its reply: of the type with that number, or of that case
+pub data Call : Type 0 where
+  of_kind : (type_no : ℕ) → KindEntry → Call
+  of_case : (id : CaseId) → CaseEntry → Call
+
+-- the calls of one type, in order
+abbrev pub on_kind : ℕ → List Call → List KindEntry
+on_kind t [] = []
+on_kind t (of_kind u e ∷ calls) = if u == t then e ∷ on_kind t calls else on_kind t calls
+on_kind t (of_case c e ∷ calls) = on_kind t calls
+
+-- the same case: of one type, and at one place there
+abbrev pub is_case : CaseId → CaseId → Bool
+is_case c d = d.type_no == c.type_no && d.place == c.place
+
+-- the calls of one case, in order
+abbrev pub on_case : CaseId → List Call → List CaseEntry
+on_case c [] = []
+on_case c (of_kind u e ∷ calls) = on_case c calls
+on_case c (of_case d e ∷ calls) = if is_case c d then e ∷ on_case c calls else on_case c calls
+
+-- an actor asked a type for its newest version, and was told this one
+abbrev pub asked : ℕ → ℕ → VersionModel → Call
+asked a t v = of_kind t (entry a kind_event.Newest (kind_reply.Is v))
+
+-- an actor told a case an event, and was given this reply
+abbrev pub told : ℕ → CaseId → Event → Reply → Call
+told a c e r = of_case c (entry a e r)
+
+-- an event told to each case of a type, from a place on
+abbrev pub told_each : ℕ → ℕ → Event → ℕ → List Reply → List Call
+told_each a t e place [] = []
+told_each a t e place (r ∷ rs) = told a (record { type_no = t; place = place }) e r ∷ told_each a t e (place + 1) rs
+
+-- the same, of those cases that answered
+abbrev pub told_some : ℕ → ℕ → Event → ℕ → List (Option Reply) → List Call
+told_some a t e place [] = []
+told_some a t e place (None ∷ answers) = told_some a t e (place + 1) answers
+told_some a t e place (Some r ∷ answers) = told a (record { type_no = t; place = place }) e r ∷ told_some a t e (place + 1) answers
+
+-- for an actor with these roles, where many says how many cases a type has
+module _ (many : ℕ → ℕ) (roles : List ℕ) (a : ℕ) where
+  -- the calls of a line
+  abbrev pub AreCallsOf : Act → List Call → Type 0
+  AreCallsOf (act.Create c) calls = (v : VersionModel) × (r : Reply) × (calls ≡ asked a c.type_no v ∷ told a c (event.Create v) r ∷ [])
+  AreCallsOf (act.Start c n) calls = (r : Reply) × (calls ≡ told a c (event.Start n a roles) r ∷ [])
+  AreCallsOf (act.End c n writes choice) calls = (r : Reply) × (calls ≡ told a c (event.End n a writes choice) r ∷ [])
+  AreCallsOf (act.Change c ops) calls = (r : Reply) × (calls ≡ told a c (event.Change ops) r ∷ [])
+  AreCallsOf (act.Install t ops) calls = (r : KindReply) × (calls ≡ of_kind t (entry a (kind_event.Install ops) r) ∷ [])
+  AreCallsOf (act.Migrate t) calls = (v : VersionModel) × (rs : List Reply) × (length rs ≡ many t) × (calls ≡ asked a t v ∷ told_each a t (event.Migrate v) 0 rs)
+
+  -- the calls of lines, one line after another
+  abbrev pub AreCallsOfLines : List Line → List Call → Type 0
+  AreCallsOfLines [] calls = calls ≡ []
+  AreCallsOfLines (l ∷ ls) calls = (first : List Call) × (rest : List Call) × (calls ≡ first ++ rest) × AreCallsOf l.act first × AreCallsOfLines ls rest
+
+  -- What a line that met a fault has done: nothing, or the first of its two calls; of a migration also the calls of some cases.
+  abbrev pub ArePartOf : Act → List Call → Type 0
+  ArePartOf (act.Create c) calls = (calls ≡ []) ⊎ ((v : VersionModel) × (calls ≡ asked a c.type_no v ∷ []))
+  ArePartOf (act.Migrate t) calls = (calls ≡ []) ⊎ ((v : VersionModel) × (answers : List (Option Reply)) × (length answers ≤ many t) × (calls ≡ asked a t v ∷ told_some a t (event.Migrate v) 0 answers))
+  ArePartOf _ calls = calls ≡ []
+
+  -- the calls of lines up to one that met a fault
+  abbrev pub AreBegun : List Line → List Call → Type 0
+  AreBegun [] calls = ⊥
+  AreBegun (l ∷ ls) calls = ArePartOf l.act calls ⊎ ((first : List Call) × (rest : List Call) × (calls ≡ first ++ rest) × AreCallsOf l.act first × AreBegun ls rest)
+
+-- the lines of an actor
+abbrev pub lines_of : ℕ → List Line → List Line
+lines_of a lines = filter (λ l. l.actor == a) lines

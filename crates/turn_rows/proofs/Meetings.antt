@@ -1,0 +1,75 @@
+-- Passes of which the first ones have met.
+use Rattle.std.proofs.Common.{◌≡◌, ℕ, ◌+◌, ◌<◌, ◌≤◌, List, [], ◌∷◌, ◌++◌, length, take, get_or, set, All, refl, sym, ap, ◌∙◌, subst, arith}
+use mathlib.Core.List.{IsPrefix}
+use Rattle.std.specs.List.{AllZip}
+use Rattle.std.proofs.lemmas.List.{map_more, take_all, length_push}
+use Rattle.std.proofs.lemmas.List.Elements.{All-push}
+use Rattle.std.proofs.lemmas.Slice.Zip.{all_zipped_more}
+use Rattle.turn_cell.specs.declared.pass.Pass.{Pass}
+use Rattle.turn_cell.specs.declared.cell.Cell.{Cell}
+use Rattle.turn_cell.specs.Passes.{PassView, view_of, IsPassOf, IsLegalView}
+use Rattle.turn_batch.specs.Batch.{AreOf}
+use Rattle.turn_rows.specs.Rows.{IsSeenBy, first_met, second_met, views, zip_with}
+use Rattle.turn_rows.proofs.Lists.{IsSameFrom, same_at, same_from_next, map-take_put, zip_with-push}
+use Rattle.turn_rows.proofs.Passes.{AreOf-set}
+
+module _ {M E R W S : Type 0} (after : S → E → S) (reply : S → E → R) where
+  -- the views of two passes, and those that they have once they have met
+  pub record HasMet (v w x y : PassView M E R W S) : Type 0 where
+    pub one : x ≡ record v { seen = y.seen }
+    pub two : y ≡ second_met v w
+    pub more : IsPrefix v.seen y.seen × IsPrefix w.seen y.seen
+    pub legal : IsLegalView after reply x × IsLegalView after reply y
+
+  -- the same of two rows
+  pub record HaveMet (vs ws xs ys : List (PassView M E R W S)) : Type 0 where
+    pub even : length ws ≡ length vs
+    pub one : xs ≡ zip_with first_met vs ws
+    pub two : ys ≡ zip_with second_met vs ws
+    pub more_of_one : AllZip IsSeenBy vs xs × AllZip IsSeenBy vs ys
+    pub more_of_two : AllZip IsSeenBy ws xs × AllZip IsSeenBy ws ys
+    pub legal : All (IsLegalView after reply) xs × All (IsLegalView after reply) ys
+
+  HaveMet-push : (vs ws xs ys : List (PassView M E R W S)) (v w x y : PassView M E R W S) → HaveMet vs ws xs ys → HasMet v w x y → HaveMet (vs ++ v ∷ []) (ws ++ w ∷ []) (xs ++ x ∷ []) (ys ++ y ∷ [])
+  HaveMet-push vs ws xs ys v w x y k new =
+      let same : y.seen ≡ x.seen = sym (ap (λ u. u.seen) new.one) in
+      let first = k.one in
+      let second = k.two in
+      let new_first : x ≡ first_met v w = new.one ∙ ap (λ s. record v { seen = s }) (ap (λ u. u.seen) new.two) in
+      let new_second = new.two in record {
+        even = omega (arith, length_push vs v, length_push ws w, k.even);
+        one = (cc) ∙ sym (zip_with-push first_met vs ws v w k.even);
+        two = (cc) ∙ sym (zip_with-push second_met vs ws v w k.even);
+        more_of_one = (all_zipped_more IsSeenBy vs xs v x k.more_of_one.0 (subst (IsPrefix v.seen) same new.more.0), all_zipped_more IsSeenBy vs ys v y k.more_of_one.1 new.more.0);
+        more_of_two = (all_zipped_more IsSeenBy ws xs w x k.more_of_two.0 (subst (IsPrefix w.seen) same new.more.1), all_zipped_more IsSeenBy ws ys w y k.more_of_two.1 new.more.1);
+        legal = (All-push (IsLegalView after reply) xs x k.legal.0 new.legal.0, All-push (IsLegalView after reply) ys y k.legal.1 new.legal.1);
+      }
+
+  module _ {g : _} where
+    -- The passes os and us have become ns and ms: the first n of them have met.
+    pub record HaveMetUpTo (n : ℕ) (cs : List (Cell M E R W S)) (os us ns ms : List (Pass M E R W S g)) : Type 0 where
+      pub cells : AreOf cs ns × AreOf cs ms
+      pub met : HaveMet (views (take n os)) (views (take n us)) (views (take n ns)) (views (take n ms))
+      pub same : IsSameFrom n os ns × IsSameFrom n us ms
+
+    pub none_met : (cs : List (Cell M E R W S)) (os us : List (Pass M E R W S g)) → AreOf cs os × AreOf cs us → HaveMetUpTo 0 cs os us os us
+    none_met cs os us k = record {
+      cells = k;
+      met = record { even = refl; one = refl; two = refl; more_of_one = (tt, tt); more_of_two = (tt, tt); legal = (λ k d lt. absurd (omega arith), λ k d lt. absurd (omega arith)) };
+      same = (refl, refl);
+    }
+
+    pub one_more_met : (n : ℕ) (cs : List (Cell M E R W S)) (os us ns ms : List (Pass M E R W S g)) (c : Cell M E R W S) (d e p q : Pass M E R W S g) → HaveMetUpTo n cs os us ns ms → n < length cs
+        → (length os ≡ length cs) × (length us ≡ length cs) × (length ns ≡ length cs) × (length ms ≡ length cs) → c ≡ get_or cs n c → IsPassOf c p × IsPassOf c q → HasMet (view_of (get_or ns n d)) (view_of (get_or ms n e)) (view_of p) (view_of q)
+        → HaveMetUpTo (n + 1) cs os us (set ns n p) (set ms n q)
+    one_more_met n cs os us ns ms c d e p q k lt even at of new = record {
+      cells = (AreOf-set cs ns n c p k.cells.0 at of.0, AreOf-set cs ms n c q k.cells.1 at of.1);
+      met =
+          rw (map_more view_of os n d (omega arith), map_more view_of us n e (omega arith), map-take_put view_of ns n p (omega arith), map-take_put view_of ms n q (omega arith))
+          (HaveMet-push (views (take n os)) (views (take n us)) (views (take n ns)) (views (take n ms)) (view_of (get_or os n d)) (view_of (get_or us n e)) (view_of p) (view_of q) k.met
+          (rw (same_at n os ns d k.same.0, same_at n us ms e k.same.1) at new));
+      same = (same_from_next n os ns p k.same.0, same_from_next n us ms q k.same.1);
+    }
+
+    pub all_met : (n : ℕ) (cs : List (Cell M E R W S)) (os us ns ms : List (Pass M E R W S g)) → HaveMetUpTo n cs os us ns ms → length cs ≤ n → (length os ≡ length cs) × (length us ≡ length cs) × (length ns ≡ length cs) × (length ms ≡ length cs) → HaveMet (views os) (views us) (views ns) (views ms)
+    all_met n cs os us ns ms k le even = rw (take_all n os (omega arith), take_all n us (omega arith), take_all n ns (omega arith), take_all n ms (omega arith)) at k.met

@@ -1,0 +1,61 @@
+-- Rows: one pass of each of many cells.
+use Rattle.std.specs.Prelude.{◌≡◌, ◌+◌, ◌-◌, ◌^◌, ◌<◌, List, [], ◌∷◌, map}
+use mathlib.Core.List.{IsPrefix}
+use Rattle.turn_cell.specs.declared.journal.Closed.{Closed}
+use Rattle.turn_cell.specs.declared.journal.Entry.{Entry}
+use Rattle.turn_cell.specs.declared.pass.Pass.{Pass}
+use Rattle.turn_cell.specs.declared.cell.Cell.{Cell}
+use Rattle.turn_cell.specs.Passes.{PassView, view_of, cell_id, first_of, IsClosed}
+use Rattle.turn_cell.specs.Rule.{longer}
+
+-- f of the two items at each place
+abbrev pub zip_with : {A B C : Type 0} → (A → B → C) → List A → List B → List C
+zip_with f [] ys = []
+zip_with f (x ∷ xs) [] = []
+zip_with f (x ∷ xs) (y ∷ ys) = f x y ∷ zip_with f xs ys
+
+module _ {M E R W S : Type 0} where
+  -- a first pass that can make another one
+  abbrev pub CanSplit : PassView M E R W S → Type 0
+  CanSplit v = (v.number ≡ 0) × (v.made < 2 ^ 32 - 1)
+
+  -- a first pass that can take another one in
+  abbrev pub CanJoin : PassView M E R W S → Type 0
+  CanJoin v = (v.number ≡ 0) × (v.taken < 2 ^ 32 - 1)
+
+  -- a first pass that has taken in all others
+  abbrev pub CanClose : PassView M E R W S → Type 0
+  CanClose v = (v.number ≡ 0) × (v.made ≡ v.taken + 1)
+
+  -- v after it has made a pass
+  abbrev pub split_from : PassView M E R W S → PassView M E R W S
+  split_from v = record v { made = v.made + 1 }
+
+  -- what two passes have seen once they have met
+  abbrev pub seen_by_both : PassView M E R W S → PassView M E R W S → List (Entry M E R W S)
+  seen_by_both v w = longer w.seen v.seen
+
+  -- the first of them then, and the second
+  abbrev pub first_met : PassView M E R W S → PassView M E R W S → PassView M E R W S
+  first_met v w = record v { seen = seen_by_both v w }
+
+  abbrev pub second_met : PassView M E R W S → PassView M E R W S → PassView M E R W S
+  second_met v w = record w { seen = seen_by_both v w }
+
+  -- all that v has seen, w has seen
+  abbrev pub IsSeenBy : PassView M E R W S → PassView M E R W S → Type 0
+  IsSeenBy v w = IsPrefix v.seen w.seen
+
+  -- the cell of a last pass with the view v was closed as c
+  abbrev pub IsClosedAs : (S → E → S) → (S → E → R) → (M → S) → PassView M E R W S → Closed M E R W S → Type 0
+  IsClosedAs after reply state v c = IsClosed after reply state v c.machine c.journal.items.items
+
+module _ {M E R W S : Type 0} {g : _} where
+  abbrev pub views : List (Pass M E R W S g) → List (PassView M E R W S)
+  views ps = map view_of ps
+
+  -- each cell has a machine in the state of the one at its place, and the pass there is the cell's first
+  abbrev pub AreOpened : (M → S) → List M → List (Cell M E R W S) → List (Pass M E R W S g) → Type 0
+  AreOpened state [] [] [] = Unit {0}
+  AreOpened state (m ∷ ms) (c ∷ cs) (p ∷ ps) = (view_of p ≡ first_of (cell_id c) (state m)) × AreOpened state ms cs ps
+  AreOpened state _ _ _ = ⊥
