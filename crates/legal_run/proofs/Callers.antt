@@ -1,10 +1,11 @@
--- A list of calls, by its callers.
-use Rattle.std.proofs.Common.{◌≡◌, ◌≢◌, ℕ, zero, suc, ◌+◌, ◌<◌, ◌≤◌, eqb, eq-eqb, ne_eqb, Bool, true, false, List, [], ◌∷◌, length, get_or, zero-add, refl, sym, ap, ◌∙◌, subst, arith, if◌then◌else◌}
+-- How many calls a list has, by its callers.
+use Rattle.std.proofs.Common.{◌≡◌, ◌≢◌, ℕ, zero, suc, ◌+◌, ◌-◌, ◌<◌, ◌≤◌, ◌==◌, eqb, eq-eqb, ne_eqb, Bool, true, false, List, [], ◌∷◌, length, get_or, refl, sym, ap, ◌∙◌, subst, arith, if◌then◌else◌}
+use Rattle.std.proofs.lemmas.Bool.{eqb-true}
 use Rattle.std.proofs.lemmas.List.Elements.{All-contains, All-from_recursion, All-head, All-tail, All-weaker}
 use Rattle.std.proofs.lemmas.List.FromFn.{get_or-range_with_len, length-range_with_len}
 use Rattle.std.proofs.lemmas.List.Sums.{sum_by-cons}
 use Rattle.std.proofs.lemmas.Map.Keys.{IsDistinct-cons, IsDistinct-head, IsDistinct-tail}
-use Rattle.std.specs.List.{All, AllByRecursion, Contains, IsDistinct, range_with_len, sum_by}
+use Rattle.std.specs.List.{All, AllByRecursion, Contains, IsDistinct, filter, range_with_len, sum_by}
 use Rattle.turn_cell.specs.History.{calls_of}
 use Rattle.turn_cell.specs.declared.journal.Entry.{Entry}
 
@@ -38,43 +39,64 @@ once c (n ∷ ns) distinct there = cases (once c ns (IsDistinct-tail eqb n ns di
         let others = tail behind in
         omega arith
 
-module _ {M E R W S : Type 0} where
-  -- how many calls the callers with these numbers made
-  abbrev made_by : List ℕ → List (Entry M E R W S) → ℕ
-  made_by numbers es = sum_by (λ n. length (calls_of n es)) numbers
+-- and any number at most once
+at_most_once : (c : ℕ) (ns : List ℕ) → IsDistinct eqb ns → how_often c ns ≤ 1
+at_most_once c [] distinct = omega arith
+at_most_once c (n ∷ ns) distinct = cases (at_most_once c ns (IsDistinct-tail eqb n ns distinct)) (eqb c n) refl
+  where
+    cases : how_often c ns ≤ 1 → (b : Bool) → eqb c n ≡ b → one_if b + how_often c ns ≤ 1
+    cases few true is =
+        let others = never c ns (subst (λ (m : ℕ). AllByRecursion (λ y. eqb m y ≡ false) ns) (sym (eqb-true c n is)) (IsDistinct-head eqb n ns distinct)) in
+        omega arith
+    cases few false is = omega arith
 
-  made_by-cons : (n : ℕ) (ns : List ℕ) (es : List (Entry M E R W S)) → made_by (n ∷ ns) es ≡ length (calls_of n es) + made_by ns es
-  made_by-cons n ns es = sum_by-cons (λ (m : ℕ). length (calls_of m es)) n ns
+module _ {X : Type 0} (key : X → ℕ) where
+  -- those with a number
+  abbrev with_key : ℕ → List X → List X
+  with_key n xs = filter (λ x. key x == n) xs
 
-  length_if : (b : Bool) (e : Entry M E R W S) (es : List (Entry M E R W S)) → length (if b then e ∷ es else es) ≡ one_if b + length es
-  length_if true e es = omega arith
-  length_if false e es = omega arith
+  -- how many items have one of these numbers
+  abbrev with_keys : List ℕ → List X → ℕ
+  with_keys numbers xs = sum_by (λ n. length (with_key n xs)) numbers
 
-  made_by_none : (es : List (Entry M E R W S)) → es ≡ [] → (numbers : List ℕ) → made_by numbers es ≡ 0
-  made_by_none es none [] = refl
-  made_by_none es none (n ∷ ns) =
-      let here : length (calls_of n es) ≡ 0 = ap (λ xs. length (calls_of n xs)) none in
-      let first = made_by-cons n ns es in
-      let others = made_by_none es none ns in
+  with_keys-cons : (n : ℕ) (ns : List ℕ) (xs : List X) → with_keys (n ∷ ns) xs ≡ length (with_key n xs) + with_keys ns xs
+  with_keys-cons n ns xs = sum_by-cons (λ (m : ℕ). length (with_key m xs)) n ns
+
+  with_keys-nil : (numbers : List ℕ) → with_keys numbers [] ≡ 0
+  with_keys-nil [] = refl
+  with_keys-nil (n ∷ ns) = let first = with_keys-cons n ns [] in let others = with_keys-nil ns in omega arith
+
+  length_if : (b : Bool) (x : X) (xs : List X) → length (if b then x ∷ xs else xs) ≡ one_if b + length xs
+  length_if true x xs = omega arith
+  length_if false x xs = omega arith
+
+  -- an item is counted as often as its number stands in the list
+  with_keys_more : (x : X) (xs : List X) (numbers : List ℕ) → with_keys numbers (x ∷ xs) ≡ how_often (key x) numbers + with_keys numbers xs
+  with_keys_more x xs [] = refl
+  with_keys_more x xs (n ∷ ns) =
+      let more = with_keys-cons n ns (x ∷ xs) in
+      let less = with_keys-cons n ns xs in
+      let here = length_if (eqb (key x) n) x (with_key n xs) in
+      let others = with_keys_more x xs ns in
       omega arith
 
-  made_by_more : (e : Entry M E R W S) (es : List (Entry M E R W S)) (numbers : List ℕ) → made_by numbers (e ∷ es) ≡ how_often e.caller numbers + made_by numbers es
-  made_by_more e es [] = refl
-  made_by_more e es (n ∷ ns) =
-      let more = made_by-cons n ns (e ∷ es) in
-      let less = made_by-cons n ns es in
-      let here = length_if (eqb e.caller n) e (calls_of n es) in
-      let others = made_by_more e es ns in
+  -- Where every item of a list has one of some distinct numbers, there are as many items as have the one or the other number.
+  pub length-by_keys : (numbers : List ℕ) (xs : List X) → IsDistinct eqb numbers → All (λ x. Contains numbers (key x)) xs
+      → length xs ≡ sum_by (λ n. length (filter (λ x. key x == n) xs)) numbers
+  length-by_keys numbers [] distinct known = sym (with_keys-nil numbers)
+  length-by_keys numbers (x ∷ xs) distinct known =
+      let more = with_keys_more x xs numbers in
+      let here = once (key x) numbers distinct (All-head (λ y. Contains numbers (key y)) x xs known) in
+      let others = length-by_keys numbers xs distinct (All-tail (λ y. Contains numbers (key y)) x xs known) in
       omega arith
 
-  -- Where every entry of a list has one of some distinct numbers, its length is the sum over these numbers of the lengths of their entries.
-  pub length-by_callers : (numbers : List ℕ) (es : List (Entry M E R W S)) → IsDistinct eqb numbers → All (λ e. Contains numbers e.caller) es
-      → length es ≡ sum_by (λ n. length (calls_of n es)) numbers
-  length-by_callers numbers [] distinct known = sym (made_by_none [] refl numbers)
-  length-by_callers numbers (e ∷ es) distinct known =
-      let more = made_by_more e es numbers in
-      let here = once e.caller numbers distinct (All-head (λ x. Contains numbers x.caller) e es known) in
-      let others = length-by_callers numbers es distinct (All-tail (λ x. Contains numbers x.caller) e es known) in
+  -- whatever their numbers, no more items have one of these
+  pub by_keys-le-length : (numbers : List ℕ) (xs : List X) → IsDistinct eqb numbers → sum_by (λ n. length (filter (λ x. key x == n) xs)) numbers ≤ length xs
+  by_keys-le-length numbers [] distinct = let e = with_keys-nil numbers in omega arith
+  by_keys-le-length numbers (x ∷ xs) distinct =
+      let more = with_keys_more x xs numbers in
+      let here = at_most_once (key x) numbers distinct in
+      let others = by_keys-le-length numbers xs distinct in
       omega arith
 
 -- the numbers from a on differ
@@ -82,25 +104,46 @@ above : (a b n : ℕ) → a < b → AllByRecursion (λ y. eqb a y ≡ false) (ra
 above a b zero below = tt
 above a b (suc n) below = (ne_eqb a b (λ is. absurd (omega arith)), above a (b + 1) n (omega arith))
 
-range_distinct : (a n : ℕ) → IsDistinct eqb (range_with_len a n)
+pub range_distinct : (a n : ℕ) → IsDistinct eqb (range_with_len a n)
 unfolding IsDistinct
 range_distinct a zero = tt
 range_distinct a (suc n) = IsDistinct-cons eqb a (range_with_len (a + 1) n) (above a (a + 1) n (omega arith)) (range_distinct (a + 1) n)
 
-in_range : (n c : ℕ) → c < n → Contains (range_with_len 0 n) c
-in_range n c below = let e = length-range_with_len 0 n in (c, omega arith, get_or-range_with_len 0 n c c below ∙ zero-add c)
+pub in_range : (a n c : ℕ) → a ≤ c → c < a + n → Contains (range_with_len a n) c
+in_range a n c low high =
+    let l = length-range_with_len a n in
+    let at = get_or-range_with_len a n (c - a) c (omega arith) in
+    (c - a, omega arith, omega arith)
 
 one_at_least : (n : ℕ) → eqb n 0 ≡ false → 1 ≤ n
 one_at_least zero is = absurd (cc)
 one_at_least (suc n) is = omega arith
 
 module _ {M E R W S : Type 0} where
+  calls_of-filter : (n : ℕ) (es : List (Entry M E R W S)) → calls_of n es ≡ filter (λ e. e.caller == n) es
+  calls_of-filter n [] = refl
+  calls_of-filter n (e ∷ es) = ap (λ xs. if e.caller == n then e ∷ xs else xs) (calls_of-filter n es)
+
+  calls_by : (es : List (Entry M E R W S)) (numbers : List ℕ) → sum_by (λ n. length (filter (λ e. e.caller == n) es)) numbers ≡ sum_by (λ n. length (calls_of n es)) numbers
+  calls_by es [] = refl
+  calls_by es (n ∷ ns) =
+      let left = sum_by-cons (λ (m : ℕ). length (filter (λ e. e.caller == m) es)) n ns in
+      let right = sum_by-cons (λ (m : ℕ). length (calls_of m es)) n ns in
+      let here : length (calls_of n es) ≡ length (filter (λ e. e.caller == n) es) = ap length (calls_of-filter n es) in
+      let others = calls_by es ns in
+      omega arith
+
+  -- Where every entry of a list has one of some distinct numbers, its length is the sum over these numbers of the lengths of their entries.
+  pub length-by_callers : (numbers : List ℕ) (es : List (Entry M E R W S)) → IsDistinct eqb numbers → All (λ e. Contains numbers e.caller) es
+      → length es ≡ sum_by (λ n. length (calls_of n es)) numbers
+  length-by_callers numbers es distinct known = length-by_keys (λ e. e.caller) numbers es distinct known ∙ calls_by es numbers
+
   -- the same of the numbers up to n
   pub length-by_callers_to : (n : ℕ) (es : List (Entry M E R W S)) → All (λ e. e.caller ≤ n) es
       → length es ≡ sum_by (λ a. length (calls_of a es)) (range_with_len 0 (n + 1))
   length-by_callers_to n es known =
       length-by_callers (range_with_len 0 (n + 1)) es (range_distinct 0 (n + 1))
-      (All-weaker (λ (e : Entry M E R W S). e.caller ≤ n) (λ (e : Entry M E R W S). Contains (range_with_len 0 (n + 1)) e.caller) (λ e at_most. in_range (n + 1) e.caller (omega arith)) es known)
+      (All-weaker (λ (e : Entry M E R W S). e.caller ≤ n) (λ (e : Entry M E R W S). Contains (range_with_len 0 (n + 1)) e.caller) (λ e at_most. in_range 0 (n + 1) e.caller (omega arith) (omega arith)) es known)
 
   -- the calls of a caller who made none, without the first
   calls_behind : (n : ℕ) (e : Entry M E R W S) (es : List (Entry M E R W S)) → calls_of n (e ∷ es) ≡ [] → (e.caller ≢ n) × (calls_of n es ≡ [])

@@ -146,8 +146,8 @@ pub is_legal : Legal a_file (run_with case_journal)
 is_legal = record {
   traces = traces;
   of_lines = (in_first, (in_second, tt));
-  types = refl;
-  decls = refl;
+  as_many_kinds = refl;
+  as_many_cases = refl;
   kinds = of_only (λ t d k. IsLegalKind a_file traces t d k) _ _ kind_is_legal;
   cases = of_only (λ i d c. IsLegalCase a_file traces d c) _ _ case_is_legal;
 }

@@ -1,6 +1,7 @@
 -- Lines, and phases, one after another.
-use Rattle.std.proofs.Common.{◌≡◌, ℕ, List, [], ◌∷◌, ◌++◌, refl, sym, ap, ◌∙◌, subst, append_assoc}
-use Rattle.legal_run.specs.Legal.{Trace, IsTrace, AreTraces}
+use Rattle.std.proofs.Common.{◌≡◌, ℕ, List, [], ◌∷◌, ◌++◌, length, refl, sym, ap, ◌∙◌, subst, append_assoc, arith}
+use Rattle.std.proofs.lemmas.List.{append-nil}
+use Rattle.legal_run.specs.Legal.{Trace, IsTrace, AreTraces, done_by}
 use Rattle.legal_run.specs.LineCalls.{Call, AreCallsOfLines}
 use Rattle.process_text.specs.declared.files.File.{File}
 use Rattle.process_text.specs.declared.files.Line.{Line}
@@ -27,3 +28,13 @@ AreTraces-push f [] [] lines trace k one = (one, tt)
 AreTraces-push f [] (u ∷ traces) lines trace k one = absurd k
 AreTraces-push f (ls ∷ phases) [] lines trace k one = absurd k
 AreTraces-push f (ls ∷ phases) (u ∷ traces) lines trace k one = (k.0, AreTraces-push f phases traces lines trace k.1 one)
+
+pub length-traces : (f : File) (phases : List (List Line)) (traces : List Trace) → AreTraces f phases traces → length traces ≡ length phases
+length-traces f [] [] k = refl
+length-traces f [] (u ∷ traces) k = absurd k
+length-traces f (ls ∷ phases) [] k = absurd k
+length-traces f (ls ∷ phases) (u ∷ traces) k = let others = length-traces f phases traces k.1 in omega arith
+
+pub done_by-push : (a : ℕ) (traces : List Trace) (trace : Trace) → done_by a (traces ++ trace ∷ []) ≡ done_by a traces ++ trace a
+done_by-push a [] trace = append-nil (trace a)
+done_by-push a (u ∷ traces) trace = ap (λ cs. u a ++ cs) (done_by-push a traces trace) ∙ sym (append_assoc (u a) (done_by a traces) (trace a))

@@ -98,7 +98,7 @@ pub record IsLegalCase (f : File) (traces : List Trace) (d : CaseDecl) (c : Clos
 pub record Legal (f : File) (r : Run) : Type 0 where
   pub traces : List Trace
   pub of_lines : AreTraces f f.phases traces
-  pub types : length r.kinds ≡ length f.types
-  pub decls : length r.cases ≡ length f.cases
+  pub as_many_kinds : length r.kinds ≡ length f.types
+  pub as_many_cases : length r.cases ≡ length f.cases
   pub kinds : (t : ℕ) (d : TypeDecl) (k : ClosedKind) → slice_get f.types t ≡ Some d → slice_get r.kinds t ≡ Some k → IsLegalKind f traces t d k
   pub cases : (i : ℕ) (d : CaseDecl) (c : ClosedCase) → slice_get f.cases i ≡ Some d → slice_get r.cases i ≡ Some c → IsLegalCase f traces d c

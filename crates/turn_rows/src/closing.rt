@@ -11,7 +11,8 @@ pub fn close_into<M: Machine>(cells: Vec<Cell<M>>, firsts: Vec<Pass<M>>, into: &
     requires cells { AreOf cells.items firsts.items }
     requires can { All CanClose (views firsts.items) }
     requires room { vec_len into.old + vec_len cells ≤ vec_capacity into.old }
-    ensures { (cs : _) × (into.new.items ≡ into.old.items ++ cs) × AllZip (IsClosedAs M.after M.reply M.state) (views firsts.items) cs }
+    ensures room { vec_capacity into.new ≡ vec_capacity into.old }
+    ensures closed { (cs : _) × (into.new.items ≡ into.old.items ++ cs) × AllZip (IsClosedAs M.after M.reply M.state) (views firsts.items) cs }
 {
     for (cell, first) in cells.into_iter().zip(firsts) {
         into.push_reserved(cell.close(first));

@@ -11,6 +11,7 @@ pub fn split_into<M: Machine>(cells: &[Cell<M>], firsts: &mut [Pass<M>], into: &
     requires cells { AreOf cells.now firsts.old }
     requires can { All CanSplit (views firsts.old) }
     requires room { vec_len into.old + length firsts.old ≤ vec_capacity into.old }
+    ensures room { vec_capacity into.new ≡ vec_capacity into.old }
     ensures cells { AreOf cells.now firsts.new }
     ensures firsts { views firsts.new ≡ map split_from (views firsts.old) }
     ensures new { (ps : _) × (into.new.items ≡ into.old.items ++ ps) × AreOf cells.now ps × (views ps ≡ map split_off (views firsts.old)) × All (IsLegalView M.after M.reply) (views ps) }

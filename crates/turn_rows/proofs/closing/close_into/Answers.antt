@@ -1,4 +1,4 @@
-use Rattle.std.proofs.Common.{◌≡◌, ◌++◌, ◌∷◌, [], inl, inr, length, sym, ap, ◌∙◌, rules, arith}
+use Rattle.std.proofs.Common.{◌≡◌, ◌++◌, refl, ◌∷◌, [], inl, inr, length, sym, ap, ◌∙◌, rules, arith}
 use Rattle.std.proofs.lemmas.List.{append-nil}
 use Rattle.std.specs.Iterator.Adapters.{zip_first, zip_second}
 use Rattle.std.specs.Vec.Iter.{into_iter_items, into_iter_len}
@@ -21,6 +21,7 @@ loop-cell-init g c =
       cells_left = omega (arith, ap length cells_are, ap into_iter_len cells, c.into_iter.ensures.len, c.args.cells.ok.0);
       left = omega (arith, ap length firsts_are, ap (λ it. into_iter_len (zip_second it)) same, given.1, c.args.firsts.ok.0);
       closed = ([], sym (append-nil c.args.into.now.items), rw (cells_are, firsts_are) (none_closed m.after m.reply m.state c.args.cells.items c.args.firsts.items c.requires.cells c.requires.can));
+      capacity = refl;
       room = omega (arith, ap into_iter_len cells, c.into_iter.ensures.len, c.requires.room);
     }
 
@@ -55,6 +56,7 @@ loop-cell-preserved g c =
         appended_more c.args.into.now.items so_far.0 l.into.items c.push_reserved.new.self.items c.close.result so_far.1 c.push_reserved.ensures.items,
         one_more_closed m.after m.reply m.state so_far.2 step.0.0 step.1.0 c.close.result c.close.ensures,
       );
+      capacity = c.push_reserved.ensures.capacity ∙ l.invariant.capacity;
       room = omega (arith, l.invariant.room, step.0.1, c.push_reserved.ensures.len, c.push_reserved.ensures.capacity);
     }
 
@@ -66,4 +68,4 @@ returns g c =
     let even = length-passes (into_iter_items (zip_first l.cell-iterator)) (into_iter_items (zip_second l.cell-iterator)) so_far.2.of in
     let none : length (into_iter_items (zip_second l.cell-iterator)) ≡ 0 =
     elim c.in-None.ensures.steps [ inl no_cell ↦ omega (arith, no_cell.1.0, l.invariant.cells_left, even) | inr no_pass ↦ omega (arith, no_pass.1.0, l.invariant.left) ] in
-    (so_far.0, so_far.1, all_closed m.after m.reply m.state so_far.2 none)
+    record { room = l.invariant.capacity; closed = (so_far.0, so_far.1, all_closed m.after m.reply m.state so_far.2 none) }

@@ -15,5 +15,6 @@ invariant-loop-cell g l =
       cells_left : into_iter_len cells ≡ length (into_iter_items cells);
       left : into_iter_len firsts ≡ length (into_iter_items firsts);
       closed : (cs : _) × (l.into.items ≡ l.fn.into.items ++ cs) × HaveClosed m.after m.reply m.state l.fn.firsts.items cs (into_iter_items cells) (into_iter_items firsts);
+      capacity : vec_capacity l.into ≡ vec_capacity l.fn.into;
       room : vec_len l.into + into_iter_len cells ≤ vec_capacity l.into;
     }

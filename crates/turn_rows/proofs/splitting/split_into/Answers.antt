@@ -1,4 +1,4 @@
-use Rattle.std.proofs.Common.{◌∷◌, [], ◌++◌, sym, ◌∙◌, arith}
+use Rattle.std.proofs.Common.{◌∷◌, [], ◌++◌, refl, sym, ◌∙◌, arith}
 use Rattle.std.proofs.lemmas.List.{append-nil, length-set}
 use Rattle.turn_cell.specs.Passes.{view_of}
 use Rattle.turn_batch.proofs.Calls.{length-passes}
@@ -14,6 +14,7 @@ loop-place-init g c =
     record {
       even = length-passes c.args.cells.now c.args.firsts.now c.requires.cells;
       new = ([], sym (append-nil c.args.into.now.items), none_split m.after m.reply c.args.cells.now c.args.firsts.now c.requires.cells);
+      capacity = refl;
       room = omega arith;
     }
 
@@ -42,6 +43,7 @@ loop-place-preserved g c =
         one_more_split m.after m.reply c.loop-place.place c.args.cells.now c.args.firsts.now c.loop-place.firsts so_far.0 c.index-cells-place.result c.index-firsts-place.result c.split.new.first c.split.result so_far.2
             (omega arith) (omega arith) (omega arith) c.index-cells-place.is s.cell.0 s.cell.1 s.first s.new s.legal,
       );
+      capacity = c.push_reserved.ensures.capacity ∙ c.loop-place.invariant.capacity;
       room = omega (arith, length-set c.loop-place.firsts c.loop-place.place c.split.new.first);
     }
 
@@ -51,6 +53,7 @@ returns g c =
     let so_far = c.loop-place.invariant.new in
     let all = all_split m.after m.reply c.loop-place.place c.args.cells.now c.args.firsts.now c.loop-place.firsts so_far.0 so_far.2 (omega arith) (omega arith) (omega arith) in
     record {
+      room = c.loop-place.invariant.capacity;
       cells = so_far.2.cells;
       firsts = all.1.firsts;
       new = (so_far.0, so_far.1, all.0, all.1.new, all.1.legal);

@@ -8,5 +8,6 @@ invariant-loop-place g l =
     record {
       even : length l.firsts ≡ length l.cells;
       new : (qs : _) × (l.into.items ≡ l.fn.into.items ++ qs) × HaveSplit m.after m.reply l.place l.cells l.fn.firsts l.firsts qs;
+      capacity : vec_capacity l.into ≡ vec_capacity l.fn.into;
       room : vec_len l.into + (length l.firsts - l.place) ≤ vec_capacity l.into;
     }
