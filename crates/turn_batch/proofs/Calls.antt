@@ -1,6 +1,5 @@
 -- What both rounds leave of the passes.
-use Rattle.std.proofs.Common.{◌≡◌, ℕ, zero, suc, ◌+◌, ◌<◌, List, [], ◌∷◌, ◌++◌, length, Option, Some, None, Result, Ok, Err, IsSome, MatchResult, MatchOption, slice_get, slice_index_or, refl, sym, ap, ◌∙◌, subst, arith}
-use Rattle.std.proofs.lemmas.List.{append-nil}
+use Rattle.std.proofs.Common.{◌≡◌, ℕ, zero, suc, ◌+◌, ◌<◌, List, [], ◌∷◌, length, Option, Some, None, Result, Ok, Err, IsSome, MatchResult, MatchOption, slice_get, slice_index_or, refl, sym, ap, ◌∙◌, subst, arith}
 use Rattle.turn_cell.specs.declared.faults.CallFault.{CallFault}
 use Rattle.turn_cell.specs.declared.pass.Pass.{Pass}
 use Rattle.turn_cell.specs.declared.cell.Cell.{Cell}
@@ -22,11 +21,6 @@ module _ {M E R W S : Type 0} {g : _} where
   pass_at (x ∷ cs) [] k i c d e = absurd k
   pass_at (x ∷ cs) (p ∷ ps) k zero c d e = let same : x ≡ c = cc (e) in subst (λ y. IsPassOf y p) same k.0
   pass_at (x ∷ cs) (p ∷ ps) k (suc i) c d e = pass_at cs ps k.1 i c d e
-
-  -- of no passes no answers are taken
-  pub none_taken : (ps : List (Pass M E R W S g)) (items : List (Result R CallFault)) → length ps ≡ 0 → (answers : List (Result R CallFault)) × (items ≡ items ++ answers) × AreTaken ps answers ps
-  none_taken [] items none = ([], sym (append-nil items), tt)
-  none_taken (p ∷ ps) items none = absurd (omega arith)
 
 module _ {M E R W S : Type 0} (after : S → E → S) (reply : S → E → R) (event : E) where
   -- a call does not speak of what is met and kept, before it and after it

@@ -49,11 +49,9 @@ fn take_answers<M: Machine>(passes: &mut [Pass<M>], items: &mut Vec<Result<M::Re
     requires room { vec_len items.old + length passes.old ≤ vec_capacity items.old }
     ensures { (answers : _) × (items.new.items ≡ items.old.items ++ answers) × AreTaken passes.old answers passes.new }
 {
-    let Some((pass, rest)) = passes.split_first_mut() else {
-        return;
-    };
-    items.push_reserved(pass.take_kept().unwrap());
-    take_answers(rest, items);
+    for pass in passes.iter_mut() {
+        items.push_reserved(pass.take_kept().unwrap());
+    }
 }
 
 #[cfg(test)]
