@@ -1,0 +1,67 @@
+-- How a server ends.
+use Rattle.std.proofs.Common.{◌≡◌, ℕ, zero, suc, ◌+◌, List, [], ◌∷◌, length, map, All, Some, Vec, slice_get, refl, sym, ap, ◌∙◌, subst, arith}
+use Rattle.std.specs.List.{AllZip}
+use Rattle.std.proofs.lemmas.List.{length-map}
+use Rattle.turn_cell.specs.declared.journal.Closed.{Closed}
+use Rattle.turn_cell.specs.declared.pass.Pass.{Pass}
+use Rattle.turn_cell.specs.Passes.{PassView, view_of, IsClosed}
+use Rattle.turn_rows.specs.Rows.{CanClose, IsClosedAs, views}
+use Rattle.adept_server.specs.Desks.{DeskView, IsDesk, IsDeskOf, at_case, desk_view, in_row, kind_after, kind_reply, case_after, case_reply}
+use Rattle.adept_server.specs.Opening.{IsClosedServer}
+use Rattle.adept_server.specs.Vecs.{lists_of, row_views}
+use Rattle.adept_server.specs.declared.closing.ClosedServer.{ClosedServer}
+use Rattle.adept_server.specs.declared.desks.Desk.{Desk}
+use Rattle.adept_server.specs.declared.servers.Server.{Server}
+use Rattle.adept_server.proofs.Zips.{row_of_case, all_from_places, all_from_cases, beside}
+use Rattle.case_core.specs.CaseModel.{CaseModel}
+use Rattle.case_core.specs.declared.events.Event.{Event}
+use Rattle.case_core.specs.declared.replies.Reply.{Reply}
+use Rattle.case_core.specs.declared.views.View.{View}
+use Rattle.wsm_sound.specs.declared.versions.CaseId.{CaseId}
+
+-- the first desk of a server can close it once it has taken in all others
+pub can_close : (s : Server) (d : Desk) → IsDeskOf s d → (desk_view d).number ≡ 0 → (desk_view d).made ≡ (desk_view d).taken + 1 → All CanClose (views d.kinds.items) × All (All CanClose) (row_views d.cases.items)
+can_close s d k first all =
+    let v : DeskView = desk_view d in (
+      all_from_places CanClose v.kinds (λ t p is. let at = k.desk.kinds t p is in (at.number ∙ first, at.made ∙ (all ∙ ap (λ n. n + 1) (sym at.taken)))),
+      all_from_cases CanClose v.cases (λ c p is. let at = k.desk.cases c p is in (at.number ∙ first, at.made ∙ (all ∙ ap (λ n. n + 1) (sym at.taken)))),
+    )
+
+module _ {A B : Type 0} (R : A → B → Type 0) where
+  -- as many stand beside others as there are
+  even : (xs : List A) (ys : List B) → AllZip R xs ys → length ys ≡ length xs
+  even [] [] all = refl
+  even [] (y ∷ ys) all = absurd all
+  even (x ∷ xs) [] all = absurd all
+  even (x ∷ xs) (y ∷ ys) all = ap suc (even xs ys all.1)
+
+  -- what stands beside a case
+  beside_case : (xs : List (List A)) (ys : List (List B)) (c : CaseId) (x : A) → AllZip (AllZip R) xs ys → at_case xs c ≡ Some x → (y : B) × (at_case ys c ≡ Some y) × R x y
+  beside_case xs ys c x all is =
+      let r = row_of_case xs c x is in
+      let row = beside (AllZip R) xs ys c.type_no r.0 all r.1 in
+      let item = beside R r.0 row.0 c.place x row.2 r.2 in
+      (item.0, ap (in_row c.place) row.1 ∙ item.1, item.2)
+
+even_rows : {A B Z : Type 0} (R : A → B → Type 0) (xs : List (List A)) (ys : List (Vec B Z)) → AllZip (AllZip R) xs (lists_of ys) → map (λ row. length row.items) ys ≡ map length xs
+even_rows R [] [] all = refl
+even_rows R [] (y ∷ ys) all = absurd all
+even_rows R (x ∷ xs) [] all = absurd all
+even_rows R (x ∷ xs) (y ∷ ys) all =
+    let first = even R x y.items all.0 in
+    let rest = even_rows R xs ys all.1 in
+    cc
+
+pub server_closed : (d : Desk) (s : ClosedServer) → AllZip (IsClosedAs kind_after kind_reply (λ k. k)) (views d.kinds.items) s.kinds.items → AllZip (AllZip (IsClosedAs case_after case_reply (λ k. k))) (row_views d.cases.items) (lists_of s.cases.items) → IsClosedServer (desk_view d) s
+server_closed d s kinds cases = record {
+  types = even (IsClosedAs kind_after kind_reply (λ k. k)) (views d.kinds.items) s.kinds.items kinds;
+  rows = even_rows (IsClosedAs case_after case_reply (λ k. k)) (row_views d.cases.items) s.cases.items cases;
+  kinds = λ t p is. beside (IsClosedAs kind_after kind_reply (λ k. k)) (views d.kinds.items) s.kinds.items t p kinds is;
+  cases = λ c p is. beside_case (IsClosedAs case_after case_reply (λ k. k)) (row_views d.cases.items) (lists_of s.cases.items) c p cases is;
+}
+
+-- what is said of rows is said of equal ones
+pub cases_closed : {A : Type 0} {g : _} {ps qs : List (Vec (Pass CaseModel Event Reply View CaseModel g) A)} {cs ds : List (Vec (Closed CaseModel Event Reply View CaseModel) A)} → AllZip (AllZip (IsClosedAs case_after case_reply (λ k. k))) (row_views ps) (lists_of cs)
+    → ps ≡ qs → ds ≡ cs → AllZip (AllZip (IsClosedAs case_after case_reply (λ k. k))) (row_views qs) (lists_of ds)
+cases_closed {qs = qs} {cs = cs} k before behind =
+    subst (λ rows. AllZip (AllZip (IsClosedAs case_after case_reply (λ k. k))) (row_views qs) (lists_of rows)) (sym behind) (subst (λ rows. AllZip (AllZip (IsClosedAs case_after case_reply (λ k. k))) (row_views rows) (lists_of cs)) before k)

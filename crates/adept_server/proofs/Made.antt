@@ -1,0 +1,147 @@
+-- The calls of a server's desks, and what they make of them.
+use Rattle.std.proofs.Common.{◌≡◌, ℕ, zero, suc, ◌+◌, ◌<◌, Bool, true, false, List, [], ◌∷◌, length, map, Option, Some, None, IsSome, IfOk, OnErr, Result, Ok, Err, slice_get, set, refl, sym, ap, ◌∙◌, subst, arith, if◌then◌else◌}
+use Rattle.std.proofs.Math.ListN.{length-map}
+use Rattle.adept_server.proofs.Keeping.{kind_call, kind_keeps, case_keeps, cases_keep}
+use Rattle.adept_server.proofs.Looks.{looks_keep}
+use Rattle.adept_server.specs.Offering.{AllLooked, Looks}
+use Rattle.adept_server.proofs.Places.{set_same}
+use Rattle.adept_server.proofs.Rows.{AreVecsOf, RowAt, HasRow, row_of, row_there, rows_behind, view_there, views_behind}
+use Rattle.adept_server.specs.Calling.{CallEach, CallsOne, CallsKind, CallsCase, CallsCases, answer_tells}
+use Rattle.adept_server.specs.Desks.{DeskView, KindPass, CasePass, AreRowsOf, IsDeskOf, desk_view, IsDesk, has_kind, has_case, kind_after, kind_reply, case_after, case_reply}
+use Rattle.adept_server.specs.declared.desks.Desk.{Desk}
+use Rattle.adept_server.specs.declared.servers.Server.{Server}
+use Rattle.case_core.specs.declared.events.Event.{Event}
+use Rattle.case_core.specs.declared.replies.Reply.{Reply}
+use Rattle.turn_batch.specs.Batch.{AreOf}
+use Rattle.turn_cell.specs.Passes.{PassView, view_of}
+use Rattle.turn_cell.specs.declared.faults.CallFault.{CallFault}
+use Rattle.type_core.specs.declared.events.KindEvent.{KindEvent}
+use Rattle.type_core.specs.declared.replies.KindReply.{KindReply}
+use Rattle.wsm_sound.specs.declared.versions.CaseId.{CaseId}
+
+unfoldable parts : ℕ → ℕ → ℕ → List Bool → List KindPass → List (List CasePass) → DeskView
+parts number made taken defined kinds cases = record { number = number; made = made; taken = taken; defined = defined; kinds = kinds; cases = cases }
+
+same_parts : (v w : DeskView) → w.number ≡ v.number → w.made ≡ v.made → w.taken ≡ v.taken → w.defined ≡ v.defined → w.kinds ≡ v.kinds → w.cases ≡ v.cases → parts w.number w.made w.taken w.defined w.kinds w.cases ≡ parts v.number v.made v.taken v.defined v.kinds v.cases
+same_parts v w number made taken defined kinds cases = cc
+
+pub same_views : (v w : DeskView) → w.number ≡ v.number → w.made ≡ v.made → w.taken ≡ v.taken → w.defined ≡ v.defined → w.kinds ≡ v.kinds → w.cases ≡ v.cases → w ≡ v
+unfolding parts
+same_views v w number made taken defined kinds cases =
+    same_parts v w number made taken defined kinds cases
+
+-- a call of a type changes the passes of types, and maybe a flag
+pub kind_made : (s : Server) (d e : Desk) (event : KindEvent) (t : ℕ) (answer : Result KindReply CallFault) (tells : Bool) (kinds : _) → answer_tells answer ≡ tells → IsDeskOf s d
+    → e.number ≡ d.number → e.made ≡ d.made → e.taken ≡ d.taken → e.cases ≡ d.cases → e.defined.items ≡ (if tells then set d.defined.items t true else d.defined.items) → e.kinds.items ≡ kinds
+    → AreOf s.kinds.items kinds → CallsOne kind_after kind_reply event t answer (map view_of d.kinds.items) (map view_of kinds) → IsDeskOf s e × CallsKind event t answer (desk_view d) (desk_view e)
+kind_made s d e event t answer tells kinds is k number made taken cases defined items of called = (
+  record {
+    kinds = subst (AreOf s.kinds.items) (sym items) of;
+    cases = subst (λ (rows : _). AreRowsOf (map (λ row. row.items) s.cases.items) (map (λ row. row.items) rows.items)) (sym cases) k.cases;
+    desk = kind_keeps event t answer (desk_view d) (desk_view e) made_call k.desk;
+  },
+  made_call,
+)
+  where
+    made_call : CallsKind event t answer (desk_view d) (desk_view e)
+    made_call = kind_call event t answer (desk_view d) (desk_view e) tells is (subst (λ (qs : _). CallsOne kind_after kind_reply event t answer (map view_of d.kinds.items) (map view_of qs)) (sym items) called)
+        (same_views (record (desk_view d) { kinds = (desk_view e).kinds; defined = if tells then set (desk_view d).defined t true else (desk_view d).defined }) (desk_view e) number made taken defined refl (ap (λ (rows : _). map (λ row. map view_of row.items) rows.items) cases))
+
+-- where a case is there for a desk, the desk has passes of its type's cases, and the server has the cells
+pub case_row : (s : Server) (d : Desk) (id : CaseId) → IsDeskOf s d → has_case (desk_view d) id → HasRow s.cases.items d.cases.items id
+case_row s d id k there = row_there s.cases.items d.cases.items id k.cases there
+
+-- a call of a case changes its type's row of passes
+pub case_made : (s : Server) (d e : Desk) (event : Event) (id : CaseId) (answer : Result Reply CallFault) → IsDeskOf s d → (r : RowAt s.cases.items d.cases.items id.type_no) (row : _)
+    → e.number ≡ d.number → e.made ≡ d.made → e.taken ≡ d.taken → e.defined ≡ d.defined → e.kinds ≡ d.kinds → e.cases.items ≡ set d.cases.items id.type_no row
+    → AreOf r.cells.items row.items → CallsOne case_after case_reply event id.place answer (map view_of r.passes.items) (map view_of row.items) → IsDeskOf s e × CallsCase event id answer (desk_view d) (desk_view e)
+case_made s d e event id answer k r row number made taken defined kinds cases of called = (
+  record {
+    kinds = subst (λ (ps : _). AreOf s.kinds.items ps.items) (sym kinds) k.kinds;
+    cases = rows_behind s.cases.items d.cases.items e.cases.items id.type_no r row cases k.cases of;
+    desk = case_keeps event id answer (desk_view d) (desk_view e) made_call k.desk;
+  },
+  made_call,
+)
+  where
+    made_call : CallsCase event id answer (desk_view d) (desk_view e)
+    made_call = record {
+      row = map view_of r.passes.items;
+      row_behind = map view_of row.items;
+      there = view_there s.cases.items d.cases.items id.type_no r;
+      called = called;
+      others = same_views (record (desk_view d) { cases = set (desk_view d).cases id.type_no (map view_of row.items) }) (desk_view e) number made taken (ap (λ (x : _). x.items) defined) (ap (λ (x : _). map view_of x.items) kinds)
+          (views_behind d.cases.items e.cases.items id.type_no row cases);
+    }
+
+cases_there : (d : Desk) (t : ℕ) → IsDesk (desk_view d) → has_kind (desk_view d) t → t < length d.cases.items
+cases_there d t desk there = omega (arith, desk.rows, length-map d.cases.items (λ (row : _). map view_of row.items))
+
+-- where a type is there, its cases have a row
+pub kind_row : (s : Server) (d : Desk) (t : ℕ) → IsDeskOf s d → has_kind (desk_view d) t → RowAt s.cases.items d.cases.items t
+kind_row s d t k there = row_of s.cases.items d.cases.items t k.cases (cases_there d t k.desk there)
+
+-- a call of each case of a type changes the type's row of passes
+pub cases_made : (s : Server) (d e : Desk) (event : Event) (t : ℕ) (answers : List (Result Reply CallFault)) → IsDeskOf s d → (r : RowAt s.cases.items d.cases.items t) (row : _)
+    → e.number ≡ d.number → e.made ≡ d.made → e.taken ≡ d.taken → e.defined ≡ d.defined → e.kinds ≡ d.kinds → e.cases.items ≡ set d.cases.items t row
+    → AreOf r.cells.items row.items → CallEach case_after case_reply event (map view_of r.passes.items) answers (map view_of row.items) → IsDeskOf s e × CallsCases event t answers (desk_view d) (desk_view e)
+cases_made s d e event t answers k r row number made taken defined kinds cases of called = (
+  record {
+    kinds = subst (λ (ps : _). AreOf s.kinds.items ps.items) (sym kinds) k.kinds;
+    cases = rows_behind s.cases.items d.cases.items e.cases.items t r row cases k.cases of;
+    desk = cases_keep event t answers (desk_view d) (desk_view e) made_calls k.desk;
+  },
+  made_calls,
+)
+  where
+    made_calls : CallsCases event t answers (desk_view d) (desk_view e)
+    made_calls = record {
+      row = map view_of r.passes.items;
+      row_behind = map view_of row.items;
+      there = view_there s.cases.items d.cases.items t r;
+      called = called;
+      others = same_views (record (desk_view d) { cases = set (desk_view d).cases t (map view_of row.items) }) (desk_view e) number made taken (ap (λ (x : _). x.items) defined) (ap (λ (x : _). map view_of x.items) kinds)
+          (views_behind d.cases.items e.cases.items t row cases);
+    }
+
+-- a row that was put back as it was
+row_unchanged : (s : Server) (d e : Desk) (t : ℕ) → (r : RowAt s.cases.items d.cases.items t) (row : _)
+    → e.number ≡ d.number → e.made ≡ d.made → e.taken ≡ d.taken → e.defined ≡ d.defined → e.kinds ≡ d.kinds → e.cases.items ≡ set d.cases.items t row → row.items ≡ r.passes.items → desk_view e ≡ desk_view d
+row_unchanged s d e t r row number made taken defined kinds cases same = same_views (desk_view d) (desk_view e) number made taken (ap (λ (x : _). x.items) defined) (ap (λ (x : _). map view_of x.items) kinds)
+    (views_behind d.cases.items e.cases.items t row cases ∙ (ap (λ (ps : List CasePass). set (desk_view d).cases t ps) (ap (map view_of) same) ∙ sym (set_same (desk_view d).cases t (map view_of r.passes.items) (view_there s.cases.items d.cases.items t r))))
+
+-- a batch of calls on a type's row of passes
+pub batch_made : {X Y : Type 0} (f : X → List (Result Reply CallFault)) (o : Result X Y) (s : Server) (d e : Desk) (event : Event) (t : ℕ) → IsDeskOf s d → (r : RowAt s.cases.items d.cases.items t) (row : _)
+    → e.number ≡ d.number → e.made ≡ d.made → e.taken ≡ d.taken → e.defined ≡ d.defined → e.kinds ≡ d.kinds → e.cases.items ≡ set d.cases.items t row
+    → AreOf r.cells.items row.items → IfOk o (λ a. CallEach case_after case_reply event (map view_of r.passes.items) (f a) (map view_of row.items)) → OnErr o (row.items ≡ r.passes.items)
+    → IsDeskOf s e × IfOk o (λ a. CallsCases event t (f a) (desk_view d) (desk_view e)) × OnErr o (desk_view e ≡ desk_view d)
+batch_made f (Ok a) s d e event t k r row number made taken defined kinds cases of called same =
+    let m = cases_made s d e event t (f a) k r row number made taken defined kinds cases of called in (m.0, m.1, tt)
+batch_made f (Err y) s d e event t k r row number made taken defined kinds cases of called same =
+    let is = row_unchanged s d e t r row number made taken defined kinds cases same in (
+      record {
+        kinds = subst (λ (ps : _). AreOf s.kinds.items ps.items) (sym kinds) k.kinds;
+        cases = rows_behind s.cases.items d.cases.items e.cases.items t r row cases k.cases of;
+        desk = subst IsDesk (sym is) k.desk;
+      },
+      tt,
+      is,
+    )
+
+-- looks change the rows of passes of cases
+pub looks_made : (s : Server) (d e : Desk) (rows : _) → IsDeskOf s d → e.number ≡ d.number → e.made ≡ d.made → e.taken ≡ d.taken → e.defined ≡ d.defined → e.kinds ≡ d.kinds → e.cases.items ≡ rows
+    → AreVecsOf s.cases.items rows → AllLooked (desk_view d).cases (map (λ row. map view_of row.items) rows) → IsDeskOf s e × Looks (desk_view d) (desk_view e)
+looks_made s d e rows k number made taken defined kinds cases of looked = (
+  record {
+    kinds = subst (λ (ps : _). AreOf s.kinds.items ps.items) (sym kinds) k.kinds;
+    cases = subst (λ (qs : _). AreVecsOf s.cases.items qs) (sym cases) of;
+    desk = looks_keep (desk_view d) (desk_view e) looks k.desk;
+  },
+  looks,
+)
+  where
+    looks : Looks (desk_view d) (desk_view e)
+    looks = record {
+      others = same_views (record (desk_view d) { cases = (desk_view e).cases }) (desk_view e) number made taken (ap (λ (x : _). x.items) defined) (ap (λ (x : _). map view_of x.items) kinds) refl;
+      looked = subst (λ (qs : _). AllLooked (desk_view d).cases (map (λ row. map view_of row.items) qs)) (sym cases) looked;
+    }

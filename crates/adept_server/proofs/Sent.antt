@@ -1,0 +1,51 @@
+-- Versions may go from thread to thread.
+use denote.Param.Send.{IsSend, IsSync, sendable}
+use Rattle.std.proofs.Crossing.{crosses}
+use Rattle.wsm_schema.proofs.blocks.Block.TheLaws.TheKnot.{crosses as blocks_cross}
+use Rattle.wsm_schema.proofs.flats.Flat.TheSendSync as flat
+use Rattle.wsm_schema.proofs.ranks.Rank.TheSendSync as rank
+use Rattle.case_core.specs.contracts.cases.Case as case
+use Rattle.case_core.specs.contracts.events.Event as event
+use Rattle.case_core.specs.contracts.live.Live as live
+use Rattle.wsm_replay.proofs.Replayed.TheSendSync as replayed
+use Rattle.wsm_trail.proofs.trails.Trail.TheSendSync as trail
+use Rattle.wsm_schema.specs.contracts.schemas.Schema as schema
+use Rattle.wsm_sound.specs.contracts.checked.Checked as checked
+use Rattle.wsm_sound.specs.contracts.versions.Version as version
+
+schema-send : IsSend schema.the_row
+schema-send = search (blocks_cross, sendable, crosses) depth 40 fits 5000
+
+schema-sync : IsSync schema.the_row
+schema-sync = search (blocks_cross, sendable, crosses) depth 40 fits 5000
+
+checked-send : IsSend checked.the_row
+checked-send = search (schema-send, flat.the_send, rank.the_send, sendable, crosses) depth 40
+
+checked-sync : IsSync checked.the_row
+checked-sync = search (schema-sync, flat.the_sync, rank.the_sync, sendable, crosses) depth 40
+
+pub version-send : IsSend version.the_row
+version-send = search (checked-send, checked-sync, sendable, crosses) depth 40 fits 5000
+
+pub version-sync : IsSync version.the_row
+version-sync = search (checked-send, checked-sync, sendable, crosses) depth 40 fits 5000
+
+-- so may cases and their events
+live-send : IsSend live.the_row
+live-send = search (version-send, version-sync, checked-send, checked-sync, trail.the_send, replayed.the_send, sendable, crosses) depth 40 fits 5000
+
+live-sync : IsSync live.the_row
+live-sync = search (version-send, version-sync, checked-send, checked-sync, trail.the_sync, replayed.the_sync, sendable, crosses) depth 40 fits 5000
+
+pub case-send : IsSend case.the_row
+case-send = search (live-send, sendable, crosses) depth 40 fits 5000
+
+pub case-sync : IsSync case.the_row
+case-sync = search (live-sync, sendable, crosses) depth 40 fits 5000
+
+pub event-send : IsSend event.the_row
+event-send = search (version-send, sendable, crosses) depth 40 fits 5000
+
+pub event-sync : IsSync event.the_row
+event-sync = search (version-sync, sendable, crosses) depth 40 fits 5000

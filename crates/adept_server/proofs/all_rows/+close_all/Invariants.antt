@@ -1,0 +1,5 @@
+use Rattle.std.proofs.Common.{length}
+use Rattle.adept_server.proofs.all_rows.+close_all.Given as goal
+
+abbrev pub decreases-close_all : goal.decreases-close_all
+decreases-close_all g l = length l.into.now

@@ -1,0 +1,9 @@
+use Rattle.std.proofs.Common.{◌+◌, ◌-◌, ◌≤◌, length, take, vec_len, vec_capacity}
+use Rattle.adept_server.specs.Rooms.{HaveRoomFor}
+use Rattle.adept_server.proofs.all_rows.empty_rows.Given as goal
+
+abbrev pub invariant-loop-row : goal.invariant-loop-row
+invariant-loop-row g l = record {
+  room : HaveRoomFor (take l.row-index l.rows) l.empty.items;
+  left : vec_len l.empty + (length l.rows - l.row-index) ≤ vec_capacity l.empty;
+}

@@ -1,0 +1,12 @@
+use Rattle.std.proofs.Common.{◌∙◌, subst, sym}
+use Rattle.std.proofs.lemmas.List.{with_items_is}
+use Rattle.adept_server.specs.Vecs.{RowJoined}
+use Rattle.adept_server.proofs.RowsJoined.{joined_in_vecs}
+use Rattle.adept_server.proofs.all_rows.join_row_in.Goals as goal
+
+pub returns : goal.returns
+returns g c =
+    let m = g.M.Machine in
+    let e = c.join_row.ensures in
+    let joined : RowJoined m.after m.reply c.args.cells.now c.deref_mut.result.now c.args.done.items c.join_row.new.into = record { of = e.cells; are = e.joined; more = e.more; legal = e.legal } in
+    joined_in_vecs joined c.deref_mut.ensures.value (with_items_is c.args.into.now c.join_row.new.into (c.join_row.auto.into ∙ c.deref_mut.ensures.len))

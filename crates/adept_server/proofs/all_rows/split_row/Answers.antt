@@ -1,0 +1,14 @@
+use Rattle.std.proofs.Common.{◌≡◌, [], ◌++◌, ◌∙◌, ap, subst, sym, arith}
+use Rattle.std.proofs.lemmas.List.{with_items_is, nil_from_length}
+use Rattle.adept_server.specs.Vecs.{RowSplit}
+use Rattle.adept_server.proofs.RowsSplit.{split_in_vecs}
+use Rattle.adept_server.proofs.all_rows.split_row.Goals as goal
+
+pub returns : goal.returns
+returns g c =
+    let m = g.M.Machine in
+    let e = c.split_into.ensures in
+    let new = e.new in
+    let empty : c.args.into.now.items ≡ [] = nil_from_length c.args.into.now.items (omega (arith, c.args.into.now.ok.0, c.requires.empty)) in
+    let split : RowSplit m.after m.reply c.args.cells.now c.deref_mut.result.now c.split_into.new.firsts new.0 = record { of = e.cells; of_new = new.2; firsts = e.firsts; new = new.3; legal = new.4 } in
+    split_in_vecs split c.deref_mut.ensures.value (with_items_is c.args.firsts.now c.split_into.new.firsts (c.split_into.auto.firsts ∙ c.deref_mut.ensures.len)) (new.1 ∙ ap (λ xs. xs ++ new.0) empty)

@@ -1,0 +1,41 @@
+use Rattle.std.proofs.Common.{◌≡◌, map, true, false, refl, sym, ◌∙◌, subst}
+use Rattle.adept_server.proofs.Made.{kind_made}
+use Rattle.adept_server.proofs.Sent.{version-send, version-sync}
+use Rattle.std.proofs.Crossing.{crosses}
+use denote.Param.Send.{sendable}
+use Rattle.std.proofs.lemmas.List.{with_items_is}
+use Rattle.adept_server.specs.Calling.{CallsOne}
+use Rattle.adept_server.specs.Desks.{kind_after, kind_reply}
+use Rattle.turn_batch.specs.Batch.{AreOf}
+use Rattle.turn_cell.specs.Passes.{view_of}
+use Rattle.adept_server.proofs.servers.Server.call_kind.Goals as goal
+
+pub call_at-answer-requires-send-M : goal.call_at-answer-requires-send-M
+call_at-answer-requires-send-M g c κs = search (version-send, version-sync, sendable, crosses) depth 30
+
+pub call_at-answer-requires-send-M-Reply : goal.call_at-answer-requires-send-M-Reply
+call_at-answer-requires-send-M-Reply g c κs = search (version-send, version-sync, sendable, crosses) depth 30
+
+pub call_at-answer-requires-sync-M : goal.call_at-answer-requires-sync-M
+call_at-answer-requires-sync-M g c κs = search (version-send, version-sync, sendable, crosses) depth 30
+
+pub call_at-answer-requires-sync-M-Reply : goal.call_at-answer-requires-sync-M-Reply
+call_at-answer-requires-sync-M-Reply g c κs = search (version-send, version-sync, sendable, crosses) depth 30
+
+pub returns-then-tells_version-clause-desk : goal.returns-then-tells_version-clause-desk
+returns-then-tells_version-clause-desk g c =
+    let d = c.args.desk.now in
+    let kinds = c.call_at-answer.new.passes in
+    let of = subst (λ cs. AreOf cs kinds) c.deref.ensures.value c.call_at-answer.ensures.cells in
+    let called = subst (λ ps. CallsOne kind_after kind_reply c.args.event.now c.args.type_no c.call_at-answer.result (map view_of ps) (map view_of kinds)) c.deref_mut.ensures.value c.call_at-answer.ensures.called in
+    let whole = with_items_is d.kinds kinds (c.call_at-answer.auto.passes ∙ c.deref_mut.ensures.len) in
+    (kind_made c.args.self.now d _ c.args.event.now c.args.type_no c.call_at-answer.result true kinds (sym c.tells_version.ensures ∙ c.if-tells_version.true) c.requires.desk refl refl refl refl refl whole of called).0
+
+pub returns-else-tells_version-clause-desk : goal.returns-else-tells_version-clause-desk
+returns-else-tells_version-clause-desk g c =
+    let d = c.args.desk.now in
+    let kinds = c.call_at-answer.new.passes in
+    let of = subst (λ cs. AreOf cs kinds) c.deref.ensures.value c.call_at-answer.ensures.cells in
+    let called = subst (λ ps. CallsOne kind_after kind_reply c.args.event.now c.args.type_no c.call_at-answer.result (map view_of ps) (map view_of kinds)) c.deref_mut.ensures.value c.call_at-answer.ensures.called in
+    let whole = with_items_is d.kinds kinds (c.call_at-answer.auto.passes ∙ c.deref_mut.ensures.len) in
+    (kind_made c.args.self.now d _ c.args.event.now c.args.type_no c.call_at-answer.result false kinds (sym c.tells_version.ensures ∙ c.if-tells_version.false) c.requires.desk refl refl refl refl refl whole of called).0

@@ -1,0 +1,8 @@
+use Rattle.std.proofs.Common.{◌≡◌}
+use Rattle.adept_server.proofs.Asked.{case_failed}
+use Rattle.adept_server.specs.Desks.{desk_view}
+use Rattle.case_core.specs.declared.events.Event.TheVariants.{Change}
+use Rattle.adept_server.proofs.servers.Server.change.Goals as goal
+
+pub returns-in_err-copy-clause-called : goal.returns-in_err-copy-clause-called
+returns-in_err-copy-clause-called g c = case_failed (Change c.args.ops.now) c.args.id (desk_view c.args.desk.now) c.from_residual.result c.from_residual.ensures.1 c.requires.desk.desk c.requires.there

@@ -1,0 +1,31 @@
+use Rattle.std.proofs.Common.{◌≡◌, map, refl, sym, ◌∙◌, subst}
+use Rattle.std.proofs.lemmas.List.{with_items_is}
+use Rattle.std.specs.Vec.{with_items}
+use Rattle.adept_server.proofs.Looks.{desk_opened}
+use Rattle.adept_server.proofs.Made.{looks_made}
+use Rattle.adept_server.proofs.Rows.{AreVecsOf}
+use Rattle.adept_server.specs.Desks.{desk_view}
+use Rattle.adept_server.specs.Offering.{AllLooked, AllOpened}
+use Rattle.turn_cell.specs.Passes.{view_of}
+use Rattle.adept_server.proofs.servers.Server.worklist.Goals as goal
+
+pub look_rows-requires-clause-opening : goal.look_rows-requires-clause-opening
+look_rows-requires-clause-opening g c = subst (λ (qs : _). AllOpened 0 (map (λ row. map view_of row.items) qs)) (sym c.deref_mut.ensures.value) (desk_opened (desk_view c.args.desk.now) c.requires.desk.desk)
+
+pub returns-in_err-look_rows-clause-desk : goal.returns-in_err-look_rows-clause-desk
+returns-in_err-look_rows-clause-desk g c =
+    let d = c.args.desk.now in
+    let rows = c.look_rows.new.passes in
+    let whole = with_items_is d.cases rows (c.look_rows.auto.passes ∙ c.deref_mut.ensures.len) in
+    let of = subst (λ (cs : _). AreVecsOf cs rows) c.deref.ensures.value c.in_err-look_rows.ensures.cells in
+    let looked = subst (λ (qs : _). AllLooked (map (λ row. map view_of row.items) qs) (map (λ row. map view_of row.items) rows)) c.deref_mut.ensures.value c.in_err-look_rows.ensures.looked in
+    (looks_made c.args.self.now d (record d { cases = with_items d.cases rows }) rows c.requires.desk refl refl refl refl refl whole of looked).0
+
+pub returns-clause-desk : goal.returns-clause-desk
+returns-clause-desk g c =
+    let d = c.args.desk.now in
+    let rows = c.look_rows.new.passes in
+    let whole = with_items_is d.cases rows (c.look_rows.auto.passes ∙ c.deref_mut.ensures.len) in
+    let of = subst (λ (cs : _). AreVecsOf cs rows) c.deref.ensures.value c.in_ok-look_rows.ensures.cells in
+    let looked = subst (λ (qs : _). AllLooked (map (λ row. map view_of row.items) qs) (map (λ row. map view_of row.items) rows)) c.deref_mut.ensures.value c.in_ok-look_rows.ensures.looked in
+    (looks_made c.args.self.now d (record d { cases = with_items d.cases rows }) rows c.requires.desk refl refl refl refl refl whole of looked).0

@@ -1,0 +1,73 @@
+-- What the definitions of types leave of the first desk.
+use Rattle.std.proofs.Common.{◌≡◌, ◌≢◌, ℕ, zero, suc, ◌+◌, ◌≤◌, ◌<◌, List, [], ◌∷◌, ◌++◌, length, map, refl, sym, ap, ◌∙◌, subst, arith, Option, Some, None, slice_get, set, Result, Ok, Err, ◌⊎◌, inl, inr}
+use Rattle.adept_server.proofs.Places.{stays_or_set}
+use Rattle.adept_server.specs.Calling.{CallsKind}
+use Rattle.adept_server.specs.Desks.{KindPass, DeskView}
+use Rattle.crew_run.specs.Crew.{kind_at}
+use Rattle.crew_run.specs.Defining.{DefinesAll}
+use Rattle.process_text.specs.declared.files.TypeDecl.{TypeDecl}
+use Rattle.turn_cell.specs.History.{entry}
+use Rattle.turn_cell.specs.declared.faults.CallFault.{CallFault}
+use Rattle.type_core.specs.declared.events.KindEvent.{KindEvent}
+use Rattle.type_core.specs.declared.events.KindEvent.TheVariants as event
+use Rattle.type_core.specs.declared.replies.KindReply.{KindReply}
+use Rattle.wsm_schema.specs.SchemaModel.{SchemaModel}
+
+-- what a definition adds to a pass
+pub record IsDefining (schema : SchemaModel) (p q : KindPass) : Type 0 where
+  pub answer : KindReply
+  pub own_calls : q.own_calls ≡ p.own_calls ++ entry p.number (event.Define schema) answer ∷ []
+  pub past : q.past ≡ p.past
+  pub number : q.number ≡ p.number
+
+set-here : {A : Type 0} (xs : List A) (i : ℕ) (y x : A) → slice_get xs i ≡ Some x → slice_get (set xs i y) i ≡ Some y
+set-here [] i y x e = absurd (cc (e))
+set-here (z ∷ xs) zero y x e = refl
+set-here (z ∷ xs) (suc i) y x e = set-here xs i y x e
+
+-- the pass of another type stays
+kind-other : (e : KindEvent) (t : ℕ) (answer : Result KindReply CallFault) (v w : DeskView) (u : ℕ) (p : KindPass) → CallsKind e t answer v w → u ≢ t → kind_at u v ≡ Some p → kind_at u w ≡ Some p
+kind-other e t answer v w u p k not is = elim (stays_or_set v.kinds t u k.called.behind p is) [
+  | inl same ↦ absurd (not same.0)
+  | inr stays ↦ ap (λ xs. slice_get xs u) k.called.others ∙ stays
+]
+
+-- the pass of the type makes the call
+kind-defines : (schema : SchemaModel) (t : ℕ) (answer : KindReply) (v w : DeskView) (p : KindPass) → CallsKind (event.Define schema) t (Ok answer) v w → kind_at t v ≡ Some p
+    → (q : KindPass) × (kind_at t w ≡ Some q) × IsDefining schema p q
+kind-defines schema t answer v w p k is =
+    let same : k.called.before ≡ p = cc (k.called.there, is) in
+    let called = k.called.called in (
+      k.called.behind,
+      ap (λ xs. slice_get xs t) k.called.others ∙ set-here v.kinds t k.called.behind p is,
+      record {
+        answer = answer;
+        own_calls = called.outcome.own_calls ∙ ap (λ (x : KindPass). x.own_calls ++ entry x.number (event.Define schema) answer ∷ []) same;
+        past = called.past ∙ ap (λ (x : KindPass). x.past) same;
+        number = called.number ∙ ap (λ (x : KindPass). x.number) same;
+      },
+    )
+
+pub defines-cases : (t : ℕ) (ds : List TypeDecl) (v w : DeskView) → DefinesAll t ds v w → (w.cases ≡ v.cases) × (w.number ≡ v.number) × (w.made ≡ v.made) × (w.taken ≡ v.taken)
+defines-cases t [] v w same = (ap (λ (x : DeskView). x.cases) same, ap (λ (x : DeskView). x.number) same, ap (λ (x : DeskView). x.made) same, ap (λ (x : DeskView). x.taken) same)
+defines-cases t (d ∷ ds) v w (answer, m, k, rest) =
+    let r = defines-cases (t + 1) ds m w rest in
+    (r.0 ∙ ap (λ (x : DeskView). x.cases) k.others, r.1 ∙ ap (λ (x : DeskView). x.number) k.others, r.2 ∙ ap (λ (x : DeskView). x.made) k.others, r.3 ∙ ap (λ (x : DeskView). x.taken) k.others)
+
+-- types below the first that is defined stay
+defines-below : (t : ℕ) (ds : List TypeDecl) (v w : DeskView) → DefinesAll t ds v w → (u : ℕ) (p : KindPass) → u < t → kind_at u v ≡ Some p → kind_at u w ≡ Some p
+defines-below t [] v w same u p low is = subst (λ x. kind_at u x ≡ Some p) (sym same) is
+defines-below t (d ∷ ds) v w (answer, m, k, rest) u p low is = defines-below (t + 1) ds m w rest u p (omega arith) (kind-other (event.Define d.schema) t (Ok answer) v m u p k (λ e. omega arith) is)
+
+-- each type is defined
+pub defines-each : (t : ℕ) (ds : List TypeDecl) (v w : DeskView) → DefinesAll t ds v w → (i : ℕ) (d : TypeDecl) (p : KindPass) → slice_get ds i ≡ Some d → kind_at (t + i) v ≡ Some p
+    → (q : KindPass) × (kind_at (t + i) w ≡ Some q) × IsDefining d.schema p q
+defines-each t [] v w same i d p there is = absurd (cc (there))
+defines-each t (c ∷ ds) v w (answer, m, k, rest) zero d p there is =
+    let same : c ≡ d = cc (there) in
+    let here = kind-defines c.schema t answer v m p k (subst (λ n. kind_at n v ≡ Some p) (omega arith) is) in
+    (here.0, subst (λ n. kind_at n w ≡ Some here.0) (omega arith) (defines-below (t + 1) ds m w rest t here.0 (omega arith) here.1), subst (λ (x : TypeDecl). IsDefining x.schema p here.0) same here.2)
+defines-each t (c ∷ ds) v w (answer, m, k, rest) (suc i) d p there is =
+    let before = kind-other (event.Define c.schema) t (Ok answer) v m (t + suc i) p k (λ e. omega arith) is in
+    let r = defines-each (t + 1) ds m w rest i d p there (subst (λ n. kind_at n m ≡ Some p) (omega arith) before) in
+    (r.0, subst (λ n. kind_at n w ≡ Some r.0) (omega arith) r.1, r.2)

@@ -1,0 +1,13 @@
+pub mod Cells
+pub mod Counts
+pub mod Meetings
+pub mod Traces
+pub mod Crew
+pub mod Desks
+pub mod Histories
+pub mod Defining
+pub mod Gathering
+pub mod Whole
+pub mod Beginning
+pub mod DeskMeetings
+pub mod Hired

@@ -1,0 +1,67 @@
+-- A run that a crew makes is legal.
+use Rattle.std.proofs.Common.{◌≡◌, ℕ, zero, suc, ◌+◌, ◌≤◌, ◌<◌, List, [], ◌∷◌, ◌++◌, length, map, refl, sym, ap, ◌∙◌, subst, arith, Option, Some, None, slice_get}
+use Rattle.std.specs.Prelude.{fold}
+use Rattle.std.proofs.lemmas.List.{length-map}
+use Rattle.adept_server.specs.Desks.{KindPass, CasePass, DeskView, kind_after, kind_reply, case_after, case_reply}
+use Rattle.adept_server.specs.Opening.{IsClosedServer, joined_desk}
+use Rattle.adept_server.specs.declared.closing.ClosedServer.{ClosedServer}
+use Rattle.crew_run.proofs.Crew.{traces_of, traces-fit, phases-at}
+use Rattle.crew_run.proofs.Desks.{kind-heard, kind-same, kind-done, kind-legal, case-heard, case-same, case-done, case-legal}
+use Rattle.crew_run.proofs.Gathering.{kind-joined, case-joined, cell-last}
+use Rattle.crew_run.proofs.Histories.{kind-legal-end, case-legal-end}
+use Rattle.crew_run.specs.Closing.{IsRunOf, closed_kind, closed_case}
+use Rattle.crew_run.specs.Crew.{kind_at, case_at, PhasesDone}
+use Rattle.crew_run.specs.Ready.{IsReady, KindReady, CaseReady}
+use Rattle.file_facts.specs.Facts.{IsSound}
+use Rattle.legal_run.specs.Legal.{Legal, IsLegalKind, IsLegalCase}
+use Rattle.legal_run.specs.LineCalls.{on_kind, on_case}
+use Rattle.process_text.specs.declared.files.CaseDecl.{CaseDecl}
+use Rattle.process_text.specs.declared.files.File.{File}
+use Rattle.process_text.specs.declared.files.Line.{Line}
+use Rattle.process_text.specs.declared.files.TypeDecl.{TypeDecl}
+use Rattle.script_run.specs.declared.runs.ClosedCase.{ClosedCase}
+use Rattle.script_run.specs.declared.runs.ClosedKind.{ClosedKind}
+use Rattle.script_run.specs.declared.runs.Run.{Run}
+use Rattle.wsm_lists.specs.Rows.{AllRows}
+
+row-at : {X : Type 0} (P : X → Type 0) (xs : List X) → AllRows P xs → (i : ℕ) (x : X) → slice_get xs i ≡ Some x → P x
+row-at P [] all i x is = absurd (cc (is))
+row-at P (y ∷ xs) (p, all) zero x is = let same : y ≡ x = cc (is) in subst P same p
+row-at P (y ∷ xs) (p, all) (suc i) x is = row-at P xs all i x is
+
+mapped-at : {A B : Type 0} (g : A → B) (xs : List A) (i : ℕ) (x : A) (y : B) → slice_get xs i ≡ Some x → slice_get (map g xs) i ≡ Some y → y ≡ g x
+mapped-at g [] i x y a b = absurd (cc (a))
+mapped-at g (v ∷ xs) zero x y a b = cc (a, b)
+mapped-at g (v ∷ xs) (suc i) x y a b = mapped-at g xs i x y a b
+
+module _ (f : File) (v : DeskView) (vs : List DeskView) (w : DeskView) (ws : List DeskView) (last : DeskView) (ps : PhasesDone f f.phases v vs w ws) (s : ClosedServer) (r : Run) where
+  kind-of : length vs ≡ length f.actors → AllRows IsSound f.types → last ≡ fold joined_desk w ws → IsClosedServer last s → r.kinds ≡ map closed_kind s.kinds.items
+      → (t : ℕ) (d : TypeDecl) (k : ClosedKind) → slice_get f.types t ≡ Some d → slice_get r.kinds t ≡ Some k → KindReady v vs t d → IsLegalKind f (traces_of f f.phases v vs w ws ps) t d k
+  kind-of many sound joined closed kinds t d k at_d at_k ready =
+      let phases = phases-at (kind_at t) (on_kind t) kind_after kind_reply (kind-heard t) (kind-same t) (kind-done t) (kind-legal t) f f.phases v vs w ws ps (λ _. []) ready.pass ready.there ready.met in
+      let (p, at_last, js) = cell-last (kind_at t) kind_after kind_reply (kind-joined t) (length f.actors) _ v vs w ws last ready.pass ready.there (sym many) ready.met phases joined in
+      let (c, at_c, is) = closed.kinds t p at_last in
+      let k_is : k ≡ closed_kind c = mapped-at closed_kind s.kinds.items t c k at_c (ap (λ xs. slice_get xs t) (sym kinds) ∙ at_k) in
+      subst (IsLegalKind f (traces_of f f.phases v vs w ws ps) t d) (sym k_is)
+      (kind-legal-end f v vs w ws last ps t d p c.machine c.journal.items.items many (row-at IsSound f.types sound t d at_d) ready js at_last is)
+
+  case-of : length vs ≡ length f.actors → last ≡ fold joined_desk w ws → IsClosedServer last s → IsRunOf f s r
+      → (i : ℕ) (d : CaseDecl) (k : ClosedCase) → slice_get f.cases i ≡ Some d → slice_get r.cases i ≡ Some k → CaseReady v vs d.id → IsLegalCase f (traces_of f f.phases v vs w ws ps) d k
+  case-of many joined closed run i d k at_d at_k ready =
+      let phases = phases-at (case_at d.id) (on_case d.id) case_after case_reply (case-heard d.id) (case-same d.id) (case-done d.id) (case-legal d.id) f f.phases v vs w ws ps (λ _. []) ready.pass ready.there ready.met in
+      let (p, at_last, js) = cell-last (case_at d.id) case_after case_reply (case-joined d.id) (length f.actors) _ v vs w ws last ready.pass ready.there (sym many) ready.met phases joined in
+      let (c, at_c, is) = closed.cases d.id p at_last in
+      let (c2, at_c2, k_is) = run.cases i d k at_d at_k in
+      let same : c2 ≡ c = cc (at_c, at_c2) in
+      subst (IsLegalCase f (traces_of f f.phases v vs w ws ps) d) (sym (k_is ∙ ap closed_case same))
+      (case-legal-end f v vs w ws last ps d p c.machine c.journal.items.items many ready js at_last is)
+
+  pub legal-of : IsReady f v vs → AllRows IsSound f.types → last ≡ fold joined_desk w ws → length last.kinds ≡ length f.types → IsClosedServer last s → IsRunOf f s r → Legal f r
+  legal-of ready sound joined types closed run = record {
+    traces = traces_of f f.phases v vs w ws ps;
+    of_lines = traces-fit f f.phases v vs w ws ps ready.numbered ready.actors;
+    as_many_kinds = ap length run.kinds ∙ (length-map s.kinds.items closed_kind ∙ (closed.types ∙ types));
+    as_many_cases = run.decls;
+    kinds = λ t d k at_d at_k. kind-of ready.actors sound joined closed run.kinds t d k at_d at_k (ready.kinds t d at_d);
+    cases = λ i d k at_d at_k. case-of ready.actors joined closed run i d k at_d at_k (ready.cases i d at_d);
+  }

@@ -1,0 +1,31 @@
+-- The run that a closed server leaves, in the order of the file's declarations.
+use Rattle.std.specs.Prelude.{◌≡◌, ℕ, List, length, map, Some, slice_get}
+use Rattle.adept_server.specs.Desks.{at_case}
+use Rattle.adept_server.specs.declared.closing.ClosedServer.{ClosedServer}
+use Rattle.case_core.specs.CaseModel.{CaseModel}
+use Rattle.case_core.specs.declared.events.Event.{Event}
+use Rattle.case_core.specs.declared.replies.Reply.{Reply}
+use Rattle.case_core.specs.declared.views.View.{View}
+use Rattle.process_text.specs.declared.files.CaseDecl.{CaseDecl}
+use Rattle.process_text.specs.declared.files.File.{File}
+use Rattle.script_run.specs.declared.runs.ClosedCase.{ClosedCase}
+use Rattle.script_run.specs.declared.runs.ClosedKind.{ClosedKind}
+use Rattle.script_run.specs.declared.runs.Run.{Run}
+use Rattle.turn_cell.specs.declared.journal.Closed.{Closed}
+use Rattle.type_core.specs.KindModel.{KindModel}
+use Rattle.type_core.specs.declared.events.KindEvent.{KindEvent}
+use Rattle.type_core.specs.declared.replies.KindReply.{KindReply}
+
+-- a closed cell as a run keeps it
+abbrev pub closed_kind : Closed KindModel KindEvent KindReply ℕ KindModel → ClosedKind
+closed_kind c = record { machine = c.machine; journal = c.journal.items.items }
+
+abbrev pub closed_case : Closed CaseModel Event Reply View CaseModel → ClosedCase
+closed_case c = record { machine = c.machine; journal = c.journal.items.items }
+
+-- the types in their order, and each case where it was declared
+pub record IsRunOf (f : File) (s : ClosedServer) (r : Run) : Type 0 where
+  pub kinds : r.kinds ≡ map closed_kind s.kinds.items
+  pub decls : length r.cases ≡ length f.cases
+  pub cases : (i : ℕ) (d : CaseDecl) (k : ClosedCase) → slice_get f.cases i ≡ Some d → slice_get r.cases i ≡ Some k
+      → (c : Closed CaseModel Event Reply View CaseModel) × (at_case (map (λ row. row.items) s.cases.items) d.id ≡ Some c) × (k ≡ closed_case c)
