@@ -25,7 +25,7 @@ returns g t c =
     let others : c.args.into.now ≡ closed ∷ c.in-Some.into_left.now = search rules in
     let room = room_in_first c.in-Some-next.row (into_iter_items c.next.new.self) closed c.in-Some.into_left.now c.in-Some-next.ensures.cases.0 others c.requires.room in
     let empty : closed.items ≡ [] = nil_from_length closed.items (omega (arith, closed.ok.0, room.1)) in
-    let row = c.close_into.ensures in
+    let row = c.close_into.ensures.closed in
     let are : c.close_into.new.into.items ≡ row.0 = row.1 ∙ ap (λ xs. xs ++ row.0) empty in
     rows_closed m.after m.reply m.state c.in-Some-next-2.passes c.close_into.new.into (into_iter_items c.next-2.new.self) c.close_all.new.into c.in-Some-next-2.ensures.cases.0 refl
     (subst (AllZip (IsClosedAs m.after m.reply m.state) (views c.in-Some-next-2.passes.items)) (sym are) row.2) c.close_all.ensures

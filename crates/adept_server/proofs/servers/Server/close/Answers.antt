@@ -28,7 +28,7 @@ returns c =
     let s = c.args.self in
     let d = c.args.first in
     let empty : s.closed_kinds.items ≡ [] = nil_from_length s.closed_kinds.items (omega (arith, s.closed_kinds.ok.0, s.room_for_kinds.0)) in
-    let kinds = c.close_into.ensures in
+    let kinds = c.close_into.ensures.closed in
     let are : c.close_into.new.into.items ≡ kinds.0 = kinds.1 ∙ ap (λ cs. cs ++ kinds.0) empty in
     let closed : ClosedServer = record { kinds = c.close_into.new.into; cases = with_items s.closed_cases c.close_all.new.into } in
     server_closed d closed (subst (AllZip (IsClosedAs kind_after kind_reply (λ k. k)) (views d.kinds.items)) (sym are) kinds.2)
