@@ -15,8 +15,6 @@ mod joining;
 mod offering;
 mod one_call;
 mod opening;
-#[cfg(test)]
-mod opening_tests;
 mod servers;
 mod worklists;
 
