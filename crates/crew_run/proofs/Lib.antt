@@ -10,4 +10,7 @@ pub mod Gathering
 pub mod Whole
 pub mod Beginning
 pub mod DeskMeetings
+pub mod CaseCounts
+pub mod CasePlaces
+pub mod Emptying
 pub mod Hired

@@ -23,9 +23,12 @@ closed_kind c = record { machine = c.machine; journal = c.journal.items.items }
 abbrev pub closed_case : Closed CaseModel Event Reply View CaseModel → ClosedCase
 closed_case c = record { machine = c.machine; journal = c.journal.items.items }
 
+-- what a declared case left, in rows of closed cases
+abbrev pub IsClosedAt : List (List (Closed CaseModel Event Reply View CaseModel)) → CaseDecl → ClosedCase → Type 0
+IsClosedAt rows d k = (c : Closed CaseModel Event Reply View CaseModel) × (at_case rows d.id ≡ Some c) × (k ≡ closed_case c)
+
 -- the types in their order, and each case where it was declared
 pub record IsRunOf (f : File) (s : ClosedServer) (r : Run) : Type 0 where
   pub kinds : r.kinds ≡ map closed_kind s.kinds.items
   pub decls : length r.cases ≡ length f.cases
-  pub cases : (i : ℕ) (d : CaseDecl) (k : ClosedCase) → slice_get f.cases i ≡ Some d → slice_get r.cases i ≡ Some k
-      → (c : Closed CaseModel Event Reply View CaseModel) × (at_case (map (λ row. row.items) s.cases.items) d.id ≡ Some c) × (k ≡ closed_case c)
+  pub cases : (i : ℕ) (d : CaseDecl) (k : ClosedCase) → slice_get f.cases i ≡ Some d → slice_get r.cases i ≡ Some k → IsClosedAt (map (λ row. row.items) s.cases.items) d k

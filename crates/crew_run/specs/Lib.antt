@@ -5,4 +5,5 @@ pub mod Defining
 pub mod Closing
 pub mod Ready
 pub mod Beginning
+pub mod CaseCounts
 pub mod Workers

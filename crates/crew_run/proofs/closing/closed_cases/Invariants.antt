@@ -1,0 +1,10 @@
+use Rattle.std.proofs.Common.{◌+◌, ◌≤◌, map, vec_len, vec_capacity}
+use Rattle.crew_run.proofs.Emptying.{EmptiedTo}
+use Rattle.crew_run.specs.Closing.{closed_case}
+use Rattle.crew_run.proofs.closing.closed_cases.Given as goal
+
+abbrev pub invariant-loop-index : goal.invariant-loop-index
+invariant-loop-index l = record {
+  emptied : EmptiedTo closed_case l.file (map (λ row. row.items) l.fn.rows.items) l.index (map (λ row. row.items) l.rows.items) l.all.items;
+  room : vec_len l.all + l.index ≤ vec_capacity l.all;
+}

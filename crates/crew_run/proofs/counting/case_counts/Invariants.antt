@@ -1,0 +1,6 @@
+use Rattle.std.proofs.Common.{length}
+use Rattle.crew_run.proofs.CaseCounts.{CountedUpTo}
+use Rattle.crew_run.proofs.counting.case_counts.Given as goal
+
+abbrev pub invariant-loop-decl : goal.invariant-loop-decl
+invariant-loop-decl l = CountedUpTo l.decl-index (length l.file.types) l.file.cases l.counts.items
