@@ -2,11 +2,14 @@
 #![tactic(auto)]
 
 mod commands;
+#[cfg(test)]
+mod crew_tests;
 mod outcomes;
-mod performing;
+mod reading;
 #[cfg(test)]
 mod tests;
 mod words;
+mod working;
 
 pub use commands::{adept, check_only, play};
 pub use outcomes::Outcome;

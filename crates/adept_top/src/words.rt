@@ -5,7 +5,9 @@ ghost use Rattle.adept_top.specs.Commands.{command_of, command_word};
 /// What the program can be told to do.
 #[derive(Clone, Copy)]
 pub enum Command {
-    /// Works a process file and writes the report.
+    /// Works a process file with a crew of actors in threads, and writes the report.
+    Run,
+    /// Works a process file line by line, and writes the report.
     Play,
     /// Says of each type and each new version whether it is sound.
     Check,
@@ -31,7 +33,9 @@ impl Command {
     fn of_word(word: &str) -> Option<Command>
         ensures { result ≡ command_word word.now }
     {
-        if word == "play" {
+        if word == "run" {
+            Some(Command::Run)
+        } else if word == "play" {
             Some(Command::Play)
         } else if word == "check" {
             Some(Command::Check)

@@ -8,7 +8,7 @@ use Rattle.crew_run.proofs.Cells.{worked-met}
 use Rattle.crew_run.proofs.Meetings.{zip-at}
 use Rattle.crew_run.specs.Cells.{Heard, SeenSame, Worked, HasMet, Phase, Phases}
 use Rattle.crew_run.specs.Crew.{kind_at, case_at, DeskHeard, DeskSame, AreNumbered, ActorDone, PhaseDone, Works, PhasesDone}
-use Rattle.crew_run.specs.Growth.{HasDone, DeskHasDone}
+use Rattle.adept_actor.specs.Growth.{HasDone, DeskHasDone}
 use Rattle.legal_run.specs.Legal.{Trace, IsTrace, AreTraces, IsActor}
 use Rattle.legal_run.specs.LineCalls.{Call, on_kind, on_case}
 use Rattle.process_text.specs.declared.files.File.{File}
@@ -56,7 +56,7 @@ trace-fits Fit first n (v ∷ vs) (w ∷ ws) (d, z) (number, k) a low high =
     (λ not. subst (Fit a) (sym (trace_of-others Fit first n v w vs ws d z a (omega arith))) (trace-fits Fit first (n + 1) vs ws z k a (omega arith) (omega arith)))
 
 -- the crew stays numbered, and as many
-numbered-then : (Fit : ℕ → List Call → Type 0) (first : DeskView) (n : ℕ) (vs ws : List DeskView) → AllZip (ActorDone Fit first) vs ws → AreNumbered n vs → AreNumbered n ws
+pub numbered-then : (Fit : ℕ → List Call → Type 0) (first : DeskView) (n : ℕ) (vs ws : List DeskView) → AllZip (ActorDone Fit first) vs ws → AreNumbered n vs → AreNumbered n ws
 numbered-then Fit first n [] [] z k = tt
 numbered-then Fit first n [] (w ∷ ws) z k = absurd z
 numbered-then Fit first n (v ∷ vs) [] z k = absurd z

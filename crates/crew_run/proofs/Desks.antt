@@ -5,7 +5,7 @@ use Rattle.crew_run.proofs.Crew.{zip-at_case}
 use Rattle.crew_run.proofs.Meetings.{zip-at}
 use Rattle.crew_run.specs.Cells.{Heard, SeenSame}
 use Rattle.crew_run.specs.Crew.{kind_at, case_at, DeskHeard, DeskSame}
-use Rattle.crew_run.specs.Growth.{HasDone, DeskHasDone}
+use Rattle.adept_actor.specs.Growth.{HasDone, DeskHasDone}
 use Rattle.legal_run.specs.LineCalls.{Call, on_kind, on_case}
 use Rattle.turn_cell.specs.Passes.{IsLegalView}
 use Rattle.wsm_sound.specs.declared.versions.CaseId.{CaseId}

@@ -14,3 +14,8 @@ pub mod CaseCounts
 pub mod CasePlaces
 pub mod Emptying
 pub mod Hired
+pub mod Able
+pub mod Ends
+pub mod Steps
+pub mod Sent
+pub mod Start

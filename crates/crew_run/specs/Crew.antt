@@ -3,7 +3,7 @@ use Rattle.std.specs.Prelude.{◌≡◌, ℕ, ◌+◌, ◌≤◌, List, [], ◌�
 use Rattle.std.specs.List.{AllZip}
 use Rattle.adept_server.specs.Desks.{KindPass, CasePass, DeskView, IsDesk, case_pass}
 use Rattle.crew_run.specs.Cells.{Heard, SeenSame}
-use Rattle.crew_run.specs.Growth.{DeskHasDone}
+use Rattle.adept_actor.specs.Growth.{DeskHasDone}
 use Rattle.legal_run.specs.Legal.{cases_of}
 use Rattle.legal_run.specs.LineCalls.{Call, AreCallsOfLines, lines_of}
 use Rattle.process_text.specs.declared.files.File.{File}

@@ -8,10 +8,15 @@ mod closing;
 #[cfg(test)]
 mod closing_tests;
 mod counting;
+mod crews;
+mod definitions;
 mod hiring;
+mod meeting;
+mod phases;
 mod workers;
 
 pub use closing::{dismiss, run_of};
 pub use counting::case_counts;
+pub use crews::crew_run;
 pub use hiring::hire;
 pub use workers::Worker;

@@ -1,0 +1,277 @@
+-- What the calls of an act leave of a desk, and the lines of an actor one after another.
+use Rattle.std.proofs.Common.{◌≡◌, ◌≢◌, ℕ, zero, suc, ◌+◌, ◌≤◌, ◌<◌, Bool, true, false, List, [], ◌∷◌, ◌++◌, length, map, get_or, drop, drop-cons, add-one, filter, Option, Some, None, Result, Ok, Err, slice_get, set, IsErrAnd, is_some, ◌⊎◌, inl, inr, refl, sym, ap, ◌∙◌, subst, arith, append_assoc, ◌==◌, eq-eqb, ne_eqb, if◌then◌else◌}
+use Rattle.std.proofs.Math.ListN.{length-map}
+use Rattle.std.proofs.lemmas.Option.{get_or_from_slice_get}
+use Rattle.adept_actor.proofs.Desks.{case-there, done-defined, nothing-done, then-done, kind-done, case-done, cases-done, each_calls, reply_in}
+use Rattle.adept_actor.proofs.Doing.{get-set_here, each-length}
+use Rattle.adept_actor.specs.Growth.{DeskHasDone}
+use Rattle.adept_actor.specs.Work.{Acts, CanAct, CanWork, Works, Does, SeesFull, case_count, first_fault}
+use Rattle.adept_actor.specs.Work.SeesFull.{of_kind as kind_is_full, of_case as case_is_full}
+use Rattle.adept_server.proofs.Keeping.{kind_beside, kind_keeps}
+use Rattle.adept_server.specs.Calling.{IsAnswered, CallEach, CallsKind, CallsCase, CallsCases, Creates, Migrates}
+use Rattle.adept_server.specs.Calling.Creates.{unasked as uncreated, asked as created}
+use Rattle.adept_server.specs.Calling.Migrates.{unasked as none_moves, asked as none_told, told as all_told}
+use Rattle.adept_server.specs.Desks.{DeskView, kind_after, kind_reply, case_after, case_reply, in_row, at_case, case_pass, has_case, has_kind, CasePass, IsDesk}
+use Rattle.case_core.specs.declared.events.Event.{Event}
+use Rattle.case_core.specs.declared.events.Event.TheVariants as event
+use Rattle.case_core.specs.declared.replies.Reply.{Reply}
+use Rattle.legal_run.specs.LineCalls.{Call, of_kind, of_case, asked, told, told_each, told_some, AreCallsOf, AreCallsOfLines, ArePartOf, AreBegun, lines_of}
+use Rattle.process_text.specs.declared.files.Act.{Act}
+use Rattle.process_text.specs.declared.files.Act.TheVariants as act
+use Rattle.process_text.specs.declared.files.Line.{Line}
+use Rattle.turn_cell.specs.Passes.{PassView}
+use Rattle.turn_cell.specs.declared.faults.CallFault.{CallFault}
+use Rattle.turn_cell.specs.declared.faults.CallFault.TheVariants as fault
+use Rattle.turn_cell.specs.declared.limits.TheConstants.{MAX_ENTRIES}
+use Rattle.type_core.specs.declared.events.KindEvent.{KindEvent}
+use Rattle.type_core.specs.declared.events.KindEvent.TheVariants as kind_event
+use Rattle.type_core.specs.declared.replies.KindReply.{KindReply}
+use Rattle.type_core.specs.declared.replies.KindReply.TheVariants as reply
+use Rattle.wsm_sound.specs.declared.versions.CaseId.{CaseId}
+
+-- where a call answers that the journal is full, the desk has seen that
+kind-full : (e : KindEvent) (t : ℕ) (answer : Result KindReply CallFault) (v w : DeskView) → CallsKind e t answer v w → answer ≡ Err fault.Full → SeesFull w
+kind-full e t answer v w k is =
+    kind_is_full t k.called.behind (ap (λ xs. slice_get xs t) k.called.others ∙ get-set_here v.kinds t k.called.behind k.called.before k.called.there) (k.called.called.full is)
+
+behind-row : (v w : DeskView) (t : ℕ) (row new : List _) → w.cases ≡ set v.cases t new → slice_get v.cases t ≡ Some row → (j : ℕ) → case_pass w (record { type_no = t; place = j }) ≡ slice_get new j
+behind-row v w t row new others there j = ap (λ rows. at_case rows (record { type_no = t; place = j })) others ∙ ap (in_row j) (get-set_here v.cases t new row there)
+
+case-full : (e : Event) (id : CaseId) (answer : Result Reply CallFault) (v w : DeskView) → CallsCase e id answer v w → answer ≡ Err fault.Full → SeesFull w
+case-full e id answer v w k is =
+    case_is_full id k.called.behind
+    (behind-row v w id.type_no k.row k.row_behind (ap (λ (x : DeskView). x.cases) k.others) k.there id.place ∙ (ap (λ xs. slice_get xs id.place) k.called.others ∙ get-set_here k.row id.place k.called.behind k.called.before k.called.there))
+    (k.called.called.full is)
+
+each-full : {M E R W S : Type 0} (after : S → E → S) (reply : S → E → R) (e : E) (vs : List (PassView M E R W S)) (answers : List (Result R CallFault)) (ws : List (PassView M E R W S)) → CallEach after reply e vs answers ws
+    → first_fault answers ≡ Some fault.Full → (j : ℕ) × (q : PassView M E R W S) × (slice_get ws j ≡ Some q) × (length q.seen ≡ MAX_ENTRIES)
+each-full after reply e [] [] [] k is = absurd (cc (is))
+each-full after reply e [] [] (w ∷ ws) k is = absurd k
+each-full after reply e [] (a ∷ answers) ws k is = absurd k
+each-full after reply e (v ∷ vs) [] ws k is = absurd k
+each-full after reply e (v ∷ vs) (a ∷ answers) [] k is = absurd k
+each-full after reply e (v ∷ vs) (Ok r ∷ answers) (w ∷ ws) k is = let r = each-full after reply e vs answers ws k.1 is in (suc r.0, r.1, r.2, r.3)
+each-full after reply e (v ∷ vs) (Err f ∷ answers) (w ∷ ws) k is = (zero, w, refl, k.0.full (ap Err (cc (is))))
+
+cases-full : (e : Event) (t : ℕ) (answers : List (Result Reply CallFault)) (v w : DeskView) → CallsCases e t answers v w → first_fault answers ≡ Some fault.Full → SeesFull w
+cases-full e t answers v w k is =
+    let r = each-full case_after case_reply e k.row answers k.row_behind k.called is in
+    case_is_full (record { type_no = t; place = r.0 }) r.1 (behind-row v w t k.row k.row_behind (ap (λ (x : DeskView). x.cases) k.others) k.there r.0 ∙ r.2) r.3
+
+-- where there is no fault, each case was told
+all-told : (n t : ℕ) (e : Event) (place : ℕ) (answers : List (Result Reply CallFault)) → first_fault answers ≡ None → (rs : List Reply) × (length rs ≡ length answers) × (each_calls n t e place answers ≡ told_each n t e place rs)
+all-told n t e place [] is = ([], refl, refl)
+all-told n t e place (Ok r ∷ answers) is = let k = all-told n t e (place + 1) answers is in (r ∷ k.0, ap suc k.1, ap (λ calls. told n (record { type_no = t; place = place }) e r ∷ calls) k.2)
+all-told n t e place (Err f ∷ answers) is = absurd (cc (is))
+
+module _ (roles : List ℕ) (v w : DeskView) (desk : IsDesk v) where
+  -- a call of a case
+  told-case : (e : Event) (id : CaseId) (answer : Result Reply CallFault) → CallsCase e id answer v w → (r : Reply) → answer ≡ Ok r → DeskHasDone (told v.number id e r ∷ []) v w
+  told-case e id answer k r is = case-done e id (Ok r) v w desk (subst (λ a. CallsCase e id a v w) is k)
+
+  pub start-acts : (id : CaseId) (node : ℕ) (answer : Result Reply CallFault) → CallsCase (event.Start node v.number roles) id answer v w → Acts roles (act.Start id node) answer v w
+  start-acts id node (Ok r) k = (told v.number id (event.Start node v.number roles) r ∷ [], (r, refl), case-done (event.Start node v.number roles) id (Ok r) v w desk k)
+  start-acts id node (Err f) k = (([], refl, case-done (event.Start node v.number roles) id (Err f) v w desk k), λ is. case-full (event.Start node v.number roles) id (Err f) v w k (ap Err is))
+
+  pub end-acts : (id : CaseId) (node : ℕ) (writes : _) (choice : Option ℕ) (answer : Result Reply CallFault) → CallsCase (event.End node v.number writes choice) id answer v w → Acts roles (act.End id node writes choice) answer v w
+  end-acts id node writes choice (Ok r) k = (told v.number id (event.End node v.number writes choice) r ∷ [], (r, refl), case-done (event.End node v.number writes choice) id (Ok r) v w desk k)
+  end-acts id node writes choice (Err f) k = (([], refl, case-done (event.End node v.number writes choice) id (Err f) v w desk k), λ is. case-full (event.End node v.number writes choice) id (Err f) v w k (ap Err is))
+
+  pub change-acts : (id : CaseId) (ops : _) (answer : Result Reply CallFault) → CallsCase (event.Change ops) id answer v w → Acts roles (act.Change id ops) answer v w
+  change-acts id ops (Ok r) k = (told v.number id (event.Change ops) r ∷ [], (r, refl), case-done (event.Change ops) id (Ok r) v w desk k)
+  change-acts id ops (Err f) k = (([], refl, case-done (event.Change ops) id (Err f) v w desk k), λ is. case-full (event.Change ops) id (Err f) v w k (ap Err is))
+
+  pub install-acts : (t : ℕ) (ops : _) (answer : Result KindReply CallFault) → CallsKind (kind_event.Install ops) t answer v w → Acts roles (act.Install t ops) answer v w
+  install-acts t ops (Ok r) k = (_, (r, refl), kind-done (kind_event.Install ops) t (Ok r) v w desk k)
+  install-acts t ops (Err f) k = (([], refl, kind-done (kind_event.Install ops) t (Err f) v w desk k), λ is. kind-full (kind_event.Install ops) t (Err f) v w k (ap Err is))
+
+  -- a type was asked, and a case was told on what it answered
+  asked-told : (version : _) (m : DeskView) (id : CaseId) (answer : Result Reply CallFault) → CallsKind kind_event.Newest id.type_no (Ok (reply.Is version)) v m → CallsCase (event.Create version) id answer m w
+      → (DeskHasDone (asked v.number id.type_no version ∷ []) v m) × (m.number ≡ v.number) × IsDesk m
+  asked-told version m id answer k c = (
+    kind-done kind_event.Newest id.type_no (Ok (reply.Is version)) v m desk k,
+    (kind_beside kind_event.Newest id.type_no (Ok (reply.Is version)) v m k).number,
+    kind_keeps kind_event.Newest id.type_no (Ok (reply.Is version)) v m k desk,
+  )
+
+  pub create-acts : (id : CaseId) (answer : Result Reply CallFault) → Creates id answer v w → Acts roles (act.Create id) answer v w
+  create-acts id (Ok r) (uncreated f is k) = absurd (cc (is))
+  create-acts id (Ok r) (created version m k c) =
+      let a = asked-told version m id (Ok r) k c in
+      let told_it : DeskHasDone (told m.number id (event.Create version) r ∷ []) m w = case-done (event.Create version) id (Ok r) m w a.2 c in (
+        _,
+        (version, r, refl),
+        then-done (asked v.number id.type_no version ∷ []) (told v.number id (event.Create version) r ∷ []) v m w a.0 (subst (λ n. DeskHasDone (told n id (event.Create version) r ∷ []) m w) a.1 told_it),
+      )
+  create-acts id (Err f) (uncreated g is k) =
+      let same : g ≡ f = cc (is) in
+      (([], inl refl, kind-done kind_event.Newest id.type_no (Err g) v w desk k), λ full. kind-full kind_event.Newest id.type_no (Err g) v w k (ap Err (same ∙ full)))
+  create-acts id (Err f) (created version m k c) =
+      let a = asked-told version m id (Err f) k c in (
+        (_, inr (version, refl), then-done (asked v.number id.type_no version ∷ []) [] v m w a.0 (case-done (event.Create version) id (Err f) m w a.2 c)),
+        λ full. case-full (event.Create version) id (Err f) m w c (ap Err full),
+      )
+
+  -- the cases of a type were told to move
+  moved : (t : ℕ) (version : _) (m : DeskView) (answers : List (Result Reply CallFault)) → CallsKind kind_event.Newest t (Ok (reply.Is version)) v m → CallsCases (event.Migrate version) t answers m w
+      → DeskHasDone (asked v.number t version ∷ each_calls v.number t (event.Migrate version) 0 answers) v w × (length answers ≡ case_count v t)
+  moved t version m answers k c =
+      let asked_it = kind-done kind_event.Newest t (Ok (reply.Is version)) v m desk k in
+      let kept = kind_keeps kind_event.Newest t (Ok (reply.Is version)) v m k desk in
+      let number = (kind_beside kind_event.Newest t (Ok (reply.Is version)) v m k).number in
+      let there : slice_get v.cases t ≡ Some c.row = ap (λ rows. slice_get rows t) (sym (ap (λ (x : DeskView). x.cases) k.others)) ∙ c.there in (
+        then-done (asked v.number t version ∷ []) (each_calls v.number t (event.Migrate version) 0 answers) v m w asked_it
+            (subst (λ n. DeskHasDone (each_calls n t (event.Migrate version) 0 answers) m w) number (cases-done (event.Migrate version) t answers m w kept c)),
+        (each-length case_after case_reply (event.Migrate version) c.row answers c.row_behind c.called).1 ∙ sym (ap length (get_or_from_slice_get v.cases t c.row [] there)),
+      )
+
+  pub migrate-acts : (t : ℕ) (answers : List (Result Reply CallFault)) → Migrates t (Ok answers) v w
+      → (first_fault answers ≡ None → Does (AreCallsOf (case_count v) roles v.number (act.Migrate t)) v w)
+      × ((f : CallFault) → first_fault answers ≡ Some f → Does (ArePartOf (case_count v) roles v.number (act.Migrate t)) v w × (f ≡ fault.Full → SeesFull w))
+  migrate-acts t answers (none_moves f is k) = absurd (cc (is))
+  migrate-acts t answers (none_told version is k) = absurd (cc (is))
+  migrate-acts t answers (all_told version m others is k c) =
+      let same : others ≡ answers = cc (is) in
+      let told : CallsCases (event.Migrate version) t answers m w = subst (λ xs. CallsCases (event.Migrate version) t xs m w) same c in
+      let d = moved t version m answers k told in (
+        λ none.
+            let all = all-told v.number t (event.Migrate version) 0 answers none in
+            (_, (version, all.0, all.1 ∙ d.1, ap (λ calls. asked v.number t version ∷ calls) all.2), d.0),
+        λ f some. ((_, inr (version, map reply_in answers, (let n = length-map answers reply_in in omega (arith, d.1)), refl), d.0), λ full. cases-full (event.Migrate version) t answers m w told (some ∙ ap Some full)),
+      )
+
+  pub migrate-fails : (t : ℕ) (f : CallFault) → Migrates t (Err f) v w → Does (ArePartOf (case_count v) roles v.number (act.Migrate t)) v w × (f ≡ fault.Full → SeesFull w)
+  migrate-fails t f (none_moves g is k) =
+      let same : g ≡ f = cc (is) in
+      (([], inl refl, kind-done kind_event.Newest t (Err g) v w desk k), λ full. kind-full kind_event.Newest t (Err g) v w k (ap Err (same ∙ full)))
+  migrate-fails t f (none_told version is k) =
+      ((_, inr (version, [], omega arith, refl), kind-done kind_event.Newest t (Ok (reply.Is version)) v w desk k), λ full. absurd (cc (is, full)))
+  migrate-fails t f (all_told version m answers is k c) = absurd (cc (is))
+
+-- how an act ended, told without its reply
+pub acts-fault : {B : Type 0} (roles : List ℕ) (x y : Act) (v w : DeskView) (f : CallFault) (b : Result B CallFault) → y ≡ x → IsErrAnd b (λ g. g ≡ f) → Acts {A = Unit {0}} roles x (Err f) v w → Acts {A = B} roles y b v w
+acts-fault roles x y v w f (Ok r) is same k = absurd same
+acts-fault {B} roles x y v w f (Err g) is same k = subst (λ h. Acts {A = B} roles y (Err h) v w) (sym same) (subst (λ z. Acts {A = B} roles z (Err f) v w) (sym is) k)
+
+-- the calls of an act are the same where each type has as many cases
+same-act : (many others : ℕ → ℕ) → ((t : ℕ) → many t ≡ others t) → (roles : List ℕ) (a : ℕ) (x : Act) (calls : List Call) → AreCallsOf many roles a x calls → AreCallsOf others roles a x calls
+same-act many others same roles a (act.Create c) calls k = k
+same-act many others same roles a (act.Start c n) calls k = k
+same-act many others same roles a (act.End c n writes choice) calls k = k
+same-act many others same roles a (act.Change c ops) calls k = k
+same-act many others same roles a (act.Install t ops) calls k = k
+same-act many others same roles a (act.Migrate t) calls (v, rs, many_told, is) = (v, rs, many_told ∙ same t, is)
+
+same-part : (many others : ℕ → ℕ) → ((t : ℕ) → many t ≡ others t) → (roles : List ℕ) (a : ℕ) (x : Act) (calls : List Call) → ArePartOf many roles a x calls → ArePartOf others roles a x calls
+same-part many others same roles a (act.Create c) calls k = k
+same-part many others same roles a (act.Start c n) calls k = k
+same-part many others same roles a (act.End c n writes choice) calls k = k
+same-part many others same roles a (act.Change c ops) calls k = k
+same-part many others same roles a (act.Install t ops) calls k = k
+same-part many others same roles a (act.Migrate t) calls (inl none) = inl none
+same-part many others same roles a (act.Migrate t) calls (inr (v, answers, few, is)) = inr (v, answers, (let e = same t in omega (arith, few)), is)
+
+-- as many cases of each type
+same-counts : {A B : Type 0} (rows : List (List A)) (others : List (List B)) → map length others ≡ map length rows → (t : ℕ) → length (get_or others t []) ≡ length (get_or rows t [])
+same-counts [] [] is t = refl
+same-counts [] (x ∷ others) is t = absurd (cc (is))
+same-counts (row ∷ rows) [] is t = absurd (cc (is))
+same-counts (row ∷ rows) (x ∷ others) is zero = cc (is)
+same-counts (row ∷ rows) (x ∷ others) is (suc t) = same-counts rows others (cc (is)) t
+
+module _ (roles : List ℕ) where
+  -- Some lines of a whole are left, and whatever they come to, the whole comes to.
+  pub record Leads (whole left : List Line) (v w : DeskView) : Type 0 where
+    pub number : w.number ≡ v.number
+    pub rows : map length w.cases ≡ map length v.cases
+    pub done : (u : DeskView) → Does (AreCallsOfLines (case_count v) roles v.number (lines_of v.number left)) w u → Does (AreCallsOfLines (case_count v) roles v.number (lines_of v.number whole)) v u
+    pub begun : (u : DeskView) → Does (AreBegun (case_count v) roles v.number (lines_of v.number left)) w u → Does (AreBegun (case_count v) roles v.number (lines_of v.number whole)) v u
+
+  pub leads-all : (lines : List Line) (v : DeskView) → Leads lines lines v v
+  leads-all lines v = record { number = refl; rows = refl; done = λ u k. k; begun = λ u k. k }
+
+  own-line : (n : ℕ) (l : Line) (left : List Line) → l.actor ≡ n → lines_of n (l ∷ left) ≡ l ∷ lines_of n left
+  own-line n l left is = ap (λ (b : Bool). if b then l ∷ lines_of n left else lines_of n left) (eq-eqb l.actor n is)
+
+  other-line : (n : ℕ) (l : Line) (left : List Line) → l.actor ≢ n → lines_of n (l ∷ left) ≡ lines_of n left
+  other-line n l left not = ap (λ (b : Bool). if b then l ∷ lines_of n left else lines_of n left) (ne_eqb l.actor n not)
+
+  module _ (whole left : List Line) (l : Line) (v w : DeskView) (k : Leads whole (l ∷ left) v w) where
+    -- another's line is passed over
+    pub leads-over : l.actor ≢ w.number → Leads whole left v w
+    leads-over not =
+        let same = other-line v.number l left (λ is. not (is ∙ sym k.number)) in
+        record {
+          number = k.number;
+          rows = k.rows;
+          done = λ u d. k.done u (subst (λ ls. Does (AreCallsOfLines (case_count v) roles v.number ls) w u) (sym same) d);
+          begun = λ u d. k.begun u (subst (λ ls. Does (AreBegun (case_count v) roles v.number ls) w u) (sym same) d);
+        }
+
+    -- a line is worked
+    pub leads-on : (m : DeskView) → l.actor ≡ w.number → Does (AreCallsOf (case_count w) roles w.number l.act) w m → Leads whole left v m
+    leads-on m own (first, fit, d) =
+        let same = own-line v.number l left (own ∙ k.number) in
+        let here : AreCallsOf (case_count v) roles v.number l.act first = subst (λ n. AreCallsOf (case_count v) roles n l.act first) k.number (same-act (case_count w) (case_count v) (same-counts v.cases w.cases k.rows) roles w.number l.act first fit) in
+        record {
+          number = d.number ∙ k.number;
+          rows = d.rows ∙ k.rows;
+          done = λ u r. k.done u (subst (λ ls. Does (AreCallsOfLines (case_count v) roles v.number ls) w u) (sym same) (first ++ r.0, (first, r.0, refl, here, r.1), then-done first r.0 w m u d r.2));
+          begun = λ u r. k.begun u (subst (λ ls. Does (AreBegun (case_count v) roles v.number ls) w u) (sym same) (first ++ r.0, inr (first, r.0, refl, here, r.1), then-done first r.0 w m u d r.2));
+        }
+
+    -- a line is begun up to a fault
+    pub leads-begun : (m : DeskView) → l.actor ≡ w.number → Does (ArePartOf (case_count w) roles w.number l.act) w m → Does (AreBegun (case_count v) roles v.number (lines_of v.number whole)) v m
+    leads-begun m own (calls, part, d) =
+        let same = own-line v.number l left (own ∙ k.number) in
+        let here : ArePartOf (case_count v) roles v.number l.act calls = subst (λ n. ArePartOf (case_count v) roles n l.act calls) k.number (same-part (case_count w) (case_count v) (same-counts v.cases w.cases k.rows) roles w.number l.act calls part) in
+        k.begun m (subst (λ ls. Does (AreBegun (case_count v) roles v.number ls) w m) (sym same) (calls, inl here, d))
+
+  -- no line is left
+  pub leads-end : (whole : List Line) (v w : DeskView) → Leads whole [] v w → Does (AreCallsOfLines (case_count v) roles v.number (lines_of v.number whole)) v w
+  leads-end whole v w k = k.done w ([], refl, nothing-done w)
+
+-- the calls of lines are the same where each type has as many cases
+pub same-lines : (many others : ℕ → ℕ) → ((t : ℕ) → many t ≡ others t) → (roles : List ℕ) (a : ℕ) (ls : List Line) (calls : List Call) → AreCallsOfLines many roles a ls calls → AreCallsOfLines others roles a ls calls
+same-lines many others same roles a [] calls k = k
+same-lines many others same roles a (l ∷ ls) calls (first, rest, is, fit, k) = (first, rest, is, same-act many others same roles a l.act first fit, same-lines many others same roles a ls rest k)
+
+pub same-begun : (many others : ℕ → ℕ) → ((t : ℕ) → many t ≡ others t) → (roles : List ℕ) (a : ℕ) (ls : List Line) (calls : List Call) → AreBegun many roles a ls calls → AreBegun others roles a ls calls
+same-begun many others same roles a [] calls k = absurd k
+same-begun many others same roles a (l ∷ ls) calls (inl part) = inl (same-part many others same roles a l.act calls part)
+same-begun many others same roles a (l ∷ ls) calls (inr (first, rest, is, fit, k)) = inr (first, rest, is, same-act many others same roles a l.act first fit, same-begun many others same roles a ls rest k)
+
+-- how lines ended that met a fault
+pub works-fault : {B : Type 0} (roles : List ℕ) (lines : List Line) (v w : DeskView) (f : CallFault) (b : Result B CallFault) → IsErrAnd b (λ g. g ≡ f) → Works {A = Unit {0}} roles lines (Err f) v w → Works {A = B} roles lines b v w
+works-fault roles lines v w f (Ok r) same k = absurd same
+works-fault {B} roles lines v w f (Err g) same k = subst (λ h. Works {A = B} roles lines (Err h) v w) (sym same) k
+
+-- a desk that can make the calls of an act can still do so behind other calls
+module _ (calls : List Call) (v w : DeskView) (d : DeskHasDone calls v w) where
+  case-still : (c : CaseId) → has_case v c → has_case w c
+  case-still c = go (case_pass v c) refl
+    where
+      go : (o : Option CasePass) → case_pass v c ≡ o → is_some o ≡ true → has_case w c
+      go None is has = absurd (cc (has))
+      go (Some p) is has = ap is_some (case-there v.cases w.cases c p d.rows is).1
+
+  kind-still : (t : ℕ) → has_kind v t → has_kind w t
+  kind-still t there = let e = d.types in omega (arith, there)
+
+  act-still : (x : Act) → CanAct v x → CanAct w x
+  act-still (act.Create c) (there, known) = (case-still c there, done-defined calls v w d c.type_no known)
+  act-still (act.Start c node) there = case-still c there
+  act-still (act.End c node writes choice) there = case-still c there
+  act-still (act.Change c ops) (there, few) = (case-still c there, few)
+  act-still (act.Install t ops) (there, few) = (kind-still t there, few)
+  act-still (act.Migrate t) (there, known) = (kind-still t there, done-defined calls v w d t known)
+
+  pub work-still : (lines : List Line) → CanWork v lines → CanWork w lines
+  work-still [] all = tt
+  work-still (l ∷ lines) (can, all) = (λ own. act-still l.act (can (own ∙ d.number)), work-still lines all)
+
+-- the line at a place, and those behind it
+pub split-at : (items lines : List Line) (i : ℕ) (l : Line) → items ≡ lines → i < length items → l ≡ get_or items i l → drop i lines ≡ l ∷ drop (i + 1) lines
+split-at items lines i l same low is =
+    let cut : drop i items ≡ get_or items i l ∷ drop (i + 1) items = rw add-one (drop-cons items i l low) in
+    subst (λ xs. drop i xs ≡ l ∷ drop (i + 1) xs) same (cut ∙ ap (λ x. x ∷ drop (i + 1) items) (sym is))

@@ -1,0 +1,117 @@
+-- What calls leave of passes.
+use Rattle.std.proofs.Common.{◌≡◌, ◌≢◌, ℕ, zero, suc, ◌+◌, ◌<◌, Bool, true, false, List, [], ◌∷◌, ◌++◌, length, map, Option, Some, None, Result, Ok, Err, MatchResult, slice_get, set, ◌⊎◌, inl, inr, refl, sym, ap, ◌∙◌, subst, arith, append_assoc, ◌==◌, eq-eqb, ne_eqb, if◌then◌else◌}
+use Rattle.std.proofs.lemmas.List.{append-nil}
+use mathlib.Core.Logic.{dite}
+use native.Mathlib.Decide.{ℕ_discrete}
+use Rattle.adept_actor.specs.Growth.{HasDone}
+use Rattle.adept_server.proofs.OneCall.{more_seen}
+use Rattle.adept_server.specs.Calling.{IsAnswered, CallsOne, CallEach}
+use Rattle.turn_cell.proofs.Prefixes.{prefix_self, prefix_trans}
+use Rattle.turn_cell.specs.History.{entry}
+use Rattle.turn_cell.specs.Passes.{PassView, Sees, Calls}
+use Rattle.turn_cell.specs.declared.faults.CallFault.{CallFault}
+use Rattle.turn_cell.specs.declared.journal.Entry.{Entry}
+
+module _ {A : Type 0} where
+  pub get-set_here : (xs : List A) (i : ℕ) (y x : A) → slice_get xs i ≡ Some x → slice_get (set xs i y) i ≡ Some y
+  get-set_here [] i y x e = absurd (cc (e))
+  get-set_here (z ∷ xs) zero y x e = refl
+  get-set_here (z ∷ xs) (suc i) y x e = get-set_here xs i y x e
+
+  pub get-set_other : (xs : List A) (i j : ℕ) (y : A) → i ≢ j → slice_get (set xs i y) j ≡ slice_get xs j
+  get-set_other [] i j y not = refl
+  get-set_other (x ∷ xs) zero zero y not = absurd (not refl)
+  get-set_other (x ∷ xs) zero (suc j) y not = refl
+  get-set_other (x ∷ xs) (suc i) zero y not = refl
+  get-set_other (x ∷ xs) (suc i) (suc j) y not = get-set_other xs i j y (λ e. not (ap suc e))
+
+  -- a choice between the same
+  pub either_same : (b : Bool) (x : A) → (if b then x else x) ≡ x
+  either_same true x = refl
+  either_same false x = refl
+
+pub some_one : {A : Type 0} {x y : A} {o : Option A} → o ≡ Some x → o ≡ Some y → x ≡ y
+some_one e f = cc (e, f)
+
+module _ {M E R W S : Type 0} where
+  -- no call
+  pub none-done : (p q : PassView M E R W S) → p ≡ q → HasDone [] p q
+  none-done p q is = subst (HasDone [] p) is (record { cell = refl; opening = refl; number = refl; made = refl; taken = refl; past = refl; more = prefix_self p.seen; own_calls = sym (append-nil p.own_calls) })
+
+  -- calls and then more
+  pub more-done : (es fs : List (Entry M E R W S)) (p q r : PassView M E R W S) → HasDone es p q → HasDone fs q r → HasDone (es ++ fs) p r
+  more-done es fs p q r h k = record {
+    cell = k.cell ∙ h.cell;
+    opening = k.opening ∙ h.opening;
+    number = k.number ∙ h.number;
+    made = k.made ∙ h.made;
+    taken = k.taken ∙ h.taken;
+    past = k.past ∙ h.past;
+    more = prefix_trans p.seen q.seen r.seen h.more k.more;
+    own_calls = k.own_calls ∙ (ap (λ xs. xs ++ fs) h.own_calls ∙ append_assoc p.own_calls es fs);
+  }
+
+  -- the entries of one call: none where there was a fault
+  abbrev pub entries_of : ℕ → E → Result R CallFault → List (Entry M E R W S)
+  entries_of n e (Ok r) = entry n e r ∷ []
+  entries_of n e (Err f) = []
+
+  abbrev pub entries_at : ℕ → E → Option (Result R CallFault) → List (Entry M E R W S)
+  entries_at n e None = []
+  entries_at n e (Some answer) = entries_of n e answer
+
+module _ {M E R W S : Type 0} (after : S → E → S) (reply : S → E → R) (e : E) where
+  pub answered-done : (p q : PassView M E R W S) (answer : Result R CallFault) (n : ℕ) → p.number ≡ n → IsAnswered after reply e p answer q → HasDone (entries_of n e answer) p q
+  answered-done p q answer n numbered k = record {
+    cell = k.cell;
+    opening = k.opening;
+    number = k.number;
+    made = k.made;
+    taken = k.taken;
+    past = k.past;
+    more = more_seen after reply e p q answer k;
+    own_calls = subst (λ m. q.own_calls ≡ p.own_calls ++ entries_of m e answer) numbered (go answer k.outcome);
+  }
+    where
+      go : (a : Result R CallFault) → MatchResult a (λ r. Calls after reply e p r q) (λ _. Sees after reply p q) → q.own_calls ≡ p.own_calls ++ entries_of p.number e a
+      go (Ok r) o = o.own_calls
+      go (Err f) o = o.own_calls ∙ sym (append-nil p.own_calls)
+
+  -- one pass of a list called, and no other
+  pub one-done : (i : ℕ) (answer : Result R CallFault) (vs ws : List (PassView M E R W S)) (n : ℕ) → ((p : PassView M E R W S) → slice_get vs i ≡ Some p → p.number ≡ n) → CallsOne after reply e i answer vs ws
+      → (j : ℕ) (p q : PassView M E R W S) → slice_get vs j ≡ Some p → slice_get ws j ≡ Some q → HasDone (if i == j then entries_of n e answer else []) p q
+  one-done i answer vs ws n numbered k j p q there there_then =
+      dite (ℕ_discrete i j)
+      (λ (same : i ≡ j). subst (λ b. HasDone (if b then entries_of n e answer else []) p q) (sym (eq-eqb i j same)) (here (subst (λ x. slice_get vs x ≡ Some p) (sym same) there) (subst (λ x. slice_get ws x ≡ Some q) (sym same) there_then)))
+      (λ (not : i ≢ j). subst (λ b. HasDone (if b then entries_of n e answer else []) p q) (sym (ne_eqb i j not)) (none-done p q (stays not)))
+    where
+      here : slice_get vs i ≡ Some p → slice_get ws i ≡ Some q → HasDone (entries_of n e answer) p q
+      here at at_then =
+          let is_p : k.before ≡ p = some_one k.there at in
+          let is_q : k.behind ≡ q = some_one (ap (λ xs. slice_get xs i) k.others ∙ get-set_here vs i k.behind k.before k.there) at_then in
+          answered-done p q answer n (numbered p at) (subst (λ x. IsAnswered after reply e p answer x) is_q (subst (λ x. IsAnswered after reply e x answer k.behind) is_p k.called))
+
+      stays : i ≢ j → p ≡ q
+      stays not = some_one there (sym (get-set_other vs i j k.behind not) ∙ (sym (ap (λ xs. slice_get xs j) k.others) ∙ there_then))
+
+  -- each pass of a list called
+  pub each-done : (vs : List (PassView M E R W S)) (answers : List (Result R CallFault)) (ws : List (PassView M E R W S)) (n : ℕ) → ((j : ℕ) (p : PassView M E R W S) → slice_get vs j ≡ Some p → p.number ≡ n) → CallEach after reply e vs answers ws
+      → (j : ℕ) (p q : PassView M E R W S) → slice_get vs j ≡ Some p → slice_get ws j ≡ Some q → HasDone (entries_at n e (slice_get answers j)) p q
+  each-done [] [] [] n numbered k j p q there there_then = absurd (cc (there))
+  each-done [] [] (w ∷ ws) n numbered k j p q there there_then = absurd k
+  each-done [] (a ∷ answers) ws n numbered k j p q there there_then = absurd k
+  each-done (v ∷ vs) [] ws n numbered k j p q there there_then = absurd k
+  each-done (v ∷ vs) (a ∷ answers) [] n numbered k j p q there there_then = absurd k
+  each-done (v ∷ vs) (a ∷ answers) (w ∷ ws) n numbered k zero p q there there_then =
+      let is_p : v ≡ p = cc (there) in
+      let is_q : w ≡ q = cc (there_then) in
+      answered-done p q a n (numbered zero p there) (subst (λ x. IsAnswered after reply e p a x) is_q (subst (λ x. IsAnswered after reply e x a w) is_p k.0))
+  each-done (v ∷ vs) (a ∷ answers) (w ∷ ws) n numbered k (suc j) p q there there_then = each-done vs answers ws n (λ i x at. numbered (suc i) x at) k.1 j p q there there_then
+
+  pub each-length : (vs : List (PassView M E R W S)) (answers : List (Result R CallFault)) (ws : List (PassView M E R W S)) → CallEach after reply e vs answers ws → (length ws ≡ length vs) × (length answers ≡ length vs)
+  each-length [] [] [] k = (refl, refl)
+  each-length [] [] (w ∷ ws) k = absurd k
+  each-length [] (a ∷ answers) ws k = absurd k
+  each-length (v ∷ vs) [] ws k = absurd k
+  each-length (v ∷ vs) (a ∷ answers) [] k = absurd k
+  each-length (v ∷ vs) (a ∷ answers) (w ∷ ws) k = let r = each-length vs answers ws k.1 in (ap suc r.0, ap suc r.1)

@@ -1,0 +1,56 @@
+-- What an actor's work on lines leaves of its desk.
+use Rattle.std.specs.Prelude.{◌≡◌, ℕ, ◌≤◌, List, [], ◌∷◌, length, get_or, MatchResult, Option, Some, None, Result, Ok, Err, slice_get}
+use Rattle.adept_actor.specs.Growth.{DeskHasDone}
+use Rattle.adept_server.specs.Desks.{KindPass, CasePass, DeskView, IsDefinedFor, case_pass, has_case, has_kind}
+use Rattle.legal_run.specs.LineCalls.{Call, AreCallsOf, AreCallsOfLines, ArePartOf, AreBegun, lines_of}
+use Rattle.process_text.specs.declared.files.Act.{Act}
+use Rattle.process_text.specs.declared.files.Act.TheVariants as act
+use Rattle.process_text.specs.declared.files.Line.{Line}
+use Rattle.turn_cell.specs.declared.faults.CallFault.{CallFault}
+use Rattle.turn_cell.specs.declared.faults.CallFault.TheVariants as fault
+use Rattle.turn_cell.specs.declared.limits.TheConstants.{MAX_ENTRIES}
+use Rattle.wsm_lists.specs.Rows.{AllRows}
+use Rattle.wsm_sound.specs.declared.versions.CaseId.{CaseId}
+
+-- how many cases a type has
+abbrev pub case_count : DeskView → ℕ → ℕ
+case_count v t = length (get_or v.cases t [])
+
+-- The calls of an act can be made: its type or case is there, a type that is asked has a version, and its operations are not too many.
+abbrev pub CanAct : DeskView → Act → Type 0
+CanAct v (act.Create c) = has_case v c × IsDefinedFor v c.type_no
+CanAct v (act.Start c node) = has_case v c
+CanAct v (act.End c node writes choice) = has_case v c
+CanAct v (act.Change c ops) = has_case v c × (length ops ≤ 256)
+CanAct v (act.Install t ops) = has_kind v t × (length ops ≤ 256)
+CanAct v (act.Migrate t) = has_kind v t × IsDefinedFor v t
+
+-- those of the desk's own lines can
+abbrev pub CanWork : DeskView → List Line → Type 0
+CanWork v lines = AllRows (λ l. l.actor ≡ v.number → CanAct v l.act) lines
+
+-- a cell of which the desk has seen as many entries as a journal may have
+pub data SeesFull (v : DeskView) : Type 0 where
+  of_kind : (t : ℕ) (p : KindPass) → slice_get v.kinds t ≡ Some p → length p.seen ≡ MAX_ENTRIES → SeesFull v
+  of_case : (c : CaseId) (p : CasePass) → case_pass v c ≡ Some p → length p.seen ≡ MAX_ENTRIES → SeesFull v
+
+-- the first fault among answers
+abbrev pub first_fault : {R : Type 0} → List (Result R CallFault) → Option CallFault
+first_fault [] = None
+first_fault (Ok r ∷ answers) = first_fault answers
+first_fault (Err f ∷ answers) = Some f
+
+-- the desk has made calls that are such
+abbrev pub Does : (List Call → Type 0) → DeskView → DeskView → Type 0
+Does Fit v w = (calls : List Call) × Fit calls × DeskHasDone calls v w
+
+-- What work leaves, where these are the calls of the whole and those up to a fault. The fault is `Full` only where a cell is.
+abbrev pub Leaves : {A : Type 0} → (List Call → Type 0) → (List Call → Type 0) → Result A CallFault → DeskView → DeskView → Type 0
+Leaves Whole Begun answer v w = MatchResult answer (λ _. Does Whole v w) (λ f. Does Begun v w × (f ≡ fault.Full → SeesFull w))
+
+-- an actor with these roles works an act, and the lines of its own among these
+abbrev pub Acts : {A : Type 0} → List ℕ → Act → Result A CallFault → DeskView → DeskView → Type 0
+Acts roles a answer v w = Leaves (AreCallsOf (case_count v) roles v.number a) (ArePartOf (case_count v) roles v.number a) answer v w
+
+abbrev pub Works : {A : Type 0} → List ℕ → List Line → Result A CallFault → DeskView → DeskView → Type 0
+Works roles lines answer v w = Leaves (AreCallsOfLines (case_count v) roles v.number (lines_of v.number lines)) (AreBegun (case_count v) roles v.number (lines_of v.number lines)) answer v w

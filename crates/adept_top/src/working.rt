@@ -1,0 +1,103 @@
+// The commands on a process file that was read. Nothing is written before the work is done.
+ghost use Rattle.std.specs.Prelude.{◌≡◌, ◌⊎◌, Some, None};
+ghost use Rattle.std.specs.Io.KnownBytes.{Appends};
+ghost use Rattle.adept_io.specs.Counts.{Rose};
+ghost use Rattle.adept_io.specs.Written.{AppendsPrefix};
+ghost use Rattle.adept_top.specs.Works.{Works};
+ghost use Rattle.file_facts.specs.Facts.{IsWorkable};
+ghost use Rattle.process_text.specs.Sizes.{IsBounded};
+ghost use Rattle.report_text.specs.Report.{text};
+
+use crate::outcomes::Outcome;
+use crate::words::Command;
+use adept_io::Sink;
+use crew_run::crew_run;
+use process_text::File;
+use report_text::{Run, write_run, write_verdicts};
+use script_run::{serial_run, verdicts};
+use std::alloc::Global;
+use std::sync::Wait;
+use std::thread::Threads;
+use turn_cell::Gate;
+
+/// The command on a file.
+pub fn work_file<R: Threads + Wait + Sync, K: Sink, G: Gate + Sync>(
+    rt: &R,
+    alloc: Global,
+    command: Command,
+    file: &File,
+    sink: &mut K,
+    gate: &G,
+) -> Outcome
+    requires bounded { IsBounded file.now }
+    requires workable { IsWorkable file.now }
+    ensures { Works K.written K.faults command file.now sink.old sink.new result }
+{
+    match command {
+        Command::Run => run_file(rt, alloc, file, sink, gate),
+        Command::Play => play_file(alloc, file, sink),
+        Command::Check => check_file(alloc, file, sink),
+    }
+}
+
+// Works the lines of a file with a crew, each actor its own, and writes the report.
+fn run_file<R: Threads + Wait + Sync, K: Sink, G: Gate + Sync>(
+    rt: &R,
+    alloc: Global,
+    file: &File,
+    sink: &mut K,
+    gate: &G,
+) -> Outcome
+    requires { IsWorkable file.now }
+    ensures { Works K.written K.faults Command.Run file.now sink.old sink.new result }
+{
+    match crew_run(rt, alloc, file, gate) {
+        Ok(run) => report(file, run, sink),
+        Err(_) => Outcome::of_status(5),
+    }
+}
+
+/// Works the lines of a file in their order, and writes the report.
+pub fn play_file<K: Sink>(alloc: Global, file: &File, sink: &mut K) -> Outcome
+    requires { IsBounded file.now }
+    ensures { Works K.written K.faults Command.Play file.now sink.old sink.new result }
+{
+    match serial_run(alloc, file) {
+        Ok(run) => report(file, run, sink),
+        Err(_) => Outcome::of_status(5),
+    }
+}
+
+// Writes the report of a run.
+fn report<K: Sink>(file: &File, run: Run, sink: &mut K) -> Outcome
+    ensures statuses { (result.status ≡ 0) ⊎ (result.status ≡ 4) }
+    ensures done { result.status ≡ 0 → Appends (K.written sink.old) (K.written sink.new) (text file.now run) }
+    ensures begun { result.status ≡ 4 → AppendsPrefix (K.written sink.old) (K.written sink.new) (text file.now run) }
+    ensures unwritten { result.status ≡ 4 → Rose (K.faults sink.old) (K.faults sink.new) }
+    ensures run { result.run ≡ Some run }
+    ensures no_place { result.place ≡ None }
+{
+    let status = match write_run(file, &run, sink) {
+        Ok(()) => 0,
+        Err(_) => 4,
+    };
+    Outcome {
+        status,
+        run: Some(run),
+        place: None,
+    }
+}
+
+/// Writes which types are sound, and what becomes of each install.
+pub fn check_file<K: Sink>(alloc: Global, file: &File, sink: &mut K) -> Outcome
+    requires { IsBounded file.now }
+    ensures { Works K.written K.faults Command.Check file.now sink.old sink.new result }
+{
+    let Ok(verdicts) = verdicts(alloc, file) else {
+        return Outcome::of_status(5);
+    };
+    match write_verdicts(file, &verdicts, sink) {
+        Ok(()) => Outcome::of_status(0),
+        Err(_) => Outcome::of_status(4),
+    }
+}

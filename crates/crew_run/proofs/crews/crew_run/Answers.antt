@@ -1,0 +1,71 @@
+use Rattle.std.proofs.Common.{◌≡◌, ◌+◌, ℕ, List, length, map, ap, sym, ◌∙◌, subst, arith}
+use Rattle.std.specs.Prelude.{fold}
+use Rattle.std.specs.Vec.{with_items}
+use Rattle.std.proofs.lemmas.List.{with_items_is, length-map}
+use Rattle.adept_server.specs.Desks.{desk_view}
+use Rattle.adept_server.specs.Opening.{IsFirstDesk, joined_desk}
+use Rattle.crew_run.proofs.Ends.{has-taken}
+use Rattle.crew_run.proofs.Steps.{if_ok-so}
+use Rattle.crew_run.proofs.Whole.{legal-of}
+use Rattle.crew_run.specs.Beginning.{AreHired}
+use Rattle.crew_run.specs.CaseCounts.{AreCounts}
+use Rattle.crew_run.specs.Workers.{desks_of}
+use Rattle.crew_run.proofs.crews.crew_run.Goals as goal
+
+pub work_file-requires-clause-begun : goal.work_file-requires-clause-begun
+work_file-requires-clause-begun g c κs within =
+    let v0 = desk_view c.in_ok-server.first in
+    let v1 = desk_view c.hire.new.first in
+    record {
+      counts = c.in_ok-counts.counts.items;
+      counted = c.in_ok-counts.ensures.counts;
+      before = v0;
+      desk = c.in_ok-server.ensures.desk.desk;
+      opened = subst (λ counts. IsFirstDesk counts v0) c.deref.ensures.value c.in_ok-server.ensures.first;
+      hired = subst (λ n. AreHired n v0 v1 (desks_of c.deref_mut.result.now)) c.len.ensures (subst (λ ws. AreHired c.len.result v0 v1 (desks_of ws)) (sym c.deref_mut.ensures.value) c.in_ok-crew.ensures.hired);
+      made = c.in_ok-crew.ensures.made ∙ ap (λ n. v0.made + n) c.len.ensures;
+    }
+
+pub close-requires-clause-first : goal.close-requires-clause-first
+close-requires-clause-first g c =
+    let v = desk_view c.work_file.new.first in
+    let whole = with_items_is c.in_ok-crew.crew c.work_file.new.crew (c.work_file.auto.crew ∙ c.deref_mut.ensures.len) in
+    let joined = c.dismiss.ensures.joined ∙ ap (λ ws. fold joined_desk v (desks_of ws)) whole in
+    let k = c.in_ok-work_file.ensures.crew in
+    let taken = has-taken c.args.file.now v (desks_of c.work_file.new.crew) k.first_able k.able in
+    ap (λ w. w.number) joined ∙ (taken.number ∙ k.first_number)
+
+pub close-requires-clause-all : goal.close-requires-clause-all
+close-requires-clause-all g c =
+    let v = desk_view c.work_file.new.first in
+    let whole = with_items_is c.in_ok-crew.crew c.work_file.new.crew (c.work_file.auto.crew ∙ c.deref_mut.ensures.len) in
+    let joined = c.dismiss.ensures.joined ∙ ap (λ ws. fold joined_desk v (desks_of ws)) whole in
+    let k = c.in_ok-work_file.ensures.crew in
+    let taken = has-taken c.args.file.now v (desks_of c.work_file.new.crew) k.first_able k.able in
+    let made = ap (λ w. w.made) joined in
+    let took = ap (λ w. w.taken) joined in
+    omega (arith, taken.made, taken.taken, k.made, k.taken, length-map c.work_file.new.crew (λ w. desk_view w.desk))
+
+pub run_of-requires-clause-cases : goal.run_of-requires-clause-cases
+run_of-requires-clause-cases g c =
+    let v = desk_view c.work_file.new.first in
+    let whole = with_items_is c.in_ok-crew.crew c.work_file.new.crew (c.work_file.auto.crew ∙ c.deref_mut.ensures.len) in
+    let joined = c.dismiss.ensures.joined ∙ ap (λ ws. fold joined_desk v (desks_of ws)) whole in
+    let k = c.in_ok-work_file.ensures.crew in
+    let taken = has-taken c.args.file.now v (desks_of c.work_file.new.crew) k.first_able k.able in
+    subst (AreCounts c.args.file.now) (sym (c.close.ensures.rows ∙ ap (λ w. map length w.cases) joined)) taken.counted
+
+pub returns : goal.returns
+returns g c =
+    let f = c.args.file.now in
+    let v = desk_view c.work_file.new.first in
+    let ws = desks_of c.work_file.new.crew in
+    let last = desk_view c.dismiss.new.first in
+    let whole = with_items_is c.in_ok-crew.crew c.work_file.new.crew (c.work_file.auto.crew ∙ c.deref_mut.ensures.len) in
+    let joined = c.dismiss.ensures.joined ∙ ap (λ crew. fold joined_desk v (desks_of crew)) whole in
+    let k = c.in_ok-work_file.ensures.crew in
+    let worked = c.in_ok-work_file.ensures.done in
+    let types = ap (λ w. length w.kinds) joined ∙ (has-taken f v ws k.first_able k.able).types in
+    if_ok-so c.run_of.result
+    (λ run is. legal-of f worked.first_before worked.crew_before v ws last worked.done c.close.result run worked.ready c.requires.sound joined types c.close.ensures is)
+    c.run_of.ensures

@@ -1,0 +1,13 @@
+use Rattle.std.proofs.Common.{◌≡◌, subst, get_or}
+use Rattle.adept_actor.specs.Work.{Works}
+use Rattle.adept_server.specs.Desks.{desk_view}
+use Rattle.crew_run.proofs.Steps.{leaves-ended, roles-at}
+use Rattle.crew_run.specs.Phases.{ended}
+use Rattle.crew_run.proofs.phases.fn.work_lines.work_own.Goals as goal
+
+pub returns : goal.returns
+returns g c =
+    let v = desk_view c.args.worker.now.desk in
+    let w = desk_view c.work.new.desk in
+    let roles = roles-at c.captures.file.now c.as_slice.result.now v.number c.args.index c.index-as_slice-index.result c.as_slice.ensures c.requires.3.0 c.requires.2 in
+    (c.work.ensures.desk, subst (λ rs. Works rs c.captures.lines.now (ended c.err-worker.result) v w) roles (leaves-ended _ _ c.work.result c.err-worker.result v w c.err-worker.ensures.value c.work.ensures.worked))

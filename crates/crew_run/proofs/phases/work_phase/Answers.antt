@@ -1,0 +1,47 @@
+use Rattle.std.proofs.Common.{◌≡◌, ◌+◌, ◌<◌, ◌∙◌, ℕ, length, get_or, ap, sym, subst, arith}
+use Rattle.std.specs.List.{AllZip}
+use Rattle.adept_actor.specs.Work.{CanWork}
+use Rattle.adept_server.specs.Desks.{desk_view}
+use Rattle.crew_run.proofs.Able.{all-can, crew-then, desks-are, phase-done, well-of}
+use Rattle.crew_run.proofs.Steps.{all-desks, all-zip, desk-at, holds-at, number-at}
+use Rattle.crew_run.specs.Crew.{ActorDone, Works}
+use Rattle.crew_run.specs.Phases.{HasWorked}
+use Rattle.crew_run.specs.Workers.{desks_of}
+use Rattle.crew_run.proofs.phases.work_phase.Goals as goal
+
+pub work_lines-requires-clause-ready : goal.work_lines-requires-clause-ready
+work_lines-requires-clause-ready g c κs within = λ i d low.
+    let k = c.requires.crew in
+    let can = all-can c.args.file.now c.requires.file c.args.lines.now c.requires.lines (desks_of c.args.crew.now) k.able in
+    (number-at 1 c.args.crew.now k.numbered i d low ∙ (omega arith), desk-at c.args.server.now c.args.crew.now k.desks i d low, holds-at (λ v. CanWork v c.args.lines.now) c.args.crew.now can i d low)
+
+pub meet_all-requires-clause-crew : goal.meet_all-requires-clause-crew
+meet_all-requires-clause-crew g c = all-desks c.args.server.now c.work_lines.new.crew (λ i d low. (c.work_lines.ensures i d (omega (arith, low, c.work_lines.auto.crew))).0)
+
+pub returns-clause-crew : goal.returns-clause-crew
+returns-clause-crew g c =
+    let f = c.args.file.now in
+    let lines = c.args.lines.now in
+    let old = c.args.crew.now in
+    let mid = c.work_lines.new.crew in
+    let new = c.meet_all.new.crew in
+    let first = desk_view c.meet_all.new.first in
+    let worked : AllZip (HasWorked f lines) old mid = all-zip (HasWorked f lines) old mid c.work_lines.auto.crew (λ i d low. (c.work_lines.ensures i d low).1) in
+    let well = well-of new mid (sym c.has_fault.ensures ∙ c.if-has_fault.false) c.meet_all.ensures.faults in
+    let done = phase-done f lines first old mid new c.requires.file c.requires.crew.able worked well c.meet_all.ensures.heard c.meet_all.ensures.same (desks-are c.args.server.now new c.meet_all.ensures.crew) in
+    crew-then c.args.server.now f c.args.first.now c.meet_all.new.first old new (Works f lines) c.requires.crew c.meet_all.ensures.first.0 c.meet_all.ensures.crew c.meet_all.ensures.first.1 done (c.meet_all.auto.crew ∙ c.work_lines.auto.crew)
+
+pub returns-clause-done : goal.returns-clause-done
+returns-clause-done g c =
+    let f = c.args.file.now in
+    let lines = c.args.lines.now in
+    let old = c.args.crew.now in
+    let mid = c.work_lines.new.crew in
+    let new = c.meet_all.new.crew in
+    let first = desk_view c.meet_all.new.first in
+    let worked : AllZip (HasWorked f lines) old mid = all-zip (HasWorked f lines) old mid c.work_lines.auto.crew (λ i d low. (c.work_lines.ensures i d low).1) in
+    let well = well-of new mid (sym c.has_fault.ensures ∙ c.if-has_fault.false) c.meet_all.ensures.faults in
+    record {
+      heard = c.meet_all.ensures.first.1;
+      crew_done = phase-done f lines first old mid new c.requires.file c.requires.crew.able worked well c.meet_all.ensures.heard c.meet_all.ensures.same (desks-are c.args.server.now new c.meet_all.ensures.crew);
+    }

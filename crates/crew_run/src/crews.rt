@@ -1,0 +1,63 @@
+// A file's script, worked by a crew.
+ghost use Rattle.std.specs.Prelude.{IfOk, OnOk};
+ghost use Rattle.adept_server.specs.Desks.{IsDeskOf, desk_view};
+ghost use Rattle.crew_run.specs.Phases.{HasWorkedAll, IsBegun, IsCrew};
+ghost use Rattle.crew_run.specs.Workers.{AreDesksOf, desks_of};
+ghost use Rattle.file_facts.specs.Facts.{IsWorkable};
+ghost use Rattle.legal_run.specs.Legal.{Legal};
+
+use crate::closing::{dismiss, run_of};
+use crate::counting::case_counts;
+use crate::definitions::define_types;
+use crate::hiring::hire;
+use crate::meeting::meet_all;
+use crate::phases::work_phases;
+use crate::workers::Worker;
+use adept_server::{Desk, Server};
+use process_text::File;
+use script_run::Run;
+use std::alloc::Global;
+use std::sync::Wait;
+use std::thread::Threads;
+use turn_cell::{Gate, NoMemory};
+
+/// Works a file's script with a crew: each actor its own lines, in order, in work of its own that runs beside the others',
+/// phase after phase. The run is a legal one, whatever way the actors' turns fall.
+pub fn crew_run<R: Threads + Wait + Sync, G: Gate + Sync>(
+    rt: &R,
+    alloc: Global,
+    file: &File,
+    gate: &G,
+) -> Result<Run, NoMemory>
+    requires { IsWorkable file.now }
+    ensures { IfOk result (λ run. Legal file.now run) }
+{
+    let counts = case_counts(alloc, file)?;
+    let (server, mut first) = Server::new(alloc, &counts)?;
+    let mut crew = hire(alloc, &server, &mut first, file.actors.len())?;
+    work_file(rt, alloc, &server, file, &mut first, &mut crew, gate)?;
+    dismiss(&server, &mut first, crew);
+    run_of(alloc, file, server.close(first))
+}
+
+// The first desk defines the types, all meet, and the crew works the phases.
+fn work_file<R: Threads + Wait + Sync, G: Gate + Sync>(
+    rt: &R,
+    alloc: Global,
+    server: &Server,
+    file: &File,
+    first: &mut Desk,
+    crew: &mut [Worker],
+    gate: &G,
+) -> Result<(), NoMemory>
+    requires file { IsWorkable file.now }
+    requires first { IsDeskOf server.now first.old }
+    requires desks { AreDesksOf server.now crew.old }
+    requires begun { IsBegun file.now (desk_view first.old) (desks_of crew.old) }
+    ensures crew { OnOk result (IsCrew server.now file.now first.new crew.new) }
+    ensures done { OnOk result (HasWorkedAll file.now (desk_view first.new) (desks_of crew.new)) }
+{
+    define_types(rt, alloc, server, first, 0, file.types.as_slice(), gate)?;
+    meet_all(server, first, crew);
+    work_phases(rt, alloc, server, file, first, crew, gate)
+}

@@ -1,0 +1,46 @@
+// The definitions of types.
+ghost use Rattle.std.specs.Prelude.{◌≡◌, ◌+◌, ◌<◌, ◌≤◌, ◌^◌, true, length, OnOk};
+ghost use Rattle.std.specs.List.{list_all};
+ghost use Rattle.adept_server.specs.Desks.{IsDefinedFor, IsDeskOf, desk_view};
+ghost use Rattle.crew_run.specs.Defining.{DefinesAll, KnowsTypes};
+ghost use Rattle.file_facts.specs.Facts.{IsSound};
+ghost use Rattle.process_text.specs.Sizes.{is_small};
+ghost use Rattle.wsm_lists.specs.Rows.{AllRows};
+
+use adept_server::{Desk, Server};
+use process_text::TypeDecl;
+use std::alloc::Global;
+use std::sync::Wait;
+use turn_cell::{Gate, NoMemory};
+
+/// The line that gates are told for a definition, which has none.
+const NO_LINE: u32 = 0;
+
+/// Defines types that are numbered one after another from a number on. The desk then knows a version of each.
+pub fn define_types<R: Wait, G: Gate>(
+    rt: &R,
+    alloc: Global,
+    server: &Server,
+    desk: &mut Desk,
+    from: u32,
+    types: &[TypeDecl],
+    gate: &G,
+) -> Result<(), NoMemory>
+    requires desk { IsDeskOf server.now desk.old }
+    requires there { from + length types.now ≤ length (desk_view desk.old).kinds }
+    requires numbers { from + length types.now < 2 ^ 32 }
+    requires small { list_all is_small types.now ≡ true }
+    requires sound { AllRows IsSound types.now }
+    ensures desk { IsDeskOf server.now desk.new }
+    ensures defined { OnOk result (DefinesAll from types.now (desk_view desk.old) (desk_view desk.new)) }
+    ensures known { OnOk result (KnowsTypes from (from + length types.now) (desk_view desk.new)) }
+{
+    let Some((decl, rest)) = types.split_first() else {
+        return Ok(());
+    };
+    let answer = server.define(rt, alloc, desk, from, &decl.schema, gate, NO_LINE);
+    let Ok(_) = answer else {
+        return Err(NoMemory);
+    };
+    define_types(rt, alloc, server, desk, from + 1, rest, gate)
+}

@@ -1,0 +1,99 @@
+// How a crew works.
+ghost use Rattle.std.specs.Prelude.{◌≡◌, ◌<◌, length, is_some, OnOk, slice_index_or};
+ghost use Rattle.std.specs.List.{list_any};
+ghost use Rattle.std.specs.Thread.{IsSync};
+ghost use Rattle.adept_server.specs.Desks.{IsDeskOf, desk_view};
+ghost use Rattle.crew_run.specs.Crew.{PhaseDone, PhasesDone, Works};
+ghost use Rattle.crew_run.specs.Phases.{HasWorked, IsCrew, IsReadyAt};
+ghost use Rattle.crew_run.specs.Workers.{desks_of};
+ghost use Rattle.file_facts.specs.Facts.{IsKnown, IsWorkable};
+ghost use Rattle.wsm_lists.specs.Rows.{AllRows};
+
+use crate::meeting::meet_all;
+use crate::workers::Worker;
+use adept_actor::work;
+use adept_server::{Desk, Server};
+use process_text::{File, Lines};
+use std::alloc::Global;
+use std::sync::Wait;
+use std::thread::{Threads, for_each_mut};
+use turn_cell::{Gate, NoMemory};
+
+/// So many threads work a phase at most: one for each actor that a file may have.
+const THREADS: usize = 32;
+
+/// Works phases one after another, each in work of its own for each worker. Behind each of them all have met.
+pub fn work_phases<R: Threads + Wait + Sync, G: Gate + Sync>(
+    rt: &R,
+    alloc: Global,
+    server: &Server,
+    file: &File,
+    first: &mut Desk,
+    crew: &mut [Worker],
+    gate: &G,
+) -> Result<(), NoMemory>
+    requires file { IsWorkable file.now }
+    requires crew { IsCrew server.now file.now first.old crew.old }
+    ensures crew { OnOk result (IsCrew server.now file.now first.new crew.new) }
+    ensures done { OnOk result (PhasesDone file.now file.now.phases (desk_view first.old) (desks_of crew.old) (desk_view first.new) (desks_of crew.new)) }
+{
+    for lines in file.phases.as_slice() {
+        work_phase(rt, alloc, server, file, first, crew, lines, gate)?;
+    }
+    Ok(())
+}
+
+fn work_phase<R: Threads + Wait + Sync, G: Gate + Sync>(
+    rt: &R,
+    alloc: Global,
+    server: &Server,
+    file: &File,
+    first: &mut Desk,
+    crew: &mut [Worker],
+    lines: &Lines,
+    gate: &G,
+) -> Result<(), NoMemory>
+    requires file { IsWorkable file.now }
+    requires lines { AllRows (IsKnown (length file.now.types) (length file.now.actors) file.now.cases) lines.now }
+    requires crew { IsCrew server.now file.now first.old crew.old }
+    ensures crew { OnOk result (IsCrew server.now file.now first.new crew.new) }
+    ensures done { OnOk result (PhaseDone (Works file.now lines.now) (desk_view first.old) (desks_of crew.old) (desk_view first.new) (desks_of crew.new)) }
+{
+    work_lines(rt, alloc, server, file, crew, lines, gate);
+    meet_all(server, first, crew);
+    if has_fault(crew) {
+        return Err(NoMemory);
+    }
+    Ok(())
+}
+
+// Whether one of the crew met a fault.
+fn has_fault(crew: &[Worker]) -> bool
+    ensures { result ≡ list_any (λ w. is_some w.fault) crew.now }
+{
+    crew.iter().any(|worker| worker.fault.is_some())
+}
+
+// Each worker works its own lines of a phase, and keeps the fault that it met.
+fn work_lines<R: Threads + Wait + Sync, G: Gate + Sync>(
+    rt: &R,
+    alloc: Global,
+    server: &Server,
+    file: &File,
+    crew: &mut [Worker],
+    lines: &Lines,
+    gate: &G,
+)
+    requires actors { length crew.old ≡ length file.now.actors }
+    requires ready { (i : _) (d : _) → i < length crew.old → IsReadyAt server.now lines.now i (slice_index_or crew.old i d) }
+    ensures { (i : _) (d : _) → i < length crew.old → IsDeskOf server.now (slice_index_or crew.new i d).desk × HasWorked file.now lines.now (slice_index_or crew.old i d) (slice_index_or crew.new i d) }
+{
+    let work_own = |index: usize, worker: &mut Worker|
+        requires { IsSync R.row × IsSync G.row × (index < length file.now.actors) × IsReadyAt server.now lines.now index worker.now }
+        ensures { IsDeskOf server.entry.now worker.exit.now.desk × HasWorked file.entry.now lines.entry.now worker.entry.now worker.exit.now }
+    {
+        let roles = &file.actors.as_slice()[index].roles;
+        worker.fault = work(rt, alloc, server, &mut worker.desk, roles, lines, gate).err();
+    };
+    for_each_mut(rt, crew, THREADS, &work_own);
+}
