@@ -6,7 +6,7 @@ use Rattle.std.proofs.lemmas.List.{length-map}
 use Rattle.std.proofs.lemmas.Option.{get_or_from_slice_get, unwrap_or-slice_get, slice_get_within}
 use Rattle.std.proofs.lemmas.List.Sums.{sum_by-cons}
 use mathlib.Core.List.{IsPrefix}
-use Rattle.adept_actor.proofs.Acts.{same-lines}
+use Rattle.adept_actor.proofs.Acts.{same-begun, same-lines}
 use Rattle.adept_actor.proofs.Desks.{done-defined}
 use Rattle.adept_actor.specs.Growth.{DeskHasDone}
 use Rattle.adept_actor.specs.Work.{CanAct, CanWork, Does, case_count, Works as WorksLines}
@@ -20,7 +20,7 @@ use Rattle.crew_run.proofs.Desks.{kind-heard, kind-same}
 use Rattle.crew_run.specs.CaseCounts.{AreCounts}
 use Rattle.crew_run.specs.Cells.{Heard}
 use Rattle.crew_run.specs.Crew.{kind_at, DeskHeard, DeskSame, ActorDone, Works}
-use Rattle.crew_run.specs.Phases.{IsAble, IsCrew, HasWorked, ended}
+use Rattle.crew_run.specs.Phases.{IsAble, IsCrew, HasWorked, Tries, ended}
 use Rattle.crew_run.specs.Workers.{AreDesksOf, desks_of, faults_of}
 use Rattle.crew_run.specs.declared.workers.Worker.{Worker}
 use Rattle.file_facts.proofs.Cases.{declared-typed}
@@ -204,3 +204,27 @@ crew-then s f first then old new Fit k desk desks heard done many = record {
   made = (let a = heard.made in let b = k.made in omega (arith, many));
   taken = heard.taken ∙ k.taken;
 }
+
+-- a worker has made calls of its lines, perhaps up to a fault
+worked-some : (f : File) (lines : List Line) (w x : Worker) → IsWorkable f → IsAble f (desk_view w.desk) → HasWorked f lines w x → Does (Tries f lines (desk_view w.desk).number) (desk_view w.desk) (desk_view x.desk)
+worked-some f lines w x workable able worked = go x.fault worked
+  where
+    go : (o : Option CallFault) → WorksLines (roles_of f (desk_view w.desk).number) lines (ended o) (desk_view w.desk) (desk_view x.desk) → Does (Tries f lines (desk_view w.desk).number) (desk_view w.desk) (desk_view x.desk)
+    go None (calls, fit, done) =
+        let v = desk_view w.desk in
+        (calls, inl (same-lines (case_count v) (cases_of f) (many-cases f workable v able) (roles_of f v.number) v.number (lines_of v.number lines) calls fit), done)
+    go (Some fault) ((calls, fit, done), full) =
+        let v = desk_view w.desk in
+        (calls, inr (same-begun (case_count v) (cases_of f) (many-cases f workable v able) (roles_of f v.number) v.number (lines_of v.number lines) calls fit), done)
+
+-- what a phase comes to, once all have met
+pub phase-tried : (f : File) (lines : List Line) (first : DeskView) (old mid new : List Worker) → IsWorkable f → AllByRecursion (IsAble f) (desks_of old) → AllZip (HasWorked f lines) old mid
+    → AllZip DeskHeard (desks_of mid) (desks_of new) → AllByRecursion (DeskSame first) (desks_of new) → AllByRecursion IsDesk (desks_of new) → AllZip (ActorDone (Tries f lines) first) (desks_of old) (desks_of new)
+phase-tried f lines first [] [] [] workable able worked heard same desks = tt
+phase-tried f lines first [] [] (y ∷ new) workable able worked heard same desks = absurd heard
+phase-tried f lines first [] (x ∷ mid) new workable able worked heard same desks = absurd worked
+phase-tried f lines first (w ∷ old) [] new workable able worked heard same desks = absurd worked
+phase-tried f lines first (w ∷ old) (x ∷ mid) [] workable able worked heard same desks = absurd heard
+phase-tried f lines first (w ∷ old) (x ∷ mid) (y ∷ new) workable (a, able) (k, worked) (h, heard) (s, same) (d, desks) =
+    let (calls, fit, done) = worked-some f lines w x workable a k in
+    (record { calls = calls; fit = fit; between = desk_view x.desk; done = done; heard = h; same = s; desk = d }, phase-tried f lines first old mid new workable able worked heard same desks)

@@ -21,13 +21,13 @@ use Rattle.type_core.specs.declared.events.KindEvent.TheVariants as event
 use Rattle.turn_cell.specs.declared.journal.Entry.{Entry}
 use Rattle.wsm_sound.specs.declared.versions.CaseId.{CaseId}
 
-met-many : (vs ws : List DeskView) → AllZip DeskHeard vs ws → length ws ≡ length vs
+pub met-many : (vs ws : List DeskView) → AllZip DeskHeard vs ws → length ws ≡ length vs
 met-many [] [] z = refl
 met-many [] (w ∷ ws) z = absurd z
 met-many (v ∷ vs) [] z = absurd z
 met-many (v ∷ vs) (w ∷ ws) (h, z) = ap suc (met-many vs ws z)
 
-met-numbered : (n : ℕ) (vs ws : List DeskView) → AllZip DeskHeard vs ws → AreNumbered n vs → AreNumbered n ws
+pub met-numbered : (n : ℕ) (vs ws : List DeskView) → AllZip DeskHeard vs ws → AreNumbered n vs → AreNumbered n ws
 met-numbered n [] [] z k = tt
 met-numbered n [] (w ∷ ws) z k = absurd z
 met-numbered n (v ∷ vs) [] z k = absurd z
@@ -40,7 +40,7 @@ module _ {M E R W S : Type 0} (at : DeskView → Option (PassView M E R W S)) (a
     (fresh-at : (v w : DeskView) (p : PassView M E R W S) → IsFresh v w → at v ≡ Some p → (q : PassView M E R W S) × (at w ≡ Some q) × IsFreshPass p q)
     (number-at : (v : DeskView) (p : PassView M E R W S) → IsDesk v → at v ≡ Some p → p.number ≡ v.number)
     (legal-at : (v : DeskView) (p : PassView M E R W S) → IsDesk v → at v ≡ Some p → IsLegalView after reply p) where
-  idle-met : (n : ℕ) (first first_then : DeskView) (p q : PassView M E R W S) (vs ws : List DeskView) → at first ≡ Some p → at first_then ≡ Some q → AreNumbered n vs → AllByRecursion (IsFresh first) vs
+  pub idle-met : (n : ℕ) (first first_then : DeskView) (p q : PassView M E R W S) (vs ws : List DeskView) → at first ≡ Some p → at first_then ≡ Some q → AreNumbered n vs → AllByRecursion (IsFresh first) vs
       → AllZip DeskHeard vs ws → AllByRecursion (DeskSame first_then) ws → AllByRecursion IsDesk ws → HasMet at after reply n (λ _. []) q.seen ws
   idle-met n first first_then p q [] [] at_p at_q k fresh heard same desks = tt
   idle-met n first first_then p q [] (w ∷ ws) at_p at_q k fresh heard same desks = absurd heard
@@ -62,16 +62,16 @@ module _ {M E R W S : Type 0} (at : DeskView → Option (PassView M E R W S)) (a
         idle-met (n + 1) first first_then p q vs ws at_p at_q k fresh heard same desks,
       )
 
-kind-fresh : (t : ℕ) (v w : DeskView) (p : KindPass) → IsFresh v w → kind_at t v ≡ Some p → (q : KindPass) × (kind_at t w ≡ Some q) × IsFreshPass p q
+pub kind-fresh : (t : ℕ) (v w : DeskView) (p : KindPass) → IsFresh v w → kind_at t v ≡ Some p → (q : KindPass) × (kind_at t w ≡ Some q) × IsFreshPass p q
 kind-fresh t v w p h e = zip-at IsFreshPass v.kinds w.kinds h.kinds t p e
 
-case-fresh : (c : CaseId) (v w : DeskView) (p : CasePass) → IsFresh v w → case_at c v ≡ Some p → (q : CasePass) × (case_at c w ≡ Some q) × IsFreshPass p q
+pub case-fresh : (c : CaseId) (v w : DeskView) (p : CasePass) → IsFresh v w → case_at c v ≡ Some p → (q : CasePass) × (case_at c w ≡ Some q) × IsFreshPass p q
 case-fresh c v w p h e = zip-at_case IsFreshPass v.cases w.cases h.cases c p e
 
-kind-number : (t : ℕ) (v : DeskView) (p : KindPass) → IsDesk v → kind_at t v ≡ Some p → p.number ≡ v.number
+pub kind-number : (t : ℕ) (v : DeskView) (p : KindPass) → IsDesk v → kind_at t v ≡ Some p → p.number ≡ v.number
 kind-number t v p d e = (d.kinds t p e).number
 
-case-number : (c : CaseId) (v : DeskView) (p : CasePass) → IsDesk v → case_at c v ≡ Some p → p.number ≡ v.number
+pub case-number : (c : CaseId) (v : DeskView) (p : CasePass) → IsDesk v → case_at c v ≡ Some p → p.number ≡ v.number
 case-number c v p d e = (d.cases c p e).number
 
 module _ (f : File) (counts : List ℕ) (v0 v1 v2 v3 : DeskView) (vs ws : List DeskView) (opened : IsFirstDesk counts v0) (hired : AreHired (length f.actors) v0 v1 vs) (defined : DefinesAll 0 f.types v1 v2) (met : HaveMet v2 vs v3 ws) where

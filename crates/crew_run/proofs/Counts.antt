@@ -5,6 +5,8 @@ use mathlib.Core.Logic.{dite}
 use native.Mathlib.Decide.{ℕ_discrete}
 use Rattle.turn_cell.specs.History.{calls_of}
 use Rattle.turn_cell.specs.declared.journal.Entry.{Entry}
+use Rattle.legal_run.specs.LineCalls.{lines_of}
+use Rattle.process_text.specs.declared.files.Line.{Line}
 use Rattle.crew_run.specs.Cells.{Holds, HoldsByPhases}
 use Rattle.crew_run.proofs.Cells.{done_by}
 
@@ -90,3 +92,28 @@ module _ {M E R W S : Type 0} where
       zeros : (n : ℕ) → sum_to n (λ a. 0) ≡ 0
       zeros zero = refl
       zeros (suc n) = let r = zeros n in omega arith
+
+pub sum_to-le : (n : ℕ) (f g : ℕ → ℕ) → ((a : ℕ) → 0 < a → a ≤ n → f a ≤ g a) → sum_to n f ≤ sum_to n g
+sum_to-le zero f g le = omega arith
+sum_to-le (suc n) f g le = let r = sum_to-le n f g (λ a low high. le a low (omega arith)) in let here = le (suc n) (omega arith) (omega arith) in omega arith
+
+-- where at most one of them is one more
+sum_to-most : (n : ℕ) (f g : ℕ → ℕ) (c : ℕ) → g c ≤ f c + 1 → ((a : ℕ) → a ≢ c → g a ≡ f a) → sum_to n g ≤ sum_to n f + 1
+sum_to-most zero f g c more same = omega arith
+sum_to-most (suc n) f g c more same = dite (ℕ_discrete c (suc n))
+    (λ (is : c ≡ suc n). let rest = sum_to-same n g f (λ a low high. same a (λ e. omega arith)) in let here : g (suc n) ≤ f (suc n) + 1 = subst (λ k. g k ≤ f k + 1) is more in omega arith)
+    (λ not. let rest = sum_to-most n f g c more same in let here = same (suc n) (λ e. not (sym e)) in omega arith)
+
+-- the lines of all actors are no more than the lines
+pub lines-few : (n : ℕ) (lines : List Line) → sum_to n (λ a. length (lines_of a lines)) ≤ length lines
+lines-few n [] = zeros n
+  where
+    zeros : (n : ℕ) → sum_to n (λ a. 0) ≤ 0
+    zeros zero = omega arith
+    zeros (suc n) = let r = zeros n in omega arith
+lines-few n (l ∷ lines) =
+    let own = ap (λ (b : Bool). length (if b then l ∷ lines_of l.actor lines else lines_of l.actor lines)) (eq-eqb l.actor l.actor refl) in
+    let others : (a : ℕ) → a ≢ l.actor → length (lines_of a (l ∷ lines)) ≡ length (lines_of a lines) = λ a not. ap (λ (b : Bool). length (if b then l ∷ lines_of a lines else lines_of a lines)) (ne_eqb l.actor a (λ e. not (sym e))) in
+    let one = sum_to-most n (λ a. length (lines_of a lines)) (λ a. length (lines_of a (l ∷ lines))) l.actor (omega (arith, own)) others in
+    let rest = lines-few n lines in
+    omega (arith, one, rest)

@@ -62,7 +62,7 @@ numbered-then Fit first n [] (w ∷ ws) z k = absurd z
 numbered-then Fit first n (v ∷ vs) [] z k = absurd z
 numbered-then Fit first n (v ∷ vs) (w ∷ ws) (d, z) (number, k) = (d.heard.number ∙ (d.done.number ∙ number), numbered-then Fit first (n + 1) vs ws z k)
 
-many-then : (Fit : ℕ → List Call → Type 0) (first : DeskView) (vs ws : List DeskView) → AllZip (ActorDone Fit first) vs ws → length ws ≡ length vs
+pub many-then : (Fit : ℕ → List Call → Type 0) (first : DeskView) (vs ws : List DeskView) → AllZip (ActorDone Fit first) vs ws → length ws ≡ length vs
 many-then Fit first [] [] z = refl
 many-then Fit first [] (w ∷ ws) z = absurd z
 many-then Fit first (v ∷ vs) [] z = absurd z
@@ -118,7 +118,7 @@ module _ {M E R W S : Type 0} (at : DeskView → Option (PassView M E R W S)) (o
         crew-at Fit first pf (n + 1) did seen vs ws z trace at_first (λ a le. agree a (omega arith) ∙ trace_of-others Fit first n v w vs ws d z a le) rest,
       )
 
-  phase-at : (Fit : ℕ → List Call → Type 0) (v : DeskView) (vs : List DeskView) (w : DeskView) (ws : List DeskView) (d : PhaseDone Fit v vs w ws) (did : ℕ → List (Entry M E R W S)) (p : PassView M E R W S)
+  pub phase-at : (Fit : ℕ → List Call → Type 0) (v : DeskView) (vs : List DeskView) (w : DeskView) (ws : List DeskView) (d : PhaseDone Fit v vs w ws) (did : ℕ → List (Entry M E R W S)) (p : PassView M E R W S)
       → at v ≡ Some p → HasMet at after reply 1 did p.seen vs → Phase at after reply (λ a. on (trace_of Fit w 1 vs ws d.crew_done a)) v vs w ws
   phase-at Fit v vs w ws d did p at_v m =
       let (q, at_w, heard) = heard-at v w p d.heard at_v in

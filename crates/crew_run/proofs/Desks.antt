@@ -29,7 +29,7 @@ as-many [] (y ∷ ys) e = absurd (cc (e))
 as-many (x ∷ xs) [] e = absurd (cc (e))
 as-many (x ∷ xs) (y ∷ ys) e = ap suc (as-many xs ys (cc (e)))
 
-there-too_case : {A B : Type 0} (xs : List (List A)) (ys : List (List B)) → map length ys ≡ map length xs → (c : CaseId) (x : A) → at_case xs c ≡ Some x → (y : B) × (at_case ys c ≡ Some y)
+pub there-too_case : {A B : Type 0} (xs : List (List A)) (ys : List (List B)) → map length ys ≡ map length xs → (c : CaseId) (x : A) → at_case xs c ≡ Some x → (y : B) × (at_case ys c ≡ Some y)
 there-too_case xs ys e c x is = by (slice_get xs c.type_no) refl is
   where
     by : (row : Option (List _)) → slice_get xs c.type_no ≡ row → in_row c.place row ≡ Some x → (y : _) × (at_case ys c ≡ Some y)

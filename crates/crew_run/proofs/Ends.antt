@@ -5,7 +5,7 @@ use Rattle.std.specs.List.{AllByRecursion}
 use Rattle.adept_server.specs.Desks.{DeskView}
 use Rattle.adept_server.specs.Opening.{joined_desk}
 use Rattle.crew_run.specs.CaseCounts.{AreCounts}
-use Rattle.crew_run.specs.Phases.{IsAble}
+use Rattle.crew_run.specs.Phases.{HasShape}
 use Rattle.process_text.specs.Declaring.{cases_of}
 use Rattle.process_text.specs.declared.files.File.{File}
 use Rattle.turn_rows.specs.Rows.{zip_with}
@@ -38,7 +38,7 @@ pub record HasTaken (f : File) (many : ℕ) (v w : DeskView) : Type 0 where
   pub types : length w.kinds ≡ length f.types
   pub counted : AreCounts f (map length w.cases)
 
-go-on : (f : File) (v : DeskView) (ws : List DeskView) → length v.kinds ≡ length f.types → AreCounts f (map length v.cases) → AllByRecursion (IsAble f) ws → HasTaken f (length ws) v (fold joined_desk v ws)
+go-on : (f : File) (v : DeskView) (ws : List DeskView) → length v.kinds ≡ length f.types → AreCounts f (map length v.cases) → AllByRecursion (HasShape f) ws → HasTaken f (length ws) v (fold joined_desk v ws)
 go-on f v [] types counted all = record { number = refl; made = refl; taken = omega arith; types = types; counted = counted }
 go-on f v (w ∷ ws) types counted (b, all) =
     let many = zip-length _ v.kinds w.kinds (b.types ∙ sym types) in
@@ -46,5 +46,5 @@ go-on f v (w ∷ ws) types counted (b, all) =
     let r = go-on f (joined_desk v w) ws (many ∙ types) (subst (AreCounts f) (sym shape) counted) all in
     record { number = r.number; made = r.made; taken = (let e = r.taken in omega arith); types = r.types; counted = r.counted }
 
-pub has-taken : (f : File) (v : DeskView) (ws : List DeskView) → IsAble f v → AllByRecursion (IsAble f) ws → HasTaken f (length ws) v (fold joined_desk v ws)
+pub has-taken : (f : File) (v : DeskView) (ws : List DeskView) → HasShape f v → AllByRecursion (HasShape f) ws → HasTaken f (length ws) v (fold joined_desk v ws)
 has-taken f v ws a all = go-on f v ws a.types a.counted all

@@ -19,3 +19,4 @@ pub mod Ends
 pub mod Steps
 pub mod Sent
 pub mod Start
+pub mod Tried

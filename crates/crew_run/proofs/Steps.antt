@@ -1,17 +1,20 @@
 -- From what the code knows of a crew to what holds of each of its desks, and back.
-use Rattle.std.proofs.Common.{◌≡◌, ℕ, zero, suc, ◌+◌, ◌-◌, ◌≤◌, ◌<◌, List, [], ◌∷◌, length, map, get_or, Option, Some, None, Result, Ok, Err, IfOk, OnOk, slice_get, refl, sym, ap, ◌∙◌, subst, arith}
+use Rattle.std.proofs.Common.{◌≡◌, ℕ, zero, suc, ◌+◌, ◌-◌, ◌≤◌, ◌<◌, List, [], ◌∷◌, length, map, get_or, Option, Some, None, Result, Ok, Err, IfOk, IfErr, OnOk, OnErr, IsErrAnd, drop, drop-cons, add-one, slice_get, refl, sym, ap, ◌∙◌, subst, arith}
 use Rattle.std.specs.List.{AllZip, AllByRecursion}
 use Rattle.std.specs.Result.{result_err}
 use Rattle.std.proofs.lemmas.Option.{slice_get-get_or}
 use Rattle.adept_actor.specs.Work.{Leaves}
 use Rattle.adept_server.proofs.Keeping.{kind_still_defined}
+use Rattle.adept_server.specs.Calling.{CallsKind}
 use Rattle.adept_server.specs.Desks.{DeskView, IsDeskOf, IsDefinedFor, desk_view}
 use Rattle.adept_server.specs.Opening.{SeesMore}
 use Rattle.adept_server.specs.declared.servers.Server.{Server}
+use Rattle.crew_run.proofs.Defining.{set-here}
 use Rattle.crew_run.proofs.DeskMeetings.{seen-by_same}
 use Rattle.crew_run.specs.Crew.{AreNumbered, HasPassesOf}
 use Rattle.crew_run.specs.Defining.{DefinesAll, KnowsTypes}
-use Rattle.crew_run.specs.Phases.{ended}
+use Rattle.crew_run.specs.Phases.{SeesMany, ended}
+use Rattle.crew_run.specs.Phases.SeesMany.{of_kind}
 use Rattle.crew_run.specs.Workers.{AreDesksOf, desks_of}
 use Rattle.crew_run.specs.declared.workers.Worker.{Worker}
 use Rattle.legal_run.specs.LineCalls.{Call}
@@ -20,6 +23,8 @@ use Rattle.process_text.specs.declared.files.File.{File}
 use Rattle.process_text.specs.declared.files.TypeDecl.{TypeDecl}
 use Rattle.script_run.specs.Calls.{roles_in, roles_of}
 use Rattle.turn_cell.specs.declared.faults.CallFault.{CallFault}
+use Rattle.turn_cell.specs.declared.faults.CallFault.TheVariants as fault
+use Rattle.type_core.specs.declared.events.KindEvent.{KindEvent}
 use Rattle.type_core.specs.declared.events.KindEvent.TheVariants as event
 use Rattle.type_core.specs.declared.replies.KindReply.{KindReply}
 use native.Mathlib.Decide.{ℕ_discrete}
@@ -89,3 +94,34 @@ roles-at f items n i d same number low =
 pub if_ok-so : {A E : Type 0} {P Q : A → Type 0} (r : Result A E) → ((a : A) → P a → Q a) → IfOk r P → IfOk r Q
 if_ok-so (Ok a) so p = so a p
 if_ok-so (Err e) so p = tt
+
+pub if_err-so : {A E : Type 0} {P Q : E → Type 0} (r : Result A E) → ((e : E) → P e → Q e) → IfErr r P → IfErr r Q
+if_err-so (Ok a) so p = tt
+if_err-so (Err e) so p = so e p
+
+-- what holds anyway holds of a fault
+pub on_err-of : {A E P : Type 0} (r : Result A E) → P → OnErr r P
+on_err-of (Ok a) p = tt
+on_err-of (Err e) p = p
+
+-- what holds of a fault holds of the same fault
+pub if_err-same : {A E : Type 0} (P : E → Type 0) (r : Result A E) (f : E) → IsErrAnd r (λ e. e ≡ f) → P f → IfErr r P
+if_err-same P (Ok a) f same p = absurd same
+if_err-same P (Err e) f same p = subst P (sym same) p
+
+-- a full journal that was met, after phases that were tried
+pub err-and : {A E : Type 0} {P Q : E → Type 0} {T : Type 0} (r : Result A E) → ((e : E) → P e → T → Q e) → IfErr r P → OnErr r T → IfErr r Q
+err-and (Ok a) so p t = tt
+err-and (Err e) so p t = so e p t
+
+-- the item at a place, and those behind it
+pub cut-at : {A : Type 0} (items xs : List A) (i : ℕ) (x : A) → items ≡ xs → i < length items → x ≡ get_or items i x → drop i xs ≡ x ∷ drop (i + 1) xs
+cut-at items xs i x same low is =
+    let cut : drop i items ≡ get_or items i x ∷ drop (i + 1) items = rw add-one (drop-cons items i x low) in
+    subst (λ ys. drop i ys ≡ x ∷ drop (i + 1) ys) same (cut ∙ ap (λ y. y ∷ drop (i + 1) items) (sym is))
+
+-- where a call of a type met a full journal, the desk has seen it
+pub called-full : (e : KindEvent) (t : ℕ) (f : CallFault) (v w : DeskView) → CallsKind e t (Err f) v w → f ≡ fault.Full → SeesMany w
+called-full e t f v w k is =
+    let many = k.called.called.full (ap Err is) in
+    of_kind t k.called.behind (ap (λ xs. slice_get xs t) k.called.others ∙ set-here v.kinds t k.called.behind k.called.before k.called.there) (omega (arith, many))

@@ -1,10 +1,11 @@
 -- The first desk defines the types, and hires and takes in the crew.
-use Rattle.std.specs.Prelude.{◌≡◌, ℕ, ◌+◌, ◌≤◌, ◌<◌, List, [], ◌∷◌, Ok}
+use Rattle.std.specs.Prelude.{◌≡◌, ℕ, ◌+◌, ◌≤◌, ◌<◌, ◌⊎◌, List, [], ◌∷◌, Ok, Err}
 use Rattle.std.specs.List.{AllZip}
 use Rattle.adept_server.specs.Calling.{CallsKind}
 use Rattle.adept_server.specs.Desks.{DeskView, IsDefinedFor}
 use Rattle.process_text.specs.declared.files.TypeDecl.{TypeDecl}
 use Rattle.turn_cell.specs.Passes.{PassView}
+use Rattle.turn_cell.specs.declared.faults.CallFault.{CallFault}
 use Rattle.type_core.specs.declared.events.KindEvent.TheVariants as event
 use Rattle.type_core.specs.declared.replies.KindReply.{KindReply}
 
@@ -12,6 +13,12 @@ use Rattle.type_core.specs.declared.replies.KindReply.{KindReply}
 abbrev pub DefinesAll : ℕ → List TypeDecl → DeskView → DeskView → Type 0
 DefinesAll t [] v w = w ≡ v
 DefinesAll t (d ∷ ds) v w = (answer : KindReply) × (middle : DeskView) × CallsKind (event.Define d.schema) t (Ok answer) v middle × DefinesAll (t + 1) ds middle w
+
+-- the same of the first of them, up to a fault
+abbrev pub DefinesSome : ℕ → List TypeDecl → DeskView → DeskView → Type 0
+DefinesSome t [] v w = w ≡ v
+DefinesSome t (d ∷ ds) v w =
+    ((fault : CallFault) × CallsKind (event.Define d.schema) t (Err fault) v w) ⊎ ((answer : KindReply) × (middle : DeskView) × CallsKind (event.Define d.schema) t (Ok answer) v middle × DefinesSome (t + 1) ds middle w)
 
 -- a desk has seen a version of each type from one number to below another
 abbrev pub KnowsTypes : ℕ → ℕ → DeskView → Type 0

@@ -2,7 +2,8 @@
 ghost use Rattle.std.specs.Prelude.{◌≤◌, length};
 ghost use Rattle.file_facts.specs.Facts.{IsWorkable};
 
-use crate::*;
+use crate::closing::run_of;
+use crate::counting::case_counts;
 use adept_server::Server;
 use file_facts::{File, read_workable};
 use script_run::Run;

@@ -1,7 +1,7 @@
 // A file's script, worked by a crew.
-ghost use Rattle.std.specs.Prelude.{IfOk, OnOk};
+ghost use Rattle.std.specs.Prelude.{◌≡◌, ◌≢◌, IfErr, IfOk, OnOk};
 ghost use Rattle.adept_server.specs.Desks.{IsDeskOf, desk_view};
-ghost use Rattle.crew_run.specs.Phases.{HasWorkedAll, IsBegun, IsCrew};
+ghost use Rattle.crew_run.specs.Phases.{AreTogether, HasWorkedAll, IsBegun, IsOverfull};
 ghost use Rattle.crew_run.specs.Workers.{AreDesksOf, desks_of};
 ghost use Rattle.file_facts.specs.Facts.{IsWorkable};
 ghost use Rattle.legal_run.specs.Legal.{Legal};
@@ -19,7 +19,7 @@ use script_run::Run;
 use std::alloc::Global;
 use std::sync::Wait;
 use std::thread::Threads;
-use turn_cell::{Gate, NoMemory};
+use turn_cell::{CallFault, Gate, NoMemory};
 
 /// Works a file's script with a crew: each actor its own lines, in order, in work of its own that runs beside the others',
 /// phase after phase. The run is a legal one, whatever way the actors' turns fall.
@@ -35,9 +35,23 @@ pub fn crew_run<R: Threads + Wait + Sync, G: Gate + Sync>(
     let counts = case_counts(alloc, file)?;
     let (server, mut first) = Server::new(alloc, &counts)?;
     let mut crew = hire(alloc, &server, &mut first, file.actors.len())?;
-    work_file(rt, alloc, &server, file, &mut first, &mut crew, gate)?;
+    let worked = work_file(rt, alloc, &server, file, &mut first, &mut crew, gate);
     dismiss(&server, &mut first, crew);
-    run_of(alloc, file, server.close(first))
+    let closed = server.close(first);
+    match worked {
+        Ok(()) => run_of(alloc, file, closed),
+        Err(fault) => Err(no_memory(fault)),
+    }
+}
+
+// The fault of a run: a journal takes more entries than a file has lines, so none was full.
+fn no_memory(fault: CallFault) -> NoMemory
+    requires { fault ≢ CallFault.Full }
+{
+    match fault {
+        CallFault::NoMemory => NoMemory,
+        CallFault::Full => unreachable!(),
+    }
 }
 
 // The first desk defines the types, all meet, and the crew works the phases.
@@ -49,15 +63,17 @@ fn work_file<R: Threads + Wait + Sync, G: Gate + Sync>(
     first: &mut Desk,
     crew: &mut [Worker],
     gate: &G,
-) -> Result<(), NoMemory>
+) -> Result<(), CallFault>
     requires file { IsWorkable file.now }
     requires first { IsDeskOf server.now first.old }
     requires desks { AreDesksOf server.now crew.old }
     requires begun { IsBegun file.now (desk_view first.old) (desks_of crew.old) }
-    ensures crew { OnOk result (IsCrew server.now file.now first.new crew.new) }
+    ensures together { AreTogether server.now file.now first.new crew.new }
+    ensures full { IfErr result (λ fault. fault ≡ CallFault.Full → IsOverfull file.now (desk_view first.new) (desks_of crew.new)) }
     ensures done { OnOk result (HasWorkedAll file.now (desk_view first.new) (desks_of crew.new)) }
 {
-    define_types(rt, alloc, server, first, 0, file.types.as_slice(), gate)?;
+    let defined = define_types(rt, alloc, server, first, 0, file.types.as_slice(), gate);
     meet_all(server, first, crew);
+    defined?;
     work_phases(rt, alloc, server, file, first, crew, gate)
 }

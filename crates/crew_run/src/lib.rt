@@ -1,7 +1,7 @@
 //! A file's script, worked by a crew: the first desk of a server, and a desk for each actor.
 //!
-//! So far the crew is hired and taken in, and a closed server gives the run of the file; `proofs/` says that a crew
-//! which works a server phase by phase leaves a legal run.
+//! The one call works a file phase after phase. That its run is legal, whatever way the actors' turns fall, is shown in
+//! `proofs/`: `Whole` for a run that ends well, and `Tried` for one in which a journal would be full, which there is not.
 #![tactic(auto)]
 
 mod closing;
@@ -15,8 +15,4 @@ mod meeting;
 mod phases;
 mod workers;
 
-pub use closing::{dismiss, run_of};
-pub use counting::case_counts;
 pub use crews::crew_run;
-pub use hiring::hire;
-pub use workers::Worker;

@@ -1,10 +1,10 @@
 // How a crew works.
-ghost use Rattle.std.specs.Prelude.{◌≡◌, ◌<◌, length, is_some, OnOk, slice_index_or};
+ghost use Rattle.std.specs.Prelude.{◌≡◌, ◌<◌, length, is_some, true, false, IfErr, OnErr, OnOk, slice_index_or};
 ghost use Rattle.std.specs.List.{list_any};
 ghost use Rattle.std.specs.Thread.{IsSync};
 ghost use Rattle.adept_server.specs.Desks.{IsDeskOf, desk_view};
 ghost use Rattle.crew_run.specs.Crew.{PhaseDone, PhasesDone, Works};
-ghost use Rattle.crew_run.specs.Phases.{HasWorked, IsCrew, IsReadyAt};
+ghost use Rattle.crew_run.specs.Phases.{HasWorked, IsCrew, IsReadyAt, PhasesTried, SeesMany, Tries, is_full_fault};
 ghost use Rattle.crew_run.specs.Workers.{desks_of};
 ghost use Rattle.file_facts.specs.Facts.{IsKnown, IsWorkable};
 ghost use Rattle.wsm_lists.specs.Rows.{AllRows};
@@ -17,7 +17,7 @@ use process_text::{File, Lines};
 use std::alloc::Global;
 use std::sync::Wait;
 use std::thread::{Threads, for_each_mut};
-use turn_cell::{Gate, NoMemory};
+use turn_cell::{CallFault, Gate};
 
 /// So many threads work a phase at most: one for each actor that a file may have.
 const THREADS: usize = 32;
@@ -31,10 +31,12 @@ pub fn work_phases<R: Threads + Wait + Sync, G: Gate + Sync>(
     first: &mut Desk,
     crew: &mut [Worker],
     gate: &G,
-) -> Result<(), NoMemory>
+) -> Result<(), CallFault>
     requires file { IsWorkable file.now }
     requires crew { IsCrew server.now file.now first.old crew.old }
-    ensures crew { OnOk result (IsCrew server.now file.now first.new crew.new) }
+    ensures crew { IsCrew server.now file.now first.new crew.new }
+    ensures tried { OnErr result (PhasesTried file.now file.now.phases (desk_view first.old) (desks_of crew.old) (desk_view first.new) (desks_of crew.new)) }
+    ensures full { IfErr result (λ fault. fault ≡ CallFault.Full → SeesMany (desk_view first.new)) }
     ensures done { OnOk result (PhasesDone file.now file.now.phases (desk_view first.old) (desks_of crew.old) (desk_view first.new) (desks_of crew.new)) }
 {
     for lines in file.phases.as_slice() {
@@ -52,19 +54,40 @@ fn work_phase<R: Threads + Wait + Sync, G: Gate + Sync>(
     crew: &mut [Worker],
     lines: &Lines,
     gate: &G,
-) -> Result<(), NoMemory>
+) -> Result<(), CallFault>
     requires file { IsWorkable file.now }
     requires lines { AllRows (IsKnown (length file.now.types) (length file.now.actors) file.now.cases) lines.now }
     requires crew { IsCrew server.now file.now first.old crew.old }
-    ensures crew { OnOk result (IsCrew server.now file.now first.new crew.new) }
+    ensures crew { IsCrew server.now file.now first.new crew.new }
+    ensures tried { PhaseDone (Tries file.now lines.now) (desk_view first.old) (desks_of crew.old) (desk_view first.new) (desks_of crew.new) }
+    ensures full { IfErr result (λ fault. fault ≡ CallFault.Full → SeesMany (desk_view first.new)) }
     ensures done { OnOk result (PhaseDone (Works file.now lines.now) (desk_view first.old) (desks_of crew.old) (desk_view first.new) (desks_of crew.new)) }
 {
     work_lines(rt, alloc, server, file, crew, lines, gate);
     meet_all(server, first, crew);
+    outcome(crew)
+}
+
+// How a phase ended for the crew: with a full journal where one of them met that, else without memory where one met a fault.
+fn outcome(crew: &[Worker]) -> Result<(), CallFault>
+    ensures full { IfErr result (λ fault. fault ≡ CallFault.Full → list_any (λ w. is_full_fault w.fault) crew.now ≡ true) }
+    ensures well { OnOk result (list_any (λ w. is_some w.fault) crew.now ≡ false) }
+{
+    if is_full(crew) {
+        return Err(CallFault::Full);
+    }
     if has_fault(crew) {
-        return Err(NoMemory);
+        return Err(CallFault::NoMemory);
     }
     Ok(())
+}
+
+// Whether one of the crew met a full journal.
+fn is_full(crew: &[Worker]) -> bool
+    ensures { result ≡ list_any (λ w. is_full_fault w.fault) crew.now }
+{
+    crew.iter()
+        .any(|worker| matches!(worker.fault, Some(CallFault::Full)))
 }
 
 // Whether one of the crew met a fault.

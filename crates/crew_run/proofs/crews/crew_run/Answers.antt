@@ -6,14 +6,15 @@ use Rattle.adept_server.specs.Desks.{desk_view}
 use Rattle.adept_server.specs.Opening.{IsFirstDesk, joined_desk}
 use Rattle.crew_run.proofs.Ends.{has-taken}
 use Rattle.crew_run.proofs.Steps.{if_ok-so}
+use Rattle.crew_run.proofs.Tried.{never-overfull}
 use Rattle.crew_run.proofs.Whole.{legal-of}
 use Rattle.crew_run.specs.Beginning.{AreHired}
 use Rattle.crew_run.specs.CaseCounts.{AreCounts}
 use Rattle.crew_run.specs.Workers.{desks_of}
 use Rattle.crew_run.proofs.crews.crew_run.Goals as goal
 
-pub work_file-requires-clause-begun : goal.work_file-requires-clause-begun
-work_file-requires-clause-begun g c κs within =
+pub work_file-worked-requires-clause-begun : goal.work_file-worked-requires-clause-begun
+work_file-worked-requires-clause-begun g c κs within =
     let v0 = desk_view c.in_ok-server.first in
     let v1 = desk_view c.hire.new.first in
     record {
@@ -26,46 +27,53 @@ work_file-requires-clause-begun g c κs within =
       made = c.in_ok-crew.ensures.made ∙ ap (λ n. v0.made + n) c.len.ensures;
     }
 
-pub close-requires-clause-first : goal.close-requires-clause-first
-close-requires-clause-first g c =
-    let v = desk_view c.work_file.new.first in
-    let whole = with_items_is c.in_ok-crew.crew c.work_file.new.crew (c.work_file.auto.crew ∙ c.deref_mut.ensures.len) in
+pub close-closed-requires-clause-first : goal.close-closed-requires-clause-first
+close-closed-requires-clause-first g c =
+    let v = desk_view c.work_file-worked.new.first in
+    let whole = with_items_is c.in_ok-crew.crew c.work_file-worked.new.crew (c.work_file-worked.auto.crew ∙ c.deref_mut.ensures.len) in
     let joined = c.dismiss.ensures.joined ∙ ap (λ ws. fold joined_desk v (desks_of ws)) whole in
-    let k = c.in_ok-work_file.ensures.crew in
-    let taken = has-taken c.args.file.now v (desks_of c.work_file.new.crew) k.first_able k.able in
+    let k = c.work_file-worked.ensures.together in
+    let taken = has-taken c.args.file.now v (desks_of c.work_file-worked.new.crew) k.first_shaped k.shaped in
     ap (λ w. w.number) joined ∙ (taken.number ∙ k.first_number)
 
-pub close-requires-clause-all : goal.close-requires-clause-all
-close-requires-clause-all g c =
-    let v = desk_view c.work_file.new.first in
-    let whole = with_items_is c.in_ok-crew.crew c.work_file.new.crew (c.work_file.auto.crew ∙ c.deref_mut.ensures.len) in
+pub close-closed-requires-clause-all : goal.close-closed-requires-clause-all
+close-closed-requires-clause-all g c =
+    let v = desk_view c.work_file-worked.new.first in
+    let whole = with_items_is c.in_ok-crew.crew c.work_file-worked.new.crew (c.work_file-worked.auto.crew ∙ c.deref_mut.ensures.len) in
     let joined = c.dismiss.ensures.joined ∙ ap (λ ws. fold joined_desk v (desks_of ws)) whole in
-    let k = c.in_ok-work_file.ensures.crew in
-    let taken = has-taken c.args.file.now v (desks_of c.work_file.new.crew) k.first_able k.able in
+    let k = c.work_file-worked.ensures.together in
+    let taken = has-taken c.args.file.now v (desks_of c.work_file-worked.new.crew) k.first_shaped k.shaped in
     let made = ap (λ w. w.made) joined in
     let took = ap (λ w. w.taken) joined in
-    omega (arith, taken.made, taken.taken, k.made, k.taken, length-map c.work_file.new.crew (λ w. desk_view w.desk))
+    omega (arith, taken.made, taken.taken, k.made, k.taken, length-map c.work_file-worked.new.crew (λ w. desk_view w.desk))
 
 pub run_of-requires-clause-cases : goal.run_of-requires-clause-cases
 run_of-requires-clause-cases g c =
-    let v = desk_view c.work_file.new.first in
-    let whole = with_items_is c.in_ok-crew.crew c.work_file.new.crew (c.work_file.auto.crew ∙ c.deref_mut.ensures.len) in
+    let v = desk_view c.work_file-worked.new.first in
+    let whole = with_items_is c.in_ok-crew.crew c.work_file-worked.new.crew (c.work_file-worked.auto.crew ∙ c.deref_mut.ensures.len) in
     let joined = c.dismiss.ensures.joined ∙ ap (λ ws. fold joined_desk v (desks_of ws)) whole in
-    let k = c.in_ok-work_file.ensures.crew in
-    let taken = has-taken c.args.file.now v (desks_of c.work_file.new.crew) k.first_able k.able in
-    subst (AreCounts c.args.file.now) (sym (c.close.ensures.rows ∙ ap (λ w. map length w.cases) joined)) taken.counted
+    let k = c.work_file-worked.ensures.together in
+    let taken = has-taken c.args.file.now v (desks_of c.work_file-worked.new.crew) k.first_shaped k.shaped in
+    subst (AreCounts c.args.file.now) (sym (c.close-closed.ensures.rows ∙ ap (λ w. map length w.cases) joined)) taken.counted
 
-pub returns : goal.returns
-returns g c =
+pub no_memory-requires : goal.no_memory-requires
+no_memory-requires g c = λ is.
+    let v = desk_view c.work_file-worked.new.first in
+    let whole = with_items_is c.in_ok-crew.crew c.work_file-worked.new.crew (c.work_file-worked.auto.crew ∙ c.deref_mut.ensures.len) in
+    let joined = c.dismiss.ensures.joined ∙ ap (λ ws. fold joined_desk v (desks_of ws)) whole in
+    never-overfull c.args.file.now v (desks_of c.work_file-worked.new.crew) (desk_view c.dismiss.new.first) c.close-closed.result c.requires (c.in-Err.ensures.full is) joined c.close-closed.ensures
+
+pub returns-in-Ok : goal.returns-in-Ok
+returns-in-Ok g c =
     let f = c.args.file.now in
-    let v = desk_view c.work_file.new.first in
-    let ws = desks_of c.work_file.new.crew in
+    let v = desk_view c.work_file-worked.new.first in
+    let ws = desks_of c.work_file-worked.new.crew in
     let last = desk_view c.dismiss.new.first in
-    let whole = with_items_is c.in_ok-crew.crew c.work_file.new.crew (c.work_file.auto.crew ∙ c.deref_mut.ensures.len) in
+    let whole = with_items_is c.in_ok-crew.crew c.work_file-worked.new.crew (c.work_file-worked.auto.crew ∙ c.deref_mut.ensures.len) in
     let joined = c.dismiss.ensures.joined ∙ ap (λ crew. fold joined_desk v (desks_of crew)) whole in
-    let k = c.in_ok-work_file.ensures.crew in
-    let worked = c.in_ok-work_file.ensures.done in
-    let types = ap (λ w. length w.kinds) joined ∙ (has-taken f v ws k.first_able k.able).types in
+    let k = c.work_file-worked.ensures.together in
+    let worked = c.in-Ok.ensures.done in
+    let types = ap (λ w. length w.kinds) joined ∙ (has-taken f v ws k.first_shaped k.shaped).types in
     if_ok-so c.run_of.result
-    (λ run is. legal-of f worked.first_before worked.crew_before v ws last worked.done c.close.result run worked.ready c.requires.sound joined types c.close.ensures is)
+    (λ run is. legal-of f worked.first_before worked.crew_before v ws last worked.done c.close-closed.result run worked.ready c.requires.sound joined types c.close-closed.ensures is)
     c.run_of.ensures

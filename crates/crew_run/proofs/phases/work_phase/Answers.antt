@@ -2,10 +2,12 @@ use Rattle.std.proofs.Common.{◌≡◌, ◌+◌, ◌<◌, ◌∙◌, ℕ, lengt
 use Rattle.std.specs.List.{AllZip}
 use Rattle.adept_actor.specs.Work.{CanWork}
 use Rattle.adept_server.specs.Desks.{desk_view}
-use Rattle.crew_run.proofs.Able.{all-can, crew-then, desks-are, phase-done, well-of}
-use Rattle.crew_run.proofs.Steps.{all-desks, all-zip, desk-at, holds-at, number-at}
+use Rattle.crew_run.proofs.Able.{all-can, crew-then, desks-are, phase-done, phase-tried, well-of}
+use Rattle.crew_run.proofs.Hired.{on_ok}
+use Rattle.crew_run.proofs.Start.{full-among}
+use Rattle.crew_run.proofs.Steps.{all-desks, all-zip, desk-at, holds-at, if_err-so, number-at}
 use Rattle.crew_run.specs.Crew.{ActorDone, Works}
-use Rattle.crew_run.specs.Phases.{HasWorked}
+use Rattle.crew_run.specs.Phases.{HasWorked, Tries}
 use Rattle.crew_run.specs.Workers.{desks_of}
 use Rattle.crew_run.proofs.phases.work_phase.Goals as goal
 
@@ -27,9 +29,33 @@ returns-clause-crew g c =
     let new = c.meet_all.new.crew in
     let first = desk_view c.meet_all.new.first in
     let worked : AllZip (HasWorked f lines) old mid = all-zip (HasWorked f lines) old mid c.work_lines.auto.crew (λ i d low. (c.work_lines.ensures i d low).1) in
-    let well = well-of new mid (sym c.has_fault.ensures ∙ c.if-has_fault.false) c.meet_all.ensures.faults in
-    let done = phase-done f lines first old mid new c.requires.file c.requires.crew.able worked well c.meet_all.ensures.heard c.meet_all.ensures.same (desks-are c.args.server.now new c.meet_all.ensures.crew) in
-    crew-then c.args.server.now f c.args.first.now c.meet_all.new.first old new (Works f lines) c.requires.crew c.meet_all.ensures.first.0 c.meet_all.ensures.crew c.meet_all.ensures.first.1 done (c.meet_all.auto.crew ∙ c.work_lines.auto.crew)
+    let tried = phase-tried f lines first old mid new c.requires.file c.requires.crew.able worked c.meet_all.ensures.heard c.meet_all.ensures.same (desks-are c.args.server.now new c.meet_all.ensures.crew) in
+    crew-then c.args.server.now f c.args.first.now c.meet_all.new.first old new (Tries f lines) c.requires.crew c.meet_all.ensures.first.0 c.meet_all.ensures.crew c.meet_all.ensures.first.1 tried (c.meet_all.auto.crew ∙ c.work_lines.auto.crew)
+
+pub returns-clause-tried : goal.returns-clause-tried
+returns-clause-tried g c =
+    let f = c.args.file.now in
+    let lines = c.args.lines.now in
+    let old = c.args.crew.now in
+    let mid = c.work_lines.new.crew in
+    let new = c.meet_all.new.crew in
+    let first = desk_view c.meet_all.new.first in
+    let worked : AllZip (HasWorked f lines) old mid = all-zip (HasWorked f lines) old mid c.work_lines.auto.crew (λ i d low. (c.work_lines.ensures i d low).1) in
+    record {
+      heard = c.meet_all.ensures.first.1;
+      crew_done = phase-tried f lines first old mid new c.requires.file c.requires.crew.able worked c.meet_all.ensures.heard c.meet_all.ensures.same (desks-are c.args.server.now new c.meet_all.ensures.crew);
+    }
+
+pub returns-clause-full : goal.returns-clause-full
+returns-clause-full g c =
+    let f = c.args.file.now in
+    let lines = c.args.lines.now in
+    let old = c.args.crew.now in
+    let mid = c.work_lines.new.crew in
+    let new = c.meet_all.new.crew in
+    let first = desk_view c.meet_all.new.first in
+    let worked : AllZip (HasWorked f lines) old mid = all-zip (HasWorked f lines) old mid c.work_lines.auto.crew (λ i d low. (c.work_lines.ensures i d low).1) in
+    if_err-so c.outcome.result (λ fault any is. full-among f lines first old mid new (any is) c.meet_all.ensures.faults worked c.meet_all.ensures.heard c.meet_all.ensures.same) c.outcome.ensures.full
 
 pub returns-clause-done : goal.returns-clause-done
 returns-clause-done g c =
@@ -40,8 +66,10 @@ returns-clause-done g c =
     let new = c.meet_all.new.crew in
     let first = desk_view c.meet_all.new.first in
     let worked : AllZip (HasWorked f lines) old mid = all-zip (HasWorked f lines) old mid c.work_lines.auto.crew (λ i d low. (c.work_lines.ensures i d low).1) in
-    let well = well-of new mid (sym c.has_fault.ensures ∙ c.if-has_fault.false) c.meet_all.ensures.faults in
-    record {
+    on_ok c.outcome.result
+    (λ none. record {
       heard = c.meet_all.ensures.first.1;
-      crew_done = phase-done f lines first old mid new c.requires.file c.requires.crew.able worked well c.meet_all.ensures.heard c.meet_all.ensures.same (desks-are c.args.server.now new c.meet_all.ensures.crew);
-    }
+      crew_done =
+          phase-done f lines first old mid new c.requires.file c.requires.crew.able worked (well-of new mid none c.meet_all.ensures.faults) c.meet_all.ensures.heard c.meet_all.ensures.same (desks-are c.args.server.now new c.meet_all.ensures.crew);
+    })
+    c.outcome.ensures.well
