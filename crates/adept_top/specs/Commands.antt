@@ -1,11 +1,13 @@
 -- The commands: their words, the run that each leaves of a file, and what it writes.
-use Rattle.std.specs.Prelude.{ℕ, ◌≡◌, List, [], ◌∷◌, Option, Some, None, if◌then◌else◌, codes, bytes_eq}
+use Rattle.std.specs.Prelude.{ℕ, ◌≡◌, ◌≤◌, Bool, ◌&&◌, nat_lt, nat_le, List, [], ◌∷◌, Option, Some, None, option_map, if◌then◌else◌, codes, bytes_eq}
+use Rattle.adept_load.specs.Load.{load_text}
 use Rattle.adept_top.specs.declared.words.Command.{Command}
 use Rattle.adept_top.specs.declared.words.Command.TheVariants as command
+use Rattle.file_words.specs.Numbers.{are_digits, value_from}
 use Rattle.legal_run.specs.Legal.{Legal}
 use Rattle.process_text.specs.declared.files.File.{File}
 use Rattle.report_text.specs.Check.{check_text}
-use Rattle.report_text.specs.Report.{text}
+use Rattle.report_text.specs.Report.{text, summary}
 use Rattle.script_run.specs.Serial.{serial}
 use Rattle.script_run.specs.Verdicts.{verdicts}
 use Rattle.script_run.specs.declared.runs.Run.{Run}
@@ -16,29 +18,56 @@ command_word w =
     else (if bytes_eq w (codes "play") then Some command.Play
     else (if bytes_eq w (codes "check") then Some command.Check else None))
 
--- a command is one word
-abbrev pub alone : List ℕ → List (List ℕ) → Option Command
-alone w [] = command_word w
-alone w (v ∷ vs) = None
+-- how many cases a word asks for: 1 to 4096, in at most four digits
+abbrev pub is_case_count : List ℕ → Bool
+is_case_count w = are_digits 4 w && nat_lt 0 (value_from 0 w) && nat_le (value_from 0 w) 4096
 
+abbrev pub case_count : List ℕ → Option ℕ
+case_count w = if is_case_count w then Some (value_from 0 w) else None
+
+-- `load` and a number
+abbrev pub load_words : List ℕ → List ℕ → Option Command
+load_words w v = if bytes_eq w (codes "load") then option_map command.Load (case_count v) else None
+
+-- a command is one word, and `load` is two
 abbrev pub command_of : List (List ℕ) → Option Command
 command_of [] = None
-command_of (w ∷ ws) = alone w ws
+command_of (w ∷ []) = command_word w
+command_of (w ∷ v ∷ []) = load_words w v
+command_of (w ∷ v ∷ u ∷ us) = None
 
--- the run that a command leaves of a file: of `run` any legal one, of `play` the serial one
+-- how many cases a command makes; all but `load` read their file
+abbrev pub cases_of : Command → Option ℕ
+cases_of (command.Load n) = Some n
+cases_of _ = None
+
+-- the bytes of the file that is worked: those that are made, or what the source tells
+abbrev pub input : Option ℕ → Option (List ℕ) → Option (List ℕ)
+input None left = left
+input (Some n) left = Some (load_text n)
+
+-- the run that a command leaves of a file: of `run` and `load` any legal one, of `play` the serial one
 abbrev pub IsRunOf : Command → File → Option Run → Type 0
 IsRunOf command.Run f None = ⊥
 IsRunOf command.Run f (Some r) = Legal f r
 IsRunOf command.Play f run = run ≡ Some (serial f)
 IsRunOf command.Check f run = run ≡ None
+IsRunOf (command.Load n) f None = ⊥
+IsRunOf (command.Load n) f (Some r) = Legal f r
 
 -- the report of a run, if there is one
 abbrev pub report_of : File → Option Run → List ℕ
 report_of f None = []
 report_of f (Some r) = text f r
 
+-- the last line of that report
+abbrev pub summary_of : File → Option Run → List ℕ
+summary_of f None = []
+summary_of f (Some r) = summary f r
+
 -- what a command writes that leaves this run
 abbrev pub output : Command → File → Option Run → List ℕ
 output command.Run f run = report_of f run
 output command.Play f run = report_of f run
 output command.Check f run = check_text f (verdicts f)
+output (command.Load n) f run = summary_of f run

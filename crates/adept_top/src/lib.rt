@@ -4,6 +4,8 @@
 mod commands;
 #[cfg(test)]
 mod crew_tests;
+#[cfg(test)]
+mod load_tests;
 mod outcomes;
 mod reading;
 #[cfg(test)]

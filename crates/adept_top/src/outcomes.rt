@@ -1,5 +1,5 @@
 // How a run of the program ends.
-ghost use Rattle.std.specs.Prelude.{◌≡◌, None};
+ghost use Rattle.std.specs.Prelude.{◌≡◌, None, Some};
 
 use process_text::Refused;
 use report_text::Run;
@@ -24,6 +24,17 @@ impl Outcome {
         Outcome {
             status,
             run: None,
+            place: None,
+        }
+    }
+
+    /// The end of a run.
+    pub fn of_run(status: u8, run: Run) -> Outcome
+        ensures { result ≡ record { status = status; run = Some run; place = None } }
+    {
+        Outcome {
+            status,
+            run: Some(run),
             place: None,
         }
     }

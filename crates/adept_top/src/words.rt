@@ -1,6 +1,8 @@
 // The words of the command line.
-ghost use Rattle.std.specs.Prelude.{◌≡◌, map, string_bytes};
-ghost use Rattle.adept_top.specs.Commands.{command_of, command_word};
+ghost use Rattle.std.specs.Prelude.{◌≡◌, ◌≤◌, map, string_bytes, IfSome};
+ghost use Rattle.adept_top.specs.Commands.{case_count, cases_of, command_of, command_word, load_words};
+
+use file_words::code;
 
 /// What the program can be told to do.
 #[derive(Clone, Copy)]
@@ -11,22 +13,20 @@ pub enum Command {
     Play,
     /// Says of each type and each new version whether it is sound.
     Check,
+    /// Works a large process file, made for so many cases, with a crew, and writes the last line of the report.
+    Load(u32),
 }
 
 impl Command {
     /// The command that the words stand for. None where they stand for none.
     pub fn of(words: &[String]) -> Option<Command>
-        ensures { result ≡ command_of (map string_bytes words.now) }
+        ensures command { result ≡ command_of (map string_bytes words.now) }
+        ensures cases { IfSome result (λ c. IfSome (cases_of c) (λ n. (1 ≤ n) × (n ≤ 4096))) }
     {
         match words {
-            [] => None,
-            [word, rest @ ..] => {
-                if rest.is_empty() {
-                    Command::of_word(word.as_str())
-                } else {
-                    None
-                }
-            }
+            [word] => Command::of_word(word.as_str()),
+            [word, number] => Command::of_two(word.as_str(), number.as_str()),
+            _ => None,
         }
     }
 
@@ -42,5 +42,40 @@ impl Command {
         } else {
             None
         }
+    }
+
+    fn of_two(word: &str, number: &str) -> Option<Command>
+        ensures { result ≡ load_words word.now number.now }
+    {
+        if word == "load" {
+            case_count(number.as_bytes()).map(Command::Load)
+        } else {
+            None
+        }
+    }
+
+    /// How many cases the command makes. None where it reads its file.
+    pub fn cases(self) -> Option<u32>
+        ensures { result ≡ cases_of self }
+    {
+        match self {
+            Command::Load(cases) => Some(cases),
+            Command::Run => None,
+            Command::Play => None,
+            Command::Check => None,
+        }
+    }
+}
+
+// How many cases a word asks for.
+fn case_count(word: &[u8]) -> Option<u32>
+    ensures { result ≡ case_count word.now }
+{
+    if word.len() > 4 {
+        return None;
+    }
+    match code(word) {
+        Some(count @ 1..=4096) => Some(count.into()),
+        _ => None,
     }
 }

@@ -6,14 +6,14 @@ ghost use Rattle.adept_io.specs.Written.{AppendsPrefix};
 ghost use Rattle.adept_top.specs.Works.{Works};
 ghost use Rattle.file_facts.specs.Facts.{IsWorkable};
 ghost use Rattle.process_text.specs.Sizes.{IsBounded};
-ghost use Rattle.report_text.specs.Report.{text};
+ghost use Rattle.report_text.specs.Report.{summary, text};
 
 use crate::outcomes::Outcome;
 use crate::words::Command;
 use adept_io::Sink;
 use crew_run::crew_run;
 use process_text::File;
-use report_text::{Run, write_run, write_verdicts};
+use report_text::{Run, write_run, write_summary, write_verdicts};
 use script_run::{serial_run, verdicts};
 use std::alloc::Global;
 use std::sync::Wait;
@@ -37,6 +37,7 @@ pub fn work_file<R: Threads + Wait + Sync, K: Sink, G: Gate + Sync>(
         Command::Run => run_file(rt, alloc, file, sink, gate),
         Command::Play => play_file(alloc, file, sink),
         Command::Check => check_file(alloc, file, sink),
+        Command::Load(cases) => summarize_file(rt, alloc, cases, file, sink, gate),
     }
 }
 
@@ -53,6 +54,24 @@ fn run_file<R: Threads + Wait + Sync, K: Sink, G: Gate + Sync>(
 {
     match crew_run(rt, alloc, file, gate) {
         Ok(run) => report(file, run, sink),
+        Err(_) => Outcome::of_status(5),
+    }
+}
+
+// The same, but only the last line of the report is written.
+fn summarize_file<R: Threads + Wait + Sync, K: Sink, G: Gate + Sync>(
+    rt: &R,
+    alloc: Global,
+    _cases: u32,
+    file: &File,
+    sink: &mut K,
+    gate: &G,
+) -> Outcome
+    requires { IsWorkable file.now }
+    ensures { Works K.written K.faults (Command.Load _cases) file.now sink.old sink.new result }
+{
+    match crew_run(rt, alloc, file, gate) {
+        Ok(run) => sum_up(file, run, sink),
         Err(_) => Outcome::of_status(5),
     }
 }
@@ -77,14 +96,24 @@ fn report<K: Sink>(file: &File, run: Run, sink: &mut K) -> Outcome
     ensures run { result.run ≡ Some run }
     ensures no_place { result.place ≡ None }
 {
-    let status = match write_run(file, &run, sink) {
-        Ok(()) => 0,
-        Err(_) => 4,
-    };
-    Outcome {
-        status,
-        run: Some(run),
-        place: None,
+    match write_run(file, &run, sink) {
+        Ok(()) => Outcome::of_run(0, run),
+        Err(_) => Outcome::of_run(4, run),
+    }
+}
+
+// Writes the last line of that report.
+fn sum_up<K: Sink>(file: &File, run: Run, sink: &mut K) -> Outcome
+    ensures statuses { (result.status ≡ 0) ⊎ (result.status ≡ 4) }
+    ensures done { result.status ≡ 0 → Appends (K.written sink.old) (K.written sink.new) (summary file.now run) }
+    ensures begun { result.status ≡ 4 → AppendsPrefix (K.written sink.old) (K.written sink.new) (summary file.now run) }
+    ensures unwritten { result.status ≡ 4 → Rose (K.faults sink.old) (K.faults sink.new) }
+    ensures run { result.run ≡ Some run }
+    ensures no_place { result.place ≡ None }
+{
+    match write_summary(file, &run, sink) {
+        Ok(()) => Outcome::of_run(0, run),
+        Err(_) => Outcome::of_run(4, run),
     }
 }
 
