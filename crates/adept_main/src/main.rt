@@ -9,7 +9,7 @@ use std::process::ExitCode;
 use std::{env, str};
 use turn_cell::OpenGate;
 
-fn main(rt: HostRuntime) -> io::Result<ExitCode> {
+fn main(rt: HostRuntime) -> ExitCode {
     let outcome = match words(&rt) {
         Ok(words) => {
             let mut source = StdSource::new(rt.stdin());
@@ -18,8 +18,9 @@ fn main(rt: HostRuntime) -> io::Result<ExitCode> {
         }
         Err(error) => Outcome::of_status(status_of(&error)),
     };
-    tell(&rt, &outcome)?;
-    Ok(ExitCode::from(outcome.status))
+    // The status tells all; where nothing can be said beside it, it stays the same.
+    let _ = tell(&rt, &outcome);
+    ExitCode::from(outcome.status)
 }
 
 // The words behind the program's name.

@@ -1,3 +1,4 @@
 pub mod Commands
+pub mod Endings
 pub mod Statuses
 pub mod Works

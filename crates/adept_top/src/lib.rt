@@ -2,14 +2,8 @@
 #![tactic(auto)]
 
 mod commands;
-#[cfg(test)]
-mod crew_tests;
-#[cfg(test)]
-mod load_tests;
 mod outcomes;
 mod reading;
-#[cfg(test)]
-mod tests;
 mod words;
 mod working;
 

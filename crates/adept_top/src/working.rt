@@ -1,15 +1,15 @@
 // The commands on a process file that was read. Nothing is written before the work is done.
-ghost use Rattle.std.specs.Prelude.{◌≡◌, ◌⊎◌, Some, None};
+ghost use Rattle.std.specs.Prelude.{ℕ, ◌≡◌, ◌⊎◌, Some, None};
 ghost use Rattle.std.specs.Io.KnownBytes.{Appends};
 ghost use Rattle.adept_io.specs.Counts.{Rose};
 ghost use Rattle.adept_io.specs.Written.{AppendsPrefix};
 ghost use Rattle.adept_top.specs.Works.{Works};
+ghost use Rattle.adept_top.specs.declared.words.Command.TheVariants as Command;
 ghost use Rattle.file_facts.specs.Facts.{IsWorkable};
 ghost use Rattle.process_text.specs.Sizes.{IsBounded};
 ghost use Rattle.report_text.specs.Report.{summary, text};
 
 use crate::outcomes::Outcome;
-use crate::words::Command;
 use adept_io::Sink;
 use crew_run::crew_run;
 use process_text::File;
@@ -20,29 +20,8 @@ use std::sync::Wait;
 use std::thread::Threads;
 use turn_cell::Gate;
 
-/// The command on a file.
-pub fn work_file<R: Threads + Wait + Sync, K: Sink, G: Gate + Sync>(
-    rt: &R,
-    alloc: Global,
-    command: Command,
-    file: &File,
-    sink: &mut K,
-    gate: &G,
-) -> Outcome
-    requires bounded { IsBounded file.now }
-    requires workable { IsWorkable file.now }
-    ensures { Works K.written K.faults command file.now sink.old sink.new result }
-{
-    match command {
-        Command::Run => run_file(rt, alloc, file, sink, gate),
-        Command::Play => play_file(alloc, file, sink),
-        Command::Check => check_file(alloc, file, sink),
-        Command::Load(cases) => summarize_file(rt, alloc, cases, file, sink, gate),
-    }
-}
-
-// Works the lines of a file with a crew, each actor its own, and writes the report.
-fn run_file<R: Threads + Wait + Sync, K: Sink, G: Gate + Sync>(
+/// Works the lines of a file with a crew, each actor its own, and writes the report.
+pub fn run_file<R: Threads + Wait + Sync, K: Sink, G: Gate + Sync>(
     rt: &R,
     alloc: Global,
     file: &File,
@@ -58,17 +37,16 @@ fn run_file<R: Threads + Wait + Sync, K: Sink, G: Gate + Sync>(
     }
 }
 
-// The same, but only the last line of the report is written.
-fn summarize_file<R: Threads + Wait + Sync, K: Sink, G: Gate + Sync>(
+/// The same, but only the last line of the report is written.
+pub fn summarize_file<R: Threads + Wait + Sync, K: Sink, G: Gate + Sync>(
     rt: &R,
     alloc: Global,
-    _cases: u32,
     file: &File,
     sink: &mut K,
     gate: &G,
 ) -> Outcome
     requires { IsWorkable file.now }
-    ensures { Works K.written K.faults (Command.Load _cases) file.now sink.old sink.new result }
+    ensures { (cases : ℕ) → Works K.written K.faults (Command.Load cases) file.now sink.old sink.new result }
 {
     match crew_run(rt, alloc, file, gate) {
         Ok(run) => sum_up(file, run, sink),
