@@ -1,21 +1,23 @@
 -- What the calls of an act leave of a desk, and the lines of an actor one after another.
-use Rattle.std.proofs.Common.{◌≡◌, ◌≢◌, ℕ, zero, suc, ◌+◌, ◌≤◌, ◌<◌, Bool, true, false, List, [], ◌∷◌, ◌++◌, length, map, get_or, drop, drop-cons, add-one, filter, Option, Some, None, Result, Ok, Err, slice_get, set, IsErrAnd, is_some, ◌⊎◌, inl, inr, refl, sym, ap, ◌∙◌, subst, arith, append_assoc, ◌==◌, eq-eqb, ne_eqb, if◌then◌else◌}
+use Rattle.std.proofs.Common.{◌≡◌, ◌≢◌, ℕ, zero, suc, ◌+◌, Bool, true, List, [], ◌∷◌, ◌++◌, length, map, get_or, Option, Some, None, Result, Ok, Err, slice_get, set, IsErrAnd, is_some, inl, inr, refl, sym, ap, ◌∙◌, subst, arith, eq-eqb, ne_eqb, if◌then◌else◌}
 use Rattle.std.proofs.Math.ListN.{length-map}
 use Rattle.std.proofs.lemmas.Option.{get_or_from_slice_get}
 use Rattle.adept_actor.proofs.Desks.{case-there, done-defined, nothing-done, then-done, kind-done, case-done, cases-done, each_calls, reply_in}
-use Rattle.adept_actor.proofs.Doing.{get-set_here, each-length}
+use Rattle.adept_actor.proofs.Doing.{each-length}
 use Rattle.adept_actor.specs.Growth.{DeskHasDone}
 use Rattle.adept_actor.specs.Work.{Acts, CanAct, CanWork, Works, Does, SeesFull, case_count, first_fault}
 use Rattle.adept_actor.specs.Work.SeesFull.{of_kind as kind_is_full, of_case as case_is_full}
 use Rattle.adept_server.proofs.Keeping.{kind_beside, kind_keeps}
-use Rattle.adept_server.specs.Calling.{IsAnswered, CallEach, CallsKind, CallsCase, CallsCases, Creates, Migrates}
+use Rattle.adept_server.specs.Calling.{CallEach, CallsKind, CallsCase, CallsCases, Creates, Migrates}
 use Rattle.adept_server.specs.Calling.Creates.{unasked as uncreated, asked as created}
 use Rattle.adept_server.specs.Calling.Migrates.{unasked as none_moves, asked as none_told, told as all_told}
-use Rattle.adept_server.specs.Desks.{DeskView, kind_after, kind_reply, case_after, case_reply, in_row, at_case, case_pass, has_case, has_kind, CasePass, IsDesk}
+use Rattle.adept_server.specs.Desks.{DeskView, in_row, at_case, case_pass, has_case, has_kind, CasePass, IsDesk}
+use Rattle.case_core.specs.Machine.{case_after, case_reply}
 use Rattle.case_core.specs.declared.events.Event.{Event}
 use Rattle.case_core.specs.declared.events.Event.TheVariants as event
 use Rattle.case_core.specs.declared.replies.Reply.{Reply}
-use Rattle.legal_run.specs.LineCalls.{Call, of_kind, of_case, asked, told, told_each, told_some, AreCallsOf, AreCallsOfLines, ArePartOf, AreBegun, lines_of}
+use Rattle.legal_run.proofs.Places.{set-here}
+use Rattle.legal_run.specs.LineCalls.{Call, asked, told, told_each, AreCallsOf, AreCallsOfLines, ArePartOf, AreBegun, lines_of}
 use Rattle.process_text.specs.declared.files.Act.{Act}
 use Rattle.process_text.specs.declared.files.Act.TheVariants as act
 use Rattle.process_text.specs.declared.files.Line.{Line}
@@ -32,15 +34,15 @@ use Rattle.wsm_sound.specs.declared.versions.CaseId.{CaseId}
 -- where a call answers that the journal is full, the desk has seen that
 kind-full : (e : KindEvent) (t : ℕ) (answer : Result KindReply CallFault) (v w : DeskView) → CallsKind e t answer v w → answer ≡ Err fault.Full → SeesFull w
 kind-full e t answer v w k is =
-    kind_is_full t k.called.behind (ap (λ xs. slice_get xs t) k.called.others ∙ get-set_here v.kinds t k.called.behind k.called.before k.called.there) (k.called.called.full is)
+    kind_is_full t k.called.behind (ap (λ xs. slice_get xs t) k.called.others ∙ set-here v.kinds t k.called.behind k.called.before k.called.there) (k.called.called.full is)
 
 behind-row : (v w : DeskView) (t : ℕ) (row new : List _) → w.cases ≡ set v.cases t new → slice_get v.cases t ≡ Some row → (j : ℕ) → case_pass w (record { type_no = t; place = j }) ≡ slice_get new j
-behind-row v w t row new others there j = ap (λ rows. at_case rows (record { type_no = t; place = j })) others ∙ ap (in_row j) (get-set_here v.cases t new row there)
+behind-row v w t row new others there j = ap (λ rows. at_case rows (record { type_no = t; place = j })) others ∙ ap (in_row j) (set-here v.cases t new row there)
 
 case-full : (e : Event) (id : CaseId) (answer : Result Reply CallFault) (v w : DeskView) → CallsCase e id answer v w → answer ≡ Err fault.Full → SeesFull w
 case-full e id answer v w k is =
     case_is_full id k.called.behind
-    (behind-row v w id.type_no k.row k.row_behind (ap (λ (x : DeskView). x.cases) k.others) k.there id.place ∙ (ap (λ xs. slice_get xs id.place) k.called.others ∙ get-set_here k.row id.place k.called.behind k.called.before k.called.there))
+    (behind-row v w id.type_no k.row k.row_behind (ap (λ (x : DeskView). x.cases) k.others) k.there id.place ∙ (ap (λ xs. slice_get xs id.place) k.called.others ∙ set-here k.row id.place k.called.behind k.called.before k.called.there))
     (k.called.called.full is)
 
 each-full : {M E R W S : Type 0} (after : S → E → S) (reply : S → E → R) (e : E) (vs : List (PassView M E R W S)) (answers : List (Result R CallFault)) (ws : List (PassView M E R W S)) → CallEach after reply e vs answers ws
@@ -269,9 +271,3 @@ module _ (calls : List Call) (v w : DeskView) (d : DeskHasDone calls v w) where
   pub work-still : (lines : List Line) → CanWork v lines → CanWork w lines
   work-still [] all = tt
   work-still (l ∷ lines) (can, all) = (λ own. act-still l.act (can (own ∙ d.number)), work-still lines all)
-
--- the line at a place, and those behind it
-pub split-at : (items lines : List Line) (i : ℕ) (l : Line) → items ≡ lines → i < length items → l ≡ get_or items i l → drop i lines ≡ l ∷ drop (i + 1) lines
-split-at items lines i l same low is =
-    let cut : drop i items ≡ get_or items i l ∷ drop (i + 1) items = rw add-one (drop-cons items i l low) in
-    subst (λ xs. drop i xs ≡ l ∷ drop (i + 1) xs) same (cut ∙ ap (λ x. x ∷ drop (i + 1) items) (sym is))

@@ -1,35 +1,31 @@
 -- What a desk's calls leave of it.
-use Rattle.std.proofs.Common.{◌≡◌, ◌≢◌, ℕ, zero, suc, ◌+◌, ◌≤◌, ◌<◌, Bool, true, false, ◌&&◌, List, [], ◌∷◌, ◌++◌, length, map, Option, Some, None, Result, Ok, Err, slice_get, set, ◌⊎◌, inl, inr, refl, sym, ap, ◌∙◌, subst, arith, ◌==◌, eq-eqb, ne_eqb, if◌then◌else◌}
-use Rattle.std.proofs.Math.ListN.{length-set, length-map}
+use Rattle.std.proofs.Common.{◌≡◌, ◌≢◌, ℕ, zero, suc, ◌&&◌, List, [], ◌∷◌, ◌++◌, length, map, Option, Some, None, Result, Ok, Err, slice_get, set, inl, refl, sym, ap, ◌∙◌, subst, arith, ◌==◌, eq-eqb, ne_eqb, if◌then◌else◌}
+use Rattle.std.proofs.Math.ListN.{length-set}
 use Rattle.std.proofs.lemmas.List.{map-set}
-use Rattle.std.proofs.lemmas.Option.{slice_get_within}
+use Rattle.std.proofs.lemmas.Option.{slice_get-map}
+use Rattle.std.specs.Option.{option_map}
 use mathlib.Core.Logic.{dite}
 use native.Mathlib.Decide.{ℕ_discrete}
-use Rattle.adept_actor.proofs.Doing.{some_one, none-done, more-done, entries_of, entries_at, one-done, each-done, each-length, get-set_here, get-set_other, either_same}
+use Rattle.adept_actor.proofs.Doing.{none-done, more-done, entries_of, entries_at, one-done, each-done, each-length, either_same}
 use Rattle.adept_actor.specs.Growth.{HasDone, DeskHasDone}
 use Rattle.adept_server.proofs.Keeping.{has_more, kind_beside, case_beside, cases_beside}
-use Rattle.adept_server.proofs.Places.{set_same}
 use Rattle.adept_server.specs.Calling.{CallsKind, CallsCase, CallsCases}
-use Rattle.adept_server.specs.Desks.{KindPass, CasePass, DeskView, kind_after, kind_reply, case_after, case_reply, in_row, at_case, case_pass, has_version, IsDefinedFor, IsDesk}
+use Rattle.adept_server.specs.Desks.{KindPass, CasePass, DeskView, in_row, at_case, case_pass, has_version, IsDefinedFor, IsDesk}
+use Rattle.case_core.specs.Machine.{case_after, case_reply}
 use Rattle.case_core.specs.declared.events.Event.{Event}
 use Rattle.case_core.specs.declared.replies.Reply.{Reply}
 use Rattle.legal_run.proofs.OnMachines.{on_kind-append, on_case-append}
-use Rattle.legal_run.specs.LineCalls.{Call, of_kind, of_case, on_kind, on_case, is_case, told, told_some}
-use Rattle.script_run.specs.Entries.{CaseEntry, KindEntry}
+use Rattle.legal_run.proofs.Places.{set-here, set-other, some_one, there-as}
+use Rattle.legal_run.proofs.Told.{entry_if, some-at, some-kind, some-other}
+use Rattle.legal_run.specs.LineCalls.{Call, of_kind, on_kind, on_case, is_case, told, told_some}
 use Rattle.turn_cell.specs.History.{entry}
 use Rattle.turn_cell.specs.declared.faults.CallFault.{CallFault}
+use Rattle.type_core.specs.Machine.{kind_after, kind_reply}
 use Rattle.type_core.specs.declared.events.KindEvent.{KindEvent}
 use Rattle.type_core.specs.declared.replies.KindReply.{KindReply}
 use Rattle.wsm_sound.specs.declared.versions.CaseId.{CaseId}
 
--- lists of one length have the same places
-there-as : {A B : Type 0} (xs : List A) (ys : List B) (i : ℕ) (x : A) → length ys ≡ length xs → slice_get xs i ≡ Some x → (y : B) × (slice_get ys i ≡ Some y)
-there-as [] ys i x many is = absurd (cc (is))
-there-as (z ∷ xs) [] i x many is = absurd (omega arith)
-there-as (z ∷ xs) (y ∷ ys) zero x many is = (y, refl)
-there-as (z ∷ xs) (y ∷ ys) (suc i) x many is = there-as xs ys i x (omega arith) is
-
--- so have rows
+-- rows of one shape have the same places
 rows-there : {A B : Type 0} (rows : List (List A)) (others : List (List B)) (t place : ℕ) (x : A) → map length others ≡ map length rows → in_row place (slice_get rows t) ≡ Some x → (y : B) × (in_row place (slice_get others t) ≡ Some y)
 rows-there [] others t place x many is = absurd (cc (is))
 rows-there (row ∷ rows) [] t place x many is = absurd (cc (many))
@@ -156,12 +152,12 @@ case-done e id answer v w desk k =
         dite (ℕ_discrete id.type_no c.type_no)
         (λ (same : id.type_no ≡ c.type_no).
         let row : slice_get v.cases c.type_no ≡ Some k.row = ap (slice_get v.cases) (sym same) ∙ k.there in
-        let row_then : slice_get (set v.cases id.type_no k.row_behind) c.type_no ≡ Some k.row_behind = ap (slice_get (set v.cases id.type_no k.row_behind)) (sym same) ∙ get-set_here v.cases id.type_no k.row_behind k.row k.there in
+        let row_then : slice_get (set v.cases id.type_no k.row_behind) c.type_no ≡ Some k.row_behind = ap (slice_get (set v.cases id.type_no k.row_behind)) (sym same) ∙ set-here v.cases id.type_no k.row_behind k.row k.there in
         subst (λ b. HasDone (if b && id.place == c.place then entries_of v.number e answer else []) p q) (sym (eq-eqb id.type_no c.type_no same))
         (one-done case_after case_reply e id.place answer k.row k.row_behind v.number numbered k.called c.place p q (sym (ap (in_row c.place) row) ∙ there) (sym (ap (in_row c.place) row_then) ∙ there_then)))
         (λ (not : id.type_no ≢ c.type_no).
         subst (λ b. HasDone (if b && id.place == c.place then entries_of v.number e answer else []) p q) (sym (ne_eqb id.type_no c.type_no not))
-        (none-done p q (some_one there (sym (ap (in_row c.place) (get-set_other v.cases id.type_no c.type_no k.row_behind not)) ∙ there_then))))
+        (none-done p q (some_one there (sym (ap (in_row c.place) (set-other v.cases id.type_no c.type_no k.row_behind not)) ∙ there_then))))
 
 -- the replies among answers
 abbrev pub reply_in : Result Reply CallFault → Option Reply
@@ -172,38 +168,15 @@ module _ (n t : ℕ) (e : Event) where
   abbrev pub each_calls : ℕ → List (Result Reply CallFault) → List Call
   each_calls place answers = told_some n t e place (map reply_in answers)
 
-  on-kind_each : (u place : ℕ) (answers : List (Result Reply CallFault)) → on_kind u (each_calls place answers) ≡ []
-  on-kind_each u place [] = refl
-  on-kind_each u place (Ok r ∷ answers) = on-kind_each u (place + 1) answers
-  on-kind_each u place (Err f ∷ answers) = on-kind_each u (place + 1) answers
-
-  -- a case of another type, or before the place, was not told
-  on-case_other : (c : CaseId) (place : ℕ) (answers : List (Result Reply CallFault)) → (t ≢ c.type_no) ⊎ (c.place < place) → on_case c (each_calls place answers) ≡ []
-  on-case_other c place [] not = refl
-  on-case_other c place (Err f ∷ answers) not = on-case_other c (place + 1) answers (elim not [ inl k ↦ inl k | inr k ↦ inr (omega arith) ])
-  on-case_other c place (Ok r ∷ answers) not =
-      ap (λ (b : Bool). if b then entry n e r ∷ on_case c (each_calls (place + 1) answers) else on_case c (each_calls (place + 1) answers)) (differs not)
-      ∙ on-case_other c (place + 1) answers (elim not [ inl k ↦ inl k | inr k ↦ inr (omega arith) ])
-    where
-      no_place : (b : Bool) → (b && false) ≡ false
-      no_place true = refl
-      no_place false = refl
-
-      differs : (t ≢ c.type_no) ⊎ (c.place < place) → (t == c.type_no && place == c.place) ≡ false
-      differs (inl k) = ap (λ b. b && place == c.place) (ne_eqb t c.type_no k)
-      differs (inr k) = ap (λ b. t == c.type_no && b) (ne_eqb place c.place (λ is. omega arith)) ∙ no_place (t == c.type_no)
+  -- the entry of an answer
+  entry-of : (o : Option (Result Reply CallFault)) → entry_if n e (option_map reply_in o) ≡ entries_at n e o
+  entry-of None = refl
+  entry-of (Some (Ok r)) = refl
+  entry-of (Some (Err f)) = refl
 
   -- a case of the type was told what stands at its place
-  on-case_each : (c : CaseId) (place j : ℕ) (answers : List (Result Reply CallFault)) → t ≡ c.type_no → c.place ≡ place + j → on_case c (each_calls place answers) ≡ entries_at n e (slice_get answers j)
-  on-case_each c place j [] same is = refl
-  on-case_each c place zero (Ok r ∷ answers) same is =
-      ap (λ (b : Bool). if b then entry n e r ∷ on_case c (each_calls (place + 1) answers) else on_case c (each_calls (place + 1) answers)) (ap (λ b. b && place == c.place) (eq-eqb t c.type_no same) ∙ eq-eqb place c.place (omega arith))
-      ∙ ap (λ xs. entry n e r ∷ xs) (on-case_other c (place + 1) answers (inr (omega arith)))
-  on-case_each c place zero (Err f ∷ answers) same is = on-case_other c (place + 1) answers (inr (omega arith))
-  on-case_each c place (suc j) (Ok r ∷ answers) same is =
-      ap (λ (b : Bool). if b then entry n e r ∷ on_case c (each_calls (place + 1) answers) else on_case c (each_calls (place + 1) answers)) (ap (λ b. b && place == c.place) (eq-eqb t c.type_no same) ∙ ne_eqb place c.place (λ k. omega arith))
-      ∙ on-case_each c (place + 1) j answers same (omega arith)
-  on-case_each c place (suc j) (Err f ∷ answers) same is = on-case_each c (place + 1) j answers same (omega arith)
+  on-case_each : (c : CaseId) (answers : List (Result Reply CallFault)) → t ≡ c.type_no → on_case c (each_calls 0 answers) ≡ entries_at n e (slice_get answers c.place)
+  on-case_each c answers same = some-at n t e c 0 c.place (map reply_in answers) same (omega arith) ∙ (ap (entry_if n e) (slice_get-map reply_in answers c.place) ∙ entry-of (slice_get answers c.place))
 
 pub cases-done : (e : Event) (t : ℕ) (answers : List (Result Reply CallFault)) (v w : DeskView) → IsDesk v → CallsCases e t answers v w → DeskHasDone (each_calls v.number t e 0 answers) v w
 cases-done e t answers v w desk k =
@@ -214,7 +187,7 @@ cases-done e t answers v w desk k =
       taken = beside.taken;
       types = ap length same_kinds;
       rows = ap (map length) cases_behind ∙ rows-set v.cases t k.row k.row_behind k.there (each-length case_after case_reply e k.row answers k.row_behind k.called).0;
-      kinds = λ u p q there there_then. subst (λ es. HasDone es p q) (sym (on-kind_each v.number t e u 0 answers)) (none-done p q (some_one there (sym (ap (λ ps. slice_get ps u) same_kinds) ∙ there_then)));
+      kinds = λ u p q there there_then. subst (λ es. HasDone es p q) (sym (some-kind v.number t e u 0 (map reply_in answers))) (none-done p q (some_one there (sym (ap (λ ps. slice_get ps u) same_kinds) ∙ there_then)));
       cases = λ c p q there there_then. at_cell c p q there (sym (ap (λ rows. at_case rows c) cases_behind) ∙ there_then);
     }
   where
@@ -232,9 +205,9 @@ cases-done e t answers v w desk k =
         dite (ℕ_discrete t c.type_no)
         (λ (same : t ≡ c.type_no).
         let row : slice_get v.cases c.type_no ≡ Some k.row = ap (slice_get v.cases) (sym same) ∙ k.there in
-        let row_then : slice_get (set v.cases t k.row_behind) c.type_no ≡ Some k.row_behind = ap (slice_get (set v.cases t k.row_behind)) (sym same) ∙ get-set_here v.cases t k.row_behind k.row k.there in
-        subst (λ es. HasDone es p q) (sym (on-case_each v.number t e c 0 c.place answers same (omega arith)))
+        let row_then : slice_get (set v.cases t k.row_behind) c.type_no ≡ Some k.row_behind = ap (slice_get (set v.cases t k.row_behind)) (sym same) ∙ set-here v.cases t k.row_behind k.row k.there in
+        subst (λ es. HasDone es p q) (sym (on-case_each v.number t e c answers same))
         (each-done case_after case_reply e k.row answers k.row_behind v.number numbered k.called c.place p q (sym (ap (in_row c.place) row) ∙ there) (sym (ap (in_row c.place) row_then) ∙ there_then)))
         (λ (not : t ≢ c.type_no).
-        subst (λ es. HasDone es p q) (sym (on-case_other v.number t e c 0 answers (inl not)))
-        (none-done p q (some_one there (sym (ap (in_row c.place) (get-set_other v.cases t c.type_no k.row_behind not)) ∙ there_then))))
+        subst (λ es. HasDone es p q) (sym (some-other v.number t e c 0 (map reply_in answers) (inl not)))
+        (none-done p q (some_one there (sym (ap (in_row c.place) (set-other v.cases t c.type_no k.row_behind not)) ∙ there_then))))

@@ -1,11 +1,10 @@
 -- What calls leave of passes.
-use Rattle.std.proofs.Common.{◌≡◌, ◌≢◌, ℕ, zero, suc, ◌+◌, ◌<◌, Bool, true, false, List, [], ◌∷◌, ◌++◌, length, map, Option, Some, None, Result, Ok, Err, MatchResult, slice_get, set, ◌⊎◌, inl, inr, refl, sym, ap, ◌∙◌, subst, arith, append_assoc, ◌==◌, eq-eqb, ne_eqb, if◌then◌else◌}
+use Rattle.std.proofs.Common.{◌≡◌, ℕ, zero, suc, Bool, true, false, List, [], ◌∷◌, ◌++◌, length, Option, Some, None, Result, Ok, Err, MatchResult, slice_get, refl, sym, ap, ◌∙◌, subst, append_assoc, ◌==◌, if◌then◌else◌}
 use Rattle.std.proofs.lemmas.List.{append-nil}
-use mathlib.Core.Logic.{dite}
-use native.Mathlib.Decide.{ℕ_discrete}
 use Rattle.adept_actor.specs.Growth.{HasDone}
 use Rattle.adept_server.proofs.OneCall.{more_seen}
 use Rattle.adept_server.specs.Calling.{IsAnswered, CallsOne, CallEach}
+use Rattle.legal_run.proofs.Places.{one-becomes}
 use Rattle.turn_cell.proofs.Prefixes.{prefix_self, prefix_trans}
 use Rattle.turn_cell.specs.History.{entry}
 use Rattle.turn_cell.specs.Passes.{PassView, Sees, Calls}
@@ -13,25 +12,10 @@ use Rattle.turn_cell.specs.declared.faults.CallFault.{CallFault}
 use Rattle.turn_cell.specs.declared.journal.Entry.{Entry}
 
 module _ {A : Type 0} where
-  pub get-set_here : (xs : List A) (i : ℕ) (y x : A) → slice_get xs i ≡ Some x → slice_get (set xs i y) i ≡ Some y
-  get-set_here [] i y x e = absurd (cc (e))
-  get-set_here (z ∷ xs) zero y x e = refl
-  get-set_here (z ∷ xs) (suc i) y x e = get-set_here xs i y x e
-
-  pub get-set_other : (xs : List A) (i j : ℕ) (y : A) → i ≢ j → slice_get (set xs i y) j ≡ slice_get xs j
-  get-set_other [] i j y not = refl
-  get-set_other (x ∷ xs) zero zero y not = absurd (not refl)
-  get-set_other (x ∷ xs) zero (suc j) y not = refl
-  get-set_other (x ∷ xs) (suc i) zero y not = refl
-  get-set_other (x ∷ xs) (suc i) (suc j) y not = get-set_other xs i j y (λ e. not (ap suc e))
-
   -- a choice between the same
   pub either_same : (b : Bool) (x : A) → (if b then x else x) ≡ x
   either_same true x = refl
   either_same false x = refl
-
-pub some_one : {A : Type 0} {x y : A} {o : Option A} → o ≡ Some x → o ≡ Some y → x ≡ y
-some_one e f = cc (e, f)
 
 module _ {M E R W S : Type 0} where
   -- no call
@@ -80,19 +64,8 @@ module _ {M E R W S : Type 0} (after : S → E → S) (reply : S → E → R) (e
   -- one pass of a list called, and no other
   pub one-done : (i : ℕ) (answer : Result R CallFault) (vs ws : List (PassView M E R W S)) (n : ℕ) → ((p : PassView M E R W S) → slice_get vs i ≡ Some p → p.number ≡ n) → CallsOne after reply e i answer vs ws
       → (j : ℕ) (p q : PassView M E R W S) → slice_get vs j ≡ Some p → slice_get ws j ≡ Some q → HasDone (if i == j then entries_of n e answer else []) p q
-  one-done i answer vs ws n numbered k j p q there there_then =
-      dite (ℕ_discrete i j)
-      (λ (same : i ≡ j). subst (λ b. HasDone (if b then entries_of n e answer else []) p q) (sym (eq-eqb i j same)) (here (subst (λ x. slice_get vs x ≡ Some p) (sym same) there) (subst (λ x. slice_get ws x ≡ Some q) (sym same) there_then)))
-      (λ (not : i ≢ j). subst (λ b. HasDone (if b then entries_of n e answer else []) p q) (sym (ne_eqb i j not)) (none-done p q (stays not)))
-    where
-      here : slice_get vs i ≡ Some p → slice_get ws i ≡ Some q → HasDone (entries_of n e answer) p q
-      here at at_then =
-          let is_p : k.before ≡ p = some_one k.there at in
-          let is_q : k.behind ≡ q = some_one (ap (λ xs. slice_get xs i) k.others ∙ get-set_here vs i k.behind k.before k.there) at_then in
-          answered-done p q answer n (numbered p at) (subst (λ x. IsAnswered after reply e p answer x) is_q (subst (λ x. IsAnswered after reply e x answer k.behind) is_p k.called))
-
-      stays : i ≢ j → p ≡ q
-      stays not = some_one there (sym (get-set_other vs i j k.behind not) ∙ (sym (ap (λ xs. slice_get xs j) k.others) ∙ there_then))
+  one-done i answer vs ws n numbered k =
+      one-becomes HasDone (λ p. none-done p p refl) vs ws i k.before k.behind (entries_of n e answer) k.there k.others (answered-done k.before k.behind answer n (numbered k.before k.there) k.called)
 
   -- each pass of a list called
   pub each-done : (vs : List (PassView M E R W S)) (answers : List (Result R CallFault)) (ws : List (PassView M E R W S)) (n : ℕ) → ((j : ℕ) (p : PassView M E R W S) → slice_get vs j ≡ Some p → p.number ≡ n) → CallEach after reply e vs answers ws

@@ -7,19 +7,20 @@ use Rattle.adept_server.proofs.Histories.{state-append, last-reply}
 use Rattle.adept_server.proofs.Keeping.{answered, kind_now_defined, kind_still_defined, case_still_defined}
 use Rattle.adept_server.proofs.Places.{set_same}
 use Rattle.adept_server.proofs.Rows.{there_at, in_there}
-use Rattle.adept_server.proofs.Versions.{versions-kept, newest-told}
 use Rattle.adept_server.specs.Calling.{CallsOne, CallsKind, CallsCase, Creates, Migrates, tells_version, tells_newest}
 use Rattle.adept_server.specs.Calling.Creates.{unasked}
 use Rattle.adept_server.specs.Calling.Migrates.{unasked as none_moves, asked as none_told}
-use Rattle.adept_server.specs.Desks.{KindPass, CasePass, DeskView, kind_after, kind_reply, case_after, case_reply, in_row, case_pass, has_kind, has_case, has_version, IsDefinedFor, IsDesk}
+use Rattle.adept_server.specs.Desks.{KindPass, CasePass, DeskView, in_row, case_pass, has_kind, has_case, has_version, IsDefinedFor, IsDesk}
+use Rattle.case_core.specs.Machine.{case_after, case_reply}
 use Rattle.case_core.specs.declared.events.Event.{Event}
 use Rattle.case_core.specs.declared.replies.Reply.{Reply}
 use Rattle.turn_cell.specs.History.{IsLegal, IsLegalFrom, entry, state_after}
 use Rattle.turn_cell.specs.Passes.{Calls}
 use Rattle.turn_cell.specs.declared.faults.CallFault.{CallFault}
 use Rattle.turn_cell.specs.declared.faults.CallFault.TheVariants.{NoMemory}
+use Rattle.type_core.proofs.Versions.{versions-kept, newest-told}
 use Rattle.type_core.specs.KindModel.{KindModel, not_defined}
-use Rattle.type_core.specs.Machine.{newest_of, defined_by, event_on}
+use Rattle.type_core.specs.Machine.{newest_of, defined_by, event_on, kind_after, kind_reply}
 use Rattle.type_core.specs.declared.events.KindEvent.{KindEvent}
 use Rattle.type_core.specs.declared.events.KindEvent.TheVariants as kind_event
 use Rattle.type_core.specs.declared.replies.KindReply.{KindReply}

@@ -2,11 +2,12 @@
 use Rattle.std.proofs.Common.{◌≡◌, ℕ, zero, suc, ◌+◌, List, [], ◌∷◌, length, map, All, Some, Vec, slice_get, refl, sym, ap, ◌∙◌, subst, arith}
 use Rattle.std.specs.List.{AllZip}
 use Rattle.std.proofs.lemmas.List.{length-map}
+use Rattle.case_core.specs.Machine.{case_after, case_reply}
 use Rattle.turn_cell.specs.declared.journal.Closed.{Closed}
 use Rattle.turn_cell.specs.declared.pass.Pass.{Pass}
 use Rattle.turn_cell.specs.Passes.{PassView, view_of, IsClosed}
 use Rattle.turn_rows.specs.Rows.{CanClose, IsClosedAs, views}
-use Rattle.adept_server.specs.Desks.{DeskView, IsDesk, IsDeskOf, at_case, desk_view, in_row, kind_after, kind_reply, case_after, case_reply}
+use Rattle.adept_server.specs.Desks.{DeskView, IsDesk, IsDeskOf, at_case, desk_view, in_row}
 use Rattle.adept_server.specs.Opening.{IsClosedServer}
 use Rattle.adept_server.specs.Vecs.{lists_of, row_views}
 use Rattle.adept_server.specs.declared.closing.ClosedServer.{ClosedServer}
@@ -17,6 +18,7 @@ use Rattle.case_core.specs.CaseModel.{CaseModel}
 use Rattle.case_core.specs.declared.events.Event.{Event}
 use Rattle.case_core.specs.declared.replies.Reply.{Reply}
 use Rattle.case_core.specs.declared.views.View.{View}
+use Rattle.type_core.specs.Machine.{kind_after, kind_reply}
 use Rattle.wsm_sound.specs.declared.versions.CaseId.{CaseId}
 
 -- the first desk of a server can close it once it has taken in all others

@@ -1,6 +1,7 @@
 -- How a server begins.
 use Rattle.std.proofs.Common.{◌≡◌, ℕ, zero, suc, ◌+◌, ◌<◌, ◌≤◌, Bool, true, false, List, [], ◌∷◌, ◌++◌, length, map, take, get_or, replicate, All, Vec, Option, Some, None, slice_get, ◌⊎◌, inl, inr, refl, sym, ap, ◌∙◌, subst, arith}
 use Rattle.std.proofs.lemmas.List.{length-map, length-replicate, length-take-le, map_push}
+use Rattle.case_core.specs.Machine.{case_after, case_reply}
 use Rattle.turn_rows.proofs.Lists.{take_item}
 use Rattle.turn_batch.specs.Batch.{AreOf}
 use Rattle.turn_batch.proofs.Calls.{length-passes}
@@ -8,7 +9,7 @@ use Rattle.turn_cell.specs.Passes.{PassView, IsLegalView, cell_id, first_of, vie
 use Rattle.turn_cell.specs.declared.cell.Cell.{Cell}
 use Rattle.turn_cell.specs.declared.pass.Pass.{Pass}
 use Rattle.turn_rows.specs.Rows.{AreOpened, views}
-use Rattle.adept_server.specs.Desks.{KindPass, CasePass, DeskView, IsDefinedFor, IsDesk, IsDeskOf, IsPassAt, AreRowsOf, at_case, case_pass, desk_view, in_row, kind_after, kind_reply, case_after, case_reply}
+use Rattle.adept_server.specs.Desks.{KindPass, CasePass, DeskView, IsDefinedFor, IsDesk, IsDeskOf, IsPassAt, AreRowsOf, at_case, case_pass, desk_view, in_row}
 use Rattle.adept_server.specs.Firsts.{AreFirstCases, AreFirstKinds, AreFirstsOf, IsFirst}
 use Rattle.adept_server.specs.Opening.{IsFirstDesk, IsUnused}
 use Rattle.adept_server.specs.Vecs.{AreVecsOf, lists_of, row_views}
@@ -19,6 +20,7 @@ use Rattle.case_core.specs.CaseModel.{CaseModel, not_created}
 use Rattle.case_core.specs.declared.events.Event.{Event}
 use Rattle.case_core.specs.declared.replies.Reply.{Reply}
 use Rattle.case_core.specs.declared.views.View.{View}
+use Rattle.type_core.specs.Machine.{kind_after, kind_reply}
 use Rattle.type_core.specs.declared.events.KindEvent.{KindEvent}
 use Rattle.type_core.specs.declared.replies.KindReply.{KindReply}
 use Rattle.type_core.specs.KindModel.{KindModel, not_defined}

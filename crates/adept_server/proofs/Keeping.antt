@@ -7,16 +7,19 @@ use Rattle.adept_server.proofs.Histories.{state-append, last-reply}
 use Rattle.adept_server.proofs.OneCall.{legal_behind, more_seen, one_behind, one_before, each_behind}
 use Rattle.adept_server.proofs.Places.{get-set_same, set_cases}
 use Rattle.adept_server.proofs.Rows.{case_cases}
-use Rattle.adept_server.proofs.Versions.{versions-kept, told-version}
+use Rattle.adept_server.proofs.Versions.{told-version}
 use Rattle.adept_server.specs.Calling.{IsAnswered, CallsOne, CallsKind, CallsCase, CallsCases, answer_tells, tells_version}
-use Rattle.adept_server.specs.Desks.{KindPass, CasePass, DeskView, kind_after, kind_reply, case_after, case_reply, in_row, at_case, case_pass, has_version, IsDefinedFor, IsPassAt, IsDesk}
+use Rattle.adept_server.specs.Desks.{KindPass, CasePass, DeskView, in_row, at_case, case_pass, has_version, IsDefinedFor, IsPassAt, IsDesk}
 use Rattle.case_core.specs.CaseModel.{CaseModel, not_created}
+use Rattle.case_core.specs.Machine.{case_after, case_reply}
 use Rattle.case_core.specs.declared.events.Event.{Event}
 use Rattle.case_core.specs.declared.replies.Reply.{Reply}
 use Rattle.turn_cell.specs.History.{IsLegal, IsLegalFrom, entry, state_after}
 use Rattle.turn_cell.specs.Passes.{PassView, Sees, Calls}
 use Rattle.turn_cell.specs.declared.faults.CallFault.{CallFault}
+use Rattle.type_core.proofs.Versions.{versions-kept}
 use Rattle.type_core.specs.KindModel.{KindModel, not_defined}
+use Rattle.type_core.specs.Machine.{kind_after, kind_reply}
 use Rattle.type_core.specs.declared.events.KindEvent.{KindEvent}
 use Rattle.type_core.specs.declared.replies.KindReply.{KindReply}
 use Rattle.wsm_sound.specs.declared.versions.CaseId.{CaseId}

@@ -1,11 +1,12 @@
 -- What looks leave of passes.
 use Rattle.std.proofs.Common.{◌≡◌, ℕ, zero, suc, ◌+◌, List, [], ◌∷◌, length, Some, slice_get, refl, sym, ap, ◌∙◌, subst, arith}
 use Rattle.std.proofs.lemmas.List.{append-nil}
-use Rattle.adept_server.specs.Desks.{CasePass, DeskView, IsDesk, has_version, in_row, kind_after, kind_reply}
+use Rattle.adept_server.specs.Desks.{CasePass, DeskView, IsDesk, has_version, in_row}
 use Rattle.adept_server.specs.Offering.{HasLooked, EachLooked, AllLooked, AllOpened, OpenedAs, Looks}
 use Rattle.adept_server.proofs.Keeping.{Beside, pass_beside}
 use Rattle.case_core.specs.CaseModel.{not_created}
 use Rattle.type_core.specs.KindModel.{not_defined}
+use Rattle.type_core.specs.Machine.{kind_after, kind_reply}
 
 -- at what nobody looked is as it was
 pub not_looked : (p : CasePass) → HasLooked p p

@@ -7,14 +7,16 @@ use Rattle.adept_server.specs.Offering.{AllLooked, Looks}
 use Rattle.adept_server.proofs.Places.{set_same}
 use Rattle.adept_server.proofs.Rows.{AreVecsOf, RowAt, HasRow, row_of, row_there, rows_behind, view_there, views_behind}
 use Rattle.adept_server.specs.Calling.{CallEach, CallsOne, CallsKind, CallsCase, CallsCases, answer_tells}
-use Rattle.adept_server.specs.Desks.{DeskView, KindPass, CasePass, AreRowsOf, IsDeskOf, desk_view, IsDesk, has_kind, has_case, kind_after, kind_reply, case_after, case_reply}
+use Rattle.adept_server.specs.Desks.{DeskView, KindPass, CasePass, AreRowsOf, IsDeskOf, desk_view, IsDesk, has_kind, has_case}
 use Rattle.adept_server.specs.declared.desks.Desk.{Desk}
 use Rattle.adept_server.specs.declared.servers.Server.{Server}
+use Rattle.case_core.specs.Machine.{case_after, case_reply}
 use Rattle.case_core.specs.declared.events.Event.{Event}
 use Rattle.case_core.specs.declared.replies.Reply.{Reply}
 use Rattle.turn_batch.specs.Batch.{AreOf}
 use Rattle.turn_cell.specs.Passes.{PassView, view_of}
 use Rattle.turn_cell.specs.declared.faults.CallFault.{CallFault}
+use Rattle.type_core.specs.Machine.{kind_after, kind_reply}
 use Rattle.type_core.specs.declared.events.KindEvent.{KindEvent}
 use Rattle.type_core.specs.declared.replies.KindReply.{KindReply}
 use Rattle.wsm_sound.specs.declared.versions.CaseId.{CaseId}

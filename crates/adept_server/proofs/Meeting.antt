@@ -2,17 +2,19 @@
 use Rattle.std.proofs.Common.{◌≡◌, ℕ, Bool, List, length, map, All, refl, sym, ap, ◌∙◌, subst, arith}
 use Rattle.std.specs.Prelude.{◌||◌}
 use Rattle.std.specs.List.{AllZip}
+use Rattle.case_core.specs.Machine.{case_after, case_reply}
 use Rattle.turn_batch.proofs.Calls.{length-passes}
 use Rattle.turn_cell.specs.Passes.{PassView, view_of, IsLegalView}
 use Rattle.turn_rows.specs.Rows.{IsSeenBy, first_met, second_met, views, zip_with}
 use Rattle.turn_rows.proofs.Places.{length-zip_with, length-views}
-use Rattle.adept_server.specs.Desks.{KindPass, CasePass, DeskView, IsDesk, IsDeskOf, desk_view, kind_after, kind_reply, case_after, case_reply}
+use Rattle.adept_server.specs.Desks.{KindPass, CasePass, DeskView, IsDesk, IsDeskOf, desk_view}
 use Rattle.adept_server.specs.Opening.{SeesMore, first_desk_met, second_desk_met}
 use Rattle.adept_server.specs.Vecs.{AllMet, RowMet, row_views}
 use Rattle.adept_server.specs.declared.desks.Desk.{Desk}
 use Rattle.adept_server.specs.declared.servers.Server.{Server}
 use Rattle.adept_server.proofs.Changed.{OfFirst, OfSecond, desk_again, first_comes, first_case_comes, second_comes, second_case_comes, known_by_both}
 use Rattle.adept_server.proofs.Made.{same_views}
+use Rattle.type_core.specs.Machine.{kind_after, kind_reply}
 
 module _ (v w : DeskView) (one : IsDesk v) (two : IsDesk w) (even : length w.kinds ≡ length v.kinds) where
   even_cases : length w.cases ≡ length v.cases

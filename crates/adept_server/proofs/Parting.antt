@@ -2,11 +2,12 @@
 use Rattle.std.proofs.Common.{◌≡◌, ℕ, ◌+◌, ◌-◌, ◌^◌, ◌<◌, true, List, [], ◌∷◌, ◌++◌, length, map, All, Some, slice_get, refl, sym, ap, ◌∙◌, subst, arith}
 use Rattle.std.specs.List.{AllZip}
 use Rattle.std.proofs.lemmas.List.{append-nil, length-map}
+use Rattle.case_core.specs.Machine.{case_after, case_reply}
 use Rattle.turn_batch.proofs.Calls.{length-passes}
 use Rattle.turn_cell.specs.Passes.{PassView, view_of, IsLegalView, split_off}
 use Rattle.turn_rows.specs.Rows.{CanSplit, IsSeenBy, split_from, views}
 use Rattle.turn_rows.proofs.Places.{All-slice_get}
-use Rattle.adept_server.specs.Desks.{KindPass, CasePass, DeskView, IsDefinedFor, IsDesk, IsDeskOf, IsPassAt, at_case, case_pass, desk_view, kind_after, kind_reply, case_after, case_reply}
+use Rattle.adept_server.specs.Desks.{KindPass, CasePass, DeskView, IsDefinedFor, IsDesk, IsDeskOf, IsPassAt, at_case, case_pass, desk_view}
 use Rattle.adept_server.specs.Opening.{new_desk, parent_desk}
 use Rattle.adept_server.specs.Vecs.{AllSplit, RowSplit, row_views}
 use Rattle.adept_server.specs.declared.desks.Desk.{Desk}
@@ -14,6 +15,7 @@ use Rattle.adept_server.specs.declared.servers.Server.{Server}
 use Rattle.adept_server.proofs.Changed.{ComesOf, IsCountedBy, desk_again, still_defined}
 use Rattle.adept_server.proofs.Made.{same_views}
 use Rattle.adept_server.proofs.Zips.{map_there, map_of_case, all_of_case, all_from_places, all_from_cases}
+use Rattle.type_core.specs.Machine.{kind_after, kind_reply}
 use Rattle.wsm_sound.specs.declared.versions.CaseId.{CaseId}
 
 -- passes that have seen the same have seen no less

@@ -2,10 +2,11 @@
 use Rattle.std.proofs.Common.{◌≡◌, ℕ, ◌+◌, ◌-◌, ◌^◌, ◌<◌, Bool, List, length, All, refl, sym, ap, ◌∙◌, subst, arith}
 use Rattle.std.specs.Prelude.{◌||◌}
 use Rattle.std.specs.List.{AllZip}
+use Rattle.case_core.specs.Machine.{case_after, case_reply}
 use Rattle.turn_cell.specs.Passes.{PassView, view_of, IsLegalView, joined}
 use Rattle.turn_rows.specs.Rows.{CanJoin, IsSeenBy, views, zip_with}
 use Rattle.turn_rows.proofs.Places.{length-zip_with}
-use Rattle.adept_server.specs.Desks.{DeskView, IsDesk, IsDeskOf, IsPassAt, desk_view, kind_after, kind_reply, case_after, case_reply}
+use Rattle.adept_server.specs.Desks.{DeskView, IsDesk, IsDeskOf, IsPassAt, desk_view}
 use Rattle.adept_server.specs.Opening.{SeesMore, joined_desk}
 use Rattle.adept_server.specs.Vecs.{AllJoined, RowJoined, row_views}
 use Rattle.adept_server.specs.declared.desks.Desk.{Desk}
@@ -14,6 +15,7 @@ use Rattle.adept_server.proofs.Changed.{desk_again, first_comes, first_case_come
 use Rattle.adept_server.proofs.Made.{same_views}
 use Rattle.adept_server.proofs.Meeting.{even_kinds}
 use Rattle.adept_server.proofs.Zips.{all_from_places, all_from_cases}
+use Rattle.type_core.specs.Machine.{kind_after, kind_reply}
 
 pub joined_is_desk : (v w : DeskView) → IsDesk v → IsDesk w → length w.kinds ≡ length v.kinds → All (IsLegalView kind_after kind_reply) (zip_with joined v.kinds w.kinds) → All (All (IsLegalView case_after case_reply)) (zip_with (zip_with joined) v.cases w.cases)
     → AllZip IsSeenBy v.kinds (zip_with joined v.kinds w.kinds) × AllZip IsSeenBy w.kinds (zip_with joined v.kinds w.kinds) → IsDesk (joined_desk v w)

@@ -1,6 +1,7 @@
 -- What a call leaves of a desk: an entry more on each cell that it calls.
 use Rattle.std.specs.Prelude.{◌≡◌, ℕ, ◌==◌, ◌+◌, Bool, true, false, List, [], ◌∷◌, length, Option, Some, None, Result, Ok, Err, MatchResult, slice_get, slice_set, if◌then◌else◌}
-use Rattle.adept_server.specs.Desks.{KindPass, CasePass, DeskView, kind_after, kind_reply, case_after, case_reply}
+use Rattle.adept_server.specs.Desks.{KindPass, CasePass, DeskView}
+use Rattle.case_core.specs.Machine.{case_after, case_reply}
 use Rattle.case_core.specs.declared.events.Event.{Event}
 use Rattle.case_core.specs.declared.events.Event.TheVariants as event
 use Rattle.case_core.specs.declared.replies.Reply.{Reply}
@@ -8,6 +9,7 @@ use Rattle.turn_cell.specs.Passes.{PassView, Sees, Calls}
 use Rattle.turn_cell.specs.declared.faults.CallFault.{CallFault}
 use Rattle.turn_cell.specs.declared.faults.CallFault.TheVariants as fault
 use Rattle.turn_cell.specs.declared.limits.TheConstants.{MAX_ENTRIES}
+use Rattle.type_core.specs.Machine.{kind_after, kind_reply}
 use Rattle.type_core.specs.declared.events.KindEvent.{KindEvent}
 use Rattle.type_core.specs.declared.events.KindEvent.TheVariants as kind_event
 use Rattle.type_core.specs.declared.replies.KindReply.{KindReply}

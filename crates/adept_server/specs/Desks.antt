@@ -3,7 +3,7 @@ use Rattle.std.specs.Prelude.{◌≡◌, ℕ, ◌<◌, Bool, true, List, [], ◌
 use Rattle.adept_server.specs.declared.desks.Desk.{Desk}
 use Rattle.adept_server.specs.declared.servers.Server.{Server}
 use Rattle.case_core.specs.CaseModel.{CaseModel, not_created}
-use Rattle.case_core.specs.Machine.{next_case}
+use Rattle.case_core.specs.Machine.{case_after, case_reply}
 use Rattle.case_core.specs.declared.events.Event.{Event}
 use Rattle.case_core.specs.declared.replies.Reply.{Reply}
 use Rattle.case_core.specs.declared.views.View.{View}
@@ -13,7 +13,7 @@ use Rattle.turn_cell.specs.Passes.{PassView, view_of, IsLegalView}
 use Rattle.turn_cell.specs.declared.cell.Cell.{Cell}
 use Rattle.turn_cell.specs.declared.pass.Pass.{Pass}
 use Rattle.type_core.specs.KindModel.{KindModel, not_defined}
-use Rattle.type_core.specs.Machine.{next_kind}
+use Rattle.type_core.specs.Machine.{kind_after, kind_reply}
 use Rattle.type_core.specs.declared.events.KindEvent.{KindEvent}
 use Rattle.type_core.specs.declared.replies.KindReply.{KindReply}
 use Rattle.wsm_sound.specs.declared.versions.CaseId.{CaseId}
@@ -24,19 +24,6 @@ KindPass = PassView KindModel KindEvent KindReply ℕ KindModel
 
 abbrev pub CasePass : Type 0
 CasePass = PassView CaseModel Event Reply View CaseModel
-
--- the machines that the cells run
-abbrev pub kind_after : KindModel → KindEvent → KindModel
-kind_after k e = (next_kind k e).0
-
-abbrev pub kind_reply : KindModel → KindEvent → KindReply
-kind_reply k e = (next_kind k e).1
-
-abbrev pub case_after : CaseModel → Event → CaseModel
-case_after c e = (next_case c e).0
-
-abbrev pub case_reply : CaseModel → Event → Reply
-case_reply c e = (next_case c e).1
 
 -- The passes of a desk: of each type, and of each type's cases by their places. All have the desk's number.
 pub record DeskView : Type 0 where

@@ -1,9 +1,10 @@
 -- What is offered to a role, in the views after what the passes of a desk have seen.
 use Rattle.std.specs.Prelude.{◌≡◌, ℕ, ◌+◌, ◌^◌, ◌<◌, ◌==◌, List, [], ◌∷◌, ◌++◌, length, Some, if◌then◌else◌}
 use mathlib.Core.List.{IsPrefix}
-use Rattle.adept_server.specs.Desks.{CasePass, DeskView, case_after, case_reply}
+use Rattle.adept_server.specs.Desks.{CasePass, DeskView}
 use Rattle.adept_server.specs.declared.worklists.Offer.{Offer}
 use Rattle.case_core.specs.CaseModel.{not_created}
+use Rattle.case_core.specs.Machine.{case_after, case_reply}
 use Rattle.case_core.specs.Shown.{shown}
 use Rattle.case_core.specs.declared.items.Item.{Item}
 use Rattle.case_core.specs.declared.items.Item.TheVariants as item

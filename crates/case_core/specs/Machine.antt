@@ -205,3 +205,9 @@ event_on s (Some l) (event.Migrate version) = migrate_on s l version
 -- the state and the reply after an event
 abbrev pub next_case : CaseModel → Event → CaseModel × Reply
 next_case s e = event_on s s.live e
+
+abbrev pub case_after : CaseModel → Event → CaseModel
+case_after s e = (next_case s e).0
+
+abbrev pub case_reply : CaseModel → Event → Reply
+case_reply s e = (next_case s e).1

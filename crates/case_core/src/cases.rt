@@ -227,7 +227,7 @@ impl Case {
 impl Machine for Case {
     ghost use Rattle.case_core.specs.Ages.{age, weight};
     ghost use Rattle.case_core.specs.Kept.{KeptIn};
-    ghost use Rattle.case_core.specs.Machine.{next_case};
+    ghost use Rattle.case_core.specs.Machine.{case_after, case_reply};
     ghost use Rattle.case_core.specs.Shown.{shown};
 
     type Event = Event;
@@ -240,9 +240,9 @@ impl Machine for Case {
 
     ghost state = { λ s. s };
 
-    ghost after = { λ s e. (next_case s e).0 };
+    ghost after = { case_after };
 
-    ghost reply = { λ s e. (next_case s e).1 };
+    ghost reply = { case_reply };
 
     ghost shown = { shown };
 

@@ -8,8 +8,6 @@ mod items;
 mod live;
 mod replies;
 mod showing;
-#[cfg(test)]
-mod tests;
 mod views;
 mod work;
 

@@ -12,7 +12,7 @@ use Rattle.process_text.specs.declared.files.CaseDecl.{CaseDecl}
 use Rattle.file_facts.specs.Facts.{HasType, ArePlaced, has_id, IsDeclared}
 
 -- ---- at an index
-row-at : {X : Type 0} (P : X → Type 0) (xs : List X) (k : ℕ) (x : X) → AllRows P xs → slice_get xs k ≡ Some x → P x
+pub row-at : {X : Type 0} (P : X → Type 0) (xs : List X) (k : ℕ) (x : X) → AllRows P xs → slice_get xs k ≡ Some x → P x
 row-at P [] k x h at = absurd (cc)
 row-at P (y ∷ xs) zero x h at = rw (← same_Some y x at) h.0
 row-at P (y ∷ xs) (suc k) x h at = row-at P xs k x h.1 at

@@ -3,10 +3,11 @@ use Rattle.std.proofs.Common.{◌≡◌, ℕ, zero, suc, ◌≤◌, ◌==◌, Li
 use Rattle.std.proofs.lemmas.List.Elements.{All-cons, All-nil}
 use Rattle.std.specs.Prelude.{codes}
 use mathlib.Core.List.{IsPrefix}
+use Rattle.case_core.specs.Machine.{case_after}
 use Rattle.case_core.specs.declared.events.Event.TheVariants as event
 use Rattle.case_core.specs.declared.replies.Reply.TheVariants as reply
 use Rattle.case_core.specs.CaseModel.{not_created}
-use Rattle.legal_run.specs.Legal.{Trace, IsActor, IsTrace, AreTraces, HasCalls, IsLegalCase, IsLegalKind, Legal, case_after, cases_of, done_by, kind_after}
+use Rattle.legal_run.specs.Legal.{Trace, IsActor, IsTrace, AreTraces, HasCalls, IsLegalCase, IsLegalKind, Legal, cases_of, done_by}
 use Rattle.legal_run.specs.LineCalls.{Call, AreCallsOfLines, asked, lines_of, on_case, on_kind, told}
 use Rattle.process_text.specs.declared.files.Act.TheVariants as act
 use Rattle.process_text.specs.declared.files.File.{File}
@@ -19,6 +20,7 @@ use Rattle.script_run.specs.declared.runs.ClosedKind.{ClosedKind}
 use Rattle.script_run.specs.declared.runs.Run.{Run}
 use Rattle.turn_cell.specs.History.{calls_of, entry, state_after}
 use Rattle.type_core.specs.KindModel.{not_defined}
+use Rattle.type_core.specs.Machine.{kind_after}
 use Rattle.type_core.specs.declared.events.KindEvent.TheVariants as kind_event
 use Rattle.type_core.specs.declared.replies.KindReply.TheVariants as kind_reply
 use Rattle.wsm_schema.specs.SchemaModel.{SchemaModel, plain}

@@ -1,6 +1,8 @@
+pub mod Places
 pub mod OnMachines
+pub mod Told
 pub mod OncePerLine
-pub mod Joined
-pub mod Callers
-pub mod FewCalls
+pub mod Made
+pub mod LineByLine
+pub mod Serial
 pub mod Examples

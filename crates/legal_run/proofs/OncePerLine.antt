@@ -1,66 +1,12 @@
 -- A line makes at most one call of a type, and at most one of a case.
-use Rattle.std.proofs.Common.{◌≡◌, ℕ, ◌+◌, ◌<◌, ◌≤◌, eqb, ne_eqb, Bool, true, false, ◌&&◌, inl, inr, List, [], ◌∷◌, ◌++◌, length, Option, Some, None, refl, sym, ap, ◌∙◌, subst, arith, length-append, if◌then◌else◌}
-use Rattle.std.proofs.lemmas.Bool.{eqb-true}
-use Rattle.case_core.specs.declared.events.Event.{Event}
-use Rattle.case_core.specs.declared.replies.Reply.{Reply}
+use Rattle.std.proofs.Common.{◌≡◌, ℕ, ◌+◌, ◌≤◌, eqb, Bool, true, false, inl, inr, List, [], ◌∷◌, ◌++◌, length, refl, sym, ap, ◌∙◌, subst, arith, length-append, if◌then◌else◌}
 use Rattle.legal_run.proofs.OnMachines.{on_kind-append, on_case-append}
-use Rattle.legal_run.specs.LineCalls.{Call, on_kind, on_case, is_case, told_each, told_some, AreCallsOf, AreCallsOfLines, ArePartOf, AreBegun}
+use Rattle.legal_run.proofs.Told.{each-kind, each-once, some-kind, some-once}
+use Rattle.legal_run.specs.LineCalls.{Call, on_kind, on_case, is_case, AreCallsOf, AreCallsOfLines, ArePartOf, AreBegun}
 use Rattle.process_text.specs.declared.files.Act.{Act}
 use Rattle.process_text.specs.declared.files.Act.TheVariants as act
 use Rattle.process_text.specs.declared.files.Line.{Line}
 use Rattle.wsm_sound.specs.declared.versions.CaseId.{CaseId}
-
--- a case at an earlier place is not told
-passed_over : {A : Type 0} (b c : Bool) → c ≡ false → (xs ys : List A) → ys ≡ [] → (if b && c then xs else ys) ≡ []
-passed_over true true is xs ys e = absurd (cc)
-passed_over true false is xs ys e = e
-passed_over false c is xs ys e = e
-
-each_past : (c : CaseId) (a t : ℕ) (e : Event) (place : ℕ) (rs : List Reply) → c.place < place → on_case c (told_each a t e place rs) ≡ []
-each_past c a t e place [] past = refl
-each_past c a t e place (r ∷ rs) past =
-    passed_over (eqb t c.type_no) (eqb place c.place) (ne_eqb place c.place (λ is. absurd (omega arith)))
-    (record { caller = a; event = e; reply = r } ∷ on_case c (told_each a t e (place + 1) rs)) (on_case c (told_each a t e (place + 1) rs))
-    (each_past c a t e (place + 1) rs (omega arith))
-
-some_past : (c : CaseId) (a t : ℕ) (e : Event) (place : ℕ) (answers : List (Option Reply)) → c.place < place → on_case c (told_some a t e place answers) ≡ []
-some_past c a t e place [] past = refl
-some_past c a t e place (None ∷ answers) past = some_past c a t e (place + 1) answers (omega arith)
-some_past c a t e place (Some r ∷ answers) past =
-    passed_over (eqb t c.type_no) (eqb place c.place) (ne_eqb place c.place (λ is. absurd (omega arith)))
-    (record { caller = a; event = e; reply = r } ∷ on_case c (told_some a t e (place + 1) answers)) (on_case c (told_some a t e (place + 1) answers))
-    (some_past c a t e (place + 1) answers (omega arith))
-
--- one at this place, and then none, or none at this place
-at_most_one : {A : Type 0} (b c : Bool) (x : A) (xs : List A) → (c ≡ true → xs ≡ []) → length xs ≤ 1 → length (if b && c then x ∷ xs else xs) ≤ 1
-at_most_one true true x xs none few = let e : length xs ≡ 0 = ap length (none refl) in omega arith
-at_most_one true false x xs none few = few
-at_most_one false c x xs none few = few
-
-each_once : (c : CaseId) (a t : ℕ) (e : Event) (place : ℕ) (rs : List Reply) → length (on_case c (told_each a t e place rs)) ≤ 1
-each_once c a t e place [] = omega arith
-each_once c a t e place (r ∷ rs) =
-    at_most_one (eqb t c.type_no) (eqb place c.place) (record { caller = a; event = e; reply = r }) (on_case c (told_each a t e (place + 1) rs))
-    (λ here. let is : place ≡ c.place = eqb-true place c.place here in each_past c a t e (place + 1) rs (omega arith))
-    (each_once c a t e (place + 1) rs)
-
-some_once : (c : CaseId) (a t : ℕ) (e : Event) (place : ℕ) (answers : List (Option Reply)) → length (on_case c (told_some a t e place answers)) ≤ 1
-some_once c a t e place [] = omega arith
-some_once c a t e place (None ∷ answers) = some_once c a t e (place + 1) answers
-some_once c a t e place (Some r ∷ answers) =
-    at_most_one (eqb t c.type_no) (eqb place c.place) (record { caller = a; event = e; reply = r }) (on_case c (told_some a t e (place + 1) answers))
-    (λ here. let is : place ≡ c.place = eqb-true place c.place here in some_past c a t e (place + 1) answers (omega arith))
-    (some_once c a t e (place + 1) answers)
-
--- no type is told anything
-each_kind : (t a u : ℕ) (e : Event) (place : ℕ) (rs : List Reply) → on_kind t (told_each a u e place rs) ≡ []
-each_kind t a u e place [] = refl
-each_kind t a u e place (r ∷ rs) = each_kind t a u e (place + 1) rs
-
-some_kind : (t a u : ℕ) (e : Event) (place : ℕ) (answers : List (Option Reply)) → on_kind t (told_some a u e place answers) ≡ []
-some_kind t a u e place [] = refl
-some_kind t a u e place (None ∷ answers) = some_kind t a u e (place + 1) answers
-some_kind t a u e place (Some r ∷ answers) = some_kind t a u e (place + 1) answers
 
 -- at most one of two lists of at most one
 one_if : {A : Type 0} (b : Bool) (x : A) (xs : List A) → xs ≡ [] → length (if b then x ∷ xs else xs) ≤ 1
@@ -74,7 +20,7 @@ module _ (many : ℕ → ℕ) (roles : List ℕ) (a : ℕ) where
   act_on_kind t (act.End c n writes choice) calls k = subst (λ (xs : List Call). length (on_kind t xs) ≤ 1) (sym k.1) (omega arith)
   act_on_kind t (act.Change c ops) calls k = subst (λ (xs : List Call). length (on_kind t xs) ≤ 1) (sym k.1) (omega arith)
   act_on_kind t (act.Install u ops) calls k = subst (λ (xs : List Call). length (on_kind t xs) ≤ 1) (sym k.1) (one_if (eqb u t) _ [] refl)
-  act_on_kind t (act.Migrate u) calls k = subst (λ (xs : List Call). length (on_kind t xs) ≤ 1) (sym k.3) (one_if (eqb u t) _ _ (each_kind t a u _ 0 k.1))
+  act_on_kind t (act.Migrate u) calls k = subst (λ (xs : List Call). length (on_kind t xs) ≤ 1) (sym k.3) (one_if (eqb u t) _ _ (each-kind a u _ t 0 k.1))
 
   act_on_case : (c : CaseId) (x : Act) (calls : List Call) → AreCallsOf many roles a x calls → length (on_case c calls) ≤ 1
   act_on_case c (act.Create d) calls k = subst (λ (xs : List Call). length (on_case c xs) ≤ 1) (sym k.2) (one_if (is_case c d) _ [] refl)
@@ -82,7 +28,7 @@ module _ (many : ℕ → ℕ) (roles : List ℕ) (a : ℕ) where
   act_on_case c (act.End d n writes choice) calls k = subst (λ (xs : List Call). length (on_case c xs) ≤ 1) (sym k.1) (one_if (is_case c d) _ [] refl)
   act_on_case c (act.Change d ops) calls k = subst (λ (xs : List Call). length (on_case c xs) ≤ 1) (sym k.1) (one_if (is_case c d) _ [] refl)
   act_on_case c (act.Install u ops) calls k = subst (λ (xs : List Call). length (on_case c xs) ≤ 1) (sym k.1) (omega arith)
-  act_on_case c (act.Migrate u) calls k = subst (λ (xs : List Call). length (on_case c xs) ≤ 1) (sym k.3) (each_once c a u _ 0 k.1)
+  act_on_case c (act.Migrate u) calls k = subst (λ (xs : List Call). length (on_case c xs) ≤ 1) (sym k.3) (each-once a u _ c 0 k.1)
 
   part_on_kind : (t : ℕ) (x : Act) (calls : List Call) → ArePartOf many roles a x calls → length (on_kind t calls) ≤ 1
   part_on_kind t (act.Create c) calls (inl k) = subst (λ (xs : List Call). length (on_kind t xs) ≤ 1) (sym k) (omega arith)
@@ -92,7 +38,7 @@ module _ (many : ℕ → ℕ) (roles : List ℕ) (a : ℕ) where
   part_on_kind t (act.Change c ops) calls k = subst (λ (xs : List Call). length (on_kind t xs) ≤ 1) (sym k) (omega arith)
   part_on_kind t (act.Install u ops) calls k = subst (λ (xs : List Call). length (on_kind t xs) ≤ 1) (sym k) (omega arith)
   part_on_kind t (act.Migrate u) calls (inl k) = subst (λ (xs : List Call). length (on_kind t xs) ≤ 1) (sym k) (omega arith)
-  part_on_kind t (act.Migrate u) calls (inr k) = subst (λ (xs : List Call). length (on_kind t xs) ≤ 1) (sym k.3) (one_if (eqb u t) _ _ (some_kind t a u _ 0 k.1))
+  part_on_kind t (act.Migrate u) calls (inr k) = subst (λ (xs : List Call). length (on_kind t xs) ≤ 1) (sym k.3) (one_if (eqb u t) _ _ (some-kind a u _ t 0 k.1))
 
   part_on_case : (c : CaseId) (x : Act) (calls : List Call) → ArePartOf many roles a x calls → length (on_case c calls) ≤ 1
   part_on_case c (act.Create d) calls (inl k) = subst (λ (xs : List Call). length (on_case c xs) ≤ 1) (sym k) (omega arith)
@@ -102,7 +48,7 @@ module _ (many : ℕ → ℕ) (roles : List ℕ) (a : ℕ) where
   part_on_case c (act.Change d ops) calls k = subst (λ (xs : List Call). length (on_case c xs) ≤ 1) (sym k) (omega arith)
   part_on_case c (act.Install u ops) calls k = subst (λ (xs : List Call). length (on_case c xs) ≤ 1) (sym k) (omega arith)
   part_on_case c (act.Migrate u) calls (inl k) = subst (λ (xs : List Call). length (on_case c xs) ≤ 1) (sym k) (omega arith)
-  part_on_case c (act.Migrate u) calls (inr k) = subst (λ (xs : List Call). length (on_case c xs) ≤ 1) (sym k.3) (some_once c a u _ 0 k.1)
+  part_on_case c (act.Migrate u) calls (inr k) = subst (λ (xs : List Call). length (on_case c xs) ≤ 1) (sym k.3) (some-once a u _ c 0 k.1)
 
   -- the calls on one machine, of which there are those of a beginning and those of the rest
   module _ {X : Type 0} (on : List Call → List X) (append : (xs ys : List Call) → on (xs ++ ys) ≡ on xs ++ on ys) (none : length (on []) ≡ 0)

@@ -1,10 +1,8 @@
 -- Which runs of a file are legal.
 use Rattle.std.specs.Prelude.{◌≡◌, ℕ, ◌≤◌, ◌==◌, List, [], ◌∷◌, length, take, flat_map, count_by, slice_get, Some, All}
 use mathlib.Core.List.{IsPrefix}
-use Rattle.case_core.specs.CaseModel.{CaseModel, not_created}
-use Rattle.case_core.specs.Machine.{next_case}
-use Rattle.case_core.specs.declared.events.Event.{Event}
-use Rattle.case_core.specs.declared.replies.Reply.{Reply}
+use Rattle.case_core.specs.CaseModel.{not_created}
+use Rattle.case_core.specs.Machine.{case_after, case_reply}
 use Rattle.legal_run.specs.LineCalls.{Call, on_kind, on_case, AreCallsOfLines, lines_of}
 use Rattle.process_text.specs.declared.files.CaseDecl.{CaseDecl}
 use Rattle.process_text.specs.declared.files.File.{File}
@@ -18,25 +16,10 @@ use Rattle.script_run.specs.declared.runs.ClosedKind.{ClosedKind}
 use Rattle.script_run.specs.declared.runs.Run.{Run}
 use Rattle.turn_cell.specs.History.{IsLegal, calls_of, entry, state_after}
 use Rattle.turn_cell.specs.declared.journal.Entry.{Entry}
-use Rattle.type_core.specs.KindModel.{KindModel, not_defined}
-use Rattle.type_core.specs.Machine.{next_kind}
-use Rattle.type_core.specs.declared.events.KindEvent.{KindEvent}
+use Rattle.type_core.specs.KindModel.{not_defined}
+use Rattle.type_core.specs.Machine.{kind_after, kind_reply}
 use Rattle.type_core.specs.declared.events.KindEvent.TheVariants as event
-use Rattle.type_core.specs.declared.replies.KindReply.{KindReply}
 use Rattle.type_core.specs.declared.replies.KindReply.TheVariants as reply
-
--- the machines that types and cases are
-abbrev pub kind_after : KindModel → KindEvent → KindModel
-kind_after k e = (next_kind k e).0
-
-abbrev pub kind_reply : KindModel → KindEvent → KindReply
-kind_reply k e = (next_kind k e).1
-
-abbrev pub case_after : CaseModel → Event → CaseModel
-case_after c e = (next_case c e).0
-
-abbrev pub case_reply : CaseModel → Event → Reply
-case_reply c e = (next_case c e).1
 
 -- the numbers of the actors
 abbrev pub IsActor : File → ℕ → Type 0

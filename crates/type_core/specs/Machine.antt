@@ -48,6 +48,12 @@ event_on k (Some newest) event.Newest = (k, reply.Is newest)
 abbrev pub next_kind : KindModel → KindEvent → KindModel × KindReply
 next_kind k e = event_on k (newest_of k.versions) e
 
+abbrev pub kind_after : KindModel → KindEvent → KindModel
+kind_after k e = (next_kind k e).0
+
+abbrev pub kind_reply : KindModel → KindEvent → KindReply
+kind_reply k e = (next_kind k e).1
+
 -- by how much an event may age a machine that counts
 abbrev pub weight : KindEvent → ℕ
 weight (event.Define schema) = length (cards_of schema)

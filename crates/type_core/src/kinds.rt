@@ -126,7 +126,7 @@ impl Kind {
 pub const MAX_VERSIONS: usize = 256;
 
 impl Machine for Kind {
-    ghost use Rattle.type_core.specs.Machine.{next_kind, weight};
+    ghost use Rattle.type_core.specs.Machine.{kind_after, kind_reply, weight};
     ghost use Rattle.std.specs.Prelude.{length};
 
     type Event = KindEvent;
@@ -140,9 +140,9 @@ impl Machine for Kind {
 
     ghost state = { λ k. k };
 
-    ghost after = { λ k e. (next_kind k e).0 };
+    ghost after = { kind_after };
 
-    ghost reply = { λ k e. (next_kind k e).1 };
+    ghost reply = { kind_reply };
 
     ghost shown = { λ k. length k.versions };
 

@@ -4,8 +4,6 @@
 mod events;
 mod kinds;
 mod replies;
-#[cfg(test)]
-mod tests;
 
 pub use events::KindEvent;
 pub use kinds::{Kind, MAX_VERSIONS};

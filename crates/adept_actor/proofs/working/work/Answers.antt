@@ -1,7 +1,8 @@
-use Rattle.std.proofs.Common.{◌≡◌, ◌+◌, [], ◌∷◌, drop, drop_of_length-le, length, ap, sym, ◌∙◌, subst, arith, Ok, Err}
-use Rattle.adept_actor.proofs.Acts.{Leads, leads-all, leads-over, leads-on, leads-begun, leads-end, works-fault, work-still, split-at}
-use Rattle.adept_actor.specs.Work.{Acts, CanWork, Works}
-use Rattle.adept_server.specs.Desks.{DeskView, IsDeskOf, desk_view}
+use Rattle.std.proofs.Common.{◌≡◌, ◌+◌, [], ◌∷◌, drop, drop_of_length-le, length, ap, sym, ◌∙◌, subst, arith}
+use Rattle.adept_actor.proofs.Acts.{Leads, leads-over, leads-on, leads-begun, leads-end, works-fault, work-still}
+use Rattle.adept_actor.specs.Work.{CanWork}
+use Rattle.adept_server.specs.Desks.{IsDeskOf, desk_view}
+use Rattle.legal_run.proofs.Places.{cut-at}
 use Rattle.adept_actor.proofs.working.work.Goals.{then-line-number+in_ok-work_line, else-line-number}
 use Rattle.adept_actor.proofs.working.work.Goals as goal
 
@@ -14,7 +15,7 @@ returns-in_err-work_line-clause-worked g c =
     let m = desk_view c.loop-line.desk in
     let w = desk_view c.work_line.new.desk in
     let l = c.line-item.result in
-    let split : drop i lines ≡ l ∷ drop (i + 1) lines = split-at c.as_slice-line-items.result.now lines i l c.as_slice-line-items.ensures c.loop-line-test.true c.line-item.is in
+    let split : drop i lines ≡ l ∷ drop (i + 1) lines = cut-at c.as_slice-line-items.result.now lines i l c.as_slice-line-items.ensures c.loop-line-test.true c.line-item.is in
     let part = c.in_err-work_line.ensures.worked in
     let begun = leads-begun roles lines (drop (i + 1) lines) l v m (subst (λ ls. Leads roles lines ls v m) split c.loop-line.invariant.leads) w (c.if-line-number.true ∙ c.number.ensures) part.0 in
     works-fault roles lines v w c.in_err-work_line.field-0.0 c.from_residual.result c.from_residual.ensures.1 (begun, part.1)
@@ -27,7 +28,7 @@ loop-line-preserved g c =
     let v = desk_view c.args.desk.now in
     let m = desk_view c.loop-line.desk in
     let l = c.line-item.result in
-    let split : drop i lines ≡ l ∷ drop (i + 1) lines = split-at c.as_slice-line-items.result.now lines i l c.as_slice-line-items.ensures c.loop-line-test.true c.line-item.is in
+    let split : drop i lines ≡ l ∷ drop (i + 1) lines = cut-at c.as_slice-line-items.result.now lines i l c.as_slice-line-items.ensures c.loop-line-test.true c.line-item.is in
     let k = subst (λ ls. Leads roles lines ls v m) split c.loop-line.invariant.leads in
     let able = subst (λ ls. CanWork m ls) split c.loop-line.invariant.able in
     elim c.if-line-number.branch [

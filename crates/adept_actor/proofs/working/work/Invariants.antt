@@ -1,4 +1,4 @@
-use Rattle.std.proofs.Common.{◌≡◌, drop}
+use Rattle.std.proofs.Common.{drop}
 use Rattle.adept_actor.proofs.Acts.{Leads}
 use Rattle.adept_actor.specs.Work.{CanWork}
 use Rattle.adept_server.specs.Desks.{IsDeskOf, desk_view}

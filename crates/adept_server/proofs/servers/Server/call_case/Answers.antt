@@ -2,8 +2,8 @@ use Rattle.std.proofs.Common.{◌≡◌, ◌<◌, length, map, refl, sym, ap, �
 use Rattle.std.proofs.lemmas.List.{with_items_is}
 use Rattle.std.proofs.lemmas.Option.{slice_get_within}
 use Rattle.adept_server.specs.Calling.{CallsOne}
-use Rattle.adept_server.specs.Desks.{case_after, case_reply}
 use Rattle.std.specs.Vec.{with_item, with_items}
+use Rattle.case_core.specs.Machine.{case_after, case_reply}
 use Rattle.turn_cell.specs.Passes.{view_of}
 use Rattle.turn_batch.specs.Batch.{AreOf}
 use Rattle.adept_server.proofs.Sent.{case-send, case-sync, event-send, event-sync}

@@ -8,7 +8,7 @@ use Rattle.adept_server.proofs.Made.{kind_row, batch_made}
 use Rattle.adept_server.proofs.OneCall.{batch_ok, batch_err}
 use Rattle.adept_server.proofs.Rows.{items_at}
 use Rattle.adept_server.proofs.Sent.{case-send, case-sync, event-send, event-sync}
-use Rattle.adept_server.specs.Desks.{case_after, case_reply}
+use Rattle.case_core.specs.Machine.{case_after, case_reply}
 use Rattle.turn_batch.specs.Batch.{AreOf}
 use Rattle.adept_server.proofs.servers.Server.call_cases.Goals as goal
 

@@ -5,10 +5,10 @@ use Rattle.std.proofs.Crossing.{crosses}
 use denote.Param.Send.{sendable}
 use Rattle.std.proofs.lemmas.List.{with_items_is}
 use Rattle.adept_server.specs.Calling.{CallsOne}
-use Rattle.adept_server.specs.Desks.{kind_after, kind_reply}
 use Rattle.turn_batch.specs.Batch.{AreOf}
 use Rattle.turn_cell.specs.Passes.{view_of}
 use Rattle.adept_server.proofs.servers.Server.call_kind.Goals as goal
+use Rattle.type_core.specs.Machine.{kind_after, kind_reply}
 
 pub call_at-answer-requires-send-M : goal.call_at-answer-requires-send-M
 call_at-answer-requires-send-M g c κs = search (version-send, version-sync, sendable, crosses) depth 30
