@@ -11,8 +11,6 @@ mod orders;
 mod repeats;
 mod scopes;
 mod syncs;
-#[cfg(test)]
-mod tests;
 
 ghost use Rattle.std.specs.Prelude.{◌≡◌, None, IfOk, IfErr};
 ghost use Rattle.wsm_schema.specs.Flat.{flat_of, cards_of};

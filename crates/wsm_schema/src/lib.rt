@@ -13,8 +13,6 @@ mod places;
 mod ranks;
 mod schemas;
 mod states;
-#[cfg(test)]
-mod tests;
 
 pub use blocks::{Block, Branch, Branches, Items, copy_items};
 pub use cards::{Card, CardReads, End, Ends, NodeKind};
