@@ -1,5 +1,7 @@
 pub mod Counts
 pub mod Repeated
+pub mod Places
+pub mod TreeSizes
 pub mod Moves
 pub mod Marked
 pub mod Leading
@@ -7,10 +9,11 @@ pub mod Parting
 pub mod Added
 pub mod Upwards
 pub mod CardRows
+pub mod ActsByCard
 pub mod Ranks
 pub mod DocumentStart
 pub mod Growing
-pub mod RankTests
 pub mod FirstFault
 pub mod RanksOfSchemas
 pub mod Forward
+pub mod FrontOrders

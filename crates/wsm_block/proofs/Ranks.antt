@@ -9,14 +9,15 @@ use Rattle.wsm_schema.specs.SchemaModel.{SchemaModel}
 use Rattle.wsm_schema.specs.Flat.{card_at, cards_of}
 use Rattle.wsm_schema.specs.Places.{places}
 use Rattle.wsm_schema.specs.Rank.{IsRank}
-use Rattle.wsm_schema.specs.Sound.{twice, nodes_of, control_edges, is_act_in, sync_cycle}
+use Rattle.wsm_schema.specs.Sound.{twice, nodes_of, control_edges}
 use Rattle.wsm_schema.proofs.Rounds.{member-splits, all-rows-card_at, card_at-node}
 use Rattle.wsm_schema.proofs.DocumentOrder.{twice-once}
 use Rattle.wsm_schema.specs.declared.cards.Card.{Card}
+use Rattle.wsm_block.specs.Heights.{height_in}
 use Rattle.wsm_block.specs.Order.{Edges, Ordered, Once, IsOrder, SameNodes, onto_seen}
-use Rattle.wsm_block.proofs.CardRows.{control-rows, rows-into, found-rows, sources-are, rows-from_sources, rows-of_sources, activity-card}
+use Rattle.wsm_block.proofs.CardRows.{control-rows, rows-into, found-rows, sources-are, rows-of_sources}
 use Rattle.wsm_block.proofs.Repeated.{seen-behind}
-use Rattle.wsm_block.proofs.Upwards.{Rises, no-cycle, height_in, height-at, height-below, below-height}
+use Rattle.wsm_block.proofs.Upwards.{Rises, height-at, height-below, below-height}
 
 -- ---- in a rank edges rise
 module _ (cards : List Card) (rank : List ℕ) (is : IsRank cards rank) where
@@ -39,25 +40,6 @@ module _ (cards : List Card) (rank : List ℕ) (is : IsRank cards rank) where
   pub control-rises : twice [] (nodes_of cards) ≡ None → AllRows (Rises (height_in rank)) (control_edges cards)
   control-rises distinct =
       control-rows (Rises (height_in rank)) cards (all-rows-map (λ c. card_at c.node cards ≡ Some c) _ (λ c found. (rises-into c.node c found).0) cards (found-rows [] cards distinct))
-
--- ---- so no sync edge of a schema closes a cycle, where its nodes have a rank
-module _ (s : SchemaModel) (rank : List ℕ) (is : IsRank (cards_of s) rank) where
-  abbrev Up : ℕ × ℕ → Type 0
-  Up = Rises (height_in rank)
-
-  into-rises : (n : ℕ) (c : Card) → card_at n (cards_of s) ≡ Some c → AllRows (λ e. e.1 ≡ n → height_in rank e.0 < height_in rank n) s.syncs
-  into-rises n c found =
-      rows-from_sources (λ m. height_in rank m < height_in rank n) n s.syncs
-      (subst (AllRows (λ m. height_in rank m < height_in rank n)) (sources-are s n (places s.start s.body s.finish) c found) (rises-into (cards_of s) rank is n c found).1)
-
-  each-rises : (es : Edges) → AllRows (λ e. is_act_in (cards_of s) e.1 ≡ true) es →
-      ((n : ℕ) (c : Card) → card_at n (cards_of s) ≡ Some c → AllRows (λ e. e.1 ≡ n → height_in rank e.0 < height_in rank n) es) → AllRows Up es
-  each-rises [] acts h = tt
-  each-rises (e ∷ es) acts h =
-      let card = activity-card e.1 (cards_of s) acts.0 in ((h e.1 card.0 card.1).0 refl, each-rises es acts.1 (λ n c found. (h n c found).1))
-
-  pub rank-no_cycle : twice [] (nodes_of (cards_of s)) ≡ None → AllRows (λ e. is_act_in (cards_of s) e.1 ≡ true) s.syncs → (n : ℕ) → sync_cycle n (control_edges (cards_of s)) s.syncs ≡ None
-  rank-no_cycle distinct acts n = no-cycle (height_in rank) n (control_edges (cards_of s)) s.syncs (control-rises (cards_of s) rank is distinct) (each-rises s.syncs acts into-rises)
 
 -- ---- from heights to an order
 pub twice-Once : (seen ns : List ℕ) → twice seen ns ≡ None → Once seen ns
@@ -99,7 +81,7 @@ onto-one m (x ∷ xs) seen h =
       ]
     ]
 
-onto-rows : {X : Type 0} (Q : X → Type 0) (xs ys : List X) → AllRows Q (onto_seen xs ys) → AllRows Q xs × AllRows Q ys
+pub onto-rows : {X : Type 0} (Q : X → Type 0) (xs ys : List X) → AllRows Q (onto_seen xs ys) → AllRows Q xs × AllRows Q ys
 onto-rows Q [] ys h = (tt, h)
 onto-rows Q (x ∷ xs) ys h = let r = onto-rows Q xs (x ∷ ys) h in ((r.1.0, r.0), r.1.1)
 

@@ -1,9 +1,8 @@
 -- The first number that stood earlier goes by the members of what stood earlier alone.
-use Rattle.std.proofs.Common.{◌≡◌, ℕ, true, false, ◌||◌, eqb, List, [], ◌∷◌, ◌++◌, map, refl, ap, sym, ◌∙◌, inl, inr, Some, ◌+◌, ◌<◌, length, get_or, take, drop, drop-cons, add-one}
-use Rattle.std.specs.List.{list_any}
+use Rattle.std.proofs.Common.{◌≡◌, ℕ, true, false, ◌||◌, eqb, List, [], ◌∷◌, ◌++◌, map, refl, ap, sym, ◌∙◌, subst, inl, inr, Some, ◌+◌, ◌<◌, length, get_or, take, drop, drop-cons, add-one}
 use Rattle.std.proofs.lemmas.Bool.{cases_Bool, or_right}
 use Rattle.std.proofs.Math.Seq.{take-suc}
-use Rattle.std.proofs.lemmas.List.{map-append, length-map}
+use Rattle.std.proofs.lemmas.List.{length-map, get_or-map}
 use Rattle.wsm_schema.specs.Sound.{twice, codes_of}
 use Rattle.wsm_schema.specs.Trail.{is_one_of}
 use Rattle.wsm_schema.specs.Tree.{lanes}
@@ -19,12 +18,8 @@ pub codes_are : (bs : List Branch) → codes_of (lanes (lanes_of bs)) ≡ map (�
 codes_are [] = refl
 codes_are (b ∷ bs) = rw (code-of_lane b) (ap (λ ns. b.code ∷ ns) (codes_are bs))
 
-any-is : {X : Type 0} (key : X → ℕ) (n : ℕ) (xs : List X) → list_any (λ x. eqb (key x) n) xs ≡ is_one_of n (map key xs)
-any-is key n [] = refl
-any-is key n (x ∷ xs) = ap (λ more. eqb (key x) n || more) (any-is key n xs)
-
 -- what was seen goes by its members alone
-twice-members : (s t ns : List ℕ) → ((m : ℕ) → is_one_of m s ≡ is_one_of m t) → twice s ns ≡ twice t ns
+pub twice-members : (s t ns : List ℕ) → ((m : ℕ) → is_one_of m s ≡ is_one_of m t) → twice s ns ≡ twice t ns
 twice-members s t [] h = refl
 twice-members s t (n ∷ ns) h =
     elim (cases_Bool (is_one_of n t)) [
@@ -43,30 +38,33 @@ seen-behind m n (x ∷ xs) =
 pub branch_count : (bs : List Branch) → length (codes_of (lanes (lanes_of bs))) ≡ length bs
 branch_count bs = ap length (codes_are bs) ∙ length-map bs (λ b. b.code)
 
--- the numbers up to a place and that place's, and those from it on
-take-next : {X : Type 0} (key : X → ℕ) (xs : List X) (i : ℕ) (d : X) → i < length xs → map key (take (i + 1) xs) ≡ map key (take i xs) ++ key (get_or xs i d) ∷ []
-take-next key xs i d lt = ap (λ j. map key (take j xs)) (add-one i) ∙ ap (map key) (take-suc xs i d lt) ∙ map-append key (take i xs) (get_or xs i d ∷ [])
-
-drop-next : {X : Type 0} (key : X → ℕ) (xs : List X) (i : ℕ) (d : X) → i < length xs → map key (drop i xs) ≡ key (get_or xs i d) ∷ map key (drop (i + 1) xs)
-drop-next key xs i d lt = ap (map key) (drop-cons xs i d lt) ∙ ap (λ j. key (get_or xs i d) ∷ map key (drop j xs)) (sym (add-one i))
-
 -- one number more that did not stand earlier
-pub twice-next : {X : Type 0} (key : X → ℕ) (xs : List X) (i : ℕ) (d : X) → i < length xs → list_any (λ y. eqb (key y) (key (get_or xs i d))) (take i xs) ≡ false →
-    twice (map key (take (i + 1) xs)) (map key (drop (i + 1) xs)) ≡ twice (map key (take i xs)) (map key (drop i xs))
-twice-next key xs i d lt new =
-    let n : ℕ = key (get_or xs i d) in
-    let seen : List ℕ = map key (take i xs) in
-    let rest : List ℕ = map key (drop (i + 1) xs) in
-    let fresh : is_one_of n seen ≡ false = sym (any-is key n (take i xs)) ∙ new in
-    let step : twice seen (n ∷ rest) ≡ twice (n ∷ seen) rest = rw fresh refl in
-    ap (λ s. twice s rest) (take-next key xs i d lt)
-    ∙ twice-members (seen ++ n ∷ []) (n ∷ seen) rest (λ m. sym (seen-behind m n seen))
-    ∙ sym step ∙ ap (twice seen) (sym (drop-next key xs i d lt))
+pub fresh-next : (ns : List ℕ) (i d : ℕ) → i < length ns → is_one_of (get_or ns i d) (take i ns) ≡ false →
+    twice (take (i + 1) ns) (drop (i + 1) ns) ≡ twice (take i ns) (drop i ns)
+fresh-next ns i d lt new =
+    let n : ℕ = get_or ns i d in
+    let seen : List ℕ = take i ns in
+    let rest : List ℕ = drop (i + 1) ns in
+    let step : twice seen (n ∷ rest) ≡ twice (n ∷ seen) rest = rw new refl in
+    let more : take (i + 1) ns ≡ seen ++ n ∷ [] = ap (λ j. take j ns) (add-one i) ∙ take-suc ns i d lt in
+    let here : drop i ns ≡ n ∷ rest = drop-cons ns i d lt ∙ ap (λ j. n ∷ drop j ns) (sym (add-one i)) in
+    ap (λ s. twice s rest) more ∙ twice-members (seen ++ n ∷ []) (n ∷ seen) rest (λ m. sym (seen-behind m n seen)) ∙ sym step ∙ ap (twice seen) (sym here)
 
--- one that stood earlier
-pub twice-found : {X : Type 0} (key : X → ℕ) (xs : List X) (i : ℕ) (d : X) → i < length xs → list_any (λ y. eqb (key y) (key (get_or xs i d))) (take i xs) ≡ true →
-    twice (map key (take i xs)) (map key (drop i xs)) ≡ Some (key (get_or xs i d))
-twice-found key xs i d lt old =
-    let n : ℕ = key (get_or xs i d) in
-    let there : is_one_of n (map key (take i xs)) ≡ true = sym (any-is key n (take i xs)) ∙ old in
-    ap (twice (map key (take i xs))) (drop-next key xs i d lt) ∙ rw there refl
+-- one that did
+pub found-next : (ns : List ℕ) (i d : ℕ) → i < length ns → is_one_of (get_or ns i d) (take i ns) ≡ true → twice (take i ns) (drop i ns) ≡ Some (get_or ns i d)
+found-next ns i d lt old = ap (twice (take i ns)) (drop-cons ns i d lt) ∙ rw old refl
+
+-- the same of the numbers of rows
+module _ {X : Type 0} (key : X → ℕ) (xs : List X) (i : ℕ) (d : X) (lt : i < length xs) where
+  within : i < length (map key xs)
+  within = subst (λ n. i < n) (sym (length-map xs key)) lt
+
+  number-at : get_or (map key xs) i 0 ≡ key (get_or xs i d)
+  number-at = get_or-map key xs i d 0 lt
+
+  pub fresh-row : is_one_of (key (get_or xs i d)) (take i (map key xs)) ≡ false →
+      twice (take (i + 1) (map key xs)) (drop (i + 1) (map key xs)) ≡ twice (take i (map key xs)) (drop i (map key xs))
+  fresh-row new = fresh-next (map key xs) i 0 within (ap (λ n. is_one_of n (take i (map key xs))) number-at ∙ new)
+
+  pub found-row : is_one_of (key (get_or xs i d)) (take i (map key xs)) ≡ true → twice (take i (map key xs)) (drop i (map key xs)) ≡ Some (key (get_or xs i d))
+  found-row old = found-next (map key xs) i 0 within (ap (λ n. is_one_of n (take i (map key xs))) number-at ∙ old) ∙ ap Some number-at

@@ -1,10 +1,11 @@
 -- Where each edge goes from a smaller number to a larger one, no sync edge closes a cycle.
-use Rattle.std.proofs.Common.{◌≡◌, ℕ, zero, suc, ◌<◌, ◌≤◌, true, false, cond, ◌&&◌, eqb, List, [], ◌∷◌, ◌++◌, length, refl, ap, inl, inr, arith, None}
+use Rattle.std.proofs.Common.{◌≡◌, ℕ, zero, suc, ◌<◌, ◌≤◌, true, false, ◌&&◌, eqb, List, [], ◌∷◌, ◌++◌, length, refl, ap, inl, inr, arith}
 use Rattle.std.specs.List.{list_any}
 use Rattle.std.proofs.lemmas.Bool.{eqb-true, eq-eqb, cases_Bool, both_ways, or_cases, or_parts, and_parts}
 use Rattle.wsm_lists.specs.Rows.{AllRows}
 use Rattle.wsm_schema.specs.Trail.{is_one_of}
-use Rattle.wsm_schema.specs.Sound.{leads, sync_cycle}
+use Rattle.wsm_schema.specs.Sound.{leads}
+use Rattle.wsm_block.specs.Heights.{height_in}
 use Rattle.wsm_block.specs.Order.{Edges}
 use Rattle.wsm_block.proofs.Leading.{passes}
 
@@ -26,19 +27,7 @@ module _ (height : ℕ → ℕ) where
             omega (arith, first, step, rest)
       ]
 
-  pub no-cycle : (n : ℕ) (edges syncs : Edges) → AllRows Rises edges → AllRows Rises syncs → sync_cycle n edges syncs ≡ None
-  no-cycle n edges [] rise rises = refl
-  no-cycle n edges (s ∷ ss) rise rises =
-      elim (cases_Bool (leads edges n s.1 s.0)) [
-        | inl way ↦ absurd (let back : height s.1 ≤ height s.0 = leads-up edges rise n s.1 s.0 way in let up : height s.0 < height s.1 = rises.0 in omega (arith, back, up))
-        | inr no_way ↦ rw no_way (no-cycle n (s ∷ edges) ss (rises.0, rise) rises.1)
-      ]
-
 -- ---- how many numbers stand before a number
-abbrev pub height_in : List ℕ → ℕ → ℕ
-height_in [] n = 0
-height_in (x ∷ xs) n = cond (eqb x n) 0 (suc (height_in xs n))
-
 pub height-at : (n : ℕ) (front rest : List ℕ) → is_one_of n front ≡ false → height_in (front ++ n ∷ rest) n ≡ length front
 height-at n [] rest new = rw (eq-eqb n n refl) refl
 height-at n (x ∷ front) rest new = let parts = or_parts (eqb x n) (is_one_of n front) new in rw parts.0 (ap suc (height-at n front rest parts.1))

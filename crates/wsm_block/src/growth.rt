@@ -1,27 +1,50 @@
-// An order that is made by adding one sync edge after another.
-ghost use Rattle.std.specs.Prelude.{◌≡◌, ◌∷◌, [], ◌++◌, None, IfOk, IfErr, OnOk, length, true, map};
-ghost use Rattle.wsm_lists.specs.Rows.{AllRows};
+// An order with all sync edges, or the first one that closes a cycle.
+ghost use Rattle.std.specs.Prelude.{◌≡◌, ◌∷◌, [], ◌++◌, None, IfOk, IfErr, OnOk, length, map};
 ghost use Rattle.wsm_schema.specs.Sound.{nodes_of, control_edges, sync_cycle};
-ghost use Rattle.wsm_schema.specs.Trail.{is_one_of};
-ghost use Rattle.wsm_block.specs.Order.{IsOrder, SameNodes, onto_seen};
+ghost use Rattle.wsm_block.specs.Clauses.{cycle_in};
+ghost use Rattle.wsm_block.specs.Order.{EndAmong, IsOrder, SameNodes, onto_seen};
 ghost use Rattle.wsm_block.specs.Refusals.{IsBlockFault};
 
 use crate::block_refusals::BlockRefusal;
+use crate::fronts::longest_front;
 use crate::orders::with_edge;
 use std::alloc::Global;
-use wsm_schema::{BlockFault, Card, NoMemory, Rank};
+use wsm_schema::{BlockFault, Card, Flat, NoMemory, Rank};
 
-// Document order with all sync edges added to it, or the first one that closes a cycle.
-pub fn grown_rank(alloc: Global, cards: &[Card], syncs: &[(u32, u32)]) -> Result<Rank, BlockRefusal>
-    requires order { IsOrder (control_edges cards.now) (nodes_of cards.now) }
-    requires ends { AllRows (λ e. (is_one_of e.0 (nodes_of cards.now) ≡ true) × (is_one_of e.1 (nodes_of cards.now) ≡ true)) syncs.now }
-    ensures none { IfOk result (λ rank. sync_cycle (length cards.now) (control_edges cards.now) syncs.now ≡ None) }
-    ensures order { IfOk result (λ rank. IsOrder (onto_seen syncs.now (control_edges cards.now)) rank) }
-    ensures same { IfOk result (λ rank. SameNodes rank (nodes_of cards.now)) }
-    ensures fault { IfErr result (λ refusal. IsBlockFault (sync_cycle (length cards.now) (control_edges cards.now) syncs.now) refusal) }
+// Without sync edges document order is an order; else one for as many of them as can be found is the start.
+pub fn grown_rank(alloc: Global, flat: &Flat, syncs: &[(u32, u32)]) -> Result<Rank, BlockRefusal>
+    requires order { IsOrder (control_edges flat.now.cards) (nodes_of flat.now.cards) }
+    requires ends { EndAmong (nodes_of flat.now.cards) syncs.now }
+    ensures none { IfOk result (λ rank. cycle_in flat.now.cards syncs.now ≡ None) }
+    ensures order { IfOk result (λ rank. IsOrder (onto_seen syncs.now (control_edges flat.now.cards)) rank) }
+    ensures same { IfOk result (λ rank. SameNodes rank (nodes_of flat.now.cards)) }
+    ensures fault { IfErr result (λ refusal. IsBlockFault (cycle_in flat.now.cards syncs.now) refusal) }
 {
-    let mut edges = control_edges(alloc, cards)?;
-    let mut nodes = nodes_of(alloc, cards)?;
+    let nodes = nodes_of(alloc, flat.cards())?;
+    if syncs.is_empty() {
+        return Ok(Rank::from_vec(nodes));
+    }
+    let control = control_edges(alloc, flat.cards())?;
+    let front = longest_front(alloc, flat, nodes, &control, syncs)?;
+    let (begun, rest) = syncs.split_at(front.count);
+    let edges = onto(alloc, begun, &control)?;
+    grown_from(alloc, edges, front.nodes, rest)
+}
+
+// The order with more sync edges, added one after another, or the first one that closes a cycle.
+fn grown_from(
+    alloc: Global,
+    mut edges: Vec<(u32, u32)>,
+    mut nodes: Vec<u32>,
+    syncs: &[(u32, u32)],
+) -> Result<Rank, BlockRefusal>
+    requires order { IsOrder edges.items nodes.items }
+    requires ends { EndAmong nodes.items syncs.now }
+    ensures none { IfOk result (λ rank. sync_cycle (length nodes.items) edges.items syncs.now ≡ None) }
+    ensures order { IfOk result (λ rank. IsOrder (onto_seen syncs.now edges.items) rank) }
+    ensures same { IfOk result (λ rank. SameNodes rank nodes.items) }
+    ensures fault { IfErr result (λ refusal. IsBlockFault (sync_cycle (length nodes.items) edges.items syncs.now) refusal) }
+{
     for edge in syncs {
         match with_edge(alloc, &edges, edge.0, edge.1, &nodes)? {
             Some(new) => nodes = new,
@@ -38,6 +61,22 @@ fn put_first(edges: &mut Vec<(u32, u32)>, edge: (u32, u32)) -> Result<(), NoMemo
 {
     edges.insert(0, edge)?;
     Ok(())
+}
+
+// The edges with those of a front put before them one by one.
+fn onto(
+    alloc: Global,
+    front: &[(u32, u32)],
+    edges: &[(u32, u32)],
+) -> Result<Vec<(u32, u32)>, NoMemory>
+    ensures { IfOk result (λ all. all.items ≡ onto_seen front.now edges.now) }
+{
+    let mut all = Vec::new(alloc);
+    for i in 0..front.len() {
+        all.push(front[front.len() - 1 - i])?;
+    }
+    all.extend_from_slice(edges)?;
+    Ok(all)
 }
 
 // The nodes in document order.

@@ -3,16 +3,15 @@
 
 mod block_refusals;
 mod branches;
-mod candidates;
 mod faults;
+mod fronts;
 mod growth;
+mod heights;
 mod limits;
 mod orders;
 mod repeats;
-mod scopes;
+mod sorting;
 mod syncs;
-#[cfg(test)]
-mod tests;
 
 ghost use Rattle.std.specs.Prelude.{◌≡◌, None, IfOk, IfErr};
 ghost use Rattle.wsm_schema.specs.Flat.{flat_of, cards_of};
@@ -21,10 +20,10 @@ ghost use Rattle.wsm_schema.specs.Sound.{block_fault};
 ghost use Rattle.wsm_block.specs.Clauses.{shape_fault, cycle_fault};
 ghost use Rattle.wsm_block.specs.Refusals.{IsBlockFault};
 
-use crate::candidates::{candidate, is_rank};
 use crate::faults::shape_fault;
 use crate::growth::grown_rank;
 pub use block_refusals::BlockRefusal;
+pub use limits::over_limit;
 use std::alloc::Global;
 pub use wsm_schema::{BlockFault, LimitKind};
 use wsm_schema::{Flat, Rank, Schema};
@@ -36,7 +35,7 @@ pub fn check_block(alloc: Global, schema: &Schema, flat: &Flat) -> Result<Rank, 
     ensures rank { IfOk result (λ rank. IsRank (cards_of schema.now) rank) }
     ensures fault { IfErr result (λ refusal. IsBlockFault (block_fault schema.now) refusal) }
 {
-    match shape_fault(schema, flat) {
+    match shape_fault(alloc, schema, flat)? {
         Some(fault) => Err(BlockRefusal::Fault(fault)),
         None => rank_of(alloc, schema, flat),
     }
@@ -50,9 +49,5 @@ fn rank_of(alloc: Global, schema: &Schema, flat: &Flat) -> Result<Rank, BlockRef
     ensures rank { IfOk result (λ rank. IsRank (cards_of schema.now) rank) }
     ensures fault { IfErr result (λ refusal. IsBlockFault (cycle_fault schema.now) refusal) }
 {
-    let nodes = candidate(alloc, flat)?;
-    if is_rank(flat, &nodes) {
-        return Ok(Rank::from_vec(nodes));
-    }
-    grown_rank(alloc, flat.cards(), schema.syncs.as_slice())
+    grown_rank(alloc, flat, schema.syncs.as_slice())
 }

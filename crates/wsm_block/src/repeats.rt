@@ -1,46 +1,65 @@
 // Numbers that stand twice.
-ghost use Rattle.std.specs.Prelude.{◌≡◌, [], ◌==◌, map};
-ghost use Rattle.std.specs.List.{list_any};
+ghost use Rattle.std.specs.Prelude.{◌≡◌, ◌≤◌, [], map, take, length, IfOk};
 ghost use Rattle.wsm_schema.specs.Sound.{twice, nodes_of};
+ghost use Rattle.wsm_schema.specs.Trail.{is_one_of};
 
-use wsm_schema::{Branch, Card};
+use crate::heights::Heights;
+use std::alloc::Global;
+use wsm_schema::{Branch, Flat, NoMemory};
 
 // The first node that stood earlier.
-pub fn node_twice(cards: &[Card]) -> Option<u32>
-    ensures { result ≡ twice [] (nodes_of cards.now) }
+pub fn node_twice(flat: &Flat) -> Option<u32>
+    ensures { result ≡ twice [] (nodes_of flat.now.cards) }
 {
+    let cards = flat.cards();
     for i in 0..cards.len() {
         let node = cards[i].node;
-        if has_node(&cards[..i], node) {
+        if is_among(flat, node, i) {
             return Some(node);
         }
     }
     None
 }
 
+// Whether the node is one of those of the first so many cards.
+fn is_among(flat: &Flat, node: u32, count: usize) -> bool
+    requires { count ≤ length flat.now.cards }
+    ensures { result ≡ is_one_of node (take count (nodes_of flat.now.cards)) }
+{
+    match flat.place(node) {
+        Some(place) => place < count,
+        None => false,
+    }
+}
+
 // The first code that stood earlier.
-pub fn code_twice(branches: &[Branch]) -> Option<u16>
+pub fn code_twice(alloc: Global, branches: &[Branch]) -> Result<Option<u16>, NoMemory>
+    ensures { IfOk result (λ found. found ≡ twice [] (map (λ b. b.code) branches.now)) }
+{
+    let codes = Heights::of(alloc, codes_of(alloc, branches)?)?;
+    Ok(first_twice(&codes, branches))
+}
+
+// The same, where the codes are found by binary searches.
+fn first_twice(codes: &Heights, branches: &[Branch]) -> Option<u16>
+    requires { codes.now ≡ map (λ b. b.code) branches.now }
     ensures { result ≡ twice [] (map (λ b. b.code) branches.now) }
 {
     for i in 0..branches.len() {
         let code = branches[i].code;
-        if has_code(&branches[..i], code) {
+        if codes.is_among(u32::from(code), i) {
             return Some(code);
         }
     }
     None
 }
 
-// Whether a card is the node's.
-fn has_node(cards: &[Card], node: u32) -> bool
-    ensures { result ≡ list_any (λ c. c.node == node) cards.now }
+// The codes of branches.
+fn codes_of(alloc: Global, branches: &[Branch]) -> Result<Vec<u32>, NoMemory>
+    ensures { IfOk result (λ codes. codes.items ≡ map (λ b. b.code) branches.now) }
 {
-    cards.iter().any(|card| card.node == node)
-}
-
-// Whether a branch has the code.
-fn has_code(branches: &[Branch], code: u16) -> bool
-    ensures { result ≡ list_any (λ b. b.code == code) branches.now }
-{
-    branches.iter().any(|branch| branch.code == code)
+    branches
+        .iter()
+        .map(|branch| u32::from(branch.code))
+        .collect(alloc)
 }

@@ -7,8 +7,6 @@ mod parallels;
 mod refusals;
 mod sets;
 mod tables;
-#[cfg(test)]
-mod tests;
 mod trees;
 mod unknowns;
 

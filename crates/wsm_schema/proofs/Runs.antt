@@ -1,12 +1,14 @@
 -- The rows of one number, among rows in the order of their numbers, are a run.
-use Rattle.std.proofs.Common.{◌≡◌, ℕ, zero, suc, ◌+◌, ◌-◌, ◌≤◌, Bool, true, false, not, ◌&&◌, eqb, ltb, List, [], ◌∷◌, length, refl, ap, sym, ◌∙◌, inl, inr, ◌⊎◌, arith, take, Some, None}
-use Rattle.std.specs.Prelude.{map, slice_get}
-use Rattle.std.specs.List.{filter, slice_range}
-use Rattle.std.specs.List.Sorted.{IsPartitionPoint, IsStableByKey, ties}
+use Rattle.std.proofs.Common.{◌≡◌, ℕ, zero, suc, ◌+◌, ◌-◌, ◌<◌, ◌≤◌, Bool, true, false, cond, not, ◌&&◌, eqb, ltb, List, [], ◌∷◌, length, get_or, refl, ap, sym, ◌∙◌, inl, inr, ◌⊎◌, arith, take, Option, Some, None}
+use Rattle.std.specs.Prelude.{map, slice_get, option_map}
+use Rattle.std.specs.List.{filter, slice_range, position_from}
+use Rattle.std.specs.List.Sorted.{IsNonDecreasingBy, IsPartitionPoint, IsStableByKey, ties}
 use Rattle.std.specs.Ordering.{nat_cmp, is_lt}
 use Rattle.std.proofs.Math.Dec.{leb}
-use Rattle.std.proofs.lemmas.Bool.{cases_Bool, cases_order, eq-eqb, ne_eqb, eqb-true, ltb-true, ltb-false, lt-ltb, le-ltb, leb-true, leb-false}
+use Rattle.std.proofs.lemmas.Bool.{cases_Bool, cases_order, eq-eqb, ne_eqb, eqb-true, eqb-false, ltb-true, ltb-false, lt-ltb, le-ltb, leb-true, leb-false}
 use Rattle.wsm_schema.specs.Flat.{card_at}
+use Rattle.wsm_schema.specs.Trail.{is_one_of}
+use Rattle.wsm_schema.specs.Sound.{nodes_of}
 use Rattle.wsm_schema.specs.Groups.{rows_with, SameGroups, reversed, numbered, IsStart, IsEnd}
 use Rattle.wsm_schema.specs.declared.cards.Card.{Card}
 
@@ -54,6 +56,38 @@ module _ {A : Type 0} (n : ℕ) where
       let width' : j - 0 ≡ j = omega arith in
       let rest : take j xs ≡ rows_with n xs = rw width' at (run-is xs zero j (omega arith) (omega (arith, le')) (start-first x xs p) (end-later x xs j q)) in
       rw (same, width) (ap (λ ys. x ∷ ys) rest)
+
+  none-above : (xs : List (ℕ × A)) → ((k : ℕ) (d : ℕ × A) → k < length xs → n < (get_or xs k d).0) → rows_with n xs ≡ []
+  none-above [] above = refl
+  none-above (x ∷ xs) above =
+      let high : n < x.0 = above 0 x (omega arith) in
+      let other : eqb x.0 n ≡ false = ne_eqb x.0 n (omega (arith, high)) in
+      rw other (none-above xs (λ k d lt. above (suc k) d (omega (arith, lt))))
+
+  -- a row, where it has the number
+  abbrev pub row_of : Option (ℕ × A) → Option (ℕ × A)
+  row_of None = None
+  row_of (Some r) = cond (eqb r.0 n) (Some r) None
+
+  pub first-at_start : (xs : List (ℕ × A)) (i : ℕ) → IsNonDecreasingBy (λ (r : ℕ × A). r.0) xs → IsStart n xs i → row_of (slice_get xs i) ≡ slice_get (rows_with n xs) 0
+  first-at_start [] i order p = refl
+  first-at_start (x ∷ xs) (suc i) order p =
+      let low = p.0 0 x (omega arith) (omega arith) in
+      let other : eqb x.0 n ≡ false = ne_eqb x.0 n (omega (arith, low)) in
+      let later : IsNonDecreasingBy (λ (r : ℕ × A). r.0) xs = λ j k d le lt. order (suc j) (suc k) d (omega (arith, le)) (omega (arith, lt)) in
+      rw other (first-at_start xs i later (start-later x xs i p))
+  first-at_start (x ∷ xs) zero order p =
+      elim (cases_Bool (eqb x.0 n)) [
+        | inl same ↦ rw same refl
+        | inr other ↦
+            let from : n ≤ x.0 = p.1 0 x (omega arith) (omega arith) in
+            let above : (k : ℕ) (d : ℕ × A) → k < length xs → n < (get_or xs k d).0 =
+            λ k d lt.
+            let up : x.0 ≤ (get_or xs k d).0 = order 0 (suc k) d (omega arith) (omega (arith, lt)) in
+            omega (arith, from, up, eqb-false x.0 n other)
+            in
+            rw other (sym (ap (λ rows. slice_get rows 0) (none-above xs above)))
+      ]
 
   -- what tests by booleans say of places
   pub start-from_tests : (xs : List (ℕ × A)) (i : ℕ) → IsPartitionPoint (λ (r : ℕ × A). ltb r.0 n ≡ true) (λ (r : ℕ × A). ltb r.0 n ≡ false) xs i → IsStart n xs i
@@ -107,40 +141,77 @@ sources-reversed n (e ∷ es) =
       | inr other ↦ rw other (sources-reversed n es)
     ]
 
--- the first row of a number, among numbered cards, has the place of the node's first card
-numbered-first : (n start : ℕ) (cards : List Card) →
-    ((rows_with n (numbered start cards) ≡ []) × (card_at n cards ≡ None))
-    ⊎ ((k : ℕ) × (rest : List (ℕ × ℕ)) × (rows_with n (numbered start cards) ≡ (n, start + k) ∷ rest) × (slice_get cards k ≡ card_at n cards))
-numbered-first n start [] = inl (refl, refl)
-numbered-first n start (c ∷ cs) =
+-- the first row of a node, among numbered cards, has the place of the node's first card
+pub place-numbered : (n start : ℕ) (cards : List Card) →
+    option_map (λ r. r.1) (slice_get (rows_with n (numbered start cards)) 0) ≡ position_from (λ c. eqb c.node n) start cards
+place-numbered n start [] = refl
+place-numbered n start (c ∷ cs) =
     elim (cases_Bool (eqb c.node n)) [
-      | inl here ↦
-          let node : c.node ≡ n = eqb-true c.node n here in
-          let place : start ≡ start + 0 = omega arith in
-          inr (0, rows_with n (numbered (start + 1) cs), rw here (ap (λ m. (m, start) ∷ rows_with n (numbered (start + 1) cs)) node ∙ ap (λ p. (n, p) ∷ rows_with n (numbered (start + 1) cs)) place), rw here refl)
+      | inl here ↦ rw here refl
+      | inr other ↦ rw other (place-numbered n (start + 1) cs)
+    ]
+
+-- and that card stands there
+card-from : (n start : ℕ) (cards : List Card) →
+    ((position_from (λ c. eqb c.node n) start cards ≡ None) × (card_at n cards ≡ None))
+    ⊎ ((k : ℕ) × (position_from (λ c. eqb c.node n) start cards ≡ Some (start + k)) × (slice_get cards k ≡ card_at n cards))
+card-from n start [] = inl (refl, refl)
+card-from n start (c ∷ cs) =
+    elim (cases_Bool (eqb c.node n)) [
+      | inl here ↦ let place : start ≡ start + 0 = omega arith in inr (0, rw here (ap Some place), rw here refl)
       | inr other ↦
-          elim (numbered-first n (start + 1) cs) [
+          elim (card-from n (start + 1) cs) [
             | inl none ↦ inl (rw other none.0, rw other none.1)
             | inr found ↦
                 let place : (start + 1) + found.0 ≡ start + suc found.0 = omega arith in
-                inr (suc found.0, found.1, rw other (found.2 ∙ ap (λ p. (n, p) ∷ found.1) place), rw other found.3)
+                inr (suc found.0, rw other (found.1 ∙ ap Some place), rw other found.2)
           ]
     ]
 
-pub no_card-numbered : (n : ℕ) (cards : List Card) → slice_get (rows_with n (numbered 0 cards)) 0 ≡ None → card_at n cards ≡ None
-no_card-numbered n cards none =
-    elim (numbered-first n 0 cards) [
+pub no_card-placed : (n : ℕ) (cards : List Card) → position_from (λ c. eqb c.node n) 0 cards ≡ None → card_at n cards ≡ None
+no_card-placed n cards none =
+    elim (card-from n 0 cards) [
       | inl absent ↦ absent.1
-      | inr found ↦ let bad : Some (n, 0 + found.0) ≡ None = rw found.2 at none in absurd (cc)
+      | inr found ↦ let bad : Some (0 + found.0) ≡ None = sym found.1 ∙ none in absurd (cc)
     ]
 
-pub first_card-numbered : (n : ℕ) (cards : List Card) (row : ℕ × ℕ) → slice_get (rows_with n (numbered 0 cards)) 0 ≡ Some row → slice_get cards row.1 ≡ card_at n cards
-first_card-numbered n cards row some =
-    elim (numbered-first n 0 cards) [
-      | inl absent ↦ let bad : None ≡ Some row = rw absent.0 at some in absurd (cc)
+pub card-placed : (n : ℕ) (cards : List Card) (place : ℕ) → position_from (λ c. eqb c.node n) 0 cards ≡ Some place → slice_get cards place ≡ card_at n cards
+card-placed n cards place some =
+    elim (card-from n 0 cards) [
+      | inl absent ↦ let bad : None ≡ Some place = sym absent.0 ∙ some in absurd (cc)
       | inr found ↦
-          let same : Some (n, 0 + found.0) ≡ Some row = rw found.2 at some in
-          let first : (n, 0 + found.0) ≡ row = cc in
-          let place : 0 + found.0 ≡ found.0 = omega arith in
-          ap (slice_get cards) (ap (λ (r : ℕ × ℕ). r.1) (sym first) ∙ place) ∙ found.3
+          let same : Some (0 + found.0) ≡ Some place = sym found.1 ∙ some in
+          let here : 0 + found.0 ≡ place = cc in
+          let there : place ≡ found.0 = omega (arith, here) in
+          ap (slice_get cards) there ∙ found.2
+    ]
+
+-- the node at that place
+node-from : (n start : ℕ) (cards : List Card) (place : ℕ) → position_from (λ c. eqb c.node n) start cards ≡ Some place →
+    (k : ℕ) × (place ≡ start + k) × (k < length cards) × (get_or (nodes_of cards) k 0 ≡ n)
+node-from n start [] place some = absurd (cc)
+node-from n start (c ∷ cs) place some =
+    elim (cases_Bool (eqb c.node n)) [
+      | inl here ↦
+          let same : Some start ≡ Some place = rw here at some in
+          let first : start ≡ place = cc in
+          (0, omega (arith, first), omega arith, eqb-true c.node n here)
+      | inr other ↦
+          let later = node-from n (start + 1) cs place (rw other at some) in
+          (suc later.0, omega (arith, later.1), omega (arith, later.2), later.3)
+    ]
+
+pub node-placed : (n : ℕ) (cards : List Card) (place : ℕ) → position_from (λ c. eqb c.node n) 0 cards ≡ Some place →
+    (place < length cards) × (get_or (nodes_of cards) place 0 ≡ n)
+node-placed n cards place some =
+    let there = node-from n 0 cards place some in
+    let same : place ≡ there.0 = omega (arith, there.1) in
+    (omega (arith, same, there.2), ap (λ k. get_or (nodes_of cards) k 0) same ∙ there.3)
+
+pub node-not_placed : (n start : ℕ) (cards : List Card) → position_from (λ c. eqb c.node n) start cards ≡ None → is_one_of n (nodes_of cards) ≡ false
+node-not_placed n start [] none = refl
+node-not_placed n start (c ∷ cs) none =
+    elim (cases_Bool (eqb c.node n)) [
+      | inl here ↦ absurd (let bad : Some start ≡ None = rw here at none in cc)
+      | inr other ↦ rw other (node-not_placed n (start + 1) cs (rw other at none))
     ]

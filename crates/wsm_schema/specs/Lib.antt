@@ -15,3 +15,4 @@ pub mod Touched
 pub mod Rank
 pub mod Pass
 pub mod Groups
+pub mod Enclosures

@@ -1,5 +1,6 @@
 // The flat form of a schema: a card for each node, in document order.
-ghost use Rattle.std.specs.Prelude.{◌≡◌, [], ◌∷◌, ◌++◌, IfOk, OnOk, map, slice_get};
+ghost use Rattle.std.specs.Prelude.{◌≡◌, [], ◌∷◌, ◌++◌, IfOk, OnOk, map, slice_get, ◌==◌};
+ghost use Rattle.std.specs.List.{position_from};
 ghost use Rattle.std.specs.Option.{option_copied};
 ghost use Rattle.wsm_schema.specs.TreeOf.{part_of, parts_of, lanes_of};
 ghost use Rattle.wsm_schema.specs.Tree.{lanes};
@@ -62,12 +63,22 @@ impl Flat {
         &self.cards
     }
 
-    /// The first card of the node, by a binary search.
+    /// The place of the node's first card in document order, by a binary search.
+    pub fn place(&self, node: u32) -> Option<usize>
+        ensures { result ≡ position_from (λ c. c.node == node) 0 self.now.cards }
+    {
+        match self.index.first_with(node) {
+            Some(row) => Some(row.1),
+            None => None,
+        }
+    }
+
+    /// The first card of the node.
     pub fn card(&self, node: u32) -> Option<&Card>
         ensures { option_copied result ≡ card_at node self.now.cards }
     {
-        match self.index.first_with(node) {
-            Some(row) => card_in(&self.cards, row.1),
+        match self.place(node) {
+            Some(place) => card_in(&self.cards, place),
             None => None,
         }
     }

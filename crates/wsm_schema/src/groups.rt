@@ -40,11 +40,12 @@ impl<T: Drop> Groups<T> {
         run_of(&self.rows, number)
     }
 
-    /// The first row of a number.
+    /// The first row of a number, by one binary search.
     pub fn first_with(&self, number: u32) -> Option<&(u32, T)>
         ensures { option_copied result ≡ slice_get (rows_with number self.now) 0 }
     {
-        self.rows_with(number).first()
+        let at = start_of(&self.rows, number);
+        row_with(&self.rows, at, number)
     }
 }
 
@@ -56,6 +57,24 @@ fn run_of<T>(rows: &[(u32, T)], number: u32) -> &[(u32, T)]
     let from = start_of(rows, number);
     let to = end_of(rows, number);
     &rows[from..to]
+}
+
+// The row at the place where those of smaller numbers end, where it has the number.
+fn row_with<T>(rows: &[(u32, T)], at: usize, number: u32) -> Option<&(u32, T)>
+    requires order { IsNonDecreasingBy (λ r. r.0) rows.now }
+    requires place { IsStart number rows.now at }
+    ensures { option_copied result ≡ slice_get (rows_with number rows.now) 0 }
+{
+    match row_at(rows, at) {
+        None => None,
+        Some(row) => { if row.0 == number { Some(row) } else { None } }
+    }
+}
+
+fn row_at<T>(rows: &[(u32, T)], at: usize) -> Option<&(u32, T)>
+    ensures { option_copied result ≡ slice_get rows.now at }
+{
+    rows.get(at)
 }
 
 // Where the rows of smaller numbers end, by a binary search.

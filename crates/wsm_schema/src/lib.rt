@@ -4,6 +4,7 @@
 mod blocks;
 mod card_lists;
 mod cards;
+mod enclosures;
 mod entries;
 mod faults;
 mod flats;
@@ -13,14 +14,14 @@ mod places;
 mod ranks;
 mod schemas;
 mod states;
-#[cfg(test)]
-mod tests;
 
 pub use blocks::{Block, Branch, Branches, Items, copy_items};
 pub use cards::{Card, CardReads, End, Ends, NodeKind};
+pub use enclosures::Enclosures;
 pub use entries::Entry;
 pub use faults::{BlockFault, DataFault, LimitKind};
 pub use flats::Flat;
+pub use groups::Groups;
 pub use marks::Mark;
 pub use ranks::Rank;
 pub use schemas::Schema;

@@ -1,33 +1,43 @@
-use Rattle.std.proofs.Common.{◌≡◌, true, sym, ◌∙◌, ap, subst}
-use Rattle.wsm_lists.specs.Rows.{AllRows}
-use Rattle.wsm_schema.specs.Trail.{is_one_of}
+use Rattle.std.proofs.Common.{◌≡◌, None, sym, ◌∙◌, ap, subst}
+use Rattle.std.specs.Prelude.{IfOk, IfErr}
 use Rattle.wsm_schema.specs.Flat.{cards_of}
 use Rattle.wsm_schema.specs.Sound.{nodes_of, control_edges}
-use Rattle.wsm_block.specs.Order.{IsOrder}
+use Rattle.wsm_schema.specs.SchemaModel.{SchemaModel}
+use Rattle.wsm_block.specs.Clauses.{cycle_in, cycle_fault}
+use Rattle.wsm_block.specs.Order.{EndAmong, IsOrder}
+use Rattle.wsm_block.specs.Refusals.{IsBlockFault}
 use Rattle.wsm_block.proofs.FirstFault.{nodes-distinct, ends-there}
 use Rattle.wsm_block.proofs.DocumentStart.{document-start}
-use Rattle.wsm_block.proofs.RanksOfSchemas.{if-both, order-rank_of, ranked-no_cycle}
+use Rattle.wsm_block.proofs.RanksOfSchemas.{if-both, order-rank_of}
 use Rattle.wsm_block.proofs.rank_of.Goals as goal
 
 pub grown_rank-requires-clause-order : goal.grown_rank-requires-clause-order
 grown_rank-requires-clause-order c =
-    let cards : c.cards.result.now ≡ cards_of c.args.schema.now = c.cards.ensures ∙ ap (λ g. g.cards) c.requires.flat in
-    subst (λ cs. IsOrder (control_edges cs) (nodes_of cs)) (sym cards) (document-start c.args.schema.now (nodes-distinct c.args.schema.now c.requires.shape))
+    subst (λ cs. IsOrder (control_edges cs) (nodes_of cs)) (ap (λ f. f.cards) (sym c.requires.flat)) (document-start c.args.schema.now (nodes-distinct c.args.schema.now c.requires.shape))
 
 pub grown_rank-requires-clause-ends : goal.grown_rank-requires-clause-ends
 grown_rank-requires-clause-ends c =
-    let cards : c.cards.result.now ≡ cards_of c.args.schema.now = c.cards.ensures ∙ ap (λ g. g.cards) c.requires.flat in
+    let s : SchemaModel = c.args.schema.now in
+    let syncs : c.as_slice.result.now ≡ s.syncs = c.as_slice.ensures.rows ∙ ap (λ v. v.syncs) c.schema.view_is in
+    subst (λ cs. EndAmong (nodes_of cs) c.as_slice.result.now) (ap (λ f. f.cards) (sym c.requires.flat))
+    (subst (EndAmong (nodes_of (cards_of s))) (sym syncs) (ends-there s c.requires.shape))
+
+pub returns-clause-sound : goal.returns-clause-sound
+returns-clause-sound c =
     let syncs : c.as_slice.result.now ≡ c.args.schema.now.syncs = c.as_slice.ensures.rows ∙ ap (λ v. v.syncs) c.schema.view_is in
-    subst (λ cs. AllRows (λ e. (is_one_of e.0 (nodes_of cs) ≡ true) × (is_one_of e.1 (nodes_of cs) ≡ true)) c.as_slice.result.now) (sym cards)
-    (subst (AllRows (λ e. (is_one_of e.0 (nodes_of (cards_of c.args.schema.now)) ≡ true) × (is_one_of e.1 (nodes_of (cards_of c.args.schema.now)) ≡ true))) (sym syncs)
-    (ends-there c.args.schema.now c.requires.shape))
+    let same : cycle_in c.args.flat.now.cards c.as_slice.result.now ≡ cycle_fault c.args.schema.now =
+    ap (λ f. cycle_in f.cards c.as_slice.result.now) c.requires.flat ∙ ap (cycle_in (cards_of c.args.schema.now)) syncs in
+    subst (λ fault. IfOk c.grown_rank.result (λ rank. fault ≡ None)) same c.grown_rank.ensures.none
 
 pub returns-clause-rank : goal.returns-clause-rank
 returns-clause-rank c =
-    let cards : c.cards.result.now ≡ cards_of c.args.schema.now = c.cards.ensures ∙ ap (λ g. g.cards) c.requires.flat in
     let syncs : c.as_slice.result.now ≡ c.args.schema.now.syncs = c.as_slice.ensures.rows ∙ ap (λ v. v.syncs) c.schema.view_is in
-    if-both _ _ _ (order-rank_of c.args.schema.now c.cards.result.now c.as_slice.result.now cards syncs) c.grown_rank.result c.grown_rank.ensures.order c.grown_rank.ensures.same
+    if-both _ _ _ (order-rank_of c.args.schema.now c.args.flat.now.cards c.as_slice.result.now (ap (λ f. f.cards) c.requires.flat) syncs) c.grown_rank.result c.grown_rank.ensures.order
+    c.grown_rank.ensures.same
 
-pub returns-then-is_rank-clause-sound : goal.returns-then-is_rank-clause-sound
-returns-then-is_rank-clause-sound c =
-    ranked-no_cycle c.args.schema.now c.args.flat.now.cards (ap (λ g. g.cards) c.requires.flat) c.requires.shape c.deref.result.now (c.is_rank.ensures c.if-is_rank.true)
+pub returns-clause-fault : goal.returns-clause-fault
+returns-clause-fault c =
+    let syncs : c.as_slice.result.now ≡ c.args.schema.now.syncs = c.as_slice.ensures.rows ∙ ap (λ v. v.syncs) c.schema.view_is in
+    let same : cycle_in c.args.flat.now.cards c.as_slice.result.now ≡ cycle_fault c.args.schema.now =
+    ap (λ f. cycle_in f.cards c.as_slice.result.now) c.requires.flat ∙ ap (cycle_in (cards_of c.args.schema.now)) syncs in
+    subst (λ fault. IfErr c.grown_rank.result (λ refusal. IsBlockFault fault refusal)) same c.grown_rank.ensures.fault

@@ -1,28 +1,48 @@
-use Rattle.std.proofs.Common.{◌≡◌, ◌∷◌, ℕ, false, length, get_or, drop, ◌+◌, sym, ◌∙◌, ap, subst}
-use Rattle.std.proofs.lemmas.List.{length-map}
-use Rattle.wsm_schema.specs.Sound.{control_edges, leads, sync_cycle}
-use Rattle.wsm_block.specs.Order.{IsOrder, SameNodes}
-use Rattle.wsm_block.proofs.Growing.{onto-next, cycle-next, same-nodes}
+use Rattle.std.proofs.Common.{◌≡◌, ℕ, List, None, length, take, ap, sym, ◌∙◌, subst}
+use Rattle.std.specs.Prelude.{IfOk, IfErr}
+use Rattle.wsm_schema.specs.Sound.{control_edges, sync_cycle}
+use Rattle.wsm_schema.specs.declared.cards.Card.{Card}
+use Rattle.wsm_block.specs.Clauses.{cycle_in}
+use Rattle.wsm_block.specs.Order.{Edges, IsOrder, onto_seen}
+use Rattle.wsm_block.specs.Refusals.{IsBlockFault}
+use Rattle.wsm_block.proofs.FrontOrders.{rest-onto, rest-cycle}
 use Rattle.wsm_block.proofs.growth.grown_rank.Goals as goal
 
-pub loop-edge-preserved : goal.loop-edge-preserved
-loop-edge-preserved c =
-    let edge : ℕ × ℕ = get_or c.args.syncs.now c.loop-edge.edge-index (0, 0) in
-    let count : ℕ = length c.args.cards.now in
-    let size : length c.deref-in-loop-edge.result.now ≡ count =
-    ap length c.deref-in-loop-edge.ensures.value ∙ c.loop-edge.invariant.same.size ∙ length-map c.args.cards.now (λ d. d.node) in
-    let no_way : false ≡ leads c.deref.result.now (length c.deref-in-loop-edge.result.now) edge.1 edge.0 = rw c.in-Some.is at c.in_ok-new.ensures.cycle in
-    let free : leads c.loop-edge.edges.items count edge.1 edge.0 ≡ false =
-    ap (λ k. leads c.loop-edge.edges.items k edge.1 edge.0) (sym size)
-    ∙ ap (λ es. leads es (length c.deref-in-loop-edge.result.now) edge.1 edge.0) (sym c.deref.ensures.value) ∙ sym no_way in
-    let order : IsOrder (edge ∷ c.deref.result.now) c.in-Some.new.items = rw c.in-Some.is at c.in_ok-new.ensures.order in
-    let same : SameNodes c.in-Some.new.items c.deref-in-loop-edge.result.now = rw c.in-Some.is at c.in_ok-new.ensures.same in
-    record {
-      order = subst (λ es. IsOrder es c.in-Some.new.items) (ap (λ es. edge ∷ es) c.deref.ensures.value ∙ sym c.in_ok-put_first.ensures) order;
-      same = same-nodes _ _ _ (subst (SameNodes c.in-Some.new.items) c.deref-in-loop-edge.ensures.value same) c.loop-edge.invariant.same;
-      edges = c.in_ok-put_first.ensures ∙ ap (λ es. edge ∷ es) c.loop-edge.invariant.edges
-          ∙ sym (onto-next c.args.syncs.now (control_edges c.args.cards.now) c.loop-edge.edge-index (0, 0) c.loop-edge-test.true);
-      rest = ap (λ es. sync_cycle count es (drop (c.loop-edge.edge-index + 1) c.args.syncs.now)) c.in_ok-put_first.ensures
-          ∙ cycle-next count c.loop-edge.edges.items c.args.syncs.now c.loop-edge.edge-index (0, 0) c.loop-edge-test.true free
-          ∙ c.loop-edge.invariant.rest;
-    }
+-- what the edges of the front are, and what stands behind them
+module _ (c : goal.After-drop-control-2) where
+  abbrev cards : List Card
+  cards = c.args.flat.now.cards
+
+  abbrev count : ℕ
+  count = c.in_ok-front.front.count
+
+  abbrev begun : Edges
+  begun = onto_seen (take count c.args.syncs.now) (control_edges cards)
+
+  edges-are : c.in_ok-edges.edges.items ≡ begun
+  edges-are =
+      c.in_ok-edges.ensures ∙ ap (λ es. onto_seen es c.deref-2.result.now) c.split_at.ensures.front
+      ∙ ap (onto_seen (take count c.args.syncs.now)) (c.deref-2.ensures.value ∙ c.in_ok-control.ensures ∙ ap control_edges c.cards-2.ensures)
+
+  order : IsOrder c.in_ok-edges.edges.items c.in_ok-front.front.nodes.items
+  order =
+      subst (λ es. IsOrder es c.in_ok-front.front.nodes.items) (sym edges-are)
+      (subst (λ es. IsOrder (onto_seen (take count c.args.syncs.now) es) c.in_ok-front.front.nodes.items) (c.deref.ensures.value ∙ c.in_ok-control.ensures ∙ ap control_edges c.cards-2.ensures)
+      c.in_ok-front.ensures.order)
+
+  cycle : sync_cycle (length c.in_ok-front.front.nodes.items) c.in_ok-edges.edges.items c.split_at.result.1.now ≡ cycle_in cards c.args.syncs.now
+  cycle =
+      rest-cycle cards c.args.syncs.now c.in_ok-edges.edges.items c.split_at.result.1.now count c.in_ok-front.front.nodes.items edges-are c.split_at.ensures.back order
+      c.in_ok-front.ensures.same
+
+pub returns-clause-none : goal.returns-clause-none
+returns-clause-none c = subst (λ fault. IfOk c.grown_from.result (λ rank. fault ≡ None)) (cycle c) c.grown_from.ensures.none
+
+pub returns-clause-order : goal.returns-clause-order
+returns-clause-order c =
+    subst (λ es. IfOk c.grown_from.result (λ rank. IsOrder es rank))
+    (rest-onto (cards c) c.args.syncs.now c.in_ok-edges.edges.items c.split_at.result.1.now (count c) c.in_ok-front.front.nodes.items (edges-are c) c.split_at.ensures.back)
+    c.grown_from.ensures.order
+
+pub returns-clause-fault : goal.returns-clause-fault
+returns-clause-fault c = subst (λ fault. IfErr c.grown_from.result (λ refusal. IsBlockFault fault refusal)) (cycle c) c.grown_from.ensures.fault

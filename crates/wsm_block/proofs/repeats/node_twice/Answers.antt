@@ -1,12 +1,23 @@
-use Rattle.std.proofs.Common.{sym, ◌∙◌}
-use Rattle.wsm_block.proofs.Repeated.{twice-next, twice-found}
+use Rattle.std.proofs.Common.{◌≡◌, ℕ, List, [], true, false, take, get_or, sym, ◌∙◌, ap}
+use Rattle.wsm_schema.specs.Trail.{is_one_of}
+use Rattle.wsm_schema.specs.Sound.{twice, nodes_of}
+use Rattle.wsm_schema.specs.declared.cards.Card.{Card}
+use Rattle.wsm_block.proofs.Repeated.{fresh-row, found-row}
 use Rattle.wsm_block.proofs.repeats.node_twice.Goals as goal
 
 pub loop-i-preserved : goal.loop-i-preserved
 loop-i-preserved c =
-    twice-next (λ x. x.node) c.args.cards.now c.loop-i.i c.index-cards-i.result c.loop-i-test.true (sym c.has_node.ensures ∙ c.if-has_node.false)
-    ∙ c.loop-i.invariant
+    let cards : List Card = c.cards-cards.result.now in
+    let n : ℕ = (get_or cards c.loop-i.i c.index-cards-i.result).node in
+    let new : is_one_of n (take c.loop-i.i (nodes_of cards)) ≡ false =
+    ap (λ cs. is_one_of n (take c.loop-i.i (nodes_of cs))) c.cards-cards.ensures ∙ sym c.is_among.ensures ∙ c.if-is_among.false in
+    fresh-row (λ d. d.node) cards c.loop-i.i c.index-cards-i.result c.loop-i-test.true new ∙ c.loop-i.invariant
 
-pub returns-then-has_node : goal.returns-then-has_node
-returns-then-has_node c =
-    sym (sym c.loop-i.invariant ∙ twice-found (λ x. x.node) c.args.cards.now c.loop-i.i c.index-cards-i.result c.loop-i-test.true (sym c.has_node.ensures ∙ c.if-has_node.true))
+pub returns-then-is_among : goal.returns-then-is_among
+returns-then-is_among c =
+    let cards : List Card = c.cards-cards.result.now in
+    let n : ℕ = (get_or cards c.loop-i.i c.index-cards-i.result).node in
+    let old : is_one_of n (take c.loop-i.i (nodes_of cards)) ≡ true =
+    ap (λ cs. is_one_of n (take c.loop-i.i (nodes_of cs))) c.cards-cards.ensures ∙ sym c.is_among.ensures ∙ c.if-is_among.true in
+    sym (found-row (λ d. d.node) cards c.loop-i.i c.index-cards-i.result c.loop-i-test.true old) ∙ c.loop-i.invariant
+    ∙ ap (λ cs. twice [] (nodes_of cs)) c.cards-cards.ensures

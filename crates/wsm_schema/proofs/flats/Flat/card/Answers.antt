@@ -1,15 +1,13 @@
 use Rattle.std.proofs.Common.{sym, ◌∙◌, ap}
 use Rattle.std.specs.Prelude.{slice_get}
-use Rattle.std.specs.Option.{option_copied}
-use Rattle.wsm_schema.proofs.Runs.{no_card-numbered, first_card-numbered}
+use Rattle.wsm_schema.specs.Flat.{FlatModel}
+use Rattle.wsm_schema.proofs.Runs.{no_card-placed, card-placed}
 use Rattle.wsm_schema.proofs.flats.Flat.card.Goals as goal
 
 pub returns-in-None : goal.returns-in-None
-returns-in-None c =
-    let first = ap (λ rows. slice_get rows 0) (sym (c.self.invariant.same c.args.node)) ∙ sym c.first_with.ensures ∙ ap option_copied c.in-None.is in
-    rw (← c.self.view_is) (sym (no_card-numbered c.args.node c.self.inside.cards.items first))
+returns-in-None c = sym (no_card-placed c.args.node c.args.self.now.cards (sym c.place.ensures ∙ c.in-None.is))
 
 pub returns-in-Some : goal.returns-in-Some
 returns-in-Some c =
-    let first = ap (λ rows. slice_get rows 0) (sym (c.self.invariant.same c.args.node)) ∙ sym c.first_with.ensures ∙ ap option_copied c.in-Some.is in
-    c.card_in.ensures ∙ rw (c.deref.ensures.value, ← c.self.view_is) (first_card-numbered c.args.node c.self.inside.cards.items _ first)
+    c.card_in.ensures ∙ ap (λ cards. slice_get cards c.in-Some.place) (c.deref.ensures.value ∙ ap (λ (f : FlatModel). f.cards) c.self.view_is)
+    ∙ card-placed c.args.node c.args.self.now.cards c.in-Some.place (sym c.place.ensures ∙ c.in-Some.is)

@@ -1,0 +1,7 @@
+use Rattle.std.proofs.Common.{ap, ◌∙◌}
+use Rattle.std.specs.Prelude.{is_some}
+use Rattle.wsm_block.proofs.Places.{place-there}
+use Rattle.wsm_block.proofs.fronts.is_node.Goals as goal
+
+pub returns : goal.returns
+returns c = c.is_some.ensures ∙ ap is_some c.place.ensures ∙ place-there c.args.number c.args.flat.now.cards

@@ -1,0 +1,6 @@
+use Rattle.std.proofs.Common.{◌≡◌, ◌-◌, ◌++◌, length, take}
+use Rattle.wsm_block.specs.Order.{onto_seen}
+use Rattle.wsm_block.proofs.growth.onto.Given as goal
+
+abbrev pub invariant-loop-i : goal.invariant-loop-i
+invariant-loop-i l = l.all.items ++ onto_seen (take (length l.front - l.i) l.front) l.edges ≡ onto_seen l.front l.edges

@@ -1,0 +1,9 @@
+use Rattle.std.proofs.Common.{◌∙◌, ap}
+use Rattle.wsm_schema.specs.Enclosures.{parts_round, part_ways}
+use Rattle.wsm_schema.proofs.EnclosureWalk.{apart-by_blocks}
+use Rattle.wsm_schema.proofs.enclosures.Enclosures.are_apart.Goals as goal
+
+pub returns : goal.returns
+returns c =
+    c.part_ways.ensures ∙ ap (λ xs. part_ways xs c.round-2.result.now) c.round.ensures.blocks ∙ ap (part_ways (parts_round c.args.self.now.body c.args.a)) c.round-2.ensures.blocks
+    ∙ apart-by_blocks c.args.self.now c.round.ensures.distinct c.args.a c.args.b

@@ -1,0 +1,6 @@
+use Rattle.std.proofs.Common.{◌≡◌, drop, None}
+use Rattle.wsm_schema.specs.Enclosures.{innermost_loop}
+use Rattle.wsm_schema.proofs.enclosures.innermost_loop.Given as goal
+
+abbrev pub invariant-loop-block : goal.invariant-loop-block
+invariant-loop-block l = innermost_loop (drop l.block-index l.blocks) l.around ≡ innermost_loop l.blocks None
