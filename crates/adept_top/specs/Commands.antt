@@ -46,11 +46,12 @@ abbrev pub input : Option ℕ → Option (List ℕ) → Option (List ℕ)
 input None left = left
 input (Some n) left = Some (load_text n)
 
--- the run that a command leaves of a file: of `run` and `load` any legal one, of `play` the serial one
+-- the run that a command leaves of a file: of `run` and `load` any legal one, of `play` the serial one, which is legal
 abbrev pub IsRunOf : Command → File → Option Run → Type 0
 IsRunOf command.Run f None = ⊥
 IsRunOf command.Run f (Some r) = Legal f r
-IsRunOf command.Play f run = run ≡ Some (serial f)
+IsRunOf command.Play f None = ⊥
+IsRunOf command.Play f (Some r) = (r ≡ serial f) × Legal f r
 IsRunOf command.Check f run = run ≡ None
 IsRunOf (command.Load n) f None = ⊥
 IsRunOf (command.Load n) f (Some r) = Legal f r

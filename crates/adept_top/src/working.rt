@@ -1,16 +1,18 @@
 // The commands on a process file that was read. Nothing is written before the work is done.
-ghost use Rattle.std.specs.Prelude.{ℕ, ◌≡◌, ◌⊎◌, Some, None};
+ghost use Rattle.std.specs.Prelude.{ℕ, ◌≡◌, ◌⊎◌, Some, None, IfOk};
 ghost use Rattle.std.specs.Io.KnownBytes.{Appends};
 ghost use Rattle.adept_io.specs.Counts.{Rose};
 ghost use Rattle.adept_io.specs.Written.{AppendsPrefix};
 ghost use Rattle.adept_top.specs.Works.{Works};
 ghost use Rattle.adept_top.specs.declared.words.Command.TheVariants as Command;
 ghost use Rattle.file_facts.specs.Facts.{IsWorkable};
+ghost use Rattle.legal_run.specs.Legal.{Legal};
 ghost use Rattle.process_text.specs.Sizes.{IsBounded};
 ghost use Rattle.report_text.specs.Report.{summary, text};
+ghost use Rattle.script_run.specs.Serial.{serial};
 
 use crate::outcomes::Outcome;
-use adept_io::Sink;
+use adept_io::{NoMemory, Sink};
 use crew_run::crew_run;
 use process_text::File;
 use report_text::{Run, write_run, write_summary, write_verdicts};
@@ -56,13 +58,24 @@ pub fn summarize_file<R: Threads + Wait + Sync, K: Sink, G: Gate + Sync>(
 
 /// Works the lines of a file in their order, and writes the report.
 pub fn play_file<K: Sink>(alloc: Global, file: &File, sink: &mut K) -> Outcome
-    requires { IsBounded file.now }
+    requires bounded { IsBounded file.now }
+    requires workable { IsWorkable file.now }
     ensures { Works K.written K.faults Command.Play file.now sink.old sink.new result }
 {
-    match serial_run(alloc, file) {
+    match played(alloc, file) {
         Ok(run) => report(file, run, sink),
         Err(_) => Outcome::of_status(5),
     }
+}
+
+// The serial run of a file, which is one that its actors might have made in threads.
+fn played(alloc: Global, file: &File) -> Result<Run, NoMemory>
+    requires bounded { IsBounded file.now }
+    requires workable { IsWorkable file.now }
+    ensures serial { IfOk result (λ run. run ≡ serial file.now) }
+    ensures legal { IfOk result (λ run. Legal file.now run) }
+{
+    serial_run(alloc, file)
 }
 
 // Writes the report of a run.
