@@ -6,12 +6,13 @@ ghost use Rattle.wsm_lists.specs.Keys.{both, first, first_two};
 ghost use Rattle.file_drafts.specs.Drafts.{new_draft, with_role, with_activity, gate_opened, loop_opened, closed, branched, around, with_sync, with_element, with_read, with_write, whole};
 
 use crate::frames::{Frame, Frames, GateKind, OpenGate, OpenLoop};
+use crate::growing::GrowingSchema;
 use crate::sequences::{ClosedBranches, Sequence};
 use file_names::Name64;
 use std::alloc::Global;
 use std::mem;
 use wsm_lists::{ElementKind, NoMemory};
-use wsm_schema::{Items, Schema};
+use wsm_schema::Schema;
 
 /// The number of the node `start`, and of the node `finish`.
 const START: u32 = 0;
@@ -34,7 +35,7 @@ pub struct Draft {
     pub name: Name64,
     pub frames: Frames,
     pub here: Sequence,
-    pub schema: Schema,
+    pub schema: GrowingSchema,
 }
 
 impl Draft {
@@ -46,7 +47,7 @@ impl Draft {
             name,
             frames: Frames::new(alloc),
             here: Sequence::new(alloc),
-            schema: Schema::new(alloc, START, FINISH, Items::new(alloc)),
+            schema: GrowingSchema::new(alloc, START, FINISH),
         }
     }
 
@@ -168,9 +169,9 @@ impl Draft {
     }
 
     /// The name and the schema of a type that ends here.
-    pub fn finish(self) -> (Name64, Schema)
-        ensures name { result.0 ≡ self.name }
-        ensures schema { result.1 ≡ whole self }
+    pub fn finish(self, alloc: Global) -> Result<(Name64, Schema), NoMemory>
+        ensures name { IfOk result (λ ended. ended.0 ≡ self.name) }
+        ensures schema { IfOk result (λ ended. ended.1 ≡ whole self) }
     {
         let Draft {
             name,
@@ -178,7 +179,7 @@ impl Draft {
             schema,
             ..
         } = self;
-        let body = here.into_items();
-        (name, Schema { body, ..schema })
+        let schema = schema.into_schema(alloc, here.into_items())?;
+        Ok((name, schema))
     }
 }

@@ -3,10 +3,10 @@
 
 mod drafts;
 mod frames;
+mod growing;
 mod sequences;
-#[cfg(test)]
-mod tests;
 
 pub use drafts::{Around, Draft};
 pub use frames::{Frame, Frames, GateKind, OpenGate, OpenLoop};
+pub use growing::GrowingSchema;
 pub use sequences::{ClosedBranches, Sequence};

@@ -263,7 +263,7 @@ impl Contents {
         ensures ok { IfOk result (λ place. typed (type_end) draft self.old ≡ Ok (at_place place self.new)) }
         ensures refused { IfErr result (λ stop. Stops (typed (type_end) draft self.old) self.new stop) }
     {
-        let (name, schema) = draft.finish();
+        let (name, schema) = draft.finish(alloc)?;
         match check(alloc, schema) {
             Ok(checked) => {
                 self.add_type(alloc, name, &checked)?;

@@ -1,5 +1,5 @@
 -- The place of a key among rows that ascend.
-use Rattle.std.proofs.Common.{◌≡◌, ◌≢◌, ℕ, suc, ◌+◌, ◌<◌, ◌≤◌, Bool, true, false, cond, ◌&&◌, eqb, ltb, leb, leb-true, leb-false, ◌==◌, List, [], ◌∷◌, length, filter, take, drop, zero, get_or, set, refl, ap, sym, ◌∙◌, inl, inr, ◌⊎◌, arith, Option, Some, None}
+use Rattle.std.proofs.Common.{◌≡◌, ◌≢◌, ℕ, suc, ◌+◌, ◌<◌, ◌≤◌, Bool, true, false, cond, ◌&&◌, eqb, ltb, leb, leb-true, leb-false, ◌==◌, List, [], ◌∷◌, length, filter, take, drop, zero, get_or, set, refl, ap, sym, ◌∙◌, inl, inr, ◌⊎◌, arith, Option, Some, None, Result, Ok, Err, OnOk, OnErr}
 use Rattle.std.specs.List.{insert, remove, slice_get, slice_range}
 use Rattle.std.specs.List.Sorted.{IsPartitionedBy, IsPartitionPoint}
 use Rattle.std.specs.Option.{is_some}
@@ -319,3 +319,9 @@ module _ {X : Type 0} (key : X → ℕ × ℕ) where
           let here : key_lt (key x) (n, 0) ≡ false = at_least (key x) n (omega (arith, more)) in
           let past : key_lt (key x) (n + 1, 0) ≡ false = at_least (key x) (n + 1) (omega (arith, more)) in
           rw (here, past, ne_eqb (key x).0 n (λ same. omega (arith, more, same))) (none_begin n x xs more s.0)
+
+-- rows after a set that may fail, which then leaves them as they were
+pub all_set : {X A E : Type 0} (key : X → ℕ × ℕ) (P : X → Type 0) (row : X) (old new : List X) (r : Result A E) → P row → AllRows P old →
+    OnOk r (new ≡ put_row key row old) → OnErr r (new ≡ old) → AllRows P new
+all_set key P row old new (Ok x) fits all ok err = rw ok (all_put key P row old fits all)
+all_set key P row old new (Err e) fits all ok err = rw err all

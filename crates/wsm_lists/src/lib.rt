@@ -1,14 +1,14 @@
 //! Lists, ordered tables and values: the small types that schemas, trails and files are made of.
 #![tactic(auto)]
 
+mod growing;
 mod keys;
 mod listings;
 mod roles;
 mod tables;
-#[cfg(test)]
-mod tests;
 mod values;
 
+pub use growing::{GrowingRoles, GrowingTable};
 pub use keys::{ByEdge, ByElement, ByNode, ByRead, Keys};
 pub use listings::Listing;
 pub use roles::Roles;

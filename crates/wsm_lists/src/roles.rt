@@ -1,14 +1,16 @@
 // The roles of nodes.
-ghost use Rattle.std.specs.Prelude.{◌≡◌, ◌<◌, ℕ, List, [], length, OnErr, OnOk, IfOk};
+ghost use Rattle.std.specs.Prelude.{◌≡◌, ◌<◌, ℕ, [], length, slice_get, OnErr, OnOk, IfOk};
 ghost use Rattle.std.specs.Option.{option_copied};
-ghost use Rattle.std.specs.List.{slice_get};
-ghost use Rattle.wsm_lists.specs.Keys.{first, put_role, role_in, HasRoles};
+ghost use Rattle.std.specs.Slice.Iter.{iter_rest};
+ghost use Rattle.wsm_lists.specs.Keys.{put_role, role_in, HasRoles};
+ghost use Rattle.wsm_lists.specs.Rows.{AllRows};
 
 use crate::NoMemory;
 use crate::keys::ByNode;
 use crate::tables::Table;
 use std::alloc::Global;
 use std::marker::Model;
+use std::slice;
 
 /// The nodes with a role, each with the role's number. Everybody may work on the others, which have role 0.
 #[derive(Drop)]
@@ -37,11 +39,33 @@ impl Roles {
         }
     }
 
+    // The roles that these rows list.
+    pub(crate) fn of_rows(rows: Table<ByNode>) -> Roles
+        requires { AllRows (λ (r : ℕ × ℕ). 0 < r.1) rows }
+        ensures { result ≡ rows }
+    {
+        Roles { rows }
+    }
+
     /// The number of nodes with a role.
     pub fn len(&self) -> usize
         ensures { result ≡ length self.now }
     {
         self.rows.len()
+    }
+
+    /// The node at an index, with its role.
+    pub fn get(&self, index: usize) -> Option<&(u32, u32)>
+        ensures { option_copied result ≡ slice_get self.now index }
+    {
+        self.rows.get(index)
+    }
+
+    /// The nodes with a role one after another, each with it.
+    pub fn iter(&self) -> slice::Iter<'_, (u32, u32)>
+        ensures { iter_rest result ≡ self.now }
+    {
+        self.rows.iter()
     }
 
     /// All nodes with a role, ascending by node.

@@ -37,6 +37,14 @@ impl<K: Keys> Table<K> {
         }
     }
 
+    // The table with these rows.
+    pub(crate) fn of_ascending(rows: Vec<K::Row>) -> Self
+        requires { Ascends K.key_of rows.items }
+        ensures { result ≡ rows.items }
+    {
+        Table { rows }
+    }
+
     /// The number of rows.
     pub fn len(&self) -> usize
         ensures { result ≡ length self.now }
