@@ -17,8 +17,6 @@ pub mod sinks;
 pub mod sources;
 pub mod standard;
 pub mod sure;
-#[cfg(test)]
-mod tests;
 pub mod writing;
 
 pub use gathering::{Text, write_gathered};

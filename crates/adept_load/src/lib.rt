@@ -5,8 +5,6 @@
 mod courses;
 mod lines;
 mod loads;
-#[cfg(test)]
-mod tests;
 
 pub use adept_io::{Bytes, NoMemory};
 pub use loads::load_file;

@@ -5,8 +5,6 @@
 #![tactic(auto)]
 
 mod closing;
-#[cfg(test)]
-mod closing_tests;
 mod counting;
 mod crews;
 mod definitions;

@@ -4,8 +4,6 @@
 #![tactic(auto)]
 
 mod reading;
-#[cfg(test)]
-mod tests;
 
 pub use process_text::{File, FileRefusal};
 pub use reading::read_workable;

@@ -8,8 +8,6 @@ mod declarations;
 mod operation_lines;
 mod pieces;
 mod script_lines;
-#[cfg(test)]
-mod tests;
 mod type_lines;
 
 pub use declarations::{Declaration, declaration_line, is_header};

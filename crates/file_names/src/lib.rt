@@ -7,8 +7,6 @@
 mod declared;
 mod name_tables;
 mod names;
-#[cfg(test)]
-mod tests;
 
 pub use declared::DeclaredList;
 pub use name_tables::{NameTable, narrow};

@@ -9,8 +9,6 @@ mod lines;
 mod names;
 mod numbers;
 mod pairs;
-#[cfg(test)]
-mod tests;
 mod texts;
 mod words;
 

@@ -13,8 +13,6 @@ mod refusals;
 mod scripting;
 mod states;
 mod stepping;
-#[cfg(test)]
-mod tests;
 mod texts;
 mod typing;
 

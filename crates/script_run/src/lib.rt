@@ -8,8 +8,6 @@ mod checking;
 mod runs;
 mod scripts;
 mod serial;
-#[cfg(test)]
-mod tests;
 
 pub use checking::verdicts;
 pub use runs::{

@@ -53,6 +53,3 @@ fn take_answers<M: Machine>(passes: &mut [Pass<M>], items: &mut Vec<Result<M::Re
         items.push_reserved(pass.take_kept().unwrap());
     }
 }
-
-#[cfg(test)]
-mod tests;

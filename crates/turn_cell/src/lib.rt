@@ -24,6 +24,3 @@ pub use journal::{Closed, Entry, Journal};
 pub use limits::{MAX_AGE, MAX_ENTRIES, MAX_OPENING_AGE, MAX_WEIGHT};
 pub use machine::{Machine, NoMemory};
 pub use pass::Pass;
-
-#[cfg(test)]
-mod tests;

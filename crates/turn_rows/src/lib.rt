@@ -6,8 +6,6 @@ mod joining;
 mod meeting;
 mod opening;
 mod splitting;
-#[cfg(test)]
-mod tests;
 
 pub use closing::close_into;
 pub use joining::join_row;

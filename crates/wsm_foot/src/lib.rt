@@ -4,8 +4,6 @@
 mod footprints;
 mod names;
 mod overlaps;
-#[cfg(test)]
-mod tests;
 
 pub use names::Name;
 pub use overlaps::overlap;

@@ -8,8 +8,6 @@ mod insertions;
 mod operations;
 mod refusals;
 mod removals;
-#[cfg(test)]
-mod tests;
 mod wraps;
 
 pub use applications::apply;

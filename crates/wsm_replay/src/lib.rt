@@ -5,8 +5,6 @@ mod extending;
 mod fits;
 mod settling;
 mod spots;
-#[cfg(test)]
-mod tests;
 
 ghost use Rattle.std.specs.Prelude.{◌≡◌, IfOk, OnOk};
 ghost use Rattle.wsm_schema.specs.Rank.{IsRank};

@@ -1,0 +1,43 @@
+// The check of blocks and sync edges, with a rank and with a cycle.
+use crate::trees::side_by_side;
+use std::alloc::Global;
+use std::test::Fail;
+use wsm_block::{BlockFault, BlockRefusal, check_block};
+use wsm_schema::{Flat, Rank, Schema};
+
+// The answer for a schema.
+fn checked(alloc: Global, schema: &Schema) -> Result<Rank, BlockRefusal> {
+    let flat = Flat::of(alloc, schema)?;
+    check_block(alloc, schema, &flat)
+}
+
+// The fault in an answer.
+fn fault_in(answer: Result<Rank, BlockRefusal>) -> Option<BlockFault> {
+    match answer {
+        Err(BlockRefusal::Fault(fault)) => Some(fault),
+        _ => None,
+    }
+}
+
+#[test]
+fn a_target_stands_behind_its_source(rt: HostRuntime) -> Result<(), Fail> {
+    let alloc = rt.alloc();
+    let mut schema = side_by_side(alloc)?;
+    schema.put_sync(5, 4)?;
+    let rank = checked(alloc, &schema).ok().ok_or("a rank")?;
+    assert_eq!(rt; rank.nodes(), [0, 2, 5, 4, 3, 1].as_slice());
+    Ok(())
+}
+
+#[test]
+fn the_second_of_two_edges_closes_a_cycle(rt: HostRuntime) -> Result<(), Fail> {
+    let alloc = rt.alloc();
+    let mut schema = side_by_side(alloc)?;
+    schema.put_sync(4, 5)?;
+    schema.put_sync(5, 4)?;
+    assert_eq!(rt;
+        fault_in(checked(alloc, &schema)),
+        Some(BlockFault::SyncCycle(5, 4))
+    );
+    Ok(())
+}

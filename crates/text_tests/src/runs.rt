@@ -1,0 +1,100 @@
+// The run of a file on one thread, and what its installs come to.
+ghost use Rattle.std.specs.Prelude.{◌≤◌, IfSome, length};
+ghost use Rattle.process_text.specs.Sizes.{IsBounded};
+
+use case_core::Reply;
+use process_text::{File, read_file};
+use script_run::{Run, Verdicts, serial_run, verdicts};
+use std::alloc::Global;
+use std::test::Fail;
+use type_core::KindReply;
+
+const FILE: &[u8] = b"\
+adept 1
+type t
+act A
+end
+actor ann
+case c t
+case d t
+phase
+ann create c
+ann start c A
+phase
+ann install t
+insert B after A
+end
+ann migrate t
+ann end c A
+ann change c
+delete B
+end
+";
+
+// The proof of a test need not compute what the bytes stand for.
+fn file_of(alloc: Global, bytes: &[u8]) -> Option<File>
+    requires { length bytes.now ≤ 1000 }
+    ensures { IfSome result (λ file. IsBounded file) }
+{
+    read_file(alloc, bytes).ok()
+}
+
+fn run_of(alloc: Global, file: &File) -> Option<Run>
+    requires { IsBounded file.now }
+{
+    serial_run(alloc, file).ok()
+}
+
+fn verdicts_of(alloc: Global, file: &File) -> Option<Verdicts>
+    requires { IsBounded file.now }
+{
+    verdicts(alloc, file).ok()
+}
+
+// The run of the file, where there is one.
+fn run(alloc: Global) -> Option<Run> {
+    run_of(alloc, &file_of(alloc, FILE)?)
+}
+
+fn kind_reply(run: &Run, index: usize) -> Option<&KindReply> {
+    Some(&run.kinds.get(0)?.journal.get(index)?.reply)
+}
+
+fn case_reply(run: &Run, place: usize, index: usize) -> Option<&Reply> {
+    Some(&run.cases.get(place)?.journal.get(index)?.reply)
+}
+
+#[test]
+fn a_type_is_called_in_file_order(rt: HostRuntime) -> Result<(), Fail> {
+    let run = run(rt.alloc()).ok_or("a run")?;
+    assert!(rt; matches!(kind_reply(&run, 0), Some(KindReply::Defined)));
+    assert!(rt; matches!(kind_reply(&run, 1), Some(KindReply::Is(_))));
+    assert!(rt; matches!(kind_reply(&run, 2), Some(KindReply::Installed(_))));
+    assert!(rt; matches!(kind_reply(&run, 3), Some(KindReply::Is(_))));
+    assert!(rt; kind_reply(&run, 4).is_none());
+    Ok(())
+}
+
+#[test]
+fn cases_are_called_in_file_order(rt: HostRuntime) -> Result<(), Fail> {
+    let run = run(rt.alloc()).ok_or("a run")?;
+    assert!(rt; matches!(case_reply(&run, 0, 0), Some(Reply::Created)));
+    assert!(rt; matches!(case_reply(&run, 0, 1), Some(Reply::Started(_))));
+    assert!(rt; matches!(case_reply(&run, 0, 2), Some(Reply::Migrated(_))));
+    assert!(rt; matches!(case_reply(&run, 0, 3), Some(Reply::Ended)));
+    assert!(rt; matches!(case_reply(&run, 0, 4), Some(Reply::Changed)));
+    assert!(rt; matches!(case_reply(&run, 1, 0), Some(Reply::NoCase)));
+    Ok(())
+}
+
+#[test]
+fn installs_have_verdicts(rt: HostRuntime) -> Result<(), Fail> {
+    let alloc = rt.alloc();
+    let file = file_of(alloc, FILE).ok_or("a file")?;
+    let verdicts = verdicts_of(alloc, &file).ok_or("verdicts")?;
+    assert_eq!(rt; verdicts.len(), 1);
+    let verdict = verdicts.get(0).ok_or("a verdict")?;
+    assert_eq!(rt; verdict.at, 12);
+    assert!(rt; matches!(verdict.reply, KindReply::Installed(2)));
+    Ok(())
+}
