@@ -1,10 +1,9 @@
 -- How a crew comes together: desks are hired, the types are defined, and all meet.
-use Rattle.std.specs.Prelude.{◌≡◌, ℕ, List, length, map}
+use Rattle.std.specs.Prelude.{◌≡◌, ℕ, List, length}
 use Rattle.std.specs.List.{AllZip, AllByRecursion}
 use Rattle.adept_server.specs.Desks.{DeskView, IsDesk}
 use Rattle.crew_run.specs.Crew.{AreNumbered, DeskHeard, DeskSame}
-use Rattle.crew_run.specs.Defining.{DefinesAll, IsFresh, IsParent}
-use Rattle.process_text.specs.declared.files.File.{File}
+use Rattle.crew_run.specs.Defining.{IsFresh, IsParent}
 
 -- a crew of so many is hired by a first desk
 pub record AreHired (many : ℕ) (first first_then : DeskView) (crew : List DeskView) : Type 0 where

@@ -1,5 +1,5 @@
 -- A crew at work: the first desk of a server, and the desks of the actors.
-use Rattle.std.specs.Prelude.{◌≡◌, ℕ, ◌+◌, ◌≤◌, List, [], ◌∷◌, length, map, Option, slice_get}
+use Rattle.std.specs.Prelude.{◌≡◌, ℕ, ◌+◌, List, [], ◌∷◌, Option, slice_get}
 use Rattle.std.specs.List.{AllZip}
 use Rattle.adept_server.specs.Desks.{KindPass, CasePass, DeskView, IsDesk, case_pass}
 use Rattle.crew_run.specs.Cells.{Heard, SeenSame}

@@ -2,10 +2,11 @@
 use Rattle.std.specs.Prelude.{◌≡◌, ℕ, ◌+◌, ◌≤◌, ◌⊎◌, Bool, true, false, List, [], ◌∷◌, length, map, Option, Some, None, Result, Ok, Err}
 use Rattle.std.specs.List.{AllByRecursion}
 use Rattle.adept_actor.specs.Work.{CanWork, Works as WorksLines}
-use Rattle.adept_server.specs.Desks.{KindPass, CasePass, DeskView, IsDesk, IsDeskOf, desk_view, kind_after, kind_reply, case_after, case_reply}
+use Rattle.adept_server.specs.Desks.{KindPass, CasePass, DeskView, IsDesk, IsDeskOf, desk_view}
 use Rattle.adept_server.specs.Opening.{IsFirstDesk}
 use Rattle.adept_server.specs.declared.desks.Desk.{Desk}
 use Rattle.adept_server.specs.declared.servers.Server.{Server}
+use Rattle.case_core.specs.Machine.{case_after, case_reply}
 use Rattle.crew_run.specs.Beginning.{AreHired}
 use Rattle.crew_run.specs.CaseCounts.{AreCounts}
 use Rattle.crew_run.specs.Cells.{HasMet}
@@ -22,6 +23,7 @@ use Rattle.script_run.specs.Calls.{roles_of}
 use Rattle.turn_cell.specs.declared.faults.CallFault.{CallFault}
 use Rattle.turn_cell.specs.declared.faults.CallFault.TheVariants as fault
 use Rattle.turn_cell.specs.declared.limits.TheConstants.{MAX_ENTRIES}
+use Rattle.type_core.specs.Machine.{kind_after, kind_reply}
 use Rattle.wsm_sound.specs.declared.versions.CaseId.{CaseId}
 
 -- A desk that can work each line of a file: it has the file's types and cases, and knows a version of each type.

@@ -1,7 +1,8 @@
 -- A crew before the first phase.
 use Rattle.std.specs.Prelude.{◌≡◌, ℕ, List, [], ◌∷◌, length, Some, slice_get}
-use Rattle.adept_server.specs.Desks.{KindPass, CasePass, DeskView, kind_after, kind_reply, case_after, case_reply}
+use Rattle.adept_server.specs.Desks.{KindPass, CasePass, DeskView}
 use Rattle.case_core.specs.CaseModel.{not_created}
+use Rattle.case_core.specs.Machine.{case_after, case_reply}
 use Rattle.crew_run.specs.Cells.{HasMet}
 use Rattle.crew_run.specs.Crew.{kind_at, case_at, AreNumbered}
 use Rattle.process_text.specs.declared.files.CaseDecl.{CaseDecl}
@@ -11,6 +12,7 @@ use Rattle.script_run.specs.Serial.{program}
 use Rattle.turn_cell.specs.History.{entry}
 use Rattle.turn_cell.specs.Passes.{IsLegalView}
 use Rattle.type_core.specs.KindModel.{not_defined}
+use Rattle.type_core.specs.Machine.{kind_after, kind_reply}
 use Rattle.type_core.specs.declared.events.KindEvent.TheVariants as event
 use Rattle.type_core.specs.declared.replies.KindReply.{KindReply}
 use Rattle.wsm_sound.specs.declared.versions.CaseId.{CaseId}

@@ -6,8 +6,8 @@ use Rattle.case_core.specs.CaseModel.{CaseModel}
 use Rattle.case_core.specs.declared.events.Event.{Event}
 use Rattle.case_core.specs.declared.replies.Reply.{Reply}
 use Rattle.case_core.specs.declared.views.View.{View}
+use Rattle.crew_run.proofs.RowsEmptied.{all_emptied, none_emptied, one_more_emptied, row_length, row_there}
 use Rattle.crew_run.specs.CaseCounts.{AreCounts}
-use Rattle.crew_run.proofs.Emptying.{none_emptied, all_emptied, row_there, row_length, one_more_emptied}
 use Rattle.crew_run.specs.Closing.{closed_case}
 use Rattle.process_text.specs.declared.files.CaseDecl.{CaseDecl}
 use Rattle.process_text.specs.declared.files.File.{File}

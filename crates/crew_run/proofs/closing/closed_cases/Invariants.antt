@@ -1,5 +1,5 @@
 use Rattle.std.proofs.Common.{◌+◌, ◌≤◌, map, vec_len, vec_capacity}
-use Rattle.crew_run.proofs.Emptying.{EmptiedTo}
+use Rattle.crew_run.proofs.RowsEmptied.{EmptiedTo}
 use Rattle.crew_run.specs.Closing.{closed_case}
 use Rattle.crew_run.proofs.closing.closed_cases.Given as goal
 

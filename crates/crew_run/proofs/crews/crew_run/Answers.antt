@@ -1,13 +1,12 @@
-use Rattle.std.proofs.Common.{◌≡◌, ◌+◌, ℕ, List, length, map, ap, sym, ◌∙◌, subst, arith}
-use Rattle.std.specs.Prelude.{fold}
-use Rattle.std.specs.Vec.{with_items}
+use Rattle.std.proofs.Common.{◌+◌, length, map, ap, sym, ◌∙◌, subst, arith}
 use Rattle.std.proofs.lemmas.List.{with_items_is, length-map}
+use Rattle.std.proofs.lemmas.Result.{IfOk-weaker}
+use Rattle.std.specs.Prelude.{fold}
 use Rattle.adept_server.specs.Desks.{desk_view}
 use Rattle.adept_server.specs.Opening.{IsFirstDesk, joined_desk}
-use Rattle.crew_run.proofs.Ends.{has-taken}
-use Rattle.crew_run.proofs.Steps.{if_ok-so}
-use Rattle.crew_run.proofs.Tried.{never-overfull}
-use Rattle.crew_run.proofs.Whole.{legal-of}
+use Rattle.crew_run.proofs.CrewTakenIn.{has-taken}
+use Rattle.crew_run.proofs.NeverFull.{never-overfull}
+use Rattle.crew_run.proofs.RunLegal.{legal-of}
 use Rattle.crew_run.specs.Beginning.{AreHired}
 use Rattle.crew_run.specs.CaseCounts.{AreCounts}
 use Rattle.crew_run.specs.Workers.{desks_of}
@@ -74,6 +73,6 @@ returns-in-Ok g c =
     let k = c.work_file-worked.ensures.together in
     let worked = c.in-Ok.ensures.done in
     let types = ap (λ w. length w.kinds) joined ∙ (has-taken f v ws k.first_shaped k.shaped).types in
-    if_ok-so c.run_of.result
+    IfOk-weaker c.run_of.result _ _
     (λ run is. legal-of f worked.first_before worked.crew_before v ws last worked.done c.close-closed.result run worked.ready c.requires.sound joined types c.close-closed.ensures is)
     c.run_of.ensures

@@ -1,9 +1,10 @@
-use Rattle.std.proofs.Common.{◌≡◌, ◌+◌, ℕ, length, sym, ap, subst, arith}
+use Rattle.std.proofs.Common.{◌≡◌, length, ap, subst, arith}
+use Rattle.std.proofs.lemmas.Result.{on_ok_weaker}
 use Rattle.adept_server.specs.Desks.{desk_view}
-use Rattle.crew_run.proofs.Defining.{all-are-some}
-use Rattle.crew_run.proofs.Hired.{on_ok}
-use Rattle.crew_run.proofs.Start.{crew-of, crew-ready, heard-is-more, many-seen, started-of, together-begun, together-of, tried-none}
-use Rattle.crew_run.proofs.Steps.{err-and, if_err-same}
+use Rattle.crew_run.proofs.CrewMet.{crew-of, crew-ready, started-of, together-begun, together-of, tried-none}
+use Rattle.crew_run.proofs.DesksMeet.{heard-is-more}
+use Rattle.crew_run.proofs.FullSeen.{many-seen}
+use Rattle.crew_run.proofs.Outcomes.{err-and, if_err-same}
 use Rattle.crew_run.specs.Defining.{DefinesAll, DefinesSome, KnowsTypes}
 use Rattle.crew_run.specs.Phases.{IsOverfull}
 use Rattle.crew_run.specs.Workers.{desks_of}
@@ -64,4 +65,4 @@ returns-clause-done g c =
     let defined = subst (λ ds. DefinesAll 0 ds v1 v2) c.as_slice.ensures c.in_ok-defined.ensures.defined in
     let ready =
     crew-ready c.args.server.now f c.requires.file v1 v2 c.meet_all.new.first (desks_of c.args.crew.now) c.meet_all.new.crew c.requires.begun defined c.meet_all.ensures.first.0 c.meet_all.ensures.crew c.meet_all.ensures.first.1 c.meet_all.ensures.heard c.meet_all.ensures.same in
-    on_ok c.work_phases.result (λ done. record { first_before = desk_view c.meet_all.new.first; crew_before = desks_of c.meet_all.new.crew; ready = ready; done = done }) c.work_phases.ensures.done
+    on_ok_weaker c.work_phases.result (λ done. record { first_before = desk_view c.meet_all.new.first; crew_before = desks_of c.meet_all.new.crew; ready = ready; done = done }) c.work_phases.ensures.done

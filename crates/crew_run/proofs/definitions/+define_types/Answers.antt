@@ -1,6 +1,8 @@
-use Rattle.std.proofs.Common.{◌≡◌, ◌∷◌, length, sym, ap, subst}
+use Rattle.std.proofs.Common.{◌≡◌, length, ap, subst}
 use Rattle.adept_server.specs.Desks.{desk_view}
-use Rattle.crew_run.proofs.Steps.{called-full, if_err-same, knows-more, on_both}
+use Rattle.crew_run.proofs.FullSeen.{called-full}
+use Rattle.crew_run.proofs.Outcomes.{if_err-same, on_both}
+use Rattle.crew_run.proofs.TypesDefined.{knows-more}
 use Rattle.crew_run.specs.Phases.{SeesMany}
 use Rattle.file_facts.specs.Facts.{IsSound}
 use Rattle.turn_cell.specs.declared.faults.CallFault.TheVariants as fault

@@ -1,7 +1,8 @@
-use Rattle.std.proofs.Common.{◌≡◌, ◌+◌, ◌-◌, ◌++◌, OnOk, List, [], ◌∷◌, None, sym, ap, ◌∙◌, subst, append_assoc, arith}
+use Rattle.std.proofs.Common.{◌-◌, ◌++◌, [], ◌∷◌, None, sym, ap, ◌∙◌, subst, append_assoc, arith}
 use Rattle.std.proofs.lemmas.List.{append-nil}
+use Rattle.std.proofs.lemmas.Result.{on_ok_weaker}
 use Rattle.adept_server.specs.Desks.{desk_view}
-use Rattle.crew_run.proofs.Hired.{hired-none, hired-more, on_ok}
+use Rattle.crew_run.proofs.CrewHired.{hired-more, hired-none}
 use Rattle.crew_run.specs.Beginning.{AreHired}
 use Rattle.crew_run.specs.Workers.{desks_of}
 use Rattle.crew_run.proofs.hiring.+hire_more.Goals as goal
@@ -12,7 +13,7 @@ returns-then-more-eq0-clause-hired t c =
     ([], sym (append-nil c.args.crew.now.items), tt, subst (λ n. AreHired n v v []) (omega arith) (hired-none v))
 
 pub returns-clause-hired : goal.returns-clause-hired
-returns-clause-hired t c = on_ok c.hire_more.result
+returns-clause-hired t c = on_ok_weaker c.hire_more.result
     (λ h.
     let made = c.in_ok-desk in
     let u = desk_view c.args.first.now in

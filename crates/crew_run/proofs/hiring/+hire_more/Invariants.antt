@@ -1,4 +1,3 @@
-use Rattle.std.proofs.Common.{ℕ}
 use Rattle.crew_run.proofs.hiring.+hire_more.Given as goal
 
 -- proposed from what the function passes where it calls itself

@@ -1,9 +1,9 @@
-use Rattle.std.proofs.Common.{◌≡◌, ◌∷◌, ap, sym, subst}
+use Rattle.std.proofs.Common.{◌∷◌, sym, subst}
 use Rattle.std.specs.List.{AllZip}
-use Rattle.adept_server.specs.Desks.{DeskView, IsDeskOf, desk_view}
-use Rattle.crew_run.proofs.DeskMeetings.{desk-heard-more, desk-heard-nothing, desks-same, first-heard, same-is-seen, second-heard, seen-then}
+use Rattle.adept_server.specs.Desks.{desk_view}
+use Rattle.crew_run.proofs.DesksMeet.{desk-heard-more, desk-heard-nothing, desks-same, first-heard, same-is-seen, second-heard, seen-then}
 use Rattle.crew_run.specs.Crew.{DeskHeard}
-use Rattle.crew_run.specs.Workers.{AreDesksOf, desks_of}
+use Rattle.crew_run.specs.Workers.{desks_of}
 use Rattle.crew_run.proofs.meeting.+gather.Goals as goal
 
 pub returns-in_default-clause-first : goal.returns-in_default-clause-first

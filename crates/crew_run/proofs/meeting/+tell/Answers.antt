@@ -1,10 +1,9 @@
-use Rattle.std.proofs.Common.{◌≡◌, ◌∷◌, ◌∙◌, ap, sym, subst, arith}
+use Rattle.std.proofs.Common.{◌∷◌, ◌∙◌, sym, subst, arith}
 use Rattle.std.specs.List.{AllZip, AllByRecursion}
-use Rattle.adept_server.specs.Desks.{DeskView, IsDeskOf, desk_view}
+use Rattle.adept_server.specs.Desks.{desk_view}
 use Rattle.adept_server.specs.Opening.{SeesMore}
-use Rattle.crew_run.proofs.DeskMeetings.{desk-heard-more, desk-heard-nothing, desks-same, first-heard, first-stays, same-by_same, second-heard}
-use Rattle.crew_run.proofs.Steps.{all-seen}
-use Rattle.crew_run.specs.Crew.{DeskHeard, DeskSame}
+use Rattle.crew_run.proofs.DesksMeet.{all-seen, desk-heard-more, desk-heard-nothing, desks-same, first-heard, first-stays, same-by_same, second-heard}
+use Rattle.crew_run.specs.Crew.{DeskHeard}
 use Rattle.crew_run.specs.Workers.{AreDesksOf, desks_of}
 use Rattle.crew_run.proofs.meeting.+tell.Goals as goal
 

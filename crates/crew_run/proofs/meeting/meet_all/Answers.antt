@@ -1,6 +1,5 @@
-use Rattle.adept_server.specs.Desks.{DeskView}
-use Rattle.crew_run.proofs.DeskMeetings.{desk-heard-more}
-use Rattle.crew_run.proofs.Meetings.{zip-then}
+use Rattle.crew_run.proofs.DesksMeet.{desk-heard-more}
+use Rattle.crew_run.proofs.SideBySide.{zip-then}
 use Rattle.crew_run.specs.Crew.{DeskHeard}
 use Rattle.crew_run.specs.Workers.{desks_of}
 use Rattle.crew_run.proofs.meeting.meet_all.Goals as goal

@@ -1,9 +1,9 @@
-use denote.Param.{param}
-use denote.Param.Send.{IsSync, sendable}
 use Rattle.std.proofs.Common.{get_or, subst}
 use Rattle.std.proofs.Crossing.{crosses}
-use Rattle.adept_server.specs.Desks.{IsDeskOf}
+use denote.Param.Send.{IsSync, sendable}
+use denote.Param.{param}
 use Rattle.adept_server.proofs.Sent.{case-send, case-sync, event-send, event-sync}
+use Rattle.adept_server.specs.Desks.{IsDeskOf}
 use Rattle.case_core.proofs.replies.Reply.TheSendSync as reply
 use Rattle.crew_run.proofs.Sent.{closed-sync, kind-send, kind-sync, kind_event-send, kind_event-sync, kind_reply-send, kind_reply-sync, line-sync, schema-sync, worker-send}
 use Rattle.crew_run.specs.Phases.{HasWorked}

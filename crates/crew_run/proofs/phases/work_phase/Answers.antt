@@ -1,12 +1,13 @@
-use Rattle.std.proofs.Common.{◌≡◌, ◌+◌, ◌<◌, ◌∙◌, ℕ, length, get_or, ap, sym, subst, arith}
+use Rattle.std.proofs.Common.{◌∙◌, arith}
+use Rattle.std.proofs.lemmas.Result.{IfErr-weaker, on_ok_weaker}
 use Rattle.std.specs.List.{AllZip}
 use Rattle.adept_actor.specs.Work.{CanWork}
 use Rattle.adept_server.specs.Desks.{desk_view}
-use Rattle.crew_run.proofs.Able.{all-can, crew-then, desks-are, phase-done, phase-tried, well-of}
-use Rattle.crew_run.proofs.Hired.{on_ok}
-use Rattle.crew_run.proofs.Start.{full-among}
-use Rattle.crew_run.proofs.Steps.{all-desks, all-zip, desk-at, holds-at, if_err-so, number-at}
-use Rattle.crew_run.specs.Crew.{ActorDone, Works}
+use Rattle.crew_run.proofs.DesksCanWork.{all-can}
+use Rattle.crew_run.proofs.EachWorker.{all-desks, desk-at, desks-are, holds-at, number-at}
+use Rattle.crew_run.proofs.FullSeen.{full-among}
+use Rattle.crew_run.proofs.PhaseWorked.{crew-then, phase-done, phase-tried, well-of}
+use Rattle.crew_run.proofs.SideBySide.{all-zip}
 use Rattle.crew_run.specs.Phases.{HasWorked, Tries}
 use Rattle.crew_run.specs.Workers.{desks_of}
 use Rattle.crew_run.proofs.phases.work_phase.Goals as goal
@@ -55,7 +56,7 @@ returns-clause-full g c =
     let new = c.meet_all.new.crew in
     let first = desk_view c.meet_all.new.first in
     let worked : AllZip (HasWorked f lines) old mid = all-zip (HasWorked f lines) old mid c.work_lines.auto.crew (λ i d low. (c.work_lines.ensures i d low).1) in
-    if_err-so c.outcome.result (λ fault any is. full-among f lines first old mid new (any is) c.meet_all.ensures.faults worked c.meet_all.ensures.heard c.meet_all.ensures.same) c.outcome.ensures.full
+    IfErr-weaker c.outcome.result _ _ (λ fault any is. full-among f lines first old mid new (any is) c.meet_all.ensures.faults worked c.meet_all.ensures.heard c.meet_all.ensures.same) c.outcome.ensures.full
 
 pub returns-clause-done : goal.returns-clause-done
 returns-clause-done g c =
@@ -66,7 +67,7 @@ returns-clause-done g c =
     let new = c.meet_all.new.crew in
     let first = desk_view c.meet_all.new.first in
     let worked : AllZip (HasWorked f lines) old mid = all-zip (HasWorked f lines) old mid c.work_lines.auto.crew (λ i d low. (c.work_lines.ensures i d low).1) in
-    on_ok c.outcome.result
+    on_ok_weaker c.outcome.result
     (λ none. record {
       heard = c.meet_all.ensures.first.1;
       crew_done =

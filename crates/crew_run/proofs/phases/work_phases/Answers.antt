@@ -1,9 +1,10 @@
-use Rattle.std.proofs.Common.{◌≡◌, ◌+◌, ◌∷◌, drop, sym, subst, inl, inr}
+use Rattle.std.proofs.Common.{◌≡◌, ◌+◌, ◌∷◌, drop, sym, subst, inr}
 use Rattle.adept_server.specs.Desks.{desk_view}
-use Rattle.crew_run.proofs.Start.{tried-none}
-use Rattle.crew_run.proofs.Steps.{cut-at, if_err-same, on_err-of}
+use Rattle.crew_run.proofs.CrewMet.{tried-none}
+use Rattle.crew_run.proofs.Outcomes.{if_err-same, on_err-of}
 use Rattle.crew_run.specs.Phases.{PhasesTried, SeesMany}
 use Rattle.crew_run.specs.Workers.{desks_of}
+use Rattle.legal_run.proofs.Places.{cut-at}
 use Rattle.turn_cell.specs.declared.faults.CallFault.TheVariants as fault
 use Rattle.crew_run.proofs.phases.work_phases.Goals as goal
 

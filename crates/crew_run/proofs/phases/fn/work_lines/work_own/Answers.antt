@@ -1,7 +1,8 @@
-use Rattle.std.proofs.Common.{◌≡◌, subst, get_or}
+use Rattle.std.proofs.Common.{subst}
 use Rattle.adept_actor.specs.Work.{Works}
 use Rattle.adept_server.specs.Desks.{desk_view}
-use Rattle.crew_run.proofs.Steps.{leaves-ended, roles-at}
+use Rattle.crew_run.proofs.EachWorker.{roles-at}
+use Rattle.crew_run.proofs.PhaseWorked.{leaves-ended}
 use Rattle.crew_run.specs.Phases.{ended}
 use Rattle.crew_run.proofs.phases.fn.work_lines.work_own.Goals as goal
 

@@ -1,16 +1,17 @@
 -- Rows of cases are emptied from behind, declaration by declaration.
-use Rattle.std.proofs.Common.{◌≡◌, ℕ, ◌+◌, ◌-◌, ◌<◌, List, [], ◌∷◌, ◌++◌, length, map, reverse, take, drop, get_or, set, Some, slice_get, refl, sym, ap, ◌∙◌, subst, arith}
+use Rattle.std.proofs.Common.{◌+◌, ◌-◌, ◌<◌, ◌∙◌, ◌≡◌, ℕ, List, [], ◌++◌, ◌∷◌, length, map, Some, ap, arith, drop, get_or, refl, reverse, set, slice_get, subst, sym, take}
+use Rattle.std.proofs.Math.ListN.{length-set}
+use Rattle.std.proofs.lemmas.List.{drop_all, drop_more, get_or-take, length-map, length-take-le, reverse-append, take-take, take_all}
+use Rattle.std.proofs.lemmas.Option.{get_or_from_slice_get, slice_get-get_or, slice_get_within}
 use Rattle.std.specs.List.{AllZip}
-use Rattle.std.proofs.lemmas.List.{drop_all, drop_more, get_or-take, length-map, length-set, length-take-le, reverse-append, take-take, take_all}
-use Rattle.std.proofs.lemmas.Option.{slice_get-get_or, slice_get_within, get_or_from_slice_get}
 use mathlib.Core.Logic.{dite}
 use native.Mathlib.Decide.{ℕ_discrete}
 use Rattle.adept_server.proofs.Places.{get-set_same}
 use Rattle.adept_server.specs.Desks.{at_case, in_row}
-use Rattle.crew_run.proofs.CaseCounts.{counted-own, counted-other, other_at}
 use Rattle.crew_run.proofs.CasePlaces.{declared_at, row_counted}
+use Rattle.crew_run.proofs.CasesCounted.{counted-other, counted-own, other_at}
 use Rattle.crew_run.specs.CaseCounts.{AreCounts}
-use Rattle.file_facts.proofs.Cases.{declared-typed, declared-placed}
+use Rattle.file_facts.proofs.Cases.{declared-placed, declared-typed}
 use Rattle.file_facts.specs.Facts.{IsWorkable}
 use Rattle.process_text.specs.Declaring.{cases_of}
 use Rattle.process_text.specs.declared.files.CaseDecl.{CaseDecl}

@@ -1,17 +1,20 @@
 -- What the definitions of types leave of the first desk.
-use Rattle.std.proofs.Common.{length-append, MatchResult, ◌≡◌, ◌≢◌, ℕ, zero, suc, ◌+◌, ◌≤◌, ◌<◌, List, [], ◌∷◌, ◌++◌, length, map, refl, sym, ap, ◌∙◌, subst, arith, Option, Some, None, slice_get, set, Result, Ok, Err, ◌⊎◌, inl, inr}
+use Rattle.std.proofs.Common.{◌+◌, ◌<◌, ◌∙◌, ◌≡◌, ◌≢◌, ◌≤◌, ℕ, zero, suc, List, [], ◌++◌, ◌∷◌, length, Err, MatchResult, Ok, Result, Some, ap, arith, inl, inr, length-append, refl, slice_get, subst, sym}
 use Rattle.std.proofs.Math.ListN.{length-set}
 use mathlib.Core.Logic.{dite}
 use native.Mathlib.Decide.{ℕ_discrete}
+use Rattle.adept_server.proofs.Keeping.{kind_still_defined}
 use Rattle.adept_server.proofs.Places.{stays_or_set}
 use Rattle.adept_server.specs.Calling.{CallsKind}
-use Rattle.adept_server.specs.Desks.{KindPass, DeskView, kind_after, kind_reply}
+use Rattle.adept_server.specs.Desks.{DeskView, IsDefinedFor, KindPass}
 use Rattle.crew_run.specs.Crew.{kind_at}
-use Rattle.crew_run.specs.Defining.{DefinesAll, DefinesSome}
+use Rattle.crew_run.specs.Defining.{DefinesAll, DefinesSome, KnowsTypes}
+use Rattle.legal_run.proofs.Places.{set-here}
 use Rattle.process_text.specs.declared.files.TypeDecl.{TypeDecl}
 use Rattle.turn_cell.specs.History.{entry}
 use Rattle.turn_cell.specs.Passes.{Calls, Sees}
 use Rattle.turn_cell.specs.declared.faults.CallFault.{CallFault}
+use Rattle.type_core.specs.Machine.{kind_after, kind_reply}
 use Rattle.type_core.specs.declared.events.KindEvent.{KindEvent}
 use Rattle.type_core.specs.declared.events.KindEvent.TheVariants as event
 use Rattle.type_core.specs.declared.replies.KindReply.{KindReply}
@@ -23,11 +26,6 @@ pub record IsDefining (schema : SchemaModel) (p q : KindPass) : Type 0 where
   pub own_calls : q.own_calls ≡ p.own_calls ++ entry p.number (event.Define schema) answer ∷ []
   pub past : q.past ≡ p.past
   pub number : q.number ≡ p.number
-
-pub set-here : {A : Type 0} (xs : List A) (i : ℕ) (y x : A) → slice_get xs i ≡ Some x → slice_get (set xs i y) i ≡ Some y
-set-here [] i y x e = absurd (cc (e))
-set-here (z ∷ xs) zero y x e = refl
-set-here (z ∷ xs) (suc i) y x e = set-here xs i y x e
 
 -- the pass of another type stays
 pub kind-other : (e : KindEvent) (t : ℕ) (answer : Result KindReply CallFault) (v w : DeskView) (u : ℕ) (p : KindPass) → CallsKind e t answer v w → u ≢ t → kind_at u v ≡ Some p → kind_at u w ≡ Some p
@@ -136,3 +134,20 @@ some-few t (d ∷ ds) v w (inr (answer, m, k, rest)) u p low is =
     let c = called-here (event.Define d.schema) t (Ok answer) v m p k (subst (λ x. kind_at x v ≡ Some p) here is) in
     (c.0, subst (λ x. kind_at x w ≡ Some c.0) (sym here) (some-below (t + 1) ds m w rest t c.0 (omega arith) c.1), c.2))
     (λ (not : u ≢ t). some-few (t + 1) ds m w rest u p (omega arith) (kind-other (event.Define d.schema) t (Ok answer) v m u p k not is))
+
+-- definitions leave as many passes
+pub defines-many : (t : ℕ) (ds : List TypeDecl) (v w : DeskView) → DefinesAll t ds v w → length w.kinds ≡ length v.kinds
+defines-many t [] v w same = ap (λ (x : DeskView). length x.kinds) same
+defines-many t (d ∷ ds) v w (answer, m, k, rest) = defines-many (t + 1) ds m w rest ∙ (ap length k.called.others ∙ length-set v.kinds t k.called.behind)
+
+-- definitions of other types leave a type defined
+defines-still : (t : ℕ) (ds : List TypeDecl) (v w : DeskView) → DefinesAll t ds v w → (u : ℕ) → IsDefinedFor v u → IsDefinedFor w u
+defines-still t [] v w same u has = subst (λ x. IsDefinedFor x u) (sym same) has
+defines-still t (d ∷ ds) v w (answer, m, k, rest) u has = defines-still (t + 1) ds m w rest u (kind_still_defined (event.Define d.schema) t (Ok answer) v m k u has)
+
+-- one type is known, and those behind it
+pub knows-more : (from many : ℕ) (rest : List TypeDecl) (m w : DeskView) → many ≡ suc (length rest) → IsDefinedFor m from → DefinesAll (from + 1) rest m w → KnowsTypes (from + 1) (from + 1 + length rest) w → KnowsTypes from (from + many) w
+knows-more from many rest m w is has defines knows t low high =
+    dite (ℕ_discrete from t)
+    (λ (same : from ≡ t). subst (IsDefinedFor w) same (defines-still (from + 1) rest m w defines from has))
+    (λ not. knows t (omega arith) (omega arith))

@@ -1,32 +1,20 @@
 -- From what a crew did to what happened at each cell.
-use Rattle.std.proofs.Common.{◌≡◌, ◌≢◌, ℕ, zero, suc, ◌+◌, ◌≤◌, ◌<◌, List, [], ◌∷◌, ◌++◌, length, map, refl, sym, ap, ◌∙◌, subst, arith, Option, Some, None, slice_get, Bool, eqb, eq-eqb, ne_eqb, if◌then◌else◌}
+use Rattle.std.proofs.Common.{◌+◌, ◌<◌, ◌∙◌, ◌≡◌, ◌≤◌, ℕ, List, [], ◌++◌, ◌∷◌, length, map, Bool, Option, Some, ap, arith, eq-eqb, eqb, if◌then◌else◌, ne_eqb, refl, subst, sym}
 use Rattle.std.specs.List.{AllZip}
-use Rattle.adept_server.specs.Desks.{KindPass, CasePass, DeskView, IsDesk, at_case, in_row, case_pass, kind_after, kind_reply, case_after, case_reply}
 use mathlib.Core.Logic.{dite}
 use native.Mathlib.Decide.{ℕ_discrete}
-use Rattle.crew_run.proofs.Cells.{worked-met}
-use Rattle.crew_run.proofs.Meetings.{zip-at}
-use Rattle.crew_run.specs.Cells.{Heard, SeenSame, Worked, HasMet, Phase, Phases}
-use Rattle.crew_run.specs.Crew.{kind_at, case_at, DeskHeard, DeskSame, AreNumbered, ActorDone, PhaseDone, Works, PhasesDone}
-use Rattle.adept_actor.specs.Growth.{HasDone, DeskHasDone}
-use Rattle.legal_run.specs.Legal.{Trace, IsTrace, AreTraces, IsActor}
-use Rattle.legal_run.specs.LineCalls.{Call, on_kind, on_case}
+use Rattle.adept_actor.specs.Growth.{DeskHasDone, HasDone}
+use Rattle.adept_server.specs.Desks.{DeskView, IsDesk}
+use Rattle.crew_run.proofs.CellHistory.{worked-met}
+use Rattle.crew_run.proofs.SideBySide.{zip-many}
+use Rattle.crew_run.specs.Cells.{HasMet, Heard, Phase, Phases, SeenSame, Worked}
+use Rattle.crew_run.specs.Crew.{ActorDone, AreNumbered, DeskHeard, DeskSame, PhaseDone, PhasesDone, Works}
+use Rattle.legal_run.specs.Legal.{AreTraces, Trace}
+use Rattle.legal_run.specs.LineCalls.{Call}
 use Rattle.process_text.specs.declared.files.File.{File}
 use Rattle.process_text.specs.declared.files.Line.{Line}
-use Rattle.turn_cell.specs.Passes.{PassView, IsLegalView}
+use Rattle.turn_cell.specs.Passes.{IsLegalView, PassView}
 use Rattle.turn_cell.specs.declared.journal.Entry.{Entry}
-use Rattle.wsm_sound.specs.declared.versions.CaseId.{CaseId}
-
--- what stands at the place of a case, in rows side by side
-pub zip-at_case : {A B : Type 0} (R : A → B → Type 0) (xs : List (List A)) (ys : List (List B)) → AllZip (AllZip R) xs ys → (c : CaseId) (x : A) → at_case xs c ≡ Some x → (y : B) × (at_case ys c ≡ Some y) × R x y
-zip-at_case R xs ys z c x e = by (slice_get xs c.type_no) refl e
-  where
-    by : (row : Option (List _)) → slice_get xs c.type_no ≡ row → in_row c.place row ≡ Some x → (y : _) × (at_case ys c ≡ Some y) × R x y
-    by None is e = absurd (cc (e))
-    by (Some row) is e =
-        let r = zip-at (AllZip R) xs ys z c.type_no row is in
-        let s = zip-at R row r.0 r.2 c.place x e in
-        (s.0, ap (in_row c.place) r.1 ∙ s.1, s.2)
 
 -- what the actors did, by their numbers from n on
 abbrev pub trace_of : (Fit : ℕ → List Call → Type 0) (first : DeskView) (n : ℕ) (vs ws : List DeskView) → AllZip (ActorDone Fit first) vs ws → Trace
@@ -62,12 +50,6 @@ numbered-then Fit first n [] (w ∷ ws) z k = absurd z
 numbered-then Fit first n (v ∷ vs) [] z k = absurd z
 numbered-then Fit first n (v ∷ vs) (w ∷ ws) (d, z) (number, k) = (d.heard.number ∙ (d.done.number ∙ number), numbered-then Fit first (n + 1) vs ws z k)
 
-pub many-then : (Fit : ℕ → List Call → Type 0) (first : DeskView) (vs ws : List DeskView) → AllZip (ActorDone Fit first) vs ws → length ws ≡ length vs
-many-then Fit first [] [] z = refl
-many-then Fit first [] (w ∷ ws) z = absurd z
-many-then Fit first (v ∷ vs) [] z = absurd z
-many-then Fit first (v ∷ vs) (w ∷ ws) (d, z) = ap suc (many-then Fit first vs ws z)
-
 -- what each actor did in each phase
 abbrev pub traces_of : (f : File) (phases : List (List Line)) (v : DeskView) (vs : List DeskView) (w : DeskView) (ws : List DeskView) → PhasesDone f phases v vs w ws → List Trace
 traces_of f [] v vs w ws ps = []
@@ -78,7 +60,7 @@ pub traces-fit : (f : File) (phases : List (List Line)) (v : DeskView) (vs : Lis
 traces-fit f [] v vs w ws ps k many = tt
 traces-fit f (lines ∷ phases) v vs w ws (m, ms, p, ps) k many = (
   (λ a is. trace-fits (Works f lines) m 1 vs ms p.crew_done k a is.0 (omega (arith, is.1, many))),
-  traces-fit f phases m ms w ws ps (numbered-then (Works f lines) m 1 vs ms p.crew_done k) (many-then (Works f lines) m vs ms p.crew_done ∙ many),
+  traces-fit f phases m ms w ws ps (numbered-then (Works f lines) m 1 vs ms p.crew_done k) (zip-many (ActorDone (Works f lines) m) vs ms p.crew_done ∙ many),
 )
 
 -- One cell: `at` finds its pass on a desk, and `on` the calls of it.

@@ -1,19 +1,23 @@
 -- How long a journal is: as long as its callers' entries are together.
-use Rattle.std.proofs.Common.{◌≡◌, ◌≢◌, ℕ, zero, suc, ◌+◌, ◌≤◌, ◌<◌, List, [], ◌∷◌, ◌++◌, length, refl, sym, ap, ◌∙◌, subst, arith, length-append, All, get_or, Bool, eq-eqb, ne_eqb, if◌then◌else◌}
+use Rattle.std.proofs.Common.{◌+◌, ◌<◌, ◌≡◌, ◌≢◌, ◌≤◌, ℕ, zero, suc, List, [], ◌++◌, ◌∷◌, length, All, Bool, ap, arith, eq-eqb, if◌then◌else◌, length-append, ne_eqb, refl, subst, sym}
 use Rattle.std.specs.List.{AllZip}
 use mathlib.Core.Logic.{dite}
 use native.Mathlib.Decide.{ℕ_discrete}
-use Rattle.turn_cell.specs.History.{calls_of}
-use Rattle.turn_cell.specs.declared.journal.Entry.{Entry}
+use Rattle.crew_run.proofs.CellHistory.{done_by}
+use Rattle.crew_run.specs.Cells.{Holds, HoldsByPhases}
 use Rattle.legal_run.specs.LineCalls.{lines_of}
 use Rattle.process_text.specs.declared.files.Line.{Line}
-use Rattle.crew_run.specs.Cells.{Holds, HoldsByPhases}
-use Rattle.crew_run.proofs.Cells.{done_by}
+use Rattle.turn_cell.specs.History.{calls_of}
+use Rattle.turn_cell.specs.declared.journal.Entry.{Entry}
 
 -- the sum of f over the numbers from 1 to n
 abbrev pub sum_to : ℕ → (ℕ → ℕ) → ℕ
 sum_to zero f = 0
 sum_to (suc n) f = sum_to n f + f (suc n)
+
+sum_to-none : (n : ℕ) → sum_to n (λ _. 0) ≡ 0
+sum_to-none zero = refl
+sum_to-none (suc n) = let r = sum_to-none n in omega arith
 
 pub sum_to-same : (n : ℕ) (f g : ℕ → ℕ) → ((a : ℕ) → 0 < a → a ≤ n → f a ≡ g a) → sum_to n f ≡ sum_to n g
 sum_to-same zero f g same = refl
@@ -48,11 +52,7 @@ module _ {M E R W S : Type 0} where
 
   -- a list is as long as the entries of its callers are together
   pub length-by_callers : (n : ℕ) (xs : List (Entry M E R W S)) → All (λ e. e.caller ≤ n) xs → length xs ≡ length (calls_of 0 xs) + sum_to n (λ a. length (calls_of a xs))
-  length-by_callers n [] all = zeros n
-    where
-      zeros : (n : ℕ) → 0 ≡ 0 + sum_to n (λ a. 0)
-      zeros zero = refl
-      zeros (suc n) = let r = zeros n in omega arith
+  length-by_callers n [] all = let none = sum_to-none n in omega arith
   length-by_callers n (x ∷ xs) all =
       let rest = length-by_callers n xs (λ i d low. all (suc i) d (omega arith)) in
       dite (ℕ_discrete x.caller 0)
@@ -87,11 +87,7 @@ module _ {M E R W S : Type 0} where
       let total = length-by_callers n xs all in
       let same = sum_to-same n (λ a. length (calls_of a xs)) (λ a. length (done_by (λ _. []) dids a)) (λ a low high. ap length (holds-last n (λ _. []) dids xs holds a low high)) in
       let bound = done-few n (λ _. []) dids bounds few in
-      let zero_is = zeros n in omega arith
-    where
-      zeros : (n : ℕ) → sum_to n (λ a. 0) ≡ 0
-      zeros zero = refl
-      zeros (suc n) = let r = zeros n in omega arith
+      let none = sum_to-none n in omega arith
 
 pub sum_to-le : (n : ℕ) (f g : ℕ → ℕ) → ((a : ℕ) → 0 < a → a ≤ n → f a ≤ g a) → sum_to n f ≤ sum_to n g
 sum_to-le zero f g le = omega arith
@@ -106,11 +102,7 @@ sum_to-most (suc n) f g c more same = dite (ℕ_discrete c (suc n))
 
 -- the lines of all actors are no more than the lines
 pub lines-few : (n : ℕ) (lines : List Line) → sum_to n (λ a. length (lines_of a lines)) ≤ length lines
-lines-few n [] = zeros n
-  where
-    zeros : (n : ℕ) → sum_to n (λ a. 0) ≤ 0
-    zeros zero = omega arith
-    zeros (suc n) = let r = zeros n in omega arith
+lines-few n [] = let none = sum_to-none n in omega arith
 lines-few n (l ∷ lines) =
     let own = ap (λ (b : Bool). length (if b then l ∷ lines_of l.actor lines else lines_of l.actor lines)) (eq-eqb l.actor l.actor refl) in
     let others : (a : ℕ) → a ≢ l.actor → length (lines_of a (l ∷ lines)) ≡ length (lines_of a lines) = λ a not. ap (λ (b : Bool). length (if b then l ∷ lines_of a lines else lines_of a lines)) (ne_eqb l.actor a (λ e. not (sym e))) in

@@ -1,12 +1,12 @@
 -- From phases of one cell to what is said of a journal by phases.
-use Rattle.std.proofs.Common.{◌≡◌, ℕ, zero, suc, ◌+◌, ◌≤◌, ◌<◌, List, [], ◌∷◌, ◌++◌, length, map, take, refl, sym, ap, ◌∙◌, subst, arith, append_assoc}
-use Rattle.std.specs.Prelude.{flat_map}
+use Rattle.std.proofs.Common.{◌<◌, ◌∙◌, ◌≡◌, ◌≤◌, ℕ, zero, suc, List, [], ◌++◌, ◌∷◌, length, map, ap, append_assoc, arith, sym, take}
 use Rattle.std.proofs.lemmas.List.{append-nil}
+use Rattle.std.specs.Prelude.{flat_map}
 use mathlib.Core.List.{IsPrefix}
+use Rattle.crew_run.specs.Cells.{HoldsByPhases}
 use Rattle.turn_cell.proofs.Prefixes.{prefix_self}
 use Rattle.turn_cell.specs.History.{calls_of}
 use Rattle.turn_cell.specs.declared.journal.Entry.{Entry}
-use Rattle.crew_run.specs.Cells.{Holds, HoldsByPhases}
 
 module _ {M E R W S : Type 0} {C : Type 0} (on : List C → List (Entry M E R W S)) (on-none : on [] ≡ []) (on-append : (xs ys : List C) → on (xs ++ ys) ≡ on xs ++ on ys) where
   -- what each did on this machine, phase by phase

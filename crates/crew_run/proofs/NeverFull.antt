@@ -1,32 +1,35 @@
 -- No journal of a crew gets full that does no more than its lines.
-use Rattle.std.proofs.Common.{◌≡◌, ◌≢◌, ℕ, zero, suc, ◌+◌, ◌≤◌, ◌<◌, List, [], ◌∷◌, ◌++◌, length, map, refl, sym, ap, ◌∙◌, subst, arith, ◌⊎◌, inl, inr, Option, Some, None, slice_get}
-use Rattle.std.specs.Prelude.{fold}
-use Rattle.std.specs.List.{AllZip}
+use Rattle.std.proofs.Common.{◌+◌, ◌∙◌, ◌≡◌, ◌≤◌, ℕ, List, [], ◌++◌, ◌∷◌, length, map, Option, Some, ap, arith, inl, inr, refl, sym}
 use Rattle.std.proofs.lemmas.List.Sums.{sum_by-cons}
-use Rattle.adept_actor.specs.Growth.{HasDone, DeskHasDone}
-use Rattle.adept_server.specs.Desks.{KindPass, CasePass, DeskView, IsDesk, kind_after, kind_reply, case_after, case_reply}
+use Rattle.std.specs.Prelude.{fold}
+use Rattle.adept_actor.proofs.Desks.{case-there}
+use Rattle.adept_actor.specs.Growth.{DeskHasDone, HasDone}
+use Rattle.adept_server.specs.Desks.{DeskView, IsDesk}
 use Rattle.adept_server.specs.Opening.{IsClosedServer, joined_desk}
 use Rattle.adept_server.specs.declared.closing.ClosedServer.{ClosedServer}
-use Rattle.crew_run.proofs.Able.{zip-many, zip-rows}
-use Rattle.crew_run.proofs.Cells.{cell-history, phases-hold, joins-gather, worked-met}
-use Rattle.crew_run.proofs.Counts.{AreFew, all_bounds, journal-few, lines-few, sum_to, sum_to-le}
-use Rattle.crew_run.proofs.Crew.{many-then, numbered-then, phase-at, trace_of, trace-fits}
-use Rattle.crew_run.proofs.Desks.{there-too, there-too_case, kind-heard, kind-same, kind-done, kind-legal, case-heard, case-same, case-done, case-legal}
-use Rattle.crew_run.proofs.Gathering.{kind-joined, case-joined, cell-last}
-use Rattle.crew_run.specs.Cells.{Heard, SeenSame, HasMet, Phases, Joins}
-use Rattle.crew_run.specs.Crew.{kind_at, case_at, AreNumbered, DeskHeard, DeskSame, Works}
+use Rattle.case_core.specs.Machine.{case_after, case_reply}
+use Rattle.crew_run.proofs.CellHistory.{cell-history, joins-gather, phases-hold, worked-met}
+use Rattle.crew_run.proofs.CrewTakenIn.{case-joined, cell-last, kind-joined}
+use Rattle.crew_run.proofs.JournalLength.{AreFew, all_bounds, journal-few, lines-few, sum_to-le}
+use Rattle.crew_run.proofs.PassesOfDesks.{case-done, case-heard, case-legal, case-same, kind-done, kind-heard, kind-legal, kind-same}
+use Rattle.crew_run.proofs.PhaseByCell.{numbered-then, phase-at, trace-fits, trace_of}
+use Rattle.crew_run.proofs.SideBySide.{zip-many, zip-rows}
+use Rattle.crew_run.specs.Cells.{HasMet, Heard, Joins, Phases, SeenSame}
+use Rattle.crew_run.specs.Crew.{ActorDone, AreNumbered, DeskHeard, DeskSame, case_at, kind_at}
 use Rattle.crew_run.specs.Phases.{IsOverfull, PhasesTried, SeesMany, Tries}
-use Rattle.crew_run.specs.Phases.SeesMany.{of_kind, of_case}
+use Rattle.crew_run.specs.Phases.SeesMany.{of_case, of_kind}
 use Rattle.file_facts.specs.Facts.{IsWorkable, lines_in}
 use Rattle.legal_run.proofs.OncePerLine.{case_once_begun, case_once_per_line, kind_once_begun, kind_once_per_line}
+use Rattle.legal_run.proofs.Places.{there-as}
+use Rattle.legal_run.specs.LineCalls.{Call, lines_of, on_case, on_kind}
 use Rattle.legal_run.specs.Legal.{cases_of}
-use Rattle.legal_run.specs.LineCalls.{Call, on_kind, on_case, lines_of}
 use Rattle.process_text.specs.declared.files.File.{File}
 use Rattle.process_text.specs.declared.files.Line.{Line}
 use Rattle.script_run.specs.Calls.{roles_of}
-use Rattle.turn_cell.specs.Passes.{PassView, IsClosed, IsLegalView}
+use Rattle.turn_cell.specs.Passes.{IsClosed, IsLegalView, PassView, joined}
 use Rattle.turn_cell.specs.declared.journal.Entry.{Entry}
 use Rattle.turn_cell.specs.declared.limits.TheConstants.{MAX_ENTRIES}
+use Rattle.type_core.specs.Machine.{kind_after, kind_reply}
 use Rattle.wsm_sound.specs.declared.versions.CaseId.{CaseId}
 
 -- One cell: phases that were tried are phases of it, and each adds few entries.
@@ -46,7 +49,7 @@ module _ {M E R W S : Type 0} (at : DeskView → Option (PassView M E R W S)) (o
       let trace = trace_of (Tries f lines) b 1 vs bs d.crew_done in
       let more = λ (a : ℕ). on (trace a) in
       let r =
-      tried-at phases b bs w ws rest (numbered-then (Tries f lines) b 1 vs bs d.crew_done numbered) (many-then (Tries f lines) b vs bs d.crew_done ∙ many) (λ a. did a ++ more a) phase.behind phase.there_then
+      tried-at phases b bs w ws rest (numbered-then (Tries f lines) b 1 vs bs d.crew_done numbered) (zip-many (ActorDone (Tries f lines) b) vs bs d.crew_done ∙ many) (λ a. did a ++ more a) phase.behind phase.there_then
       (worked-met at after reply 1 did more p.seen phase.behind vs bs m phase.worked) in
       let each = sum_to-le (length f.actors) (λ a. length (more a)) (λ a. length (lines_of a lines)) (λ a low high. once a lines (trace a) (trace-fits (Tries f lines) b 1 vs bs d.crew_done numbered a low (omega (arith, many)))) in
       let all = lines-few (length f.actors) lines in
@@ -98,7 +101,7 @@ never-overfull f w ws last s workable o joined closed = full o.many
         let v = o.first_before in
         let vs = o.crew_before in
         let shape = tried-shape f f.phases v vs w ws o.tried in
-        let (p, at_v) = there-too w.kinds v.kinds shape.0 t q at_w in
+        let (p, at_v) = there-as w.kinds v.kinds t q shape.0 at_w in
         let start = o.started.kinds t p at_v in
         let ps =
         tried-at (kind_at t) (on_kind t) kind_after kind_reply (kind-heard t) (kind-same t) (kind-done t) (kind-legal t) f (kind-once f t) f.phases v vs w ws o.tried o.started.numbered o.started.actors (λ _. []) p at_v start.2 in
@@ -111,7 +114,7 @@ never-overfull f w ws last s workable o joined closed = full o.many
         let v = o.first_before in
         let vs = o.crew_before in
         let shape = tried-shape f f.phases v vs w ws o.tried in
-        let (p, at_v) = there-too_case w.cases v.cases shape.1 id q at_w in
+        let (p, at_v) = case-there w.cases v.cases id q shape.1 at_w in
         let start = o.started.cases id p at_v in
         let ps =
         tried-at (case_at id) (on_case id) case_after case_reply (case-heard id) (case-same id) (case-done id) (case-legal id) f (case-once f id) f.phases v vs w ws o.tried o.started.numbered o.started.actors (λ _. []) p at_v start.2 in

@@ -1,31 +1,26 @@
 -- A crew that has come together is ready.
-use Rattle.std.proofs.Common.{◌≡◌, ℕ, zero, suc, ◌+◌, ◌≤◌, ◌<◌, List, [], ◌∷◌, ◌++◌, length, map, refl, sym, ap, ◌∙◌, subst, arith, Option, Some, None, slice_get}
-use Rattle.std.specs.List.{AllZip, AllByRecursion}
-use Rattle.adept_server.specs.Desks.{KindPass, CasePass, DeskView, IsDesk, at_case, kind_after, kind_reply, case_after, case_reply}
+use Rattle.std.proofs.Common.{◌+◌, ◌∙◌, ◌≡◌, ℕ, List, [], ◌++◌, ◌∷◌, length, Option, Some, ap, arith, slice_get, subst, sym}
+use Rattle.std.specs.List.{AllByRecursion, AllZip}
+use Rattle.adept_server.specs.Desks.{CasePass, DeskView, IsDesk, KindPass, at_case}
 use Rattle.adept_server.specs.Opening.{IsFirstDesk}
-use Rattle.crew_run.proofs.Crew.{zip-at_case}
-use Rattle.crew_run.proofs.Defining.{IsDefining, defines-each, defines-cases}
-use Rattle.crew_run.proofs.Desks.{there-too, kind-heard, kind-same, kind-legal, case-heard, case-same, case-legal}
-use Rattle.crew_run.proofs.Meetings.{zip-at}
+use Rattle.case_core.specs.Machine.{case_after, case_reply}
+use Rattle.crew_run.proofs.PassesOfDesks.{case-fresh, case-heard, case-legal, case-number, case-same, kind-fresh, kind-heard, kind-legal, kind-number, kind-same}
+use Rattle.crew_run.proofs.SideBySide.{zip-at, zip-at_case, zip-many}
+use Rattle.crew_run.proofs.TypesDefined.{defines-cases, defines-each}
 use Rattle.crew_run.specs.Beginning.{AreHired, HaveMet}
-use Rattle.crew_run.specs.Cells.{Heard, SeenSame, HasMet}
-use Rattle.crew_run.specs.Crew.{kind_at, case_at, AreNumbered, DeskHeard, DeskSame}
-use Rattle.crew_run.specs.Defining.{DefinesAll, IsFresh, IsFreshPass, IsParent, IsParentPass}
-use Rattle.crew_run.specs.Ready.{IsReady, KindReady, CaseReady}
+use Rattle.crew_run.specs.Cells.{HasMet, Heard, SeenSame}
+use Rattle.crew_run.specs.Crew.{AreNumbered, DeskHeard, DeskSame, case_at, kind_at}
+use Rattle.crew_run.specs.Defining.{DefinesAll, IsFresh, IsFreshPass, IsParentPass}
+use Rattle.crew_run.specs.Ready.{CaseReady, IsReady, KindReady}
+use Rattle.legal_run.proofs.Places.{there-as}
 use Rattle.process_text.specs.declared.files.CaseDecl.{CaseDecl}
 use Rattle.process_text.specs.declared.files.File.{File}
 use Rattle.process_text.specs.declared.files.TypeDecl.{TypeDecl}
 use Rattle.turn_cell.specs.History.{entry}
-use Rattle.turn_cell.specs.Passes.{PassView, IsLegalView}
+use Rattle.turn_cell.specs.Passes.{IsLegalView, PassView}
+use Rattle.type_core.specs.Machine.{kind_after, kind_reply}
 use Rattle.type_core.specs.declared.events.KindEvent.TheVariants as event
-use Rattle.turn_cell.specs.declared.journal.Entry.{Entry}
 use Rattle.wsm_sound.specs.declared.versions.CaseId.{CaseId}
-
-pub met-many : (vs ws : List DeskView) → AllZip DeskHeard vs ws → length ws ≡ length vs
-met-many [] [] z = refl
-met-many [] (w ∷ ws) z = absurd z
-met-many (v ∷ vs) [] z = absurd z
-met-many (v ∷ vs) (w ∷ ws) (h, z) = ap suc (met-many vs ws z)
 
 pub met-numbered : (n : ℕ) (vs ws : List DeskView) → AllZip DeskHeard vs ws → AreNumbered n vs → AreNumbered n ws
 met-numbered n [] [] z k = tt
@@ -62,18 +57,6 @@ module _ {M E R W S : Type 0} (at : DeskView → Option (PassView M E R W S)) (a
         idle-met (n + 1) first first_then p q vs ws at_p at_q k fresh heard same desks,
       )
 
-pub kind-fresh : (t : ℕ) (v w : DeskView) (p : KindPass) → IsFresh v w → kind_at t v ≡ Some p → (q : KindPass) × (kind_at t w ≡ Some q) × IsFreshPass p q
-kind-fresh t v w p h e = zip-at IsFreshPass v.kinds w.kinds h.kinds t p e
-
-pub case-fresh : (c : CaseId) (v w : DeskView) (p : CasePass) → IsFresh v w → case_at c v ≡ Some p → (q : CasePass) × (case_at c w ≡ Some q) × IsFreshPass p q
-case-fresh c v w p h e = zip-at_case IsFreshPass v.cases w.cases h.cases c p e
-
-pub kind-number : (t : ℕ) (v : DeskView) (p : KindPass) → IsDesk v → kind_at t v ≡ Some p → p.number ≡ v.number
-kind-number t v p d e = (d.kinds t p e).number
-
-pub case-number : (c : CaseId) (v : DeskView) (p : CasePass) → IsDesk v → case_at c v ≡ Some p → p.number ≡ v.number
-case-number c v p d e = (d.cases c p e).number
-
 module _ (f : File) (counts : List ℕ) (v0 v1 v2 v3 : DeskView) (vs ws : List DeskView) (opened : IsFirstDesk counts v0) (hired : AreHired (length f.actors) v0 v1 vs) (defined : DefinesAll 0 f.types v1 v2) (met : HaveMet v2 vs v3 ws) where
   numbered_from : AreNumbered 1 vs
   numbered_from = subst (λ n. AreNumbered n vs) opened.made hired.numbered
@@ -83,7 +66,7 @@ module _ (f : File) (counts : List ℕ) (v0 v1 v2 v3 : DeskView) (vs ws : List D
 
   kind-ready : length v0.kinds ≡ length f.types → (t : ℕ) (d : TypeDecl) → slice_get f.types t ≡ Some d → KindReady v3 ws t d
   kind-ready types t d at_d =
-      let (p0, at0) = there-too f.types v0.kinds types t d at_d in
+      let (p0, at0) = there-as f.types v0.kinds t d types at_d in
       let unused = opened.kinds t p0 at0 in
       let (p1, at1, parent) = zip-at IsParentPass v0.kinds v1.kinds hired.parent.kinds t p0 at0 in
       let (p2, at2, def) = defines-each 0 f.types v1 v2 defined t d p1 at_d (subst (λ n. kind_at n v1 ≡ Some p1) (omega arith) at1) in
@@ -124,7 +107,7 @@ module _ (f : File) (counts : List ℕ) (v0 v1 v2 v3 : DeskView) (vs ws : List D
   pub ready-of : length v0.kinds ≡ length f.types → ((i : ℕ) (d : CaseDecl) → slice_get f.cases i ≡ Some d → (p : CasePass) × (case_at d.id v0 ≡ Some p)) → IsReady f v3 ws
   ready-of types cases = record {
     numbered = met-numbered 1 vs ws met.crew_heard numbered_from;
-    actors = met-many vs ws met.crew_heard ∙ hired.actors;
+    actors = zip-many DeskHeard vs ws met.crew_heard ∙ hired.actors;
     kinds = kind-ready types;
     cases = λ i d at_d. let there = cases i d at_d in case-ready d.id there.0 there.1;
   }

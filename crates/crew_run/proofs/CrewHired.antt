@@ -1,9 +1,9 @@
 -- A crew that is hired one after another.
-use Rattle.std.proofs.Common.{◌≡◌, ℕ, zero, suc, ◌+◌, List, [], ◌∷◌, length, map, refl, sym, ap, ◌∙◌, subst, arith, Result, Ok, Err, OnOk}
-use Rattle.std.specs.List.{AllZip, AllByRecursion}
-use Rattle.adept_server.specs.Desks.{KindPass, CasePass, DeskView}
-use Rattle.adept_server.specs.Opening.{parent_desk, new_desk}
-use Rattle.crew_run.proofs.Meetings.{zip-then, zip-self}
+use Rattle.std.proofs.Common.{◌+◌, ◌∙◌, ◌≡◌, ℕ, List, [], ◌∷◌, map, ap, arith, refl, subst, sym}
+use Rattle.std.specs.List.{AllByRecursion, AllZip}
+use Rattle.adept_server.specs.Desks.{DeskView}
+use Rattle.adept_server.specs.Opening.{new_desk, parent_desk}
+use Rattle.crew_run.proofs.SideBySide.{zip-self, zip-then}
 use Rattle.crew_run.specs.Beginning.{AreHired}
 use Rattle.crew_run.specs.Crew.{AreNumbered}
 use Rattle.crew_run.specs.Defining.{IsFresh, IsFreshPass, IsParent, IsParentPass}
@@ -72,8 +72,3 @@ hired-more more u v w d ds parent new rest = record {
   actors = let e = rest.actors in omega arith;
   fresh = (fresh-of u d new, all-fresh u v ds (parent-of u v parent) rest.fresh);
 }
-
--- what follows where a call went well
-pub on_ok : {A E : Type 0} {P Q : Type 0} (r : Result A E) → (P → Q) → OnOk r P → OnOk r Q
-on_ok (Ok a) f p = f p
-on_ok (Err e) f p = p

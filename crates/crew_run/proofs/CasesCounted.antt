@@ -1,7 +1,8 @@
 -- Counting the cases of each type.
-use Rattle.std.proofs.Common.{◌≡◌, ◌≢◌, ℕ, zero, suc, ◌+◌, ◌≤◌, ◌<◌, ◌==◌, true, false, List, length, take, get_or, set, replicate, Some, slice_get, inl, inr, refl, sym, ap, ◌∙◌, subst, arith, sum, eq-eqb, ne_eqb}
-use Rattle.std.proofs.lemmas.List.{length-set, length-replicate, take_all}
-use Rattle.std.proofs.lemmas.List.Sums.{sum_by-set, get_or-le-sum_by, count_by_more_yes, count_by_more_no}
+use Rattle.std.proofs.Common.{◌+◌, ◌<◌, ◌==◌, ◌∙◌, ◌≡◌, ◌≢◌, ◌≤◌, ℕ, zero, suc, List, length, Some, ap, arith, eq-eqb, false, get_or, inl, inr, ne_eqb, refl, replicate, set, slice_get, subst, sum, sym, take, true}
+use Rattle.std.proofs.Math.ListN.{length-set}
+use Rattle.std.proofs.lemmas.List.{length-replicate, take_all}
+use Rattle.std.proofs.lemmas.List.Sums.{count_by_more_no, count_by_more_yes, get_or-le-sum_by, sum_by-set}
 use Rattle.std.proofs.lemmas.Option.{get_or_from_slice_get}
 use mathlib.Core.Logic.{dite}
 use native.Mathlib.Decide.{ℕ_discrete}

@@ -1,21 +1,20 @@
 -- What the first desk has once it has taken the crew in.
-use Rattle.std.proofs.Common.{◌≡◌, ℕ, zero, suc, ◌+◌, ◌≤◌, ◌<◌, List, [], ◌∷◌, ◌++◌, length, map, refl, sym, ap, ◌∙◌, subst, arith, Option, Some, None, slice_get}
+use Rattle.std.proofs.Common.{◌+◌, ◌<◌, ◌∙◌, ◌≡◌, ℕ, zero, suc, List, [], ◌∷◌, length, map, None, Option, Some, ap, arith, refl, slice_get, subst, sym}
+use Rattle.std.specs.List.{AllByRecursion}
 use Rattle.std.specs.Prelude.{fold}
-use Rattle.adept_server.specs.Desks.{KindPass, CasePass, DeskView, at_case, in_row}
+use Rattle.adept_server.specs.Desks.{CasePass, DeskView, KindPass, at_case, in_row}
 use Rattle.adept_server.specs.Opening.{joined_desk}
-use Rattle.crew_run.proofs.Cells.{phases-hold, done_by, joins-gather}
-use Rattle.crew_run.specs.Cells.{HasMet, Phases, Joins}
-use Rattle.crew_run.specs.Crew.{kind_at, case_at}
+use Rattle.crew_run.proofs.CellHistory.{done_by, joins-gather, phases-hold}
+use Rattle.crew_run.proofs.SideBySide.{zip-length, zip-shape, zip_with-at}
+use Rattle.crew_run.specs.CaseCounts.{AreCounts}
+use Rattle.crew_run.specs.Cells.{HasMet, Joins, Phases}
+use Rattle.crew_run.specs.Crew.{case_at, kind_at}
+use Rattle.crew_run.specs.Phases.{HasShape}
+use Rattle.process_text.specs.declared.files.File.{File}
 use Rattle.turn_cell.specs.Passes.{PassView, joined}
 use Rattle.turn_cell.specs.declared.journal.Entry.{Entry}
 use Rattle.turn_rows.specs.Rows.{zip_with}
 use Rattle.wsm_sound.specs.declared.versions.CaseId.{CaseId}
-
-zip_with-at : {A B C : Type 0} (f : A → B → C) (xs : List A) (ys : List B) (i : ℕ) (x : A) (y : B) → slice_get xs i ≡ Some x → slice_get ys i ≡ Some y → slice_get (zip_with f xs ys) i ≡ Some (f x y)
-zip_with-at f [] ys i x y a b = absurd (cc (a))
-zip_with-at f (v ∷ xs) [] i x y a b = absurd (cc (b))
-zip_with-at f (v ∷ xs) (w ∷ ys) zero x y a b = cc (a, b)
-zip_with-at f (v ∷ xs) (w ∷ ys) (suc i) x y a b = zip_with-at f xs ys i x y a b
 
 row_of : {A : Type 0} (rows : List (List A)) (c : CaseId) (x : A) → at_case rows c ≡ Some x → (row : List A) × (slice_get rows c.type_no ≡ Some row) × (slice_get row c.place ≡ Some x)
 row_of rows c x e = by (slice_get rows c.type_no) refl e
@@ -50,3 +49,32 @@ module _ {M E R W S : Type 0} (at : DeskView → Option (PassView M E R W S)) (a
       let js = joins-of 1 (done_by (λ _. []) dids) h.0.seen es w h.0 last h.1 h.4 is in
       let j = joins-gather at after reply 1 (done_by (λ _. []) dids) w es last h.0 h.1 h.4 js in
       (j.0, j.1, js)
+
+same-lists : (xs ys : List ℕ) → length ys ≡ length xs → ((i : ℕ) → i < length xs → slice_get ys i ≡ slice_get xs i) → ys ≡ xs
+same-lists [] [] many same = refl
+same-lists [] (y ∷ ys) many same = absurd (omega arith)
+same-lists (x ∷ xs) [] many same = absurd (omega arith)
+same-lists (x ∷ xs) (y ∷ ys) many same = cc (same zero (omega arith), same-lists xs ys (omega arith) (λ i low. same (suc i) (omega arith)))
+
+-- a file has its counts
+same-counts : (f : File) (xs ys : List ℕ) → AreCounts f xs → AreCounts f ys → ys ≡ xs
+same-counts f xs ys a b = same-lists xs ys (b.types ∙ sym a.types) (λ i low. let few = a.types in b.each i (omega arith) ∙ sym (a.each i (omega arith)))
+
+-- The first desk with those that it has taken in.
+pub record HasTaken (f : File) (many : ℕ) (v w : DeskView) : Type 0 where
+  pub number : w.number ≡ v.number
+  pub made : w.made ≡ v.made
+  pub taken : w.taken ≡ v.taken + many
+  pub types : length w.kinds ≡ length f.types
+  pub counted : AreCounts f (map length w.cases)
+
+go-on : (f : File) (v : DeskView) (ws : List DeskView) → length v.kinds ≡ length f.types → AreCounts f (map length v.cases) → AllByRecursion (HasShape f) ws → HasTaken f (length ws) v (fold joined_desk v ws)
+go-on f v [] types counted all = record { number = refl; made = refl; taken = omega arith; types = types; counted = counted }
+go-on f v (w ∷ ws) types counted (b, all) =
+    let many = zip-length _ v.kinds w.kinds (b.types ∙ sym types) in
+    let shape = zip-shape _ v.cases w.cases (same-counts f (map length v.cases) (map length w.cases) counted b.counted) in
+    let r = go-on f (joined_desk v w) ws (many ∙ types) (subst (AreCounts f) (sym shape) counted) all in
+    record { number = r.number; made = r.made; taken = (let e = r.taken in omega arith); types = r.types; counted = r.counted }
+
+pub has-taken : (f : File) (v : DeskView) (ws : List DeskView) → HasShape f v → AllByRecursion (HasShape f) ws → HasTaken f (length ws) v (fold joined_desk v ws)
+has-taken f v ws a all = go-on f v ws a.types a.counted all

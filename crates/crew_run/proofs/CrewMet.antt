@@ -1,46 +1,33 @@
--- A crew that was hired, whose first desk has defined the types, and that has met, can work.
-use Rattle.std.proofs.Common.{◌≡◌, ℕ, zero, suc, ◌+◌, ◌≤◌, ◌<◌, List, [], ◌∷◌, length, length-append, map, Bool, true, false, ◌||◌, ◌⊎◌, inl, inr, Option, Some, None, slice_get, refl, sym, ap, ◌∙◌, subst, arith}
-use Rattle.std.specs.List.{AllZip, AllByRecursion, list_any}
-use Rattle.std.proofs.Math.ListN.{length-set}
+-- A crew that has met before the first phase: it can work where all types were defined; and whatever was defined, only the first desk has made calls, at most one of a cell.
+use Rattle.std.proofs.Common.{◌∙◌, ◌≡◌, ◌≤◌, ℕ, List, [], ◌∷◌, length, map, Some, ap, arith, inl, refl, subst, sym}
 use Rattle.std.proofs.lemmas.List.{length-map}
-use Rattle.adept_actor.specs.Work.{SeesFull, Works as WorksLines}
-use Rattle.adept_actor.specs.Work.SeesFull.{of_kind as kind_is_full, of_case as case_is_full}
-use Rattle.adept_server.specs.Desks.{KindPass, CasePass, DeskView, IsDesk, IsDeskOf, desk_view, at_case, kind_after, kind_reply, case_after, case_reply}
-use Rattle.adept_server.specs.Opening.{SeesMore}
+use Rattle.std.specs.List.{AllByRecursion, AllZip}
+use Rattle.adept_actor.proofs.Desks.{case-there}
+use Rattle.adept_server.specs.Desks.{CasePass, DeskView, IsDeskOf, KindPass, at_case, desk_view}
 use Rattle.adept_server.specs.declared.desks.Desk.{Desk}
 use Rattle.adept_server.specs.declared.servers.Server.{Server}
-use Rattle.crew_run.proofs.Able.{able-heard, all-same, desks-are, zip-many, zip-rows}
-use Rattle.crew_run.proofs.Crew.{zip-at_case}
-use Rattle.crew_run.proofs.DeskMeetings.{same-is-seen}
-use Rattle.crew_run.proofs.Desks.{there-too, there-too_case, kind-heard, kind-same, kind-legal, case-heard, case-same, case-legal}
-use Rattle.crew_run.proofs.Meetings.{zip-at, zip-so}
-use Rattle.crew_run.proofs.Beginning.{ready-of, idle-met, kind-fresh, case-fresh, kind-number, case-number, met-many, met-numbered}
+use Rattle.case_core.specs.Machine.{case_after, case_reply}
 use Rattle.crew_run.proofs.CasePlaces.{there-for_case}
-use Rattle.crew_run.proofs.Defining.{defines-cases, some-cases, some-few}
+use Rattle.crew_run.proofs.CrewReady.{idle-met, met-numbered, ready-of}
+use Rattle.crew_run.proofs.DesksCanWork.{able-heard, all-same}
+use Rattle.crew_run.proofs.EachWorker.{desks-are}
+use Rattle.crew_run.proofs.PassesOfDesks.{case-fresh, case-heard, case-legal, case-number, case-same, kind-fresh, kind-heard, kind-legal, kind-number, kind-same}
+use Rattle.crew_run.proofs.SideBySide.{zip-at, zip-at_case, zip-many, zip-rows}
+use Rattle.crew_run.proofs.TypesDefined.{defines-cases, defines-many, some-cases, some-few}
 use Rattle.crew_run.specs.CaseCounts.{AreCounts}
-use Rattle.crew_run.specs.Cells.{Heard, HasMet}
-use Rattle.crew_run.specs.Crew.{AreNumbered, kind_at, case_at, DeskHeard, DeskSame}
+use Rattle.crew_run.specs.Cells.{HasMet}
+use Rattle.crew_run.specs.Crew.{AreNumbered, DeskHeard, DeskSame, case_at, kind_at}
 use Rattle.crew_run.specs.Defining.{DefinesAll, DefinesSome, IsParentPass, KnowsTypes}
-use Rattle.crew_run.specs.Phases.{AreTogether, HasShape, HasWorked, IsAble, IsBegun, IsCrew, IsStarted, PhasesTried, SeesMany, ended, is_full_fault}
-use Rattle.crew_run.specs.Phases.SeesMany.{of_kind, of_case}
+use Rattle.crew_run.specs.Phases.{AreTogether, HasShape, IsAble, IsBegun, IsCrew, IsStarted, PhasesTried}
 use Rattle.crew_run.specs.Ready.{IsReady}
-use Rattle.crew_run.specs.Workers.{AreDesksOf, desks_of, faults_of}
+use Rattle.crew_run.specs.Workers.{AreDesksOf, desks_of}
 use Rattle.crew_run.specs.declared.workers.Worker.{Worker}
 use Rattle.file_facts.specs.Facts.{IsWorkable}
-use Rattle.process_text.specs.declared.files.CaseDecl.{CaseDecl}
+use Rattle.legal_run.proofs.Places.{there-as}
 use Rattle.process_text.specs.declared.files.File.{File}
 use Rattle.process_text.specs.declared.files.Line.{Line}
-use Rattle.process_text.specs.declared.files.TypeDecl.{TypeDecl}
-use Rattle.script_run.specs.Calls.{roles_of}
-use Rattle.turn_cell.specs.declared.faults.CallFault.{CallFault}
-use Rattle.turn_cell.specs.declared.faults.CallFault.TheVariants as fault
-use Rattle.turn_rows.specs.Rows.{IsSeenBy}
+use Rattle.type_core.specs.Machine.{kind_after, kind_reply}
 use Rattle.wsm_sound.specs.declared.versions.CaseId.{CaseId}
-
--- definitions leave as many passes
-defines-many : (t : ℕ) (ds : List TypeDecl) (v w : DeskView) → DefinesAll t ds v w → length w.kinds ≡ length v.kinds
-defines-many t [] v w same = ap (λ (x : DeskView). length x.kinds) same
-defines-many t (d ∷ ds) v w (answer, m, k, rest) = defines-many (t + 1) ds m w rest ∙ (ap length k.called.others ∙ length-set v.kinds t k.called.behind)
 
 module _ (s : Server) (f : File) (workable : IsWorkable f) (v1 v2 : DeskView) (first : Desk) (vs : List DeskView) (crew : List Worker) (b : IsBegun f v1 vs) (defined : DefinesAll 0 f.types v1 v2) (desk : IsDeskOf s first) (desks : AreDesksOf s crew)
     (heard : DeskHeard v2 (desk_view first)) (crew_heard : AllZip DeskHeard vs (desks_of crew)) (same : AllByRecursion (DeskSame (desk_view first)) (desks_of crew)) where
@@ -118,7 +105,7 @@ module _ (s : Server) (f : File) (workable : IsWorkable f) (v1 v2 : DeskView) (f
       }
 
   crew-many : length crew ≡ length f.actors
-  crew-many = sym (length-map crew _) ∙ (met-many vs (desks_of crew) crew_heard ∙ b.hired.actors)
+  crew-many = sym (length-map crew _) ∙ (zip-many DeskHeard vs (desks_of crew) crew_heard ∙ b.hired.actors)
 
   pub together-begun : AreTogether s f first crew
   together-begun =
@@ -143,7 +130,7 @@ module _ (s : Server) (f : File) (workable : IsWorkable f) (v1 v2 : DeskView) (f
       let ws = desks_of crew in
       let stays = some-cases 0 f.types v1 v2 some in
       let many = zip-many _ v2.kinds v3.kinds heard.kinds ∙ (stays.4 ∙ zip-many IsParentPass b.before.kinds v1.kinds b.hired.parent.kinds) in
-      let (p0, at0) = there-too v3.kinds b.before.kinds (sym many) t p3 at3 in
+      let (p0, at0) = there-as v3.kinds b.before.kinds t p3 (sym many) at3 in
       let unused = b.opened.kinds t p0 at0 in
       let (p1, at1, parent) = zip-at IsParentPass b.before.kinds v1.kinds b.hired.parent.kinds t p0 at0 in
       let (p2, at2, called) = some-few 0 f.types v1 v2 some t p1 (omega arith) at1 in
@@ -163,7 +150,7 @@ module _ (s : Server) (f : File) (workable : IsWorkable f) (v1 v2 : DeskView) (f
       let ws = desks_of crew in
       let stays = some-cases 0 f.types v1 v2 some in
       let many = zip-rows _ v2.cases v3.cases heard.cases ∙ (ap (map length) stays.0 ∙ zip-rows _ b.before.cases v1.cases b.hired.parent.cases) in
-      let (p0, at0) = there-too_case v3.cases b.before.cases (sym many) id p3 at3 in
+      let (p0, at0) = case-there v3.cases b.before.cases id p3 (sym many) at3 in
       let unused = b.opened.cases id p0 at0 in
       let (p1, at1, parent) = zip-at_case IsParentPass b.before.cases v1.cases b.hired.parent.cases id p0 at0 in
       let at2 : case_at id v2 ≡ Some p1 = ap (λ rows. at_case rows id) stays.0 ∙ at1 in
@@ -179,7 +166,7 @@ module _ (s : Server) (f : File) (workable : IsWorkable f) (v1 v2 : DeskView) (f
   pub started-of : IsStarted f (desk_view first) (desks_of crew)
   started-of = record {
     numbered = met-numbered 1 vs (desks_of crew) crew_heard numbered_from;
-    actors = met-many vs (desks_of crew) crew_heard ∙ b.hired.actors;
+    actors = zip-many DeskHeard vs (desks_of crew) crew_heard ∙ b.hired.actors;
     kinds = kind-started;
     cases = case-started;
   }
@@ -188,49 +175,3 @@ module _ (s : Server) (f : File) (workable : IsWorkable f) (v1 v2 : DeskView) (f
 pub tried-none : (f : File) (phases : List (List Line)) (v : DeskView) (vs : List DeskView) → PhasesTried f phases v vs v vs
 tried-none f [] v vs = (refl, refl)
 tried-none f (lines ∷ phases) v vs = inl (refl, refl)
-
--- who has seen more has seen many
-pub many-seen : (v w : DeskView) → SeesMore v w → SeesMany v → SeesMany w
-many-seen v w more (of_kind t p at_p many) =
-    let (q, at_q, prefix) = zip-at IsSeenBy v.kinds w.kinds more.kinds t p at_p in
-    of_kind t q at_q (let e = ap length prefix.1 in let l = length-append p.seen prefix.0 in omega (arith, many))
-many-seen v w more (of_case c p at_p many) =
-    let (q, at_q, prefix) = zip-at_case IsSeenBy v.cases w.cases more.cases c p at_p in
-    of_case c q at_q (let e = ap length prefix.1 in let l = length-append p.seen prefix.0 in omega (arith, many))
-
-pub heard-is-more : (v w : DeskView) → DeskHeard v w → SeesMore v w
-heard-is-more v w h = record {
-  kinds = zip-so Heard IsSeenBy (λ p q k. k.more) v.kinds w.kinds h.kinds;
-  cases = zip-so (AllZip Heard) (AllZip IsSeenBy) (zip-so Heard IsSeenBy (λ p q k. k.more)) v.cases w.cases h.cases;
-}
-
-full-is-many : (v : DeskView) → SeesFull v → SeesMany v
-full-is-many v (kind_is_full t p at_p full) = of_kind t p at_p (omega (arith, full))
-full-is-many v (case_is_full c p at_p full) = of_case c p at_p (omega (arith, full))
-
--- where one of the crew met a full journal, the first desk has seen it once all have met
-pub full-among : (f : File) (lines : List Line) (first : DeskView) (old mid new : List Worker) → list_any (λ (w : Worker). is_full_fault w.fault) new ≡ true → faults_of new ≡ faults_of mid → AllZip (HasWorked f lines) old mid
-    → AllZip DeskHeard (desks_of mid) (desks_of new) → AllByRecursion (DeskSame first) (desks_of new) → SeesMany first
-full-among f lines first [] [] [] any faults worked heard same = absurd (cc (any))
-full-among f lines first [] [] (y ∷ new) any faults worked heard same = absurd heard
-full-among f lines first [] (x ∷ mid) new any faults worked heard same = absurd worked
-full-among f lines first (w ∷ old) [] new any faults worked heard same = absurd worked
-full-among f lines first (w ∷ old) (x ∷ mid) [] any faults worked heard same = absurd heard
-full-among f lines first (w ∷ old) (x ∷ mid) (y ∷ new) any faults (k, worked) (h, heard) (s, same) =
-    by (is_full_fault y.fault) refl (full-among f lines first old mid new)
-  where
-    head-fault : y.fault ≡ x.fault
-    head-fault = cc (faults)
-
-    met-full : (o : Option CallFault) → x.fault ≡ o → is_full_fault o ≡ true → SeesMany first
-    met-full (Some fault.Full) is full =
-        let worked_so : WorksLines (roles_of f (desk_view w.desk).number) lines (ended (Some fault.Full)) (desk_view w.desk) (desk_view x.desk) = subst (λ o. WorksLines (roles_of f (desk_view w.desk).number) lines (ended o) (desk_view w.desk) (desk_view x.desk)) is k in
-        many-seen (desk_view y.desk) first (same-is-seen first (desk_view y.desk) s) (many-seen (desk_view x.desk) (desk_view y.desk) (heard-is-more (desk_view x.desk) (desk_view y.desk) h) (full-is-many (desk_view x.desk) (worked_so.1 refl)))
-    met-full (Some fault.NoMemory) is full = absurd (cc (full))
-    met-full None is full = absurd (cc (full))
-
-    by : (b : Bool) → is_full_fault y.fault ≡ b
-        → (list_any (λ (w : Worker). is_full_fault w.fault) new ≡ true → faults_of new ≡ faults_of mid → AllZip (HasWorked f lines) old mid → AllZip DeskHeard (desks_of mid) (desks_of new) → AllByRecursion (DeskSame first) (desks_of new) → SeesMany first)
-        → SeesMany first
-    by true is rest = met-full x.fault refl (ap is_full_fault (sym head-fault) ∙ is)
-    by false is rest = rest (ap (λ b. b || list_any (λ (w : Worker). is_full_fault w.fault) new) (sym is) ∙ any) (cc (faults)) worked heard same

@@ -1,16 +1,17 @@
 -- What two desks have seen once they have met.
-use Rattle.std.proofs.Common.{◌≡◌, ℕ, List, [], ◌∷◌, ◌++◌, length, map, refl, sym, ap, ◌∙◌, subst}
-use Rattle.std.specs.List.{AllZip, AllByRecursion}
+use Rattle.std.proofs.Common.{◌∙◌, ◌≡◌, List, [], ◌∷◌, ap, refl, subst, sym}
+use Rattle.std.specs.List.{AllByRecursion, AllZip}
 use mathlib.Core.List.{IsPrefix}
-use Rattle.adept_server.specs.Desks.{KindPass, CasePass, DeskView}
+use Rattle.adept_server.specs.Desks.{CasePass, DeskView, KindPass}
 use Rattle.adept_server.specs.Opening.{SeesMore, first_desk_met, second_desk_met}
-use Rattle.crew_run.proofs.Cells.{heard-more, heard-nothing}
-use Rattle.crew_run.proofs.Meetings.{met-heard, met-heard_second, met-same, met-stays, zip-then, zip-so, zip-self, zip-back}
+use Rattle.crew_run.proofs.CellHistory.{heard-more, heard-nothing}
+use Rattle.crew_run.proofs.PassesMeet.{met-heard, met-heard_second, met-same, met-stays}
+use Rattle.crew_run.proofs.SideBySide.{zip-back, zip-self, zip-so, zip-then}
 use Rattle.crew_run.specs.Cells.{Heard, SeenSame}
-use Rattle.crew_run.specs.Crew.{DeskHeard, DeskSame}
+use Rattle.crew_run.specs.Crew.{DeskHeard, DeskSame, HasPassesOf}
 use Rattle.turn_cell.proofs.Prefixes.{prefix_self, prefix_trans}
 use Rattle.turn_cell.specs.Passes.{PassView}
-use Rattle.turn_rows.specs.Rows.{zip_with, first_met, second_met, IsSeenBy}
+use Rattle.turn_rows.specs.Rows.{IsSeenBy, first_met, second_met, zip_with}
 
 module _ {M E R W S : Type 0} where
   -- what the second of two has seen, it still sees behind the meeting
@@ -118,3 +119,14 @@ same-by_same v w u is s = record {
   kinds = subst (λ (xs : List KindPass). AllZip SeenSame xs u.kinds) (sym is.0) s.kinds;
   cases = subst (λ (xs : List (List CasePass)). AllZip (AllZip SeenSame) xs u.cases) (sym is.1) s.cases;
 }
+
+pub heard-is-more : (v w : DeskView) → DeskHeard v w → SeesMore v w
+heard-is-more v w h = record {
+  kinds = zip-so Heard IsSeenBy (λ p q k. k.more) v.kinds w.kinds h.kinds;
+  cases = zip-so (AllZip Heard) (AllZip IsSeenBy) (zip-so Heard IsSeenBy (λ p q k. k.more)) v.cases w.cases h.cases;
+}
+
+-- all have seen no more than a desk with the same passes
+pub all-seen : (v w : DeskView) → HasPassesOf v w → (us : List DeskView) → AllByRecursion (λ u. SeesMore u v) us → AllByRecursion (λ u. SeesMore u w) us
+all-seen v w same [] k = tt
+all-seen v w same (u ∷ us) (k, ks) = (seen-by_same u v w same k, all-seen v w same us ks)

@@ -1,41 +1,38 @@
 -- The journals that a crew leaves are legal.
-use Rattle.std.proofs.Common.{◌≡◌, ◌≢◌, ℕ, zero, suc, ◌+◌, ◌≤◌, ◌<◌, List, [], ◌∷◌, ◌++◌, length, map, take, refl, sym, ap, ◌∙◌, subst, arith, Option, Some, None, slice_get, Bool, true, false, eqb, eq-eqb, ne_eqb, if◌then◌else◌, All, get_or}
+use Rattle.std.proofs.Common.{◌<◌, ◌∙◌, ◌≡◌, ◌≤◌, ℕ, zero, suc, List, [], ◌++◌, ◌∷◌, length, map, All, Bool, None, Option, Some, ap, arith, eq-eqb, eqb, false, get_or, if◌then◌else◌, refl, subst, sym, true}
 use Rattle.std.proofs.lemmas.List.{length-map}
-use mathlib.Core.List.{IsPrefix}
-use Rattle.adept_server.specs.Desks.{KindPass, CasePass, DeskView, kind_after, kind_reply, case_after, case_reply}
+use Rattle.adept_server.specs.Desks.{CasePass, DeskView, KindPass}
 use Rattle.case_core.specs.CaseModel.{CaseModel, not_created}
-use Rattle.crew_run.proofs.Cells.{IsHistory, cell-history, start-own, met-holds}
-use Rattle.crew_run.proofs.Crew.{traces_of, traces-fit, phases-at}
-use Rattle.crew_run.proofs.Desks.{kind-heard, kind-same, kind-done, kind-legal, case-heard, case-same, case-done, case-legal}
-use Rattle.crew_run.proofs.Traces.{on_each, by_phases, by_all}
-use Rattle.crew_run.specs.Cells.{HasMet, Phases, Joins, HoldsByPhases}
-use Rattle.crew_run.specs.Crew.{kind_at, case_at, PhasesDone}
-use Rattle.crew_run.specs.Ready.{KindReady, CaseReady}
-use Rattle.legal_run.proofs.OnMachines.{on_kind-append, on_case-append}
-use Rattle.legal_run.specs.Legal.{Trace, IsActor, HasCalls, IsByPhases, AreOfActors, IsLegalKind, IsLegalCase}
-use Rattle.legal_run.specs.LineCalls.{Call, on_kind, on_case}
+use Rattle.case_core.specs.Machine.{case_after, case_reply}
+use Rattle.case_core.specs.declared.events.Event.{Event}
+use Rattle.case_core.specs.declared.replies.Reply.{Reply}
+use Rattle.case_core.specs.declared.views.View.{View}
+use Rattle.crew_run.proofs.ByPhases.{by_all, by_phases, on_each}
+use Rattle.crew_run.proofs.CellHistory.{IsHistory, cell-history, met-holds, start-own}
+use Rattle.crew_run.proofs.PassesOfDesks.{case-done, case-heard, case-legal, case-same, kind-done, kind-heard, kind-legal, kind-same}
+use Rattle.crew_run.proofs.PhaseByCell.{phases-at, traces_of}
+use Rattle.crew_run.specs.Cells.{HoldsByPhases, Joins}
+use Rattle.crew_run.specs.Crew.{PhasesDone, case_at, kind_at}
+use Rattle.crew_run.specs.Ready.{CaseReady, KindReady}
+use Rattle.legal_run.proofs.OnMachines.{on_case-append, on_kind-append}
+use Rattle.legal_run.specs.Legal.{AreOfActors, IsByPhases, IsLegalCase, IsLegalKind, Trace}
+use Rattle.legal_run.specs.LineCalls.{Call, on_case, on_kind}
 use Rattle.process_text.specs.declared.files.CaseDecl.{CaseDecl}
 use Rattle.process_text.specs.declared.files.File.{File}
 use Rattle.process_text.specs.declared.files.Line.{Line}
 use Rattle.process_text.specs.declared.files.TypeDecl.{TypeDecl}
 use Rattle.script_run.specs.Serial.{program}
 use Rattle.turn_cell.specs.History.{IsLegal, IsLegalFrom, IsStateAfter, calls_of, entry, state_after}
-use Rattle.turn_cell.specs.Passes.{PassView, IsLegalView, IsClosed}
+use Rattle.turn_cell.specs.Passes.{IsClosed}
 use Rattle.turn_cell.specs.declared.journal.Entry.{Entry}
-use Rattle.case_core.specs.declared.events.Event.{Event}
-use Rattle.case_core.specs.declared.replies.Reply.{Reply}
-use Rattle.case_core.specs.declared.views.View.{View}
+use Rattle.type_core.proofs.Versions.{sound-defined}
 use Rattle.type_core.specs.KindModel.{KindModel, not_defined}
-use Rattle.type_core.specs.Machine.{next_kind, defined_by}
+use Rattle.type_core.specs.Machine.{kind_after, kind_reply}
 use Rattle.type_core.specs.declared.events.KindEvent.{KindEvent}
 use Rattle.type_core.specs.declared.events.KindEvent.TheVariants as event
 use Rattle.type_core.specs.declared.replies.KindReply.{KindReply}
 use Rattle.type_core.specs.declared.replies.KindReply.TheVariants as reply
-use Rattle.wsm_schema.specs.SchemaModel.{SchemaModel}
-use Rattle.wsm_sound.specs.Faults.{fault_of, unless_fault}
-use Rattle.wsm_sound.specs.Versions.{with_schema, first_version}
-use Rattle.wsm_sound.specs.declared.faults.Fault.{Fault}
-use Rattle.wsm_sound.specs.declared.versions.CaseId.{CaseId}
+use Rattle.wsm_sound.specs.Faults.{fault_of}
 
 -- what a machine is from an opening state that is known
 legal-from : {M E R W S : Type 0} (after : S → E → S) (reply : S → E → R) (o : Option S) (s : S) (es : List (Entry M E R W S)) → o ≡ Some s → IsLegalFrom after reply o es → IsLegal after reply s es
@@ -61,10 +58,6 @@ module _ {M E R W S : Type 0} where
       positive : (c : ℕ) → (get_or xs i d).caller ≡ c → 1 ≤ c
       positive zero is = absurd (stands xs i d low is none)
       positive (suc c) is = omega arith
-
--- a sound type is defined where it was not
-defined-sound : (t : ℕ) (schema : SchemaModel) → fault_of schema ≡ None → kind_reply (not_defined t) (event.Define schema) ≡ reply.Defined
-defined-sound t schema sound = ap (λ o. (defined_by (not_defined t) (with_schema (first_version t) (unless_fault o schema))).1) sound
 
 -- by what was done at a cell, the journal holds what the traces say
 module _ {M E R W S : Type 0} (on : List Call → List (Entry M E R W S)) (on-none : on [] ≡ []) (on-append : (xs ys : List Call) → on (xs ++ ys) ≡ on xs ++ on ys) where
@@ -93,7 +86,7 @@ kind-end f traces t d p r answer machine journal phases sound opens own_is first
     let rest = h.begins.0 in
     let whole : journal ≡ entry program (event.Define d.schema) answer ∷ rest = sym h.begins.1 ∙ ap (λ xs. xs ++ rest) start_is in
     let legal = legal-from kind_after kind_reply r.opening (not_defined t) journal (opening ∙ opens) closed.legal in
-    let answer_is : answer ≡ reply.Defined = (subst (IsLegal kind_after kind_reply (not_defined t)) whole legal).0 ∙ defined-sound t d.schema sound in
+    let answer_is : answer ≡ reply.Defined = (subst (IsLegal kind_after kind_reply (not_defined t)) whole legal).0 ∙ ap (λ step. step.1) (sound-defined t d.schema sound) in
     let few_rest = subst (All (λ e. e.caller ≤ length f.actors)) whole h.callers in
     let none_rest : calls_of 0 rest ≡ [] = cc (sym (ap (calls_of 0) whole) ∙ (h.first ∙ own_is)) in
     record {

@@ -1,19 +1,18 @@
 -- A crew that works a cell phase by phase leaves a journal that holds what each actor did, phase by phase.
-use Rattle.std.proofs.Common.{◌≡◌, ◌≢◌, ℕ, zero, suc, ◌+◌, ◌≤◌, ◌<◌, List, [], ◌∷◌, ◌++◌, length, Option, Some, refl, sym, ap, ◌∙◌, subst, arith, append_assoc, length-append, All, Any, ◌⊎◌, inl, inr, get_or, Bool, true, false, ltb, eq-eqb, ne_eqb, if◌then◌else◌}
+use Rattle.std.proofs.Common.{◌+◌, ◌<◌, ◌∙◌, ◌≡◌, ◌≢◌, ◌≤◌, ◌⊎◌, ℕ, zero, suc, List, [], ◌++◌, ◌∷◌, length, All, Any, Bool, Option, Some, ap, append_assoc, arith, eq-eqb, false, get_or, if◌then◌else◌, inl, inr, length-append, ltb, ne_eqb, refl, subst, sym, true}
 use Rattle.std.proofs.lemmas.List.{append-nil}
-use mathlib.Core.Logic.{dite}
-use native.Mathlib.Decide.{ℕ_discrete}
 use Rattle.std.specs.List.{AllZip}
 use mathlib.Core.List.{IsPrefix}
+use mathlib.Core.Logic.{dite}
+use native.Mathlib.Decide.{ℕ_discrete}
+use Rattle.crew_run.proofs.SideBySide.{zip-many}
+use Rattle.crew_run.specs.Cells.{HasMet, Heard, Holds, HoldsByPhases, Joins, Phases, Worked}
+use Rattle.legal_run.proofs.Places.{some_one}
 use Rattle.turn_cell.proofs.Prefixes.{prefix_self, prefix_trans}
 use Rattle.turn_cell.specs.History.{calls_of}
-use Rattle.turn_cell.specs.Passes.{PassView, IsLegalView, IsClosed, joined}
+use Rattle.turn_cell.specs.Passes.{IsClosed, IsLegalView, PassView, joined}
 use Rattle.turn_cell.specs.Rule.{longer}
 use Rattle.turn_cell.specs.declared.journal.Entry.{Entry}
-use Rattle.crew_run.specs.Cells.{Heard, Worked, Holds, HoldsByPhases, HasMet, Phases, Joins}
-
-some_one : {A : Type 0} {x y : A} {o : Option A} → o ≡ Some x → o ≡ Some y → x ≡ y
-some_one e f = cc (e, f)
 
 module _ {M E R W S : Type 0} where
   -- nothing heard, and one thing heard after another
@@ -71,13 +70,6 @@ module _ {M E R W S : Type 0} {D : Type 0} (at : D → Option (PassView M E R W 
         worked-met (n + 1) did more seen behind ds es rest ws,
       )
 
-  -- a crew stays as many
-  worked-many : (P : D → D → Type 0) (ds es : List D) → AllZip P ds es → length es ≡ length ds
-  worked-many P [] [] w = refl
-  worked-many P [] (e ∷ es) w = absurd w
-  worked-many P (d ∷ ds) [] w = absurd w
-  worked-many P (d ∷ ds) (e ∷ es) (w, ws) = ap suc (worked-many P ds es ws)
-
   holds-met : (did : ℕ → List (Entry M E R W S)) (seen : List (Entry M E R W S)) (ds : List D) (n : ℕ) → n ≡ length ds → HasMet at after reply 1 did seen ds → Holds n did seen
   holds-met did seen ds n many m a low high = met-holds 1 did seen ds m a (omega arith) (omega arith)
 
@@ -91,7 +83,7 @@ module _ {M E R W S : Type 0} {D : Type 0} (at : D → Option (PassView M E R W 
       let is : phase.before ≡ p = some_one phase.there there in
       let heard : Heard p phase.behind = subst (λ (v : PassView M E R W S). Heard v phase.behind) is phase.heard in
       let met = worked-met 1 did more p.seen phase.behind ds between m phase.worked in
-      let r = phases-hold rest (λ a. did a ++ more a) n middle between w es phase.behind phase.there_then (many ∙ sym (worked-many _ ds between phase.worked)) met ps in
+      let r = phases-hold rest (λ a. did a ++ more a) n middle between w es phase.behind phase.there_then (many ∙ sym (zip-many _ ds between phase.worked)) met ps in
       (r.0, r.1, heard-more p phase.behind r.0 heard r.2, r.3, r.4, ((p.seen, (heard-more p phase.behind r.0 heard r.2).more, holds-met did p.seen ds n many m), r.5))
 
   -- what the first desk took in of the crew

@@ -1,33 +1,31 @@
 -- A run that a crew makes is legal.
-use Rattle.std.proofs.Common.{◌≡◌, ℕ, zero, suc, ◌+◌, ◌≤◌, ◌<◌, List, [], ◌∷◌, ◌++◌, length, map, refl, sym, ap, ◌∙◌, subst, arith, Option, Some, None, slice_get}
-use Rattle.std.specs.Prelude.{fold}
+use Rattle.std.proofs.Common.{◌∙◌, ◌≡◌, ℕ, zero, suc, List, [], ◌∷◌, length, map, Some, ap, slice_get, subst, sym}
 use Rattle.std.proofs.lemmas.List.{length-map}
-use Rattle.adept_server.specs.Desks.{KindPass, CasePass, DeskView, kind_after, kind_reply, case_after, case_reply}
+use Rattle.std.specs.Prelude.{fold}
+use Rattle.adept_server.specs.Desks.{DeskView}
 use Rattle.adept_server.specs.Opening.{IsClosedServer, joined_desk}
 use Rattle.adept_server.specs.declared.closing.ClosedServer.{ClosedServer}
-use Rattle.crew_run.proofs.Crew.{traces_of, traces-fit, phases-at}
-use Rattle.crew_run.proofs.Desks.{kind-heard, kind-same, kind-done, kind-legal, case-heard, case-same, case-done, case-legal}
-use Rattle.crew_run.proofs.Gathering.{kind-joined, case-joined, cell-last}
-use Rattle.crew_run.proofs.Histories.{kind-legal-end, case-legal-end}
-use Rattle.crew_run.specs.Closing.{IsRunOf, closed_kind, closed_case}
-use Rattle.crew_run.specs.Crew.{kind_at, case_at, PhasesDone}
-use Rattle.crew_run.specs.Ready.{IsReady, KindReady, CaseReady}
+use Rattle.case_core.specs.Machine.{case_after, case_reply}
+use Rattle.crew_run.proofs.CellsLegal.{case-legal-end, kind-legal-end}
+use Rattle.crew_run.proofs.CrewTakenIn.{case-joined, cell-last, kind-joined}
+use Rattle.crew_run.proofs.PassesOfDesks.{case-done, case-heard, case-legal, case-same, kind-done, kind-heard, kind-legal, kind-same}
+use Rattle.crew_run.proofs.PhaseByCell.{phases-at, traces-fit, traces_of}
+use Rattle.crew_run.specs.Closing.{IsRunOf, closed_case, closed_kind}
+use Rattle.crew_run.specs.Crew.{PhasesDone, case_at, kind_at}
+use Rattle.crew_run.specs.Ready.{CaseReady, IsReady, KindReady}
+use Rattle.file_facts.proofs.Cases.{row-at}
 use Rattle.file_facts.specs.Facts.{IsSound}
-use Rattle.legal_run.specs.Legal.{Legal, IsLegalKind, IsLegalCase}
-use Rattle.legal_run.specs.LineCalls.{on_kind, on_case}
+use Rattle.legal_run.specs.Legal.{IsLegalCase, IsLegalKind, Legal}
+use Rattle.legal_run.specs.LineCalls.{on_case, on_kind}
 use Rattle.process_text.specs.declared.files.CaseDecl.{CaseDecl}
 use Rattle.process_text.specs.declared.files.File.{File}
-use Rattle.process_text.specs.declared.files.Line.{Line}
 use Rattle.process_text.specs.declared.files.TypeDecl.{TypeDecl}
 use Rattle.script_run.specs.declared.runs.ClosedCase.{ClosedCase}
 use Rattle.script_run.specs.declared.runs.ClosedKind.{ClosedKind}
 use Rattle.script_run.specs.declared.runs.Run.{Run}
+use Rattle.turn_cell.specs.Passes.{joined}
+use Rattle.type_core.specs.Machine.{kind_after, kind_reply}
 use Rattle.wsm_lists.specs.Rows.{AllRows}
-
-row-at : {X : Type 0} (P : X → Type 0) (xs : List X) → AllRows P xs → (i : ℕ) (x : X) → slice_get xs i ≡ Some x → P x
-row-at P [] all i x is = absurd (cc (is))
-row-at P (y ∷ xs) (p, all) zero x is = let same : y ≡ x = cc (is) in subst P same p
-row-at P (y ∷ xs) (p, all) (suc i) x is = row-at P xs all i x is
 
 mapped-at : {A B : Type 0} (g : A → B) (xs : List A) (i : ℕ) (x : A) (y : B) → slice_get xs i ≡ Some x → slice_get (map g xs) i ≡ Some y → y ≡ g x
 mapped-at g [] i x y a b = absurd (cc (a))
@@ -43,7 +41,7 @@ module _ (f : File) (v : DeskView) (vs : List DeskView) (w : DeskView) (ws : Lis
       let (c, at_c, is) = closed.kinds t p at_last in
       let k_is : k ≡ closed_kind c = mapped-at closed_kind s.kinds.items t c k at_c (ap (λ xs. slice_get xs t) (sym kinds) ∙ at_k) in
       subst (IsLegalKind f (traces_of f f.phases v vs w ws ps) t d) (sym k_is)
-      (kind-legal-end f v vs w ws last ps t d p c.machine c.journal.items.items many (row-at IsSound f.types sound t d at_d) ready js at_last is)
+      (kind-legal-end f v vs w ws last ps t d p c.machine c.journal.items.items many (row-at IsSound f.types t d sound at_d) ready js at_last is)
 
   case-of : length vs ≡ length f.actors → last ≡ fold joined_desk w ws → IsClosedServer last s → IsRunOf f s r
       → (i : ℕ) (d : CaseDecl) (k : ClosedCase) → slice_get f.cases i ≡ Some d → slice_get r.cases i ≡ Some k → CaseReady v vs d.id → IsLegalCase f (traces_of f f.phases v vs w ws ps) d k
