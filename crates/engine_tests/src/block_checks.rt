@@ -5,6 +5,9 @@ use std::test::Fail;
 use wsm_block::{BlockFault, BlockRefusal, check_block};
 use wsm_schema::{Flat, Rank, Schema};
 
+// The only rank where activity 4 waits for activity 5.
+const RANK: &[u32] = &[0, 2, 5, 4, 3, 1];
+
 // The answer for a schema.
 fn checked(alloc: Global, schema: &Schema) -> Result<Rank, BlockRefusal> {
     let flat = Flat::of(alloc, schema)?;
@@ -25,7 +28,7 @@ fn a_target_stands_behind_its_source(rt: HostRuntime) -> Result<(), Fail> {
     let mut schema = side_by_side(alloc)?;
     schema.put_sync(5, 4)?;
     let rank = checked(alloc, &schema).ok().ok_or("a rank")?;
-    assert_eq!(rt; rank.nodes(), [0, 2, 5, 4, 3, 1].as_slice());
+    assert_eq!(rt; rank.nodes(), RANK);
     Ok(())
 }
 

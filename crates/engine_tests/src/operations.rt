@@ -8,6 +8,9 @@ use std::test::Fail;
 use wsm_ops::{ApplyRefusal, Gap, Op, Ops, apply};
 use wsm_schema::{Block, ElementKind, Flat, NoMemory, Schema};
 
+// The roles of the activities and of the choice that are inserted.
+const ROLES: &[(u32, u32)] = &[(8, 2), (9, 3), (12, 4), (13, 4)];
+
 fn two_activities(alloc: Global) -> Result<Schema, NoMemory>
     ensures { IfOk result (λ schema. twice [] (nodes_of (cards_of schema)) ≡ None) }
 {
@@ -48,10 +51,7 @@ fn activities_are_inserted(rt: HostRuntime) -> Result<(), Fail> {
         .ok()
         .ok_or("a schema")?;
     assert_eq!(rt; Flat::of(alloc, &new)?.cards().len(), 11);
-    assert_eq!(rt;
-        new.roles.as_slice(),
-        [(8, 2), (9, 3), (12, 4), (13, 4)].as_slice()
-    );
+    assert_eq!(rt; new.roles.as_slice(), ROLES);
     Ok(())
 }
 

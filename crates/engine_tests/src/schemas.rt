@@ -4,6 +4,9 @@ use std::alloc::Global;
 use std::test::Fail;
 use wsm_schema::{Block, ElementKind, Entry, Flat, NoMemory, Schema, Value, Writes};
 
+// The nodes of the loop in document order.
+const LOOP: &[u32] = &[2, 4, 6, 8, 7, 9, 5, 3];
+
 // A loop with an AND block, in one of whose branches is an XOR block. Node 9 has role 2.
 fn nested(alloc: Global) -> Result<Schema, NoMemory> {
     let choice = xor(alloc, 6, 7, Vec::new(alloc), act(alloc, 8)?)?;
@@ -40,10 +43,7 @@ fn a_copy_has_the_flat_form_in_document_order(rt: HostRuntime) -> Result<(), Fai
     let flat = flat_of_copy(alloc, &nested(alloc)?)?;
     assert_eq!(rt; flat.cards().len(), 10);
     assert_eq!(rt; flat.card(9).map(|card| card.role), Some(2));
-    assert_eq!(rt;
-        flat.loop_body(alloc, 3)?.as_slice(),
-        [2, 4, 6, 8, 7, 9, 5, 3].as_slice()
-    );
+    assert_eq!(rt; flat.loop_body(alloc, 3)?.as_slice(), LOOP);
     Ok(())
 }
 
