@@ -299,6 +299,8 @@ def what_is_wrong(program, file, report):
         Judge(program, File(file), Report(report)).judge()
     except Illegal as why:
         return str(why)
+    except (LookupError, ValueError) as why:
+        return "it has not the form of a report: %r" % why
     return None
 
 
