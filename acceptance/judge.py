@@ -140,12 +140,16 @@ class Report:
         lines = text[:-1].split("\n")
         if lines[0] != "adept report 1":
             raise Illegal("the first line is %r" % lines[0])
-        self.summary = lines[-1]
+        self.summary, cell = lines[-1], None
         for line in lines[1:-1]:
             words = line.split(" ")
             if words[0] in ("type", "case"):
                 cell = (words[0], words[1])
+                if cell in self.journals:
+                    raise Illegal("this stands there twice: %s" % line)
                 self.journals[cell], self.states[cell] = [], [line]
+            elif cell is None:
+                raise Illegal("this stands before any type: %s" % line)
             elif re.match(r"\d", line):
                 self.journals[cell].append(entry_of(line, len(self.journals[cell]) + 1))
             else:
@@ -209,7 +213,7 @@ class Judge:
                 queue = queues[cell, entry.caller]
                 number, verb = queue.popleft() if queue else (None, None)
                 if entry.verb != verb:
-                    raise Illegal("%s %s: this is not the caller's next call, %s: %s" % (*cell, verb, entry.text))
+                    raise Illegal("%s %s: the caller's next call is %s: %s" % (*cell, verb or "none", entry.text))
                 if self.file.script[number].phase < phase:
                     raise Illegal("%s %s: this call is of an earlier phase: %s" % (*cell, entry.text))
                 phase = self.file.script[number].phase
@@ -228,6 +232,8 @@ class Judge:
             line = self.file.script[number]
             script += line.lines if line.verb == "install" else ["%s migrate %s" % (line.actor, kind)]
         compare(self.report.journals[cell], played(self.program, self.file, kind, script).journals[cell][1:])
+        if len(self.report.states[cell]) > 1:
+            raise Illegal("this is no entry: %s" % self.report.states[cell][1])
 
     def judge_case(self, cell):
         journal, kind = self.report.journals[cell], self.file.cases[cell[1]]
@@ -236,7 +242,7 @@ class Judge:
             found = played(self.program, self.file, kind, self.serial(cell, kind, order), [cell[1]])
             compare([journal[at] for at in order], found.journals[cell])
             if order is first and self.report.states[cell] != found.states[cell]:
-                raise Illegal("the end state is %s" % self.report.states[cell][1:])
+                raise Illegal("the machine ends with %s: %s" % (found.states[cell][1:], self.report.states[cell][1:]))
 
     @staticmethod
     def orders(journal):
@@ -299,6 +305,8 @@ def what_is_wrong(program, file, report):
         Judge(program, File(file), Report(report)).judge()
     except Illegal as why:
         return str(why)
+    except (LookupError, ValueError) as why:
+        return "it has not the form of a report: %r" % why
     return None
 
 
