@@ -20,6 +20,4 @@ mod loads;
 #[cfg(test)]
 mod rows;
 #[cfg(test)]
-mod servers;
-#[cfg(test)]
 mod side_by_side;
