@@ -22,13 +22,18 @@ fn fault_in(answer: Result<Rank, BlockRefusal>) -> Option<BlockFault> {
     }
 }
 
+// The proof of a test need not know what a rank is.
+fn has_nodes(rank: &Rank, nodes: &[u32]) -> bool {
+    *rank.nodes() == *nodes
+}
+
 #[test]
 fn a_target_stands_behind_its_source(rt: HostRuntime) -> Result<(), Fail> {
     let alloc = rt.alloc();
     let mut schema = side_by_side(alloc)?;
     schema.put_sync(5, 4)?;
     let rank = checked(alloc, &schema).ok().ok_or("a rank")?;
-    assert_eq!(rt; rank.nodes(), RANK);
+    assert!(rt; has_nodes(&rank, RANK));
     Ok(())
 }
 

@@ -37,13 +37,18 @@ fn flat_of_copy(alloc: Global, schema: &Schema) -> Result<Flat, NoMemory> {
     Flat::of(alloc, &schema.copy(alloc)?)
 }
 
+// Whether the loop that ends with node 3 has these nodes.
+fn has_loop(alloc: Global, flat: &Flat, nodes: &[u32]) -> Result<bool, NoMemory> {
+    Ok(*flat.loop_body(alloc, 3)?.as_slice() == *nodes)
+}
+
 #[test]
 fn a_copy_has_the_flat_form_in_document_order(rt: HostRuntime) -> Result<(), Fail> {
     let alloc = rt.alloc();
     let flat = flat_of_copy(alloc, &nested(alloc)?)?;
     assert_eq!(rt; flat.cards().len(), 10);
     assert_eq!(rt; flat.card(9).map(|card| card.role), Some(2));
-    assert_eq!(rt; flat.loop_body(alloc, 3)?.as_slice(), LOOP);
+    assert!(rt; has_loop(alloc, &flat, LOOP)?);
     Ok(())
 }
 
