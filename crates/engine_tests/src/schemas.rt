@@ -4,9 +4,6 @@ use std::alloc::Global;
 use std::test::Fail;
 use wsm_schema::{Block, ElementKind, Entry, Flat, NoMemory, Schema, Value, Writes};
 
-// The nodes of the loop in document order.
-const LOOP: &[u32] = &[2, 4, 6, 8, 7, 9, 5, 3];
-
 // A loop with an AND block, in one of whose branches is an XOR block. Node 9 has role 2.
 fn nested(alloc: Global) -> Result<Schema, NoMemory> {
     let choice = xor(alloc, 6, 7, Vec::new(alloc), act(alloc, 8)?)?;
@@ -32,23 +29,27 @@ fn lists_take_each_key_once(rt: HostRuntime) -> Result<(), Fail> {
     Ok(())
 }
 
-// The proof of a test need not compute the flat form.
-fn flat_of_copy(alloc: Global, schema: &Schema) -> Result<Flat, NoMemory> {
-    Flat::of(alloc, &schema.copy(alloc)?)
-}
-
-// Whether the loop that ends with node 3 has these nodes.
-fn has_loop(alloc: Global, flat: &Flat, nodes: &[u32]) -> Result<bool, NoMemory> {
-    Ok(*flat.loop_body(alloc, 3)?.as_slice() == *nodes)
+#[test]
+fn schemas_are_copied(rt: HostRuntime) -> Result<(), Fail> {
+    let alloc = rt.alloc();
+    let mut schema = schema_of(alloc, act(alloc, 6)?);
+    schema.put_role(6, 2)?;
+    let copy = schema.copy(alloc)?;
+    assert_eq!(rt; copy.roles.as_slice(), [(6, 2)].as_slice());
+    Ok(())
 }
 
 #[test]
-fn a_copy_has_the_flat_form_in_document_order(rt: HostRuntime) -> Result<(), Fail> {
+fn flat_forms_are_in_document_order(rt: HostRuntime) -> Result<(), Fail> {
     let alloc = rt.alloc();
-    let flat = flat_of_copy(alloc, &nested(alloc)?)?;
-    assert_eq!(rt; flat.cards().len(), 10);
-    assert_eq!(rt; flat.card(9).map(|card| card.role), Some(2));
-    assert!(rt; has_loop(alloc, &flat, LOOP)?);
+    let looped = Block::Loop {
+        start: 2,
+        end: 3,
+        body: act(alloc, 6)?,
+    };
+    let flat = Flat::of(alloc, &schema_of(alloc, vec![in alloc; looped]?))?;
+    assert_eq!(rt; flat.cards().len(), 5);
+    assert_eq!(rt; flat.loop_body(alloc, 3)?.as_slice(), [2, 6, 3].as_slice());
     Ok(())
 }
 
