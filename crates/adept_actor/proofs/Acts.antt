@@ -18,9 +18,9 @@ use Rattle.case_core.specs.declared.events.Event.TheVariants as event
 use Rattle.case_core.specs.declared.replies.Reply.{Reply}
 use Rattle.legal_run.proofs.Places.{set-here}
 use Rattle.legal_run.specs.LineCalls.{Call, asked, told, told_each, AreCallsOf, AreCallsOfLines, ArePartOf, AreBegun, lines_of}
-use Rattle.process_text.specs.declared.files.Act.{Act}
-use Rattle.process_text.specs.declared.files.Act.TheVariants as act
-use Rattle.process_text.specs.declared.files.Line.{Line}
+use Rattle.file_model.specs.declared.files.Act.{Act}
+use Rattle.file_model.specs.declared.files.Act.TheVariants as act
+use Rattle.file_model.specs.declared.files.Line.{Line}
 use Rattle.turn_cell.specs.Passes.{PassView}
 use Rattle.turn_cell.specs.declared.faults.CallFault.{CallFault}
 use Rattle.turn_cell.specs.declared.faults.CallFault.TheVariants as fault

@@ -3,9 +3,9 @@ use Rattle.std.specs.Prelude.{◌≡◌, ℕ, ◌≤◌, List, [], ◌∷◌, le
 use Rattle.adept_actor.specs.Growth.{DeskHasDone}
 use Rattle.adept_server.specs.Desks.{KindPass, CasePass, DeskView, IsDefinedFor, case_pass, has_case, has_kind}
 use Rattle.legal_run.specs.LineCalls.{Call, AreCallsOf, AreCallsOfLines, ArePartOf, AreBegun, lines_of}
-use Rattle.process_text.specs.declared.files.Act.{Act}
-use Rattle.process_text.specs.declared.files.Act.TheVariants as act
-use Rattle.process_text.specs.declared.files.Line.{Line}
+use Rattle.file_model.specs.declared.files.Act.{Act}
+use Rattle.file_model.specs.declared.files.Act.TheVariants as act
+use Rattle.file_model.specs.declared.files.Line.{Line}
 use Rattle.turn_cell.specs.declared.faults.CallFault.{CallFault}
 use Rattle.turn_cell.specs.declared.faults.CallFault.TheVariants as fault
 use Rattle.turn_cell.specs.declared.limits.TheConstants.{MAX_ENTRIES}

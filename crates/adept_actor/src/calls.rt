@@ -5,7 +5,7 @@ ghost use Rattle.adept_server.specs.Desks.{IsDeskOf, desk_view};
 
 use adept_server::{Desk, Server};
 use case_core::Case;
-use process_text::Act;
+use file_model::Act;
 use std::alloc::Global;
 use std::sync::Wait;
 use std::thread::Threads;

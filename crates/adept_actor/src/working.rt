@@ -4,7 +4,7 @@ ghost use Rattle.adept_server.specs.Desks.{IsDeskOf, desk_view};
 
 use crate::calls::act;
 use adept_server::{Desk, Server};
-use process_text::{Line, Lines};
+use file_model::{Line, Lines};
 use std::alloc::Global;
 use std::sync::Wait;
 use std::thread::Threads;

@@ -7,8 +7,8 @@ use Rattle.adept_top.specs.Statuses.{is_end_status, most_bytes, status_of}
 use Rattle.adept_top.specs.Works.{Works}
 use Rattle.adept_top.specs.declared.outcomes.Outcome.{Outcome}
 use Rattle.adept_top.specs.declared.words.Command.{Command}
-use Rattle.process_text.specs.Reading.{file}
-use Rattle.process_text.specs.declared.files.File.{File}
+use Rattle.file_model.specs.Reading.{file}
+use Rattle.file_model.specs.declared.files.File.{File}
 
 -- what holds of the file that was got holds of the file that the bytes stand for
 of-input : (bytes : Option (List ℕ)) (f : File) (P : File → Type 0) → IfSome bytes (λ b. (length b ≤ most_bytes) × (file b ≡ Ok f)) → P f → OfFile bytes P

@@ -5,7 +5,7 @@ use Rattle.adept_top.specs.declared.words.Command.{Command}
 use Rattle.adept_top.specs.declared.words.Command.TheVariants as command
 use Rattle.file_words.specs.Numbers.{are_digits, value_from}
 use Rattle.legal_run.specs.Legal.{Legal}
-use Rattle.process_text.specs.declared.files.File.{File}
+use Rattle.file_model.specs.declared.files.File.{File}
 use Rattle.report_text.specs.Check.{check_text}
 use Rattle.report_text.specs.Report.{text, summary}
 use Rattle.script_run.specs.Serial.{serial}

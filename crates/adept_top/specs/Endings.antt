@@ -8,9 +8,9 @@ use Rattle.adept_top.specs.Commands.{IsRunOf, cases_of, input, output}
 use Rattle.adept_top.specs.Statuses.{is_end_status, most_bytes, status_of}
 use Rattle.adept_top.specs.declared.outcomes.Outcome.{Outcome}
 use Rattle.adept_top.specs.declared.words.Command.{Command}
-use Rattle.process_text.specs.Reading.{file}
-use Rattle.process_text.specs.declared.files.File.{File}
-use Rattle.process_text.specs.declared.refusals.Refused.{Refused}
+use Rattle.file_model.specs.Reading.{file}
+use Rattle.file_model.specs.declared.files.File.{File}
+use Rattle.file_model.specs.declared.refusals.Refused.{Refused}
 
 -- the bytes, where they are known, are not too many and stand for a file of which this holds
 abbrev pub OfFile : Option (List ℕ) → (File → Type 0) → Type 0

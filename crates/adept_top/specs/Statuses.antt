@@ -1,6 +1,6 @@
 -- The statuses with which a run of the program ends.
 use Rattle.std.specs.Prelude.{ℕ, Bool, ◌||◌, List, length, ◌==◌, nat_lt, is_ok, if◌then◌else◌}
-use Rattle.process_text.specs.Reading.{file}
+use Rattle.file_model.specs.Reading.{file}
 
 -- the most bytes that an input may have
 abbrev pub most_bytes : ℕ

@@ -6,7 +6,7 @@ use Rattle.adept_io.specs.Written.{AppendsPrefix}
 use Rattle.adept_top.specs.Commands.{IsRunOf, output}
 use Rattle.adept_top.specs.declared.outcomes.Outcome.{Outcome}
 use Rattle.adept_top.specs.declared.words.Command.{Command}
-use Rattle.process_text.specs.declared.files.File.{File}
+use Rattle.file_model.specs.declared.files.File.{File}
 
 -- The command worked the file, and wrote its output to a sink; or a write failed, or there was not enough memory.
 pub record Works {K : Type 0} (written : K → Option (List ℕ)) (faults : K → ℕ) (c : Command) (f : File) (old new : K) (o : Outcome) : Type 0 where

@@ -4,13 +4,13 @@ ghost use Rattle.adept_load.specs.Load.{load_text};
 ghost use Rattle.adept_top.specs.Endings.{EndsUnworked, IsInputOf, IsRefused};
 ghost use Rattle.adept_top.specs.Statuses.{most_bytes, status_of};
 ghost use Rattle.file_facts.specs.Facts.{IsWorkable};
-ghost use Rattle.process_text.specs.Reading.{file};
-ghost use Rattle.process_text.specs.Sizes.{IsBounded};
+ghost use Rattle.file_model.specs.Reading.{file};
+ghost use Rattle.file_model.specs.Sizes.{IsBounded};
 
 use crate::outcomes::Outcome;
 use adept_io::{ReadRefusal, Source, read_to_limit};
 use adept_load::load_file;
-use file_facts::{File, FileRefusal, read_workable};
+use process_text::{File, FileRefusal, read_workable};
 use std::alloc::Global;
 
 /// The most bytes that a process file may have.

@@ -7,7 +7,7 @@ ghost use Rattle.adept_top.specs.Works.{Works};
 ghost use Rattle.adept_top.specs.declared.words.Command.TheVariants as Command;
 ghost use Rattle.file_facts.specs.Facts.{IsWorkable};
 ghost use Rattle.legal_run.specs.Legal.{Legal};
-ghost use Rattle.process_text.specs.Sizes.{IsBounded};
+ghost use Rattle.file_model.specs.Sizes.{IsBounded};
 ghost use Rattle.report_text.specs.Report.{summary, text};
 ghost use Rattle.script_run.specs.Serial.{serial};
 

@@ -8,9 +8,9 @@ use Rattle.adept_server.specs.Desks.{at_case, in_row}
 use Rattle.crew_run.specs.CaseCounts.{AreCounts}
 use Rattle.file_facts.proofs.Cases.{declared-typed, declared-placed}
 use Rattle.file_facts.specs.Facts.{IsDeclared, IsWorkable, has_id}
-use Rattle.process_text.specs.Declaring.{cases_of}
-use Rattle.process_text.specs.declared.files.CaseDecl.{CaseDecl}
-use Rattle.process_text.specs.declared.files.File.{File}
+use Rattle.file_model.specs.CaseCounts.{cases_of}
+use Rattle.file_model.specs.declared.files.CaseDecl.{CaseDecl}
+use Rattle.file_model.specs.declared.files.File.{File}
 use Rattle.wsm_sound.specs.declared.versions.CaseId.{CaseId}
 
 -- a declared case has the id that it was declared with

@@ -7,8 +7,8 @@ use Rattle.std.proofs.lemmas.Option.{get_or_from_slice_get}
 use mathlib.Core.Logic.{dite}
 use native.Mathlib.Decide.{ℕ_discrete}
 use Rattle.adept_server.proofs.Places.{get-set_same, stays_or_set}
-use Rattle.process_text.specs.Declaring.{cases_of}
-use Rattle.process_text.specs.declared.files.CaseDecl.{CaseDecl}
+use Rattle.file_model.specs.CaseCounts.{cases_of}
+use Rattle.file_model.specs.declared.files.CaseDecl.{CaseDecl}
 
 replicate_at : (n t x : ℕ) → t < n → slice_get (replicate n x) t ≡ Some x
 replicate_at zero t x lt = absurd (omega arith)

@@ -17,10 +17,10 @@ use Rattle.crew_run.specs.Ready.{CaseReady, KindReady}
 use Rattle.legal_run.proofs.OnMachines.{on_case-append, on_kind-append}
 use Rattle.legal_run.specs.Legal.{AreOfActors, IsByPhases, IsLegalCase, IsLegalKind, Trace}
 use Rattle.legal_run.specs.LineCalls.{Call, on_case, on_kind}
-use Rattle.process_text.specs.declared.files.CaseDecl.{CaseDecl}
-use Rattle.process_text.specs.declared.files.File.{File}
-use Rattle.process_text.specs.declared.files.Line.{Line}
-use Rattle.process_text.specs.declared.files.TypeDecl.{TypeDecl}
+use Rattle.file_model.specs.declared.files.CaseDecl.{CaseDecl}
+use Rattle.file_model.specs.declared.files.File.{File}
+use Rattle.file_model.specs.declared.files.Line.{Line}
+use Rattle.file_model.specs.declared.files.TypeDecl.{TypeDecl}
 use Rattle.script_run.specs.Serial.{program}
 use Rattle.turn_cell.specs.History.{IsLegal, IsLegalFrom, IsStateAfter, calls_of, entry, state_after}
 use Rattle.turn_cell.specs.Passes.{IsClosed}

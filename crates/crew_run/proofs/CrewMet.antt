@@ -24,8 +24,8 @@ use Rattle.crew_run.specs.Workers.{AreDesksOf, desks_of}
 use Rattle.crew_run.specs.declared.workers.Worker.{Worker}
 use Rattle.file_facts.specs.Facts.{IsWorkable}
 use Rattle.legal_run.proofs.Places.{there-as}
-use Rattle.process_text.specs.declared.files.File.{File}
-use Rattle.process_text.specs.declared.files.Line.{Line}
+use Rattle.file_model.specs.declared.files.File.{File}
+use Rattle.file_model.specs.declared.files.Line.{Line}
 use Rattle.type_core.specs.Machine.{kind_after, kind_reply}
 use Rattle.wsm_sound.specs.declared.versions.CaseId.{CaseId}
 

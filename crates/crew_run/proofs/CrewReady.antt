@@ -13,9 +13,9 @@ use Rattle.crew_run.specs.Crew.{AreNumbered, DeskHeard, DeskSame, case_at, kind_
 use Rattle.crew_run.specs.Defining.{DefinesAll, IsFresh, IsFreshPass, IsParentPass}
 use Rattle.crew_run.specs.Ready.{CaseReady, IsReady, KindReady}
 use Rattle.legal_run.proofs.Places.{there-as}
-use Rattle.process_text.specs.declared.files.CaseDecl.{CaseDecl}
-use Rattle.process_text.specs.declared.files.File.{File}
-use Rattle.process_text.specs.declared.files.TypeDecl.{TypeDecl}
+use Rattle.file_model.specs.declared.files.CaseDecl.{CaseDecl}
+use Rattle.file_model.specs.declared.files.File.{File}
+use Rattle.file_model.specs.declared.files.TypeDecl.{TypeDecl}
 use Rattle.turn_cell.specs.History.{entry}
 use Rattle.turn_cell.specs.Passes.{IsLegalView, PassView}
 use Rattle.type_core.specs.Machine.{kind_after, kind_reply}

@@ -10,7 +10,7 @@ use Rattle.crew_run.specs.CaseCounts.{AreCounts}
 use Rattle.crew_run.specs.Cells.{HasMet, Joins, Phases}
 use Rattle.crew_run.specs.Crew.{case_at, kind_at}
 use Rattle.crew_run.specs.Phases.{HasShape}
-use Rattle.process_text.specs.declared.files.File.{File}
+use Rattle.file_model.specs.declared.files.File.{File}
 use Rattle.turn_cell.specs.Passes.{PassView, joined}
 use Rattle.turn_cell.specs.declared.journal.Entry.{Entry}
 use Rattle.turn_rows.specs.Rows.{zip_with}

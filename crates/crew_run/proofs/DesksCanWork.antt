@@ -22,11 +22,11 @@ use Rattle.file_facts.proofs.Cases.{declared-typed}
 use Rattle.file_facts.specs.Facts.{HasType, IsKnown, IsKnownAct, IsWorkable}
 use Rattle.legal_run.specs.LineCalls.{Call}
 use Rattle.legal_run.specs.Legal.{cases_of}
-use Rattle.process_text.specs.declared.files.Act.{Act}
-use Rattle.process_text.specs.declared.files.Act.TheVariants as act
-use Rattle.process_text.specs.declared.files.CaseDecl.{CaseDecl}
-use Rattle.process_text.specs.declared.files.File.{File}
-use Rattle.process_text.specs.declared.files.Line.{Line}
+use Rattle.file_model.specs.declared.files.Act.{Act}
+use Rattle.file_model.specs.declared.files.Act.TheVariants as act
+use Rattle.file_model.specs.declared.files.CaseDecl.{CaseDecl}
+use Rattle.file_model.specs.declared.files.File.{File}
+use Rattle.file_model.specs.declared.files.Line.{Line}
 use Rattle.turn_cell.proofs.Prefixes.{prefix_self}
 use Rattle.wsm_lists.specs.Rows.{AllRows}
 

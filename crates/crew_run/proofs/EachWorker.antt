@@ -7,8 +7,8 @@ use Rattle.adept_server.specs.declared.servers.Server.{Server}
 use Rattle.crew_run.specs.Crew.{AreNumbered}
 use Rattle.crew_run.specs.Workers.{AreDesksOf, desks_of}
 use Rattle.crew_run.specs.declared.workers.Worker.{Worker}
-use Rattle.process_text.specs.declared.files.ActorDecl.{ActorDecl}
-use Rattle.process_text.specs.declared.files.File.{File}
+use Rattle.file_model.specs.declared.files.ActorDecl.{ActorDecl}
+use Rattle.file_model.specs.declared.files.File.{File}
 use Rattle.script_run.specs.Calls.{roles_in, roles_of}
 
 -- each of a crew

@@ -14,8 +14,8 @@ use Rattle.crew_run.specs.Phases.SeesMany.{of_case, of_kind}
 use Rattle.crew_run.specs.Workers.{desks_of, faults_of}
 use Rattle.crew_run.specs.declared.workers.Worker.{Worker}
 use Rattle.legal_run.proofs.Places.{set-here}
-use Rattle.process_text.specs.declared.files.File.{File}
-use Rattle.process_text.specs.declared.files.Line.{Line}
+use Rattle.file_model.specs.declared.files.File.{File}
+use Rattle.file_model.specs.declared.files.Line.{Line}
 use Rattle.script_run.specs.Calls.{roles_of}
 use Rattle.turn_cell.specs.declared.faults.CallFault.{CallFault}
 use Rattle.turn_cell.specs.declared.faults.CallFault.TheVariants as fault

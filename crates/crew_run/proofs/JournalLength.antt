@@ -6,7 +6,7 @@ use native.Mathlib.Decide.{ℕ_discrete}
 use Rattle.crew_run.proofs.CellHistory.{done_by}
 use Rattle.crew_run.specs.Cells.{Holds, HoldsByPhases}
 use Rattle.legal_run.specs.LineCalls.{lines_of}
-use Rattle.process_text.specs.declared.files.Line.{Line}
+use Rattle.file_model.specs.declared.files.Line.{Line}
 use Rattle.turn_cell.specs.History.{calls_of}
 use Rattle.turn_cell.specs.declared.journal.Entry.{Entry}
 

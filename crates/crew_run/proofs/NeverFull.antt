@@ -23,8 +23,8 @@ use Rattle.legal_run.proofs.OncePerLine.{case_once_begun, case_once_per_line, ki
 use Rattle.legal_run.proofs.Places.{there-as}
 use Rattle.legal_run.specs.LineCalls.{Call, lines_of, on_case, on_kind}
 use Rattle.legal_run.specs.Legal.{cases_of}
-use Rattle.process_text.specs.declared.files.File.{File}
-use Rattle.process_text.specs.declared.files.Line.{Line}
+use Rattle.file_model.specs.declared.files.File.{File}
+use Rattle.file_model.specs.declared.files.Line.{Line}
 use Rattle.script_run.specs.Calls.{roles_of}
 use Rattle.turn_cell.specs.Passes.{IsClosed, IsLegalView, PassView, joined}
 use Rattle.turn_cell.specs.declared.journal.Entry.{Entry}

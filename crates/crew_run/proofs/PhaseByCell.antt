@@ -11,8 +11,8 @@ use Rattle.crew_run.specs.Cells.{HasMet, Heard, Phase, Phases, SeenSame, Worked}
 use Rattle.crew_run.specs.Crew.{ActorDone, AreNumbered, DeskHeard, DeskSame, PhaseDone, PhasesDone, Works}
 use Rattle.legal_run.specs.Legal.{AreTraces, Trace}
 use Rattle.legal_run.specs.LineCalls.{Call}
-use Rattle.process_text.specs.declared.files.File.{File}
-use Rattle.process_text.specs.declared.files.Line.{Line}
+use Rattle.file_model.specs.declared.files.File.{File}
+use Rattle.file_model.specs.declared.files.Line.{Line}
 use Rattle.turn_cell.specs.Passes.{IsLegalView, PassView}
 use Rattle.turn_cell.specs.declared.journal.Entry.{Entry}
 

@@ -13,9 +13,9 @@ use Rattle.crew_run.proofs.CasesCounted.{counted-other, counted-own, other_at}
 use Rattle.crew_run.specs.CaseCounts.{AreCounts}
 use Rattle.file_facts.proofs.Cases.{declared-placed, declared-typed}
 use Rattle.file_facts.specs.Facts.{IsWorkable}
-use Rattle.process_text.specs.Declaring.{cases_of}
-use Rattle.process_text.specs.declared.files.CaseDecl.{CaseDecl}
-use Rattle.process_text.specs.declared.files.File.{File}
+use Rattle.file_model.specs.CaseCounts.{cases_of}
+use Rattle.file_model.specs.declared.files.CaseDecl.{CaseDecl}
+use Rattle.file_model.specs.declared.files.File.{File}
 
 module _ {X : Type 0} where
   -- of each row the first ones are left, as many as there are cases of its type among these

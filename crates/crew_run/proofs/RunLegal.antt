@@ -17,9 +17,9 @@ use Rattle.file_facts.proofs.Cases.{row-at}
 use Rattle.file_facts.specs.Facts.{IsSound}
 use Rattle.legal_run.specs.Legal.{IsLegalCase, IsLegalKind, Legal}
 use Rattle.legal_run.specs.LineCalls.{on_case, on_kind}
-use Rattle.process_text.specs.declared.files.CaseDecl.{CaseDecl}
-use Rattle.process_text.specs.declared.files.File.{File}
-use Rattle.process_text.specs.declared.files.TypeDecl.{TypeDecl}
+use Rattle.file_model.specs.declared.files.CaseDecl.{CaseDecl}
+use Rattle.file_model.specs.declared.files.File.{File}
+use Rattle.file_model.specs.declared.files.TypeDecl.{TypeDecl}
 use Rattle.script_run.specs.declared.runs.ClosedCase.{ClosedCase}
 use Rattle.script_run.specs.declared.runs.ClosedKind.{ClosedKind}
 use Rattle.script_run.specs.declared.runs.Run.{Run}

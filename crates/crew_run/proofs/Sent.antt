@@ -4,7 +4,7 @@ use Rattle.std.proofs.Crossing.{crosses}
 use Rattle.adept_server.proofs.Sent.{case-send, event-send, version-send, version-sync}
 use Rattle.case_core.proofs.replies.Reply.TheSendSync as reply
 use Rattle.crew_run.specs.contracts.workers.Worker as worker_type
-use Rattle.process_text.specs.contracts.files.Line as line_type
+use Rattle.file_model.specs.contracts.files.Line as line_type
 use denote.RattleType.{RattleType}
 use Rattle.turn_cell.specs.declared.machine.Machine.{Ghosts}
 use Rattle.turn_cell.specs.contracts.journal.Closed as closed_type

@@ -10,7 +10,7 @@ use Rattle.adept_server.specs.Desks.{DeskView, IsDefinedFor, KindPass}
 use Rattle.crew_run.specs.Crew.{kind_at}
 use Rattle.crew_run.specs.Defining.{DefinesAll, DefinesSome, KnowsTypes}
 use Rattle.legal_run.proofs.Places.{set-here}
-use Rattle.process_text.specs.declared.files.TypeDecl.{TypeDecl}
+use Rattle.file_model.specs.declared.files.TypeDecl.{TypeDecl}
 use Rattle.turn_cell.specs.History.{entry}
 use Rattle.turn_cell.specs.Passes.{Calls, Sees}
 use Rattle.turn_cell.specs.declared.faults.CallFault.{CallFault}

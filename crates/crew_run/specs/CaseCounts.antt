@@ -1,7 +1,7 @@
 -- How many cases of each type a file declares.
 use Rattle.std.specs.Prelude.{◌≡◌, ℕ, ◌<◌, List, length, Some, slice_get}
-use Rattle.process_text.specs.Declaring.{cases_of}
-use Rattle.process_text.specs.declared.files.File.{File}
+use Rattle.file_model.specs.CaseCounts.{cases_of}
+use Rattle.file_model.specs.declared.files.File.{File}
 
 -- for each type of a file the number of its cases
 pub record AreCounts (f : File) (counts : List ℕ) : Type 0 where

@@ -6,8 +6,8 @@ use Rattle.crew_run.specs.Cells.{Heard, SeenSame}
 use Rattle.adept_actor.specs.Growth.{DeskHasDone}
 use Rattle.legal_run.specs.Legal.{cases_of}
 use Rattle.legal_run.specs.LineCalls.{Call, AreCallsOfLines, lines_of}
-use Rattle.process_text.specs.declared.files.File.{File}
-use Rattle.process_text.specs.declared.files.Line.{Line}
+use Rattle.file_model.specs.declared.files.File.{File}
+use Rattle.file_model.specs.declared.files.Line.{Line}
 use Rattle.script_run.specs.Calls.{roles_of}
 use Rattle.wsm_sound.specs.declared.versions.CaseId.{CaseId}
 

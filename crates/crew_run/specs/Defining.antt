@@ -3,7 +3,7 @@ use Rattle.std.specs.Prelude.{◌≡◌, ℕ, ◌+◌, ◌≤◌, ◌<◌, ◌�
 use Rattle.std.specs.List.{AllZip}
 use Rattle.adept_server.specs.Calling.{CallsKind}
 use Rattle.adept_server.specs.Desks.{DeskView, IsDefinedFor}
-use Rattle.process_text.specs.declared.files.TypeDecl.{TypeDecl}
+use Rattle.file_model.specs.declared.files.TypeDecl.{TypeDecl}
 use Rattle.turn_cell.specs.Passes.{PassView}
 use Rattle.turn_cell.specs.declared.faults.CallFault.{CallFault}
 use Rattle.type_core.specs.declared.events.KindEvent.TheVariants as event

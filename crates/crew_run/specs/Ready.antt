@@ -5,9 +5,9 @@ use Rattle.case_core.specs.CaseModel.{not_created}
 use Rattle.case_core.specs.Machine.{case_after, case_reply}
 use Rattle.crew_run.specs.Cells.{HasMet}
 use Rattle.crew_run.specs.Crew.{kind_at, case_at, AreNumbered}
-use Rattle.process_text.specs.declared.files.CaseDecl.{CaseDecl}
-use Rattle.process_text.specs.declared.files.File.{File}
-use Rattle.process_text.specs.declared.files.TypeDecl.{TypeDecl}
+use Rattle.file_model.specs.declared.files.CaseDecl.{CaseDecl}
+use Rattle.file_model.specs.declared.files.File.{File}
+use Rattle.file_model.specs.declared.files.TypeDecl.{TypeDecl}
 use Rattle.script_run.specs.Serial.{program}
 use Rattle.turn_cell.specs.History.{entry}
 use Rattle.turn_cell.specs.Passes.{IsLegalView}

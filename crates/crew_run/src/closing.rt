@@ -11,7 +11,7 @@ ghost use Rattle.file_facts.specs.Facts.{IsWorkable};
 use crate::workers::Worker;
 use adept_server::{ClosedServer, Desk, Server};
 use case_core::Case;
-use process_text::File;
+use file_model::File;
 use script_run::{ClosedCase, ClosedCases, ClosedKind, ClosedKinds, Run};
 use std::alloc::Global;
 use turn_cell::{Closed, NoMemory};

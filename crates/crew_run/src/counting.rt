@@ -3,7 +3,7 @@ ghost use Rattle.std.specs.Prelude.{◌≡◌, ◌+◌, ◌<◌, ◌≤◌, ◌^
 ghost use Rattle.crew_run.specs.CaseCounts.{AreCounts};
 ghost use Rattle.file_facts.specs.Facts.{IsWorkable};
 
-use process_text::File;
+use file_model::File;
 use std::alloc::Global;
 use turn_cell::NoMemory;
 

@@ -14,7 +14,7 @@ use crate::meeting::meet_all;
 use crate::phases::work_phases;
 use crate::workers::Worker;
 use adept_server::{Desk, Server};
-use process_text::File;
+use file_model::File;
 use script_run::Run;
 use std::alloc::Global;
 use std::sync::Wait;

@@ -5,11 +5,11 @@ ghost use Rattle.adept_server.specs.Desks.{IsDefinedFor, IsDeskOf, desk_view};
 ghost use Rattle.crew_run.specs.Defining.{DefinesAll, DefinesSome, KnowsTypes};
 ghost use Rattle.crew_run.specs.Phases.{SeesMany};
 ghost use Rattle.file_facts.specs.Facts.{IsSound};
-ghost use Rattle.process_text.specs.Sizes.{is_small};
+ghost use Rattle.file_model.specs.Sizes.{is_small};
 ghost use Rattle.wsm_lists.specs.Rows.{AllRows};
 
 use adept_server::{Desk, Server};
-use process_text::TypeDecl;
+use file_model::TypeDecl;
 use std::alloc::Global;
 use std::sync::Wait;
 use turn_cell::{CallFault, Gate};

@@ -13,7 +13,7 @@ use crate::meeting::meet_all;
 use crate::workers::Worker;
 use adept_actor::work;
 use adept_server::{Desk, Server};
-use process_text::{File, Lines};
+use file_model::{File, Lines};
 use std::alloc::Global;
 use std::sync::Wait;
 use std::thread::{Threads, for_each_mut};

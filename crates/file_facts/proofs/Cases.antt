@@ -7,8 +7,8 @@ use Rattle.std.specs.Prelude.{slice_get, ◌==◌}
 use Rattle.std.specs.List.{list_any}
 use Rattle.wsm_lists.specs.Rows.{AllRows}
 use Rattle.wsm_sound.specs.declared.versions.CaseId.{CaseId}
-use Rattle.process_text.specs.Declaring.{cases_of}
-use Rattle.process_text.specs.declared.files.CaseDecl.{CaseDecl}
+use Rattle.file_model.specs.CaseCounts.{cases_of}
+use Rattle.file_model.specs.declared.files.CaseDecl.{CaseDecl}
 use Rattle.file_facts.specs.Facts.{HasType, ArePlaced, has_id, IsDeclared}
 
 -- ---- at an index

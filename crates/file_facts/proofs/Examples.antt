@@ -5,13 +5,13 @@ use Rattle.std.proofs.Common.{zero, suc, ◌<◌, true, false, arith}
 use Rattle.std.proofs.lemmas.Option.{same_Some}
 use Rattle.wsm_sound.specs.Faults.{fault_of}
 use Rattle.wsm_sound.specs.declared.versions.CaseId.{CaseId}
-use Rattle.process_text.specs.Reading.{file}
-use Rattle.process_text.specs.declared.files.Act.{Act}
-use Rattle.process_text.specs.declared.files.Act.TheVariants as act
-use Rattle.process_text.specs.declared.files.CaseDecl.{CaseDecl}
-use Rattle.process_text.specs.declared.files.File.{File}
-use Rattle.process_text.specs.declared.files.Line.{Line}
-use Rattle.process_text.specs.declared.refusals.Refused.{Refused}
+use Rattle.file_model.specs.Reading.{file}
+use Rattle.file_model.specs.declared.files.Act.{Act}
+use Rattle.file_model.specs.declared.files.Act.TheVariants as act
+use Rattle.file_model.specs.declared.files.CaseDecl.{CaseDecl}
+use Rattle.file_model.specs.declared.files.File.{File}
+use Rattle.file_model.specs.declared.files.Line.{Line}
+use Rattle.file_model.specs.declared.refusals.Refused.{Refused}
 use Rattle.file_facts.specs.Facts.{lines_in, ArePlaced, IsKnown}
 
 -- ---- what is read

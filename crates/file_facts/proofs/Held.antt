@@ -4,18 +4,18 @@ use Rattle.std.specs.Prelude.{IfOk}
 use Rattle.std.specs.Option.{option_or}
 use Rattle.wsm_lists.specs.Rows.{AllRows}
 use Rattle.file_names.specs.declared.declared.DeclaredList.{DeclaredList}
-use Rattle.process_text.specs.Steps.{State, Step, unless, over}
-use Rattle.process_text.specs.Scripting.{if_known}
-use Rattle.process_text.specs.Operating.{line_of_group}
-use Rattle.process_text.specs.declared.files.ActorDecl.{ActorDecl}
-use Rattle.process_text.specs.declared.files.CaseDecl.{CaseDecl}
-use Rattle.process_text.specs.declared.files.Line.{Line}
-use Rattle.process_text.specs.declared.files.TypeDecl.{TypeDecl}
-use Rattle.process_text.specs.declared.refusals.FileLimit.{FileLimit}
-use Rattle.process_text.specs.declared.refusals.Why.{Why}
-use Rattle.process_text.specs.declared.states.Contents.{Contents}
-use Rattle.process_text.specs.declared.states.Place.{Place}
-use Rattle.process_text.specs.declared.states.Place.TheVariants as place
+use Rattle.file_model.specs.Steps.{State, Step, unless, over}
+use Rattle.file_model.specs.Scripting.{if_known}
+use Rattle.file_model.specs.Operating.{line_of_group}
+use Rattle.file_model.specs.declared.files.ActorDecl.{ActorDecl}
+use Rattle.file_model.specs.declared.files.CaseDecl.{CaseDecl}
+use Rattle.file_model.specs.declared.files.Line.{Line}
+use Rattle.file_model.specs.declared.files.TypeDecl.{TypeDecl}
+use Rattle.file_model.specs.declared.refusals.FileLimit.{FileLimit}
+use Rattle.file_model.specs.declared.refusals.Why.{Why}
+use Rattle.file_model.specs.declared.states.Contents.{Contents}
+use Rattle.file_model.specs.declared.states.Place.{Place}
+use Rattle.file_model.specs.declared.states.Place.TheVariants as place
 use Rattle.file_facts.specs.Facts.{lines_in, IsSound, HasType, ArePlaced, IsKnown}
 
 -- of declarations: nothing has more names than items, and what a file promises of them

@@ -14,14 +14,15 @@ use Rattle.file_names.specs.Names.{place_of}
 use Rattle.file_forms.specs.Forms.{Declaration, a_type, an_actor, a_case, first_phase, TypeLine, activity, opens_and, opens_xor, opens_branch, opens_loop, closes_block, a_sync, an_element, a_read, a_write, type_end}
 use Rattle.file_drafts.specs.Drafts.{new_draft, whole}
 use Rattle.file_drafts.specs.declared.drafts.Draft.{Draft}
-use Rattle.process_text.specs.Steps.{at_place, with_node, with_element}
-use Rattle.process_text.specs.Declaring.{cases_of, outside, with_type, with_actor, with_case, case_declared, declared}
-use Rattle.process_text.specs.Typing.{ended, typed}
-use Rattle.process_text.specs.declared.files.CaseDecl.{CaseDecl}
-use Rattle.process_text.specs.declared.files.TypeDecl.{TypeDecl}
-use Rattle.process_text.specs.declared.refusals.FileLimit.TheVariants as limit
-use Rattle.process_text.specs.declared.states.Contents.{Contents}
-use Rattle.process_text.specs.declared.states.Place.TheVariants as place
+use Rattle.file_model.specs.Steps.{at_place, with_node, with_element}
+use Rattle.file_model.specs.CaseCounts.{cases_of}
+use Rattle.file_model.specs.Declaring.{outside, with_type, with_actor, with_case, case_declared, declared}
+use Rattle.file_model.specs.Typing.{ended, typed}
+use Rattle.file_model.specs.declared.files.CaseDecl.{CaseDecl}
+use Rattle.file_model.specs.declared.files.TypeDecl.{TypeDecl}
+use Rattle.file_model.specs.declared.refusals.FileLimit.TheVariants as limit
+use Rattle.file_model.specs.declared.states.Contents.{Contents}
+use Rattle.file_model.specs.declared.states.Place.TheVariants as place
 use Rattle.file_facts.specs.Facts.{IsSound, HasType, ArePlaced}
 use Rattle.file_facts.proofs.Held.{Before, Typing, Script, HasDeclared, HeldStep, unless-held, same-held, not_over, neither}
 use Rattle.file_facts.proofs.Lists.{at-push, length-noted, place_within}

@@ -14,19 +14,19 @@ use Rattle.file_names.specs.Names.{place_of}
 use Rattle.file_forms.specs.PieceForms.{◌>>=◌}
 use Rattle.file_forms.specs.Forms.{Deed, to_create, to_start, to_end, to_change, to_install, to_migrate, ScriptLine, next_phase, a_deed}
 use Rattle.file_forms.specs.Forms.{Place, behind, at_head, OperationLine, insert, parallel, conditional, delete, move, sync, unsync, element, read, unread, write, unwrite, set_role, group_end}
-use Rattle.process_text.specs.Steps.{at_place, node_in, with_node, with_element}
-use Rattle.process_text.specs.Scripting.{case_in, actor_in, counted, line_of, with_line, with_group, changing, one_install, installing, migrating, with_elements, numbered, acted, with_phase, scripted}
-use Rattle.process_text.specs.Operating.{with_place, op_in, with_names, act_of, line_of_group, with_op, grouped, operated}
-use Rattle.process_text.specs.declared.files.Act.{Act}
-use Rattle.process_text.specs.declared.files.Act.TheVariants as act
-use Rattle.process_text.specs.declared.files.CaseDecl.{CaseDecl}
-use Rattle.process_text.specs.declared.files.Line.{Line}
-use Rattle.process_text.specs.declared.refusals.FileLimit.TheVariants as limit
-use Rattle.process_text.specs.declared.states.Contents.{Contents}
-use Rattle.process_text.specs.declared.states.Group.{Group}
-use Rattle.process_text.specs.declared.states.Target.{Target}
-use Rattle.process_text.specs.declared.states.Target.TheVariants as target
-use Rattle.process_text.specs.declared.states.Place.TheVariants as place
+use Rattle.file_model.specs.Steps.{at_place, node_in, with_node, with_element}
+use Rattle.file_model.specs.Scripting.{case_in, actor_in, counted, line_of, with_line, with_group, changing, one_install, installing, migrating, with_elements, numbered, acted, with_phase, scripted}
+use Rattle.file_model.specs.Operating.{with_place, op_in, with_names, act_of, line_of_group, with_op, grouped, operated}
+use Rattle.file_model.specs.declared.files.Act.{Act}
+use Rattle.file_model.specs.declared.files.Act.TheVariants as act
+use Rattle.file_model.specs.declared.files.CaseDecl.{CaseDecl}
+use Rattle.file_model.specs.declared.files.Line.{Line}
+use Rattle.file_model.specs.declared.refusals.FileLimit.TheVariants as limit
+use Rattle.file_model.specs.declared.states.Contents.{Contents}
+use Rattle.file_model.specs.declared.states.Group.{Group}
+use Rattle.file_model.specs.declared.states.Target.{Target}
+use Rattle.file_model.specs.declared.states.Target.TheVariants as target
+use Rattle.file_model.specs.declared.states.Place.TheVariants as place
 use Rattle.file_facts.specs.Facts.{has_id, IsDeclared, IsKnownAct}
 use Rattle.file_facts.proofs.Held.{Script, KnownIn, HeldState, HeldStep, unless-held, same-held, found-held, not_over, neither}
 use Rattle.file_facts.proofs.Lists.{any-at, place_within}

@@ -13,22 +13,22 @@ use Rattle.file_forms.specs.DeclarationForms.{is_header, declaration_line}
 use Rattle.file_forms.specs.TypeForms.{type_line}
 use Rattle.file_forms.specs.ScriptForms.{script_line}
 use Rattle.file_forms.specs.OperationForms.{operation_line}
-use Rattle.process_text.specs.Steps.{State, Step, opening, refuse}
-use Rattle.process_text.specs.Declaring.{declared, outside}
-use Rattle.process_text.specs.Typing.{typed}
-use Rattle.process_text.specs.Scripting.{scripted}
-use Rattle.process_text.specs.Operating.{operated}
-use Rattle.process_text.specs.Reading.{unless_long, formed, fitting, unless_not_text, step_in, step_words, step, file_of, finished_in, finished, at_line, read_from, file}
-use Rattle.process_text.specs.Sizes.{IsBounded}
-use Rattle.process_text.specs.declared.files.File.{File}
-use Rattle.process_text.specs.declared.files.Line.{Line}
-use Rattle.process_text.specs.declared.refusals.Refused.{Refused}
-use Rattle.process_text.specs.declared.refusals.Why.{Why}
-use Rattle.process_text.specs.declared.refusals.Why.TheVariants as why
-use Rattle.process_text.specs.declared.states.Contents.{Contents}
-use Rattle.process_text.specs.declared.states.Place.{Place}
-use Rattle.process_text.specs.declared.states.Place.TheVariants as place
-use Rattle.process_text.proofs.Bounds.{file-bounded}
+use Rattle.file_model.specs.Steps.{State, Step, opening, refuse}
+use Rattle.file_model.specs.Declaring.{declared, outside}
+use Rattle.file_model.specs.Typing.{typed}
+use Rattle.file_model.specs.Scripting.{scripted}
+use Rattle.file_model.specs.Operating.{operated}
+use Rattle.file_model.specs.Reading.{unless_long, formed, fitting, unless_not_text, step_in, step_words, step, file_of, finished_in, finished, at_line, read_from, file}
+use Rattle.file_model.specs.Sizes.{IsBounded}
+use Rattle.file_model.specs.declared.files.File.{File}
+use Rattle.file_model.specs.declared.files.Line.{Line}
+use Rattle.file_model.specs.declared.refusals.Refused.{Refused}
+use Rattle.file_model.specs.declared.refusals.Why.{Why}
+use Rattle.file_model.specs.declared.refusals.Why.TheVariants as why
+use Rattle.file_model.specs.declared.states.Contents.{Contents}
+use Rattle.file_model.specs.declared.states.Place.{Place}
+use Rattle.file_model.specs.declared.states.Place.TheVariants as place
+use Rattle.file_model.proofs.Bounds.{file-bounded}
 use Rattle.file_facts.specs.Facts.{IsWorkable}
 use Rattle.file_facts.proofs.Held.{Before, Script, HeldIn, HeldState, HeldStep}
 use Rattle.file_facts.proofs.HeldByDeclarations.{declared-held, typed-held}

@@ -4,14 +4,14 @@ use Rattle.std.specs.List.{list_all, list_any, sum_by}
 use Rattle.wsm_lists.specs.Rows.{AllRows}
 use Rattle.wsm_sound.specs.Faults.{fault_of}
 use Rattle.wsm_sound.specs.declared.versions.CaseId.{CaseId}
-use Rattle.process_text.specs.Declaring.{cases_of}
-use Rattle.process_text.specs.Sizes.{is_small}
-use Rattle.process_text.specs.declared.files.Act.{Act}
-use Rattle.process_text.specs.declared.files.Act.TheVariants as act
-use Rattle.process_text.specs.declared.files.CaseDecl.{CaseDecl}
-use Rattle.process_text.specs.declared.files.File.{File}
-use Rattle.process_text.specs.declared.files.Line.{Line}
-use Rattle.process_text.specs.declared.files.TypeDecl.{TypeDecl}
+use Rattle.file_model.specs.CaseCounts.{cases_of}
+use Rattle.file_model.specs.Sizes.{is_small}
+use Rattle.file_model.specs.declared.files.Act.{Act}
+use Rattle.file_model.specs.declared.files.Act.TheVariants as act
+use Rattle.file_model.specs.declared.files.CaseDecl.{CaseDecl}
+use Rattle.file_model.specs.declared.files.File.{File}
+use Rattle.file_model.specs.declared.files.Line.{Line}
+use Rattle.file_model.specs.declared.files.TypeDecl.{TypeDecl}
 
 -- how many script lines there are in all phases
 abbrev pub lines_in : List (List Line) → ℕ

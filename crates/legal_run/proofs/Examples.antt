@@ -9,9 +9,9 @@ use Rattle.case_core.specs.declared.replies.Reply.TheVariants as reply
 use Rattle.case_core.specs.CaseModel.{not_created}
 use Rattle.legal_run.specs.Legal.{Trace, IsActor, IsTrace, AreTraces, HasCalls, IsLegalCase, IsLegalKind, Legal, cases_of, done_by}
 use Rattle.legal_run.specs.LineCalls.{Call, AreCallsOfLines, asked, lines_of, on_case, on_kind, told}
-use Rattle.process_text.specs.declared.files.Act.TheVariants as act
-use Rattle.process_text.specs.declared.files.File.{File}
-use Rattle.process_text.specs.declared.files.Line.{Line}
+use Rattle.file_model.specs.declared.files.Act.TheVariants as act
+use Rattle.file_model.specs.declared.files.File.{File}
+use Rattle.file_model.specs.declared.files.Line.{Line}
 use Rattle.script_run.specs.Calls.{roles_of}
 use Rattle.script_run.specs.Entries.{CaseEntry, KindEntry}
 use Rattle.script_run.specs.Serial.{serial}

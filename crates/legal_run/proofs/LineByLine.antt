@@ -21,11 +21,11 @@ use Rattle.legal_run.proofs.Places.{one-becomes, some_one, there-as}
 use Rattle.legal_run.proofs.Told.{each-all, each-kind, entry_if, some-at, some-other}
 use Rattle.legal_run.specs.Legal.{cases_of}
 use Rattle.legal_run.specs.LineCalls.{AreCallsOf, Call, asked, is_case, of_kind, on_case, on_kind, told, told_each}
-use Rattle.process_text.specs.Declaring.{cases_of as counted}
-use Rattle.process_text.specs.declared.files.Act.{Act}
-use Rattle.process_text.specs.declared.files.Act.TheVariants as act
-use Rattle.process_text.specs.declared.files.CaseDecl.{CaseDecl}
-use Rattle.process_text.specs.declared.files.File.{File}
+use Rattle.file_model.specs.CaseCounts.{cases_of as counted}
+use Rattle.file_model.specs.declared.files.Act.{Act}
+use Rattle.file_model.specs.declared.files.Act.TheVariants as act
+use Rattle.file_model.specs.declared.files.CaseDecl.{CaseDecl}
+use Rattle.file_model.specs.declared.files.File.{File}
 use Rattle.script_run.proofs.Places.{position-from_0}
 use Rattle.script_run.specs.Calls.{acted, call_case, call_kind, changed_where, created, each_of, if_of_type, is_of, migrated, newest, newest_in, on_case as case_called, on_each as each_called, on_kind as kind_called, place_of, put_back, roles_of, version_in}
 use Rattle.script_run.specs.declared.runs.ClosedCase.{ClosedCase}

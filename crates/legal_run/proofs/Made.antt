@@ -5,8 +5,8 @@ use Rattle.case_core.specs.Machine.{case_after, case_reply}
 use Rattle.legal_run.proofs.OnMachines.{on_case-append, on_kind-append}
 use Rattle.legal_run.proofs.Places.{some_one, there-as}
 use Rattle.legal_run.specs.LineCalls.{Call, on_case, on_kind}
-use Rattle.process_text.specs.declared.files.CaseDecl.{CaseDecl}
-use Rattle.process_text.specs.declared.files.File.{File}
+use Rattle.file_model.specs.declared.files.CaseDecl.{CaseDecl}
+use Rattle.file_model.specs.declared.files.File.{File}
 use Rattle.script_run.specs.Entries.{CaseEntry, KindEntry}
 use Rattle.script_run.specs.declared.runs.ClosedCase.{ClosedCase}
 use Rattle.script_run.specs.declared.runs.ClosedKind.{ClosedKind}

@@ -3,9 +3,9 @@ use Rattle.std.proofs.Common.{◌≡◌, ℕ, ◌+◌, ◌≤◌, eqb, Bool, tru
 use Rattle.legal_run.proofs.OnMachines.{on_kind-append, on_case-append}
 use Rattle.legal_run.proofs.Told.{each-kind, each-once, some-kind, some-once}
 use Rattle.legal_run.specs.LineCalls.{Call, on_kind, on_case, is_case, AreCallsOf, AreCallsOfLines, ArePartOf, AreBegun}
-use Rattle.process_text.specs.declared.files.Act.{Act}
-use Rattle.process_text.specs.declared.files.Act.TheVariants as act
-use Rattle.process_text.specs.declared.files.Line.{Line}
+use Rattle.file_model.specs.declared.files.Act.{Act}
+use Rattle.file_model.specs.declared.files.Act.TheVariants as act
+use Rattle.file_model.specs.declared.files.Line.{Line}
 use Rattle.wsm_sound.specs.declared.versions.CaseId.{CaseId}
 
 -- at most one of two lists of at most one

@@ -16,10 +16,10 @@ use Rattle.legal_run.proofs.Made.{HasGone, Takes, gone-none, gone-then, takes-le
 use Rattle.legal_run.proofs.OnMachines.{caller_of, calls_by, calls_by-append, case_callers, case_calls-by, kind_callers, kind_calls-by, on_case-append, on_kind-append}
 use Rattle.legal_run.specs.Legal.{AreOfActors, AreTraces, HasCalls, IsActor, IsByPhases, IsLegalCase, IsLegalKind, Legal, Trace, cases_of, done_by}
 use Rattle.legal_run.specs.LineCalls.{AreCallsOf, AreCallsOfLines, Call, lines_of, on_case, on_kind}
-use Rattle.process_text.specs.declared.files.CaseDecl.{CaseDecl}
-use Rattle.process_text.specs.declared.files.File.{File}
-use Rattle.process_text.specs.declared.files.Line.{Line}
-use Rattle.process_text.specs.declared.files.TypeDecl.{TypeDecl}
+use Rattle.file_model.specs.declared.files.CaseDecl.{CaseDecl}
+use Rattle.file_model.specs.declared.files.File.{File}
+use Rattle.file_model.specs.declared.files.Line.{Line}
+use Rattle.file_model.specs.declared.files.TypeDecl.{TypeDecl}
 use Rattle.script_run.specs.Calls.{roles_of, worked}
 use Rattle.script_run.specs.Entries.{KindEntry}
 use Rattle.script_run.specs.Serial.{defined, kinds_from, opening, phase_worked, program, serial, uncalled}

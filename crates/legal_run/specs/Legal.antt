@@ -4,10 +4,10 @@ use mathlib.Core.List.{IsPrefix}
 use Rattle.case_core.specs.CaseModel.{not_created}
 use Rattle.case_core.specs.Machine.{case_after, case_reply}
 use Rattle.legal_run.specs.LineCalls.{Call, on_kind, on_case, AreCallsOfLines, lines_of}
-use Rattle.process_text.specs.declared.files.CaseDecl.{CaseDecl}
-use Rattle.process_text.specs.declared.files.File.{File}
-use Rattle.process_text.specs.declared.files.Line.{Line}
-use Rattle.process_text.specs.declared.files.TypeDecl.{TypeDecl}
+use Rattle.file_model.specs.declared.files.CaseDecl.{CaseDecl}
+use Rattle.file_model.specs.declared.files.File.{File}
+use Rattle.file_model.specs.declared.files.Line.{Line}
+use Rattle.file_model.specs.declared.files.TypeDecl.{TypeDecl}
 use Rattle.script_run.specs.Calls.{roles_of}
 use Rattle.script_run.specs.Entries.{KindEntry}
 use Rattle.script_run.specs.Serial.{program}

@@ -3,9 +3,9 @@ use Rattle.std.specs.Prelude.{◌≡◌, ℕ, ◌+◌, ◌≤◌, ◌==◌, ◌&
 use Rattle.case_core.specs.declared.events.Event.{Event}
 use Rattle.case_core.specs.declared.events.Event.TheVariants as event
 use Rattle.case_core.specs.declared.replies.Reply.{Reply}
-use Rattle.process_text.specs.declared.files.Act.{Act}
-use Rattle.process_text.specs.declared.files.Act.TheVariants as act
-use Rattle.process_text.specs.declared.files.Line.{Line}
+use Rattle.file_model.specs.declared.files.Act.{Act}
+use Rattle.file_model.specs.declared.files.Act.TheVariants as act
+use Rattle.file_model.specs.declared.files.Line.{Line}
 use Rattle.script_run.specs.Entries.{CaseEntry, KindEntry}
 use Rattle.turn_cell.specs.History.{entry}
 use Rattle.type_core.specs.declared.events.KindEvent.TheVariants as kind_event

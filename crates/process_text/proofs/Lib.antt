@@ -1,10 +1,1 @@
-pub mod AtEnd
-pub mod Kept
-pub mod KeptByLines
-pub mod Bounds
-pub mod Examples
-pub mod FileExamples
-pub mod FaultExamples
-pub mod ReadingExamples
-pub mod SoundExamples
-pub mod SpacedWords
+pub mod ReadLines

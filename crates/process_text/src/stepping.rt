@@ -4,17 +4,15 @@ ghost use Rattle.std.specs.Option.{option_map};
 ghost use Rattle.file_words.specs.Shown.{shown};
 ghost use Rattle.file_forms.specs.Shown.{shown_type_line};
 ghost use Rattle.file_forms.specs.TypeForms.{type_line};
-ghost use Rattle.process_text.specs.Outcomes.{Stops};
-ghost use Rattle.process_text.specs.Steps.{at_place};
-ghost use Rattle.process_text.specs.Reading.{why_long, fitting, step_in, step_words, step};
+ghost use Rattle.file_model.specs.Outcomes.{Stops};
+ghost use Rattle.file_model.specs.Steps.{at_place};
+ghost use Rattle.file_model.specs.Reading.{why_long, fitting, step_in};
 
-use crate::files::Lines;
-use crate::refusals::{FileLimit, Why};
-use crate::states::{Contents, Group, Place, Stop};
-use crate::typing::fits_in;
 use file_drafts::Draft;
 use file_forms::{TypeLine, declaration_line, operation_line, script_line, type_line};
-use file_words::{TooLong, first_long, is_skipped, is_text, words_of};
+use file_model::{Contents, FileLimit, Group, Lines, Place, Stop, Why};
+use file_state::{declared, fits_in, headed, operated, scripted, typed};
+use file_words::{TooLong, first_long, is_text};
 use std::alloc::Global;
 
 fn why_long(long: TooLong) -> Why
@@ -38,130 +36,117 @@ fn fitting_line<'a>(draft: &Draft, words: &[&'a [u8]]) -> Option<TypeLine<'a>>
     }
 }
 
-impl Contents {
-    /// The place behind a line.
-    pub fn step(&mut self, alloc: Global, at: u32, line: &[u8], place: Place) -> Result<Place, Stop>
-        ensures ok { IfOk result (λ next. step (at_place place self.old) at line.now ≡ Ok (at_place next self.new)) }
-        ensures refused { IfErr result (λ stop. Stops (step (at_place place self.old) at line.now) self.new stop) }
-    {
-        let words = words_of(alloc, line)?;
-        self.step_words(alloc, at, line, &words, place)
+/// The place behind a line that says something.
+pub fn step_in(
+    contents: &mut Contents,
+    alloc: Global,
+    at: u32,
+    line: &[u8],
+    words: &[&[u8]],
+    place: Place,
+) -> Result<Place, Stop>
+    ensures ok { IfOk result (λ next. step_in place at line.now (shown words.now) contents.old ≡ Ok (at_place next contents.new)) }
+    ensures refused { IfErr result (λ stop. Stops (step_in place at line.now (shown words.now) contents.old) contents.new stop) }
+{
+    match place {
+        Place::Head => headed(contents, words),
+        Place::Outside => declaration_step(contents, alloc, at, line, words),
+        Place::InType(draft) => type_step(contents, alloc, at, line, words, draft),
+        Place::InPhase(lines) => script_step(contents, alloc, at, line, words, lines),
+        Place::InGroup(lines, group) => operation_step(
+            contents, alloc, at, line, words, lines, group,
+        ),
     }
+}
 
-    fn step_words(
-        &mut self,
-        alloc: Global,
-        at: u32,
-        line: &[u8],
-        words: &[&[u8]],
-        place: Place,
-    ) -> Result<Place, Stop>
-        ensures ok { IfOk result (λ next. step_words (at_place place self.old) at line.now (shown words.now) ≡ Ok (at_place next self.new)) }
-        ensures refused { IfErr result (λ stop. Stops (step_words (at_place place self.old) at line.now (shown words.now)) self.new stop) }
-    {
-        if is_skipped(words) {
-            return Ok(place);
-        }
-        match place {
-            Place::Head => self.headed(words),
-            Place::Outside => self.declaration_step(alloc, at, line, words),
-            Place::InType(draft) => self.type_step(alloc, at, line, words, draft),
-            Place::InPhase(lines) => self.script_step(alloc, at, line, words, lines),
-            Place::InGroup(lines, group) => self.operation_step(
-                alloc, at, line, words, lines, group,
-            ),
-        }
+fn declaration_step(
+    contents: &mut Contents,
+    alloc: Global,
+    at: u32,
+    line: &[u8],
+    words: &[&[u8]],
+) -> Result<Place, Stop>
+    ensures ok { IfOk result (λ place. step_in Place.Outside at line.now (shown words.now) contents.old ≡ Ok (at_place place contents.new)) }
+    ensures refused { IfErr result (λ stop. Stops (step_in Place.Outside at line.now (shown words.now) contents.old) contents.new stop) }
+{
+    if !is_text(line) {
+        return Err(Stop::Refused(Why::NotText));
     }
-
-    fn declaration_step(
-        &mut self,
-        alloc: Global,
-        at: u32,
-        line: &[u8],
-        words: &[&[u8]],
-    ) -> Result<Place, Stop>
-        ensures ok { IfOk result (λ place. step_in Place.Outside at line.now (shown words.now) self.old ≡ Ok (at_place place self.new)) }
-        ensures refused { IfErr result (λ stop. Stops (step_in Place.Outside at line.now (shown words.now) self.old) self.new stop) }
-    {
-        if !is_text(line) {
-            return Err(Stop::Refused(Why::NotText));
-        }
-        match declaration_line(alloc, words)? {
-            None => Err(Stop::Refused(Why::Form)),
-            Some(form) => match first_long(words) {
-                Some(long) => Err(Stop::Refused(why_long(long))),
-                None => self.declared(alloc, form),
-            },
-        }
+    match declaration_line(alloc, words)? {
+        None => Err(Stop::Refused(Why::Form)),
+        Some(form) => match first_long(words) {
+            Some(long) => Err(Stop::Refused(why_long(long))),
+            None => declared(contents, alloc, form),
+        },
     }
+}
 
-    fn type_step(
-        &mut self,
-        alloc: Global,
-        at: u32,
-        line: &[u8],
-        words: &[&[u8]],
-        draft: Draft,
-    ) -> Result<Place, Stop>
-        ensures ok { IfOk result (λ place. step_in (Place.InType draft) at line.now (shown words.now) self.old ≡ Ok (at_place place self.new)) }
-        ensures refused { IfErr result (λ stop. Stops (step_in (Place.InType draft) at line.now (shown words.now) self.old) self.new stop) }
-    {
-        if !is_text(line) {
-            return Err(Stop::Refused(Why::NotText));
-        }
-        match fitting_line(&draft, words) {
-            None => Err(Stop::Refused(Why::Form)),
-            Some(form) => match first_long(words) {
-                Some(long) => Err(Stop::Refused(why_long(long))),
-                None => self.typed(alloc, draft, form),
-            },
-        }
+fn type_step(
+    contents: &mut Contents,
+    alloc: Global,
+    at: u32,
+    line: &[u8],
+    words: &[&[u8]],
+    draft: Draft,
+) -> Result<Place, Stop>
+    ensures ok { IfOk result (λ place. step_in (Place.InType draft) at line.now (shown words.now) contents.old ≡ Ok (at_place place contents.new)) }
+    ensures refused { IfErr result (λ stop. Stops (step_in (Place.InType draft) at line.now (shown words.now) contents.old) contents.new stop) }
+{
+    if !is_text(line) {
+        return Err(Stop::Refused(Why::NotText));
     }
-
-    fn script_step(
-        &mut self,
-        alloc: Global,
-        at: u32,
-        line: &[u8],
-        words: &[&[u8]],
-        lines: Lines,
-    ) -> Result<Place, Stop>
-        ensures ok { IfOk result (λ place. step_in (Place.InPhase lines) at line.now (shown words.now) self.old ≡ Ok (at_place place self.new)) }
-        ensures refused { IfErr result (λ stop. Stops (step_in (Place.InPhase lines) at line.now (shown words.now) self.old) self.new stop) }
-    {
-        if !is_text(line) {
-            return Err(Stop::Refused(Why::NotText));
-        }
-        match script_line(alloc, words)? {
-            None => Err(Stop::Refused(Why::Form)),
-            Some(form) => match first_long(words) {
-                Some(long) => Err(Stop::Refused(why_long(long))),
-                None => self.scripted(alloc, at, lines, form),
-            },
-        }
+    match fitting_line(&draft, words) {
+        None => Err(Stop::Refused(Why::Form)),
+        Some(form) => match first_long(words) {
+            Some(long) => Err(Stop::Refused(why_long(long))),
+            None => typed(contents, alloc, draft, form),
+        },
     }
+}
 
-    fn operation_step(
-        &mut self,
-        alloc: Global,
-        at: u32,
-        line: &[u8],
-        words: &[&[u8]],
-        lines: Lines,
-        group: Group,
-    ) -> Result<Place, Stop>
-        ensures ok { IfOk result (λ place. step_in (Place.InGroup lines group) at line.now (shown words.now) self.old ≡ Ok (at_place place self.new)) }
-        ensures refused { IfErr result (λ stop. Stops (step_in (Place.InGroup lines group) at line.now (shown words.now) self.old) self.new stop) }
-    {
-        if !is_text(line) {
-            return Err(Stop::Refused(Why::NotText));
-        }
-        match operation_line(words) {
-            None => Err(Stop::Refused(Why::Form)),
-            Some(form) => match first_long(words) {
-                Some(long) => Err(Stop::Refused(why_long(long))),
-                None => self.operated(alloc, lines, group, form),
-            },
-        }
+fn script_step(
+    contents: &mut Contents,
+    alloc: Global,
+    at: u32,
+    line: &[u8],
+    words: &[&[u8]],
+    lines: Lines,
+) -> Result<Place, Stop>
+    ensures ok { IfOk result (λ place. step_in (Place.InPhase lines) at line.now (shown words.now) contents.old ≡ Ok (at_place place contents.new)) }
+    ensures refused { IfErr result (λ stop. Stops (step_in (Place.InPhase lines) at line.now (shown words.now) contents.old) contents.new stop) }
+{
+    if !is_text(line) {
+        return Err(Stop::Refused(Why::NotText));
+    }
+    match script_line(alloc, words)? {
+        None => Err(Stop::Refused(Why::Form)),
+        Some(form) => match first_long(words) {
+            Some(long) => Err(Stop::Refused(why_long(long))),
+            None => scripted(contents, alloc, at, lines, form),
+        },
+    }
+}
+
+fn operation_step(
+    contents: &mut Contents,
+    alloc: Global,
+    at: u32,
+    line: &[u8],
+    words: &[&[u8]],
+    lines: Lines,
+    group: Group,
+) -> Result<Place, Stop>
+    ensures ok { IfOk result (λ place. step_in (Place.InGroup lines group) at line.now (shown words.now) contents.old ≡ Ok (at_place place contents.new)) }
+    ensures refused { IfErr result (λ stop. Stops (step_in (Place.InGroup lines group) at line.now (shown words.now) contents.old) contents.new stop) }
+{
+    if !is_text(line) {
+        return Err(Stop::Refused(Why::NotText));
+    }
+    match operation_line(words) {
+        None => Err(Stop::Refused(Why::Form)),
+        Some(form) => match first_long(words) {
+            Some(long) => Err(Stop::Refused(why_long(long))),
+            None => operated(contents, alloc, lines, group, form),
+        },
     }
 }

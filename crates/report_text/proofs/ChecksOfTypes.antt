@@ -3,9 +3,9 @@ use Rattle.std.specs.Prelude.{◌≡◌, [], Result, Ok, Err, refl, codes}
 use Rattle.std.specs.Fmt.{digits}
 use Rattle.std.specs.Str.{is_utf8, chars}
 use Rattle.file_words.specs.Lines.{Bytes}
-use Rattle.process_text.specs.Reading.{file}
-use Rattle.process_text.specs.declared.files.File.{File}
-use Rattle.process_text.specs.declared.refusals.Refused.{Refused}
+use Rattle.file_model.specs.Reading.{file}
+use Rattle.file_model.specs.declared.files.File.{File}
+use Rattle.file_model.specs.declared.refusals.Refused.{Refused}
 use Rattle.report_text.specs.Check.{check_text}
 use Rattle.script_run.specs.Verdicts.{verdicts}
 use Rattle.wsm_sound.specs.Faults.{changed_by, fault_of}

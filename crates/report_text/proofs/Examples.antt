@@ -6,16 +6,17 @@ use Rattle.case_core.specs.CaseModel.{CaseModel, LiveModel}
 use Rattle.case_core.specs.declared.events.Event.TheVariants as event
 use Rattle.case_core.specs.declared.replies.Reply.TheVariants as reply
 use Rattle.file_words.specs.Lines.{Bytes}
-use Rattle.process_text.specs.Reading.{file}
-use Rattle.process_text.specs.declared.files.File.{File}
-use Rattle.process_text.specs.declared.refusals.Refused.{Refused}
+use Rattle.file_model.specs.Reading.{file}
+use Rattle.file_model.specs.declared.files.File.{File}
+use Rattle.file_model.specs.declared.refusals.Refused.{Refused}
 use Rattle.report_text.specs.Ends.{state_line}
-use Rattle.report_text.specs.Faults.{fault_text}
+use Rattle.fault_words.specs.FaultWords.{fault_text}
 use Rattle.report_text.specs.Journals.{case_line, kind_line, reply_text}
-use Rattle.report_text.specs.Migrations.{has_fate}
-use Rattle.report_text.specs.Names.{name_text}
-use Rattle.report_text.specs.Report.{case_totals, migration_totals, text}
-use Rattle.report_text.specs.Words.{value_text}
+use Rattle.report_words.specs.Migrations.{has_fate}
+use Rattle.report_words.specs.Names.{name_text}
+use Rattle.report_text.specs.Report.{text}
+use Rattle.report_words.specs.Totals.{case_totals, migration_totals}
+use Rattle.report_words.specs.Words.{value_text}
 use Rattle.script_run.specs.Serial.{serial}
 use Rattle.script_run.specs.Entries.{CaseEntry}
 use Rattle.script_run.specs.declared.runs.ClosedCase.{ClosedCase}
@@ -126,12 +127,16 @@ line_of show x = show x ++ codes "\n"
 abbrev op_fault : OpWhy → Fault
 op_fault w = fault.Op (record { index = 12; why = w })
 
+-- the words of a fault
+abbrev why_text : Fault → Bytes
+why_text f = fault_text a_file.nodes a_file.elements f
+
 abbrev op_faults : List Fault
 op_faults =
     op_fault (why.NoNode 2) ∷ op_fault (why.NodeThere 0) ∷ op_fault (why.WrongKind 1) ∷ op_fault (why.SelfTarget 9)
     ∷ op_fault why.NoSync ∷ op_fault why.SyncThere ∷ op_fault why.NoEdge ∷ op_fault why.EdgeThere ∷ op_fault why.ElementThere ∷ []
 
-pub faults_of_operations : flat_map (line_of (fault_text a_file)) op_faults ≡ codes "op 12 no-node A\nop 12 node-there start\nop 12 wrong-kind finish\nop 12 self-target 9\nop 12 no-sync\nop 12 sync-there\nop 12 no-edge\nop 12 edge-there\nop 12 element-there\n"
+pub faults_of_operations : flat_map (line_of why_text) op_faults ≡ codes " op 12 no-node A\n op 12 node-there start\n op 12 wrong-kind finish\n op 12 self-target 9\n op 12 no-sync\n op 12 sync-there\n op 12 no-edge\n op 12 edge-there\n op 12 element-there\n"
 unfolding digits
 faults_of_operations = refl
 
@@ -140,7 +145,7 @@ limits =
     fault.Block (block.Limit limit.Nodes) ∷ fault.Block (block.Limit limit.Depth) ∷ fault.Block (block.Limit limit.Syncs)
     ∷ fault.Block (block.Limit limit.Elements) ∷ fault.Block (block.Limit limit.Reads) ∷ fault.Block (block.Limit limit.Writes) ∷ []
 
-pub faults_of_limits : flat_map (line_of (fault_text a_file)) limits ≡ codes "limit nodes\nlimit depth\nlimit syncs\nlimit elements\nlimit reads\nlimit writes\n"
+pub faults_of_limits : flat_map (line_of why_text) limits ≡ codes " limit nodes\n limit depth\n limit syncs\n limit elements\n limit reads\n limit writes\n"
 faults_of_limits = refl
 
 abbrev block_faults : List Fault
@@ -148,14 +153,14 @@ block_faults =
     fault.Block (block.Twice 2) ∷ fault.Block (block.FewBranches 9) ∷ fault.Block (block.CodeTwice 2 65535)
     ∷ fault.Block (block.SyncEnd 2 0) ∷ fault.Block (block.SyncPlace 2 9) ∷ fault.Block (block.SyncLoop 9 2) ∷ fault.Block (block.SyncCycle 2 1) ∷ []
 
-pub faults_of_blocks : flat_map (line_of (fault_text a_file)) block_faults ≡ codes "twice A\nfew-branches 9\ncode-twice A 65535\nsync-end A start\nsync-place A 9\nsync-loop 9 A\nsync-cycle A finish\n"
+pub faults_of_blocks : flat_map (line_of why_text) block_faults ≡ codes " twice A\n few-branches 9\n code-twice A 65535\n sync-end A start\n sync-place A 9\n sync-loop 9 A\n sync-cycle A finish\n"
 unfolding digits
 faults_of_blocks = refl
 
 abbrev data_faults : List Fault
 data_faults = fault.Data (on_data.Unknown 2 7) ∷ fault.Data (on_data.Missing 9 0) ∷ fault.Data (on_data.ParallelWrite 2 9 3) ∷ []
 
-pub faults_of_data : flat_map (line_of (fault_text a_file)) data_faults ≡ codes "unknown A 7\nmissing 9 d\nparallel-write A 9 3\n"
+pub faults_of_data : flat_map (line_of why_text) data_faults ≡ codes " unknown A 7\n missing 9 d\n parallel-write A 9 3\n"
 unfolding digits
 faults_of_data = refl
 

@@ -2,9 +2,9 @@
 use Rattle.std.specs.Prelude.{◌≡◌, refl, codes}
 use Rattle.std.specs.Fmt.{digits}
 use Rattle.std.specs.Str.{is_utf8, chars}
-use Rattle.process_text.specs.Reading.{file}
+use Rattle.file_model.specs.Reading.{file}
 use Rattle.report_text.proofs.Examples.{report}
-use Rattle.report_text.specs.Migrations.{has_fate}
+use Rattle.report_words.specs.Migrations.{has_fate}
 use Rattle.wsm_sound.specs.Faults.{changed_by, fault_of}
 
 pub insert_before_an_activated_node : report (file (codes "adept 1\ntype t\nact A\nact B\nend\nactor ann\ncase c t\nphase\nann create c\nann start c A\nann end c A\nann change c\ninsert X after A\nend\n")) ≡ codes "adept report 1\ntype t\n1 - define -> defined\n2 ann newest -> is 1\ncase c t\n1 ann create 1 -> created\n2 ann start A -> started\n3 ann end A -> ended\n4 ann change 1 -> changed\nstate 1 running own=1\nmarking start=C A=C X=A B=N finish=N\nvalues\nitems X@0\nsummary cases=1 finished=0 entries=4 migrated=0 blocked=0 overlap=0\n"

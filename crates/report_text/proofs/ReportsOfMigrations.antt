@@ -3,9 +3,9 @@ use Rattle.std.specs.Prelude.{◌≡◌, refl, codes}
 use Rattle.std.specs.Fmt.{digits}
 use Rattle.std.specs.Str.{is_utf8, chars}
 use Rattle.case_core.specs.Machine.{overlap_with}
-use Rattle.process_text.specs.Reading.{file}
+use Rattle.file_model.specs.Reading.{file}
 use Rattle.report_text.proofs.Examples.{report}
-use Rattle.report_text.specs.Migrations.{has_fate}
+use Rattle.report_words.specs.Migrations.{has_fate}
 use Rattle.wsm_sound.specs.Faults.{changed_by, fault_of}
 
 pub migrate_in_the_third_iteration : report (file (codes "adept 1\ntype t\nloop l e\nact A\nact B\ndone\nact Z\nend\nactor ann\ncase c t\nphase\nann create c\nann start c A\nann end c A\nann start c B\nann end c B\nann start c e\nann end c e choice 1\nann start c A\nann end c A\nann start c B\nann end c B\nann start c e\nann end c e choice 1\nann start c A\nann end c A\nann install t\ninsert X after A\nend\nann migrate t\n")) ≡ codes "adept report 1\ntype t\n1 - define -> defined\n2 ann newest -> is 1\n3 ann install 1 -> installed 2\n4 ann newest -> is 2\ncase c t\n1 ann create 1 -> created\n2 ann start A -> started\n3 ann end A -> ended\n4 ann start B -> started\n5 ann end B -> ended\n6 ann start e -> started\n7 ann end e choice 1 -> repeated\n8 ann start A -> started\n9 ann end A -> ended\n10 ann start B -> started\n11 ann end B -> ended\n12 ann start e -> started\n13 ann end e choice 1 -> repeated\n14 ann start A -> started\n15 ann end A -> ended\n16 ann migrate 2 -> migrated 2\nstate 2 running own=0\nmarking start=C l=C A=C X=A B=N e=N Z=N finish=N\nvalues\nitems X@0\nsummary cases=1 finished=0 entries=16 migrated=1 blocked=0 overlap=0\n"

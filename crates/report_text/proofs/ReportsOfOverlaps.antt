@@ -4,9 +4,9 @@ use Rattle.std.specs.Fmt.{digits}
 use Rattle.std.specs.Str.{is_utf8, chars}
 use Rattle.file_words.specs.Lines.{Bytes}
 use Rattle.case_core.specs.Machine.{overlap_with}
-use Rattle.process_text.specs.Reading.{file}
+use Rattle.file_model.specs.Reading.{file}
 use Rattle.report_text.proofs.Examples.{report}
-use Rattle.report_text.specs.Migrations.{has_fate}
+use Rattle.report_words.specs.Migrations.{has_fate}
 use Rattle.wsm_sound.specs.Faults.{changed_by, fault_of}
 
 abbrev overlaps_on_each_kind_of_name_file : Bytes

@@ -3,9 +3,9 @@ use Rattle.std.specs.Prelude.{◌≡◌, ◌++◌, refl, codes}
 use Rattle.std.specs.Fmt.{digits}
 use Rattle.std.specs.Str.{is_utf8, chars}
 use Rattle.file_words.specs.Lines.{Bytes}
-use Rattle.process_text.specs.Reading.{file}
+use Rattle.file_model.specs.Reading.{file}
 use Rattle.report_text.proofs.Examples.{report}
-use Rattle.report_text.specs.Migrations.{has_fate}
+use Rattle.report_words.specs.Migrations.{has_fate}
 use Rattle.wsm_sound.specs.Faults.{changed_by, fault_of}
 
 abbrev operations_refused_for_each_reason_file : Bytes

@@ -5,8 +5,8 @@ use Rattle.case_core.specs.Shown.{is_finished, item_of, items_of}
 use Rattle.case_core.specs.declared.items.Item.{Item}
 use Rattle.case_core.specs.declared.items.Item.TheVariants as item
 use Rattle.file_words.specs.Lines.{Bytes}
-use Rattle.process_text.specs.declared.files.File.{File}
-use Rattle.report_text.specs.Words.{node_then, caller_text, assigned, letter}
+use Rattle.file_model.specs.declared.files.File.{File}
+use Rattle.report_words.specs.Words.{node_then, caller_text, assigned, letter}
 use Rattle.wsm_lists.specs.declared.values.ElementKind.{ElementKind}
 use Rattle.wsm_lists.specs.declared.values.Value.{Value}
 use Rattle.wsm_schema.specs.Flat.{cards_of, card_at}

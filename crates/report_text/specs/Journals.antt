@@ -4,11 +4,11 @@ use Rattle.case_core.specs.declared.events.Event.{Event}
 use Rattle.case_core.specs.declared.events.Event.TheVariants as event
 use Rattle.case_core.specs.declared.replies.Reply.{Reply}
 use Rattle.case_core.specs.declared.replies.Reply.TheVariants as reply
+use Rattle.fault_words.specs.FaultWords.{fault_text}
 use Rattle.file_words.specs.Lines.{Bytes}
-use Rattle.process_text.specs.declared.files.File.{File}
-use Rattle.report_text.specs.Faults.{fault_text}
-use Rattle.report_text.specs.Names.{name_text}
-use Rattle.report_text.specs.Words.{node_text, listed_element, caller_text, assigned, read_text, letter}
+use Rattle.file_model.specs.declared.files.File.{File}
+use Rattle.report_words.specs.Names.{name_text}
+use Rattle.report_words.specs.Words.{node_text, listed_element, caller_text, assigned, read_text, letter}
 use Rattle.script_run.specs.Entries.{CaseEntry, KindEntry}
 use Rattle.type_core.specs.declared.events.KindEvent.{KindEvent}
 use Rattle.type_core.specs.declared.events.KindEvent.TheVariants as kind_event
@@ -84,7 +84,7 @@ reply_rest f (reply.NotHolder user) = codes " " ++ caller_text f user
 reply_rest f (reply.WrongWrites elements) = flat_map (listed_element f) elements
 reply_rest f (reply.NoBranch choice) = wrong_choice choice
 reply_rest f (reply.Migrated number) = codes " " ++ decimal number
-reply_rest f (reply.Unsound fault) = codes " " ++ fault_text f fault
+reply_rest f (reply.Unsound fault) = fault_text f.nodes f.elements fault
 reply_rest f (reply.Blocked position e) = blocked_text f position e
 reply_rest f (reply.NotNewer number) = codes " " ++ decimal number
 reply_rest f (reply.Overlap name) = codes " " ++ name_text f name
@@ -105,7 +105,7 @@ kind_reply_text f (kind_reply.Is version) = codes "is " ++ decimal version.numbe
 kind_reply_text f kind_reply.Already = codes "already"
 kind_reply_text f kind_reply.NoType = codes "no-type"
 kind_reply_text f kind_reply.VersionLimit = codes "version-limit"
-kind_reply_text f (kind_reply.Unsound fault) = codes "unsound " ++ fault_text f fault
+kind_reply_text f (kind_reply.Unsound fault) = codes "unsound" ++ fault_text f.nodes f.elements fault
 
 -- the place in the journal and the caller, each with a space behind it
 abbrev pub line_start : File → ℕ → ℕ → Bytes

@@ -1,17 +1,13 @@
 -- The text of a report.
-use Rattle.std.specs.Prelude.{ℕ, Bool, false, List, [], ◌∷◌, ◌++◌, length, Option, Some, None, codes, decimal}
-use Rattle.std.specs.List.{count_by, sum_by}
-use Rattle.case_core.specs.CaseModel.{LiveModel}
-use Rattle.case_core.specs.Shown.{is_finished}
+use Rattle.std.specs.Prelude.{List, [], ◌∷◌, ◌++◌, codes}
 use Rattle.file_words.specs.Lines.{Bytes}
-use Rattle.process_text.specs.declared.files.CaseDecl.{CaseDecl}
-use Rattle.process_text.specs.declared.files.File.{File}
-use Rattle.process_text.specs.declared.files.TypeDecl.{TypeDecl}
+use Rattle.file_model.specs.declared.files.CaseDecl.{CaseDecl}
+use Rattle.file_model.specs.declared.files.File.{File}
+use Rattle.file_model.specs.declared.files.TypeDecl.{TypeDecl}
 use Rattle.report_text.specs.Ends.{end_text}
 use Rattle.report_text.specs.Journals.{kind_line, case_line, numbered}
-use Rattle.report_text.specs.Migrations.{with_fate}
-use Rattle.report_text.specs.Words.{type_text}
-use Rattle.report_text.specs.declared.totals.Fate.TheVariants as fate
+use Rattle.report_words.specs.Totals.{case_totals, migration_totals}
+use Rattle.report_words.specs.Words.{type_text}
 use Rattle.script_run.specs.declared.runs.ClosedCase.{ClosedCase}
 use Rattle.script_run.specs.declared.runs.ClosedKind.{ClosedKind}
 use Rattle.script_run.specs.declared.runs.Run.{Run}
@@ -42,29 +38,7 @@ case_text f d c = case_head f d ++ (numbered (case_line f) 1 c.journal ++ end_te
 abbrev pub cases_text : File → List CaseDecl → List ClosedCase → Bytes
 cases_text f cases closed = side_by_side (case_text f) cases closed
 
--- the totals: the cases, how many of them are finished, how many calls were made of them, and what became of their migrations
-abbrev pub is_done_live : Option LiveModel → Bool
-is_done_live None = false
-is_done_live (Some l) = is_finished l
-
-abbrev pub is_done : ClosedCase → Bool
-is_done c = is_done_live c.machine.live
-
-abbrev pub calls_of : ClosedCase → ℕ
-calls_of c = length c.journal
-
-abbrev pub case_totals : List ClosedCase → Bytes
-case_totals cases =
-    codes "summary cases=" ++ (decimal (length cases)
-    ++ (codes " finished=" ++ (decimal (count_by is_done cases)
-    ++ (codes " entries=" ++ (decimal (sum_by calls_of cases) ++ codes " ")))))
-
-abbrev pub migration_totals : List ClosedCase → Bytes
-migration_totals cases =
-    codes "migrated=" ++ (decimal (sum_by (with_fate fate.Migrated) cases)
-    ++ (codes " blocked=" ++ (decimal (sum_by (with_fate fate.Blocked) cases)
-    ++ (codes " overlap=" ++ (decimal (sum_by (with_fate fate.Overlap) cases) ++ codes "\n")))))
-
+-- the totals: the cases, and what became of their migrations
 abbrev pub summary : File → Run → Bytes
 summary f r = case_totals r.cases ++ migration_totals r.cases
 

@@ -1,24 +1,22 @@
 // The lines of a case's journal.
 ghost use Rattle.std.specs.Prelude.{◌≡◌, ◌++◌, flat_map, codes, decimal};
 ghost use Rattle.adept_io.specs.Written.{Gives};
-ghost use Rattle.report_text.specs.Faults.{fault_text};
 ghost use Rattle.report_text.specs.Journals.{blocked_text, case_line, choice_text, end_event_text, entry_text, event_text, numbered, position_text, reply_rest, reply_text, reply_word, wrong_choice};
-ghost use Rattle.report_text.specs.Names.{name_text};
-ghost use Rattle.report_text.specs.Words.{caller_text, letter, listed_element};
+ghost use Rattle.report_words.specs.Names.{name_text};
+ghost use Rattle.report_words.specs.Words.{caller_text, letter, listed_element};
 
-use crate::faults::put_fault;
-use crate::footprints::put_name;
 use crate::kind_lines::put_line_start;
-use crate::values::{put_reads, put_writes};
-use crate::words::{caller_word, letter, put_element, put_of_node};
 use adept_io::{Sink, put, put_pieces};
 use case_core::{Event, Reply};
+use file_model::File;
 use itoa::Buffer;
-use process_text::File;
+use report_words::{
+    caller_word, letter, put_element, put_fault, put_name, put_of_node, put_reads, put_spaced,
+    put_writes,
+};
 use script_run::CaseEntry;
 use wsm_foot::Name;
 use wsm_schema::{Entry, State, Writes};
-use wsm_sound::Fault;
 
 /// The lines of the journal, numbered from 1.
 pub fn put_case_journal<K: Sink>(sink: &mut K, ok: bool, file: &File, journal: &[CaseEntry]) -> bool
@@ -156,7 +154,7 @@ fn put_reply_rest<K: Sink>(sink: &mut K, ok: bool, file: &File, reply: &Reply) -
         Reply::NotHolder(user) => put_user(sink, ok, file, *user),
         Reply::WrongWrites(elements) => put_elements(sink, ok, file, elements.as_slice()),
         Reply::NoBranch(choice) => put_wrong_choice(sink, ok, *choice),
-        Reply::Unsound(fault) => put_why_unsound(sink, ok, file, *fault),
+        Reply::Unsound(fault) => put_fault(sink, ok, file, *fault),
         Reply::Blocked(position, entry) => put_blocked(sink, ok, file, *position, entry),
         Reply::Overlap(name) => put_overlap(sink, ok, file, *name),
         Reply::Created
@@ -175,14 +173,6 @@ fn put_state<K: Sink>(sink: &mut K, ok: bool, state: State) -> bool
     ensures { Gives K.written K.faults ok result sink.old sink.new (codes " " ++ letter state) }
 {
     put_pieces(sink, ok, &[b" ", letter(state)])
-}
-
-// A number behind a space.
-fn put_spaced<K: Sink>(sink: &mut K, ok: bool, number: u32) -> bool
-    ensures { Gives K.written K.faults ok result sink.old sink.new (codes " " ++ decimal number) }
-{
-    let mut buffer = Buffer::new();
-    put_pieces(sink, ok, &[b" ", buffer.format(number).as_bytes()])
 }
 
 fn put_user<K: Sink>(sink: &mut K, ok: bool, file: &File, user: u32) -> bool
@@ -210,14 +200,6 @@ fn put_elements<K: Sink>(sink: &mut K, ok: bool, file: &File, elements: &[u32]) 
         well = put_element(sink, well, file, *element);
     }
     well
-}
-
-#[tactic(auto, using(adept_io::proofs::Sent::gives_then))]
-fn put_why_unsound<K: Sink>(sink: &mut K, ok: bool, file: &File, fault: Fault) -> bool
-    ensures { Gives K.written K.faults ok result sink.old sink.new (codes " " ++ fault_text file.now fault) }
-{
-    let ok = put(sink, ok, b" ");
-    put_fault(sink, ok, file, fault)
 }
 
 #[tactic(auto, using(adept_io::proofs::Sent::gives_then))]

@@ -6,9 +6,9 @@ ghost use Rattle.adept_io.specs.Written.{AppendsPrefix, Gives};
 ghost use Rattle.report_text.specs.Check.{check_text, sound_line, verdict_head, verdict_line};
 
 use crate::kind_lines::put_kind_reply;
-use crate::words::put_type;
 use adept_io::{Failed, Sink, Text, put, put_number, put_pieces, write_gathered};
-use process_text::{File, TypeDecl};
+use file_model::{File, TypeDecl};
+use report_words::put_type;
 use script_run::{Verdict, Verdicts};
 
 // What is told of a file that is checked alone.

@@ -7,12 +7,11 @@ ghost use Rattle.case_core.specs.Shown.{is_finished, item_in};
 ghost use Rattle.report_text.specs.Ends.{end_text, item_text, items_line, live_text, mark_text, marking_line, progress, spot_text, state_line, value_now_text, values_line};
 ghost use Rattle.wsm_schema.specs.Flat.{cards_of};
 
-use crate::values::put_assigned;
-use crate::words::{caller_word, letter, put_node};
 use adept_io::{Sink, put, put_number, put_pieces};
 use case_core::Live;
+use file_model::File;
 use itoa::Buffer;
-use process_text::File;
+use report_words::{caller_word, letter, put_assigned, put_node};
 use wsm_rules::is_worked_on;
 use wsm_schema::{Card, ElementKind, Spot, State};
 

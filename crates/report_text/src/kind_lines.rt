@@ -1,14 +1,13 @@
 // The lines of a type's journal.
 ghost use Rattle.std.specs.Prelude.{◌≡◌, ◌++◌, codes, decimal};
 ghost use Rattle.adept_io.specs.Written.{Gives};
-ghost use Rattle.report_text.specs.Faults.{fault_text};
+ghost use Rattle.fault_words.specs.FaultWords.{fault_text};
 ghost use Rattle.report_text.specs.Journals.{line_start, kind_event_text, kind_reply_text, kind_line, numbered};
 
-use crate::faults::put_fault;
-use crate::words::caller_word;
 use adept_io::{Sink, put, put_number, put_pieces};
+use file_model::File;
 use itoa::Buffer;
-use process_text::File;
+use report_words::{caller_word, put_fault};
 use script_run::KindEntry;
 use type_core::{KindEvent, KindReply};
 use wsm_sound::Fault;
@@ -101,8 +100,8 @@ pub fn put_kind_reply<K: Sink>(sink: &mut K, ok: bool, file: &File, reply: &Kind
 
 #[tactic(auto, using(adept_io::proofs::Sent::gives_then))]
 fn put_unsound<K: Sink>(sink: &mut K, ok: bool, file: &File, fault: Fault) -> bool
-    ensures { Gives K.written K.faults ok result sink.old sink.new (codes "unsound " ++ fault_text file.now fault) }
+    ensures { Gives K.written K.faults ok result sink.old sink.new (codes "unsound" ++ fault_text file.now.nodes file.now.elements fault) }
 {
-    let ok = put(sink, ok, b"unsound ");
+    let ok = put(sink, ok, b"unsound");
     put_fault(sink, ok, file, fault)
 }

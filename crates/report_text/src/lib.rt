@@ -7,13 +7,8 @@
 mod case_lines;
 mod checks;
 mod ends;
-mod faults;
-mod footprints;
 mod kind_lines;
 mod report;
-mod totals;
-mod values;
-mod words;
 
 pub use adept_io::Failed;
 pub use checks::write_verdicts;

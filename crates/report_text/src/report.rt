@@ -8,10 +8,9 @@ ghost use Rattle.report_text.specs.Report.{case_head, case_text, cases_text, kin
 use crate::case_lines::put_case_journal;
 use crate::ends::put_end;
 use crate::kind_lines::put_kind_journal;
-use crate::totals::{put_case_totals, put_migration_totals};
-use crate::words::put_type;
 use adept_io::{Failed, Sink, Text, put, put_pieces, write_gathered};
-use process_text::{CaseDecl, File, TypeDecl};
+use file_model::{CaseDecl, File, TypeDecl};
+use report_words::{put_case_totals, put_migration_totals, put_type};
 use script_run::{ClosedCase, ClosedKind, Run};
 
 // The report of a run of the file.

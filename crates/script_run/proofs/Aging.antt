@@ -4,7 +4,7 @@ use Rattle.std.specs.Prelude.{slice_get, IfSome, if◌then◌else◌}
 use Rattle.case_core.proofs.AgesOfSteps.{age-next_case}
 use Rattle.case_core.specs.Ages.{age, weight}
 use Rattle.case_core.specs.declared.events.Event.{Event}
-use Rattle.process_text.specs.declared.files.CaseDecl.{CaseDecl}
+use Rattle.file_model.specs.declared.files.CaseDecl.{CaseDecl}
 use Rattle.script_run.specs.Calls.{call_case, put_back, changed_at, changed_where, if_of_type, each_of}
 use Rattle.script_run.specs.Oldest.{oldest}
 use Rattle.script_run.specs.Serial.{uncalled}

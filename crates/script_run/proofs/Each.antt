@@ -2,7 +2,7 @@
 use Rattle.std.proofs.Common.{◌≡◌, ℕ, zero, suc, ◌+◌, ◌<◌, Bool, true, false, ◌==◌, List, [], ◌∷◌, length, take, get_or, Option, Some, None, refl, ap, sym, ◌∙◌, arith, add-one, ◌≢◌}
 use Rattle.std.proofs.lemmas.Bool.{eq-eqb, ne_eqb}
 use Rattle.std.specs.Prelude.{slice_get, if◌then◌else◌}
-use Rattle.process_text.specs.declared.files.CaseDecl.{CaseDecl}
+use Rattle.file_model.specs.declared.files.CaseDecl.{CaseDecl}
 use Rattle.script_run.specs.Calls.{put_back, changed_at, if_of_type, each_of}
 use Rattle.script_run.specs.declared.runs.ClosedCase.{ClosedCase}
 

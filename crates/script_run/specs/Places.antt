@@ -1,7 +1,7 @@
 -- An index of the places at which cases were declared.
 use Rattle.std.specs.Prelude.{◌≡◌, ℕ, Bool, ◌&&◌, ◌==◌, List, position}
 use Rattle.std.specs.Map.{lookup}
-use Rattle.process_text.specs.declared.files.CaseDecl.{CaseDecl}
+use Rattle.file_model.specs.declared.files.CaseDecl.{CaseDecl}
 use Rattle.script_run.specs.Calls.{is_of}
 use Rattle.wsm_sound.specs.declared.versions.CaseId.{CaseId}
 

@@ -1,10 +1,10 @@
 -- The run that makes the calls of all lines in file order.
 use Rattle.std.specs.Prelude.{ℕ, ◌+◌, List, [], ◌∷◌, map, fold}
 use Rattle.case_core.specs.CaseModel.{not_created}
-use Rattle.process_text.specs.declared.files.CaseDecl.{CaseDecl}
-use Rattle.process_text.specs.declared.files.File.{File}
-use Rattle.process_text.specs.declared.files.Line.{Line}
-use Rattle.process_text.specs.declared.files.TypeDecl.{TypeDecl}
+use Rattle.file_model.specs.declared.files.CaseDecl.{CaseDecl}
+use Rattle.file_model.specs.declared.files.File.{File}
+use Rattle.file_model.specs.declared.files.Line.{Line}
+use Rattle.file_model.specs.declared.files.TypeDecl.{TypeDecl}
 use Rattle.script_run.specs.Calls.{call_kind, worked}
 use Rattle.script_run.specs.declared.runs.ClosedCase.{ClosedCase}
 use Rattle.script_run.specs.declared.runs.ClosedKind.{ClosedKind}

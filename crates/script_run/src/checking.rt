@@ -1,7 +1,7 @@
 // What the installs of a file come to.
 ghost use Rattle.std.specs.Prelude.{◌≡◌, ◌+◌, ◌*◌, ◌≤◌, true, length, slice_get, IfOk, OnOk};
 ghost use Rattle.std.specs.List.{list_all};
-ghost use Rattle.process_text.specs.Sizes.{IsBounded, is_small, line_effort, phase_effort};
+ghost use Rattle.file_model.specs.Sizes.{IsBounded, is_small, line_effort, phase_effort};
 ghost use Rattle.script_run.specs.Parts.{checking_of};
 ghost use Rattle.script_run.specs.Verdicts.{defined_from, judged, judged_line, judged_phase, stepped, verdicts};
 ghost use Rattle.type_core.specs.KindModel.{not_defined};
@@ -10,7 +10,7 @@ ghost use Rattle.wsm_schema.specs.Flat.{cards_of};
 
 use crate::runs::{Verdict, Verdicts};
 use crate::serial::number_at;
-use process_text::{Act, File, Line, TypeDecl};
+use file_model::{Act, File, Line, TypeDecl};
 use std::alloc::Global;
 use turn_cell::Machine;
 use type_core::{Kind, KindEvent};

@@ -3,7 +3,7 @@ ghost use Rattle.std.specs.Prelude.{◌≡◌, IfOk};
 ghost use Rattle.script_run.specs.Calls.{place_of, roles_of};
 ghost use Rattle.script_run.specs.Places.{Indexes};
 
-use process_text::{CaseDecl, File};
+use file_model::{CaseDecl, File};
 use std::alloc::Global;
 use std::collections::HashMap;
 use wsm_lists::{NoMemory, RoleList};

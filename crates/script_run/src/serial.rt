@@ -1,7 +1,7 @@
 // The serial run.
 ghost use Rattle.std.specs.Prelude.{◌≡◌, ◌+◌, ◌≤◌, true, map, length, IfOk, OnOk};
 ghost use Rattle.std.specs.List.{list_all};
-ghost use Rattle.process_text.specs.Sizes.{IsBounded, is_small, line_effort, phase_effort};
+ghost use Rattle.file_model.specs.Sizes.{IsBounded, is_small, line_effort, phase_effort};
 ghost use Rattle.script_run.specs.Calls.{acted, worked};
 ghost use Rattle.script_run.specs.Oldest.{oldest};
 ghost use Rattle.script_run.specs.Parts.{run_of};
@@ -12,7 +12,7 @@ use crate::calls::{Working, call_kind};
 use crate::runs::{CaseJournal, ClosedCase, ClosedKind, KindJournal, Run};
 use crate::scripts::Script;
 use case_core::{Case, Event};
-use process_text::{Act, CaseDecl, File, Line, TypeDecl};
+use file_model::{Act, CaseDecl, File, Line, TypeDecl};
 use std::alloc::{AllocError, Global};
 use type_core::{Kind, KindEvent};
 use wsm_lists::NoMemory;

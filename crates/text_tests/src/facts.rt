@@ -1,7 +1,7 @@
 // A file that can be worked.
 ghost use Rattle.std.specs.Prelude.{◌≤◌, length};
 
-use file_facts::{File, read_workable};
+use process_text::{File, read_workable};
 use std::alloc::Global;
 use std::test::Fail;
 

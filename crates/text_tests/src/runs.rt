@@ -1,6 +1,6 @@
 // The run of a file on one thread, and what its installs come to.
 ghost use Rattle.std.specs.Prelude.{◌≤◌, IfSome, length};
-ghost use Rattle.process_text.specs.Sizes.{IsBounded};
+ghost use Rattle.file_model.specs.Sizes.{IsBounded};
 
 use case_core::Reply;
 use process_text::{File, read_file};

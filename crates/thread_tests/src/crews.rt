@@ -2,7 +2,7 @@
 ghost use Rattle.std.specs.Prelude.{◌≤◌, length};
 
 use crew_run::crew_run;
-use file_facts::read_workable;
+use process_text::read_workable;
 use script_run::Run;
 use std::alloc::Global;
 use std::sync::Wait;

@@ -2,7 +2,7 @@ use Rattle.std.proofs.Common.{Ok, Err, sym, ◌∙◌, subst}
 use Rattle.adept_actor.proofs.Acts.{acts-fault, create-acts, start-acts, end-acts, change-acts, install-acts, migrate-acts, migrate-fails}
 use Rattle.adept_actor.specs.Work.{Acts}
 use Rattle.adept_server.specs.Desks.{desk_view}
-use Rattle.process_text.specs.declared.files.Act.TheVariants as act
+use Rattle.file_model.specs.declared.files.Act.TheVariants as act
 use Rattle.adept_actor.proofs.calls.act.Goals as goal
 
 pub returns-in_err-create-in-Create-clause-worked : goal.returns-in_err-create-in-Create-clause-worked

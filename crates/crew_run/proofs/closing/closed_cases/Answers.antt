@@ -9,8 +9,8 @@ use Rattle.case_core.specs.declared.views.View.{View}
 use Rattle.crew_run.proofs.RowsEmptied.{all_emptied, none_emptied, one_more_emptied, row_length, row_there}
 use Rattle.crew_run.specs.CaseCounts.{AreCounts}
 use Rattle.crew_run.specs.Closing.{closed_case}
-use Rattle.process_text.specs.declared.files.CaseDecl.{CaseDecl}
-use Rattle.process_text.specs.declared.files.File.{File}
+use Rattle.file_model.specs.declared.files.CaseDecl.{CaseDecl}
+use Rattle.file_model.specs.declared.files.File.{File}
 use Rattle.turn_cell.specs.declared.journal.Closed.{Closed}
 use Rattle.crew_run.proofs.closing.closed_cases.Goals as goal
 

@@ -1,9 +1,9 @@
 use Rattle.std.proofs.Common.{◌≡◌, Ok, IfOk, rules}
 use Rattle.std.proofs.lemmas.Result.{IfOk-weaker}
-use Rattle.process_text.specs.Reading.{file}
-use Rattle.process_text.specs.Sizes.{IsBounded}
-use Rattle.process_text.specs.declared.files.File.{File}
-use Rattle.process_text.proofs.Bounds.{file-bounded}
+use Rattle.file_model.specs.Reading.{file}
+use Rattle.file_model.specs.Sizes.{IsBounded}
+use Rattle.file_model.specs.declared.files.File.{File}
+use Rattle.file_model.proofs.Bounds.{file-bounded}
 use Rattle.process_text.proofs.reading.read_file.Goals as goal
 
 pub returns-clause-bounded : goal.returns-clause-bounded

@@ -1,5 +1,5 @@
 use Rattle.report_text.specs.Ends.{spot_text}
-use Rattle.report_text.proofs.Rows.{gives_row}
+use Rattle.report_words.proofs.Rows.{gives_row}
 use Rattle.report_text.proofs.ends.put_items.Goals as goal
 
 pub loop-spot-preserved : goal.loop-spot-preserved

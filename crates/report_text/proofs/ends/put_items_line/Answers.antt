@@ -5,7 +5,7 @@ use Rattle.adept_io.specs.Written.{Gives}
 use Rattle.case_core.specs.Shown.{item_of, items_of, shown_spots}
 use Rattle.file_words.specs.Lines.{Bytes}
 use Rattle.report_text.specs.Ends.{item_text, spot_text}
-use Rattle.report_text.proofs.Rows.{flat_map-flat_map}
+use Rattle.report_words.proofs.Rows.{flat_map-flat_map}
 use Rattle.report_text.proofs.ends.put_items_line.Goals as goal
 use Rattle.wsm_schema.specs.Flat.{cards_of, card_at}
 

@@ -1,5 +1,5 @@
 use Rattle.report_text.specs.Ends.{mark_text}
-use Rattle.report_text.proofs.Rows.{gives_item}
+use Rattle.report_words.proofs.Rows.{gives_item}
 use Rattle.report_text.proofs.ends.put_marks.Goals as goal
 
 pub loop-card-preserved : goal.loop-card-preserved

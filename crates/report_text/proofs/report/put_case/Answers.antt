@@ -2,7 +2,7 @@ use Rattle.std.proofs.Common.{ap}
 use Rattle.adept_io.proofs.Sent.{gives_then}
 use Rattle.report_text.specs.Ends.{end_text}
 use Rattle.report_text.specs.Journals.{case_line, numbered}
-use Rattle.report_text.proofs.Rows.{gives_as}
+use Rattle.report_words.proofs.Rows.{gives_as}
 use Rattle.report_text.proofs.report.put_case.Goals as goal
 
 pub returns : goal.returns

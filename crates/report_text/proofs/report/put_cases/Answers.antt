@@ -4,7 +4,8 @@ use Rattle.std.specs.Slice.Iter.{iter_rest}
 use Rattle.std.proofs.lemmas.Slice.Zip.{Zip-more, either_empty_from_Zip}
 use Rattle.adept_io.proofs.Sent.{gives_then}
 use Rattle.report_text.specs.Report.{case_text}
-use Rattle.report_text.proofs.Rows.{gives_as, side_by_side-ended, side_by_side-next}
+use Rattle.report_words.proofs.Rows.{gives_as}
+use Rattle.report_text.proofs.NumberedRows.{side_by_side-ended, side_by_side-next}
 use Rattle.report_text.proofs.report.put_cases.Goals as goal
 
 pub loop-decl-preserved : goal.loop-decl-preserved

@@ -1,6 +1,6 @@
 use Rattle.std.proofs.Common.{◌≡◌, ◌+◌, ◌≤◌, drop, fold}
 use Rattle.std.specs.List.{sum_by}
-use Rattle.process_text.specs.Sizes.{phase_effort}
+use Rattle.file_model.specs.Sizes.{phase_effort}
 use Rattle.script_run.specs.Oldest.{oldest}
 use Rattle.script_run.specs.Parts.{run_of}
 use Rattle.script_run.specs.Serial.{phase_worked, serial}

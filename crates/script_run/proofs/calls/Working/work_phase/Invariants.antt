@@ -1,5 +1,5 @@
 use Rattle.std.proofs.Common.{◌≡◌, ◌+◌, ◌≤◌, drop}
-use Rattle.process_text.specs.Sizes.{phase_effort}
+use Rattle.file_model.specs.Sizes.{phase_effort}
 use Rattle.script_run.specs.Oldest.{oldest}
 use Rattle.script_run.specs.Parts.{run_of}
 use Rattle.script_run.specs.Serial.{phase_worked}

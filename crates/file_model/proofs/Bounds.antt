@@ -1,0 +1,97 @@
+-- How large a file that is read can be.
+use Rattle.std.proofs.Common.{◌≡◌, ℕ, ◌+◌, ◌==◌, Bool, true, false, List, [], ◌∷◌, ◌++◌, length, refl, subst, arith, Option, Some, None, Result, Ok, Err}
+use Rattle.std.proofs.lemmas.List.Sums.{sum_by_push}
+use Rattle.std.specs.Prelude.{IfOk, if◌then◌else◌}
+use Rattle.std.specs.Str.{is_utf8}
+use Rattle.file_words.specs.Lines.{Bytes, lines_of, without_return}
+use Rattle.file_words.specs.Words.{words_of, is_skipped}
+use Rattle.file_words.specs.Lengths.{first_long}
+use Rattle.file_words.specs.declared.lengths.TooLong.{TooLong}
+use Rattle.file_forms.specs.DeclarationForms.{is_header, declaration_line}
+use Rattle.file_forms.specs.TypeForms.{type_line}
+use Rattle.file_forms.specs.ScriptForms.{script_line}
+use Rattle.file_forms.specs.OperationForms.{operation_line}
+use Rattle.file_model.specs.Steps.{State, Step, opening, refuse}
+use Rattle.file_model.specs.Declaring.{declared, outside}
+use Rattle.file_model.specs.Typing.{typed}
+use Rattle.file_model.specs.Scripting.{scripted}
+use Rattle.file_model.specs.Operating.{operated}
+use Rattle.file_model.specs.Reading.{unless_long, formed, fitting, unless_not_text, step_in, step_words, step, file_of, finished_in, finished, at_line, read_from, file}
+use Rattle.file_model.specs.Sizes.{phase_effort, IsBounded}
+use Rattle.file_model.specs.declared.files.File.{File}
+use Rattle.file_model.specs.declared.files.Line.{Line}
+use Rattle.file_model.specs.declared.refusals.Refused.{Refused}
+use Rattle.file_model.specs.declared.refusals.Why.{Why}
+use Rattle.file_model.specs.declared.refusals.Why.TheVariants as why
+use Rattle.file_model.specs.declared.states.Contents.{Contents}
+use Rattle.file_model.specs.declared.states.Place.{Place}
+use Rattle.file_model.specs.declared.states.Place.TheVariants as place
+use Rattle.file_model.proofs.Kept.{Kept, KeptIn, KeptState, KeptStep}
+use Rattle.file_model.proofs.KeptByLines.{declared-kept, typed-kept, scripted-kept, operated-kept}
+
+-- ---- a line
+if-kept : (test : Bool) (s o : Step) → KeptStep s → KeptStep o → KeptStep (if test then s else o)
+if-kept true s o h k = h
+if-kept false s o h k = k
+
+long-kept : (l : Option TooLong) (c : Contents) (s : Step) → KeptStep s → KeptStep (unless_long l c s)
+long-kept None c s h = h
+long-kept (Some l) c s h = tt
+
+formed-kept : {F : Type 0} (o : Option F) (ws : List Bytes) (go : F → Step) (c : Contents) → ((f : F) → KeptStep (go f)) → KeptStep (formed o ws go c)
+formed-kept None ws go c h = tt
+formed-kept (Some f) ws go c h = long-kept (first_long ws) c (go f) (h f)
+
+text-kept : (test : Bool) (c : Contents) (s : Step) → KeptStep s → KeptStep (unless_not_text test c s)
+text-kept true c s h = h
+text-kept false c s h = tt
+
+step_in-kept : (p : Place) (at : ℕ) (line : Bytes) (ws : List Bytes) (c : Contents) → KeptIn p c → KeptStep (step_in p at line ws c)
+step_in-kept place.Head at line ws c h = if-kept (is_header ws) (Ok (outside c)) (refuse c why.Header) h tt
+step_in-kept place.Outside at line ws c h =
+    text-kept (is_utf8 line) c _ (formed-kept (declaration_line ws) ws (λ d. declared d c) c (λ d. declared-kept d c h))
+step_in-kept (place.InType d) at line ws c h =
+    text-kept (is_utf8 line) c _ (formed-kept (fitting d (type_line ws)) ws (λ l. typed l d c) c (λ l. typed-kept l d c h))
+step_in-kept (place.InPhase lines) at line ws c h =
+    text-kept (is_utf8 line) c _ (formed-kept (script_line ws) ws (λ l. scripted l lines at c) c (λ l. scripted-kept l lines at c h))
+step_in-kept (place.InGroup lines g) at line ws c h =
+    text-kept (is_utf8 line) c _ (formed-kept (operation_line ws) ws (λ l. operated l g lines c) c (λ l. operated-kept l g lines c h.0 h.1))
+
+step-kept : (s : State) (at : ℕ) (line : Bytes) (ws : List Bytes) → KeptState s → KeptStep (step_words s at line ws)
+step-kept s at line ws h = if-kept (is_skipped ws) (Ok s) (step_in s.place at line ws s.contents) h (step_in-kept s.place at line ws s.contents h)
+
+-- ---- the end of a file
+bounded : (c : Contents) → Kept c 0 → IsBounded (file_of c c.phases)
+bounded c h = record { small = h.small; effort = omega (arith, h.within, h.effort) }
+
+last-bounded : (lines : List Line) (c : Contents) → Kept c (phase_effort lines) → IsBounded (file_of c (c.phases ++ lines ∷ []))
+last-bounded lines c h = record { small = h.small; effort = omega (arith, h.within, h.effort, sum_by_push phase_effort c.phases lines) }
+
+finished_in-bounded : (p : Place) (c : Contents) → KeptIn p c → IfOk (finished_in p c) IsBounded
+finished_in-bounded place.Head c h = tt
+finished_in-bounded place.Outside c h = bounded c h
+finished_in-bounded (place.InType d) c h = tt
+finished_in-bounded (place.InPhase lines) c h = last-bounded lines c h
+finished_in-bounded (place.InGroup lines g) c h = tt
+
+ended-bounded : (test : Bool) (s : State) → KeptState s → IfOk (if test then finished_in s.place s.contents else Err (why.Unended, s.contents)) IsBounded
+ended-bounded true s h = finished_in-bounded s.place s.contents h
+ended-bounded false s h = tt
+
+-- ---- all lines
+at_line-holds : {T : Type 0} (P : T → Type 0) (at : ℕ) (o : Result T (Why × Contents)) → IfOk o P → IfOk (at_line at o) P
+at_line-holds P at (Ok x) h = h
+at_line-holds P at (Err p) h = tt
+
+read_from-bounded : (o : Result State Refused) (at : ℕ) (left : Bytes) (ls : List Bytes) → IfOk o KeptState → IfOk (read_from o at left ls) IsBounded
+read_from-bounded (Err r) at left ls h = tt
+read_from-bounded (Ok s) at left [] h = at_line-holds IsBounded at (finished s left) (ended-bounded (length left == 0) s h)
+read_from-bounded (Ok s) at left (l ∷ ls) h =
+    let line = without_return l in
+    read_from-bounded (at_line at (step s at line)) (at + 1) left ls (at_line-holds KeptState at (step s at line) (step-kept s at line (words_of line) h))
+
+-- a file that is read is bounded
+pub file-bounded : (bytes : Bytes) (f : File) → file bytes ≡ Ok f → IsBounded f
+file-bounded bytes f is =
+    subst (λ (o : Result File Refused). IfOk o IsBounded) is
+    (read_from-bounded (Ok opening) 1 (lines_of bytes).left (lines_of bytes).ended (record { small = refl; within = omega arith; effort = omega arith }))

@@ -1,0 +1,112 @@
+-- What holds behind each line that is read: all types are small, and no more was asked for than the script lines so far may ask for.
+use Rattle.std.proofs.Common.{◌≡◌, ◌≤◌, ℕ, ◌+◌, ◌*◌, Bool, true, false, List, [], ◌∷◌, ◌++◌, length, refl, arith, Option, Some, None}
+use Rattle.std.proofs.lemmas.Bool.{leb-false, ltb-false, le-leb}
+use Rattle.std.proofs.lemmas.List.Folds.{list_all-append}
+use Rattle.std.proofs.lemmas.List.Sums.{sum_by_push}
+use Rattle.std.specs.Prelude.{IfOk, nat_le, nat_lt}
+use Rattle.std.specs.List.{list_all, sum_by}
+use Rattle.std.specs.Option.{option_or}
+use Rattle.wsm_schema.specs.SchemaModel.{SchemaModel}
+use Rattle.wsm_schema.specs.Flat.{cards_of}
+use Rattle.wsm_schema.specs.Sound.{when, block_fault}
+use Rattle.wsm_schema.specs.declared.faults.BlockFault.TheVariants.{Limit}
+use Rattle.wsm_schema.specs.declared.faults.LimitKind.TheVariants.{Nodes}
+use Rattle.wsm_sound.specs.Faults.{fault_of}
+use Rattle.wsm_sound.proofs.NoFaults.{is_sound}
+use Rattle.file_words.specs.Lines.{Bytes}
+use Rattle.file_model.specs.Steps.{State, Step, unless, over}
+use Rattle.file_model.specs.Declaring.{with_type}
+use Rattle.file_model.specs.Scripting.{counted, with_phase, if_known}
+use Rattle.file_model.specs.Sizes.{is_small, line_effort, phase_effort}
+use Rattle.file_model.specs.declared.files.Line.{Line}
+use Rattle.file_model.specs.declared.files.TypeDecl.{TypeDecl}
+use Rattle.file_model.specs.declared.refusals.FileLimit.{FileLimit}
+use Rattle.file_model.specs.declared.refusals.Why.{Why}
+use Rattle.file_model.specs.declared.states.Contents.{Contents}
+use Rattle.file_model.specs.declared.states.Place.{Place}
+use Rattle.file_model.specs.declared.states.Place.TheVariants as place
+
+-- a line asks for 769 at most: one, and three for each of 256 operations
+pub record IsKept (types : List TypeDecl) (phases : List (List Line)) (lines begun : ℕ) : Type 0 where
+  pub small : list_all is_small types ≡ true
+  pub within : lines ≤ 60000
+  pub effort : begun + sum_by phase_effort phases ≤ 769 * lines
+
+abbrev pub Kept : Contents → ℕ → Type 0
+Kept c begun = IsKept c.types.items c.phases c.counts.lines begun
+
+-- the open phase asks for what its lines do, and for an open group at most
+abbrev pub KeptIn : Place → Contents → Type 0
+KeptIn place.Head c = Kept c 0
+KeptIn place.Outside c = Kept c 0
+KeptIn (place.InType d) c = Kept c 0
+KeptIn (place.InPhase lines) c = Kept c (phase_effort lines)
+KeptIn (place.InGroup lines g) c = Kept c (phase_effort lines + 769) × (length g.ops ≤ 256)
+
+abbrev pub KeptState : State → Type 0
+KeptState s = KeptIn s.place s.contents
+
+abbrev pub KeptStep : Step → Type 0
+KeptStep o = IfOk o KeptState
+
+-- ---- a state behind tests
+pub unless-kept : (o : Option Why) (c : Contents) (s : State) → KeptState s → KeptStep (unless o c s)
+unless-kept None c s h = h
+unless-kept (Some w) c s h = tt
+
+pub within-kept : (test : Bool) (l : FileLimit) (c : Contents) (s : State) → (test ≡ false → KeptState s) → KeptStep (unless (over test l) c s)
+within-kept true l c s h = tt
+within-kept false l c s h = h refl
+
+pub within_both-kept : (test : Bool) (l : FileLimit) (o : Option Why) (c : Contents) (s : State) →
+    (test ≡ false → KeptState s) → KeptStep (unless (option_or (over test l) o) c s)
+within_both-kept true l o c s h = tt
+within_both-kept false l o c s h = unless-kept o c s (h refl)
+
+pub known-kept : {A : Type 0} (o : Option A) (go : A → Step) (c : Contents) → ((x : A) → KeptStep (go x)) → KeptStep (if_known o go c)
+known-kept None go c h = tt
+known-kept (Some x) go c h = h x
+
+-- ---- a type without a fault is small
+first_none : {X : Type 0} (a b : Option X) → option_or a b ≡ None → a ≡ None
+first_none None b h = refl
+first_none (Some x) b h = absurd (cc)
+
+when_none : {X : Type 0} (test : Bool) (x : X) → when test x ≡ None → test ≡ false
+when_none true x h = absurd (cc)
+when_none false x h = refl
+
+few_nodes : (s : SchemaModel) → block_fault s ≡ None → nat_lt 1024 (length (cards_of s)) ≡ false
+few_nodes s h = when_none _ (Limit Nodes) (first_none _ _ (first_none _ _ h))
+
+small_type : (n : Bytes) (s : SchemaModel) → fault_of s ≡ None → is_small (record { name = n; schema = s }) ≡ true
+small_type n s h = le-leb (length (cards_of s)) 1024 (ltb-false 1024 (length (cards_of s)) (few_nodes s (is_sound s h).blocks))
+
+all_small : (ts : List TypeDecl) (t : TypeDecl) → list_all is_small ts ≡ true → is_small t ≡ true → list_all is_small (ts ++ t ∷ []) ≡ true
+all_small ts t all one = rw (list_all-append, all, one) refl
+
+pub type-kept : (n : Bytes) (s : SchemaModel) (c : Contents) → fault_of s ≡ None → Kept c 0 → Kept (with_type n s c) 0
+type-kept n s c none h = record {
+  small = all_small c.types.items (record { name = n; schema = s }) h.small (small_type n s none);
+  within = h.within;
+  effort = h.effort;
+}
+
+-- ---- the effort of one more phase, and of one more line
+pub phase-kept : (lines : List Line) (c : Contents) → Kept c (phase_effort lines) → Kept (with_phase lines c) 0
+phase-kept lines c h = record {
+  small = h.small;
+  within = h.within;
+  effort = omega (arith, h.effort, sum_by_push phase_effort c.phases lines);
+}
+
+-- a line more is counted, while it asks for so much
+pub counted-kept : (begun more : ℕ) (c : Contents) → more ≤ 769 → nat_le 60000 c.counts.lines ≡ false → Kept c begun → Kept (counted c) (begun + more)
+counted-kept begun more c less below h = record {
+  small = h.small;
+  within = omega (arith, leb-false 60000 c.counts.lines below);
+  effort = omega (arith, h.effort);
+}
+
+pub more_effort : (lines : List Line) (l : Line) → phase_effort (lines ++ l ∷ []) ≡ phase_effort lines + line_effort l
+more_effort lines l = sum_by_push line_effort lines l

@@ -1,0 +1,153 @@
+-- What holds of the state behind each form of a line.
+use Rattle.std.proofs.Common.{◌≡◌, ◌≤◌, ℕ, ◌+◌, ◌*◌, false, List, [], ◌∷◌, ◌++◌, length, refl, arith, Option, Some, None, length-append}
+use Rattle.std.proofs.lemmas.Bool.{leb-false}
+use Rattle.std.specs.Prelude.{nat_le, nat_lt}
+use Rattle.wsm_lists.specs.declared.values.Value.{Value}
+use Rattle.wsm_ops.specs.declared.operations.Op.{Op}
+use Rattle.wsm_schema.specs.SchemaModel.{SchemaModel}
+use Rattle.wsm_sound.specs.Faults.{fault_of}
+use Rattle.wsm_sound.specs.declared.faults.Fault.{Fault}
+use Rattle.wsm_sound.specs.declared.versions.CaseId.{CaseId}
+use Rattle.file_words.specs.Lines.{Bytes}
+use Rattle.file_names.specs.Names.{place_of}
+use Rattle.file_forms.specs.Forms.{Declaration, a_type, an_actor, a_case, first_phase, TypeLine, activity, opens_and, opens_xor, opens_branch, opens_loop, closes_block, a_sync, an_element, a_read, a_write, type_end}
+use Rattle.file_forms.specs.Forms.{Deed, to_create, to_start, to_end, to_change, to_install, to_migrate, ScriptLine, next_phase, a_deed}
+use Rattle.file_forms.specs.Forms.{Place, behind, at_head, OperationLine, insert, parallel, conditional, delete, move, sync, unsync, element, read, unread, write, unwrite, set_role, group_end}
+use Rattle.file_drafts.specs.Drafts.{whole}
+use Rattle.file_drafts.specs.declared.drafts.Draft.{Draft}
+use Rattle.file_model.specs.Steps.{at_place, over, node_in, with_node, with_element}
+use Rattle.file_model.specs.Declaring.{case_declared, declared}
+use Rattle.file_model.specs.Typing.{ended, typed}
+use Rattle.file_model.specs.Scripting.{case_in, actor_in, counted, line_of, with_line, with_group, changing, one_install, installing, migrations_with, migrating, with_elements, numbered, acted, scripted}
+use Rattle.file_model.specs.Operating.{with_place, op_in, with_names, act_of, line_of_group, with_op, grouped, operated}
+use Rattle.file_model.specs.Sizes.{act_effort, phase_effort}
+use Rattle.file_model.specs.declared.files.Act.{Act}
+use Rattle.file_model.specs.declared.files.Act.TheVariants as act
+use Rattle.file_model.specs.declared.files.Line.{Line}
+use Rattle.file_model.specs.declared.refusals.FileLimit.TheVariants as limit
+use Rattle.file_model.specs.declared.states.Contents.{Contents}
+use Rattle.file_model.specs.declared.states.Group.{Group}
+use Rattle.file_model.specs.declared.states.Target.{Target}
+use Rattle.file_model.specs.declared.states.Target.TheVariants as target
+use Rattle.file_model.specs.declared.states.Place.TheVariants as place
+use Rattle.file_model.proofs.Kept.{Kept, KeptState, KeptStep, unless-kept, within-kept, within_both-kept, known-kept, type-kept, phase-kept, counted-kept, more_effort}
+
+-- ---- declarations
+case_declared-kept : (n : Bytes) (t : Option ℕ) (c : Contents) → Kept c 0 → KeptStep (case_declared n t c)
+case_declared-kept n None c h = tt
+case_declared-kept n (Some t) c h = unless-kept _ c _ h
+
+pub declared-kept : (d : Declaration) (c : Contents) → Kept c 0 → KeptStep (declared d c)
+declared-kept (a_type n) c h = unless-kept _ c _ h
+declared-kept (an_actor n roles) c h = unless-kept _ c _ h
+declared-kept (a_case n kind) c h = case_declared-kept n (place_of c.types.names kind) c h
+declared-kept first_phase c h = h
+
+-- ---- lines of a type
+ended-kept : (n : Bytes) (s : SchemaModel) (f : Option Fault) (c : Contents) → fault_of s ≡ f → Kept c 0 → KeptStep (ended n s f c)
+ended-kept n s None c e h = type-kept n s c e h
+ended-kept n s (Some f) c e h = tt
+
+pub typed-kept : (l : TypeLine) (d : Draft) (c : Contents) → Kept c 0 → KeptStep (typed l d c)
+typed-kept (activity n role) d c h = h
+typed-kept (opens_and a b) d c h = unless-kept _ c _ h
+typed-kept (opens_xor a b role) d c h = unless-kept _ c _ h
+typed-kept (opens_branch code) d c h = h
+typed-kept (opens_loop a b role) d c h = unless-kept _ c _ h
+typed-kept closes_block d c h = h
+typed-kept (a_sync a b) d c h = unless-kept _ (with_node b (with_node a c)) _ h
+typed-kept (an_element e k) d c h = unless-kept _ (with_element e c) _ h
+typed-kept (a_read n e mandatory) d c h = unless-kept _ (with_element e (with_node n c)) _ h
+typed-kept (a_write n e) d c h = unless-kept _ (with_element e (with_node n c)) _ h
+typed-kept type_end d c h = ended-kept d.name (whole d) (fault_of (whole d)) c refl h
+
+-- ---- lines of a phase
+one_line : (lines : List Line) (at actor : ℕ) (a : Act) (c : Contents) → act_effort a ≡ 0 → nat_le 60000 c.counts.lines ≡ false →
+    Kept c (phase_effort lines) → Kept (counted c) (phase_effort (lines ++ line_of at actor a c ∷ []))
+one_line lines at actor a c none below h =
+    let e : phase_effort (lines ++ line_of at actor a c ∷ []) ≡ phase_effort lines + 1 = omega (arith, more_effort lines (line_of at actor a c), none) in
+    rw e (counted-kept (phase_effort lines) 1 c (omega arith) below h)
+
+with_line-kept : (lines : List Line) (at actor : ℕ) (a : Act) (c : Contents) → act_effort a ≡ 0 → Kept c (phase_effort lines) → KeptStep (with_line lines at actor a c)
+with_line-kept lines at actor a c none h =
+    within-kept (nat_le 60000 c.counts.lines) limit.Lines c (at_place (place.InPhase (lines ++ line_of at actor a c ∷ [])) (counted c)) (λ below. one_line lines at actor a c none below h)
+
+with_group-kept : (lines : List Line) (at actor : ℕ) (t : Target) (c : Contents) → nat_le 60000 c.counts.lines ≡ false → Kept c (phase_effort lines) → KeptState (with_group lines at actor t c)
+with_group-kept lines at actor t c below h = (counted-kept (phase_effort lines) 769 c (omega arith) below h, omega arith)
+
+changing-kept : (lines : List Line) (at actor : ℕ) (id : CaseId) (c : Contents) → Kept c (phase_effort lines) → KeptStep (changing lines at actor id c)
+changing-kept lines at actor id c h =
+    within-kept (nat_le 60000 c.counts.lines) limit.Lines c (with_group lines at actor (target.Case id) c) (λ below. with_group-kept lines at actor (target.Case id) c below h)
+
+installing-kept : (lines : List Line) (at actor t : ℕ) (c : Contents) → Kept c (phase_effort lines) → KeptStep (installing lines at actor t c)
+installing-kept lines at actor t c h =
+    within_both-kept (nat_le 60000 c.counts.lines) limit.Lines (over (nat_le 1024 c.counts.installs) limit.Installs) c (with_group lines at actor (target.«Type» t) (one_install c))
+    (λ below. with_group-kept lines at actor (target.«Type» t) (one_install c) below h)
+
+migrating-kept : (lines : List Line) (at actor t : ℕ) (c : Contents) → Kept c (phase_effort lines) → KeptStep (migrating lines at actor t c)
+migrating-kept lines at actor t c h =
+    within_both-kept (nat_le 60000 c.counts.lines) limit.Lines (over (nat_lt 65536 (migrations_with t c)) limit.Migrations) c
+    (at_place (place.InPhase (lines ++ line_of at actor (act.Migrate t) c ∷ [])) (counted (record c { counts = record c.counts { migrations = migrations_with t c } })))
+    (λ below. one_line lines at actor (act.Migrate t) c refl below h)
+
+elements-kept : (ws : List (Bytes × Value)) (c : Contents) (begun : ℕ) → Kept c begun → Kept (with_elements ws c) begun
+elements-kept [] c begun h = h
+elements-kept (w ∷ ws) c begun h = elements-kept ws (with_element w.0 c) begun h
+
+acted-kept : (d : Deed) (actor : ℕ) (lines : List Line) (at : ℕ) (c : Contents) → Kept c (phase_effort lines) → KeptStep (acted d actor lines at c)
+acted-kept (to_create n) actor lines at c h = known-kept (case_in n c) _ c (λ id. with_line-kept lines at actor (act.Create id) c refl h)
+acted-kept (to_start n node) actor lines at c h =
+    known-kept (case_in n c) _ c (λ id. with_line-kept lines at actor (act.Start id (node_in node c)) (with_node node c) refl h)
+acted-kept (to_end n node choice writes) actor lines at c h =
+    let c1 = with_node node c in
+    known-kept (case_in n c) _ c (λ id.
+    with_line-kept lines at actor (act.End id (node_in node c) (numbered writes c1) choice) (with_elements writes c1) refl (elements-kept writes c1 (phase_effort lines) h))
+acted-kept (to_change n) actor lines at c h = known-kept (case_in n c) _ c (λ id. changing-kept lines at actor id c h)
+acted-kept (to_install n) actor lines at c h = known-kept (place_of c.types.names n) _ c (λ t. installing-kept lines at actor t c h)
+acted-kept (to_migrate n) actor lines at c h = known-kept (place_of c.types.names n) _ c (λ t. migrating-kept lines at actor t c h)
+
+pub scripted-kept : (l : ScriptLine) (lines : List Line) (at : ℕ) (c : Contents) → Kept c (phase_effort lines) → KeptStep (scripted l lines at c)
+scripted-kept next_phase lines at c h = unless-kept _ c _ (phase-kept lines c h)
+scripted-kept (a_deed a d) lines at c h = known-kept (actor_in a c) _ c (λ actor. acted-kept d actor lines at c h)
+
+-- ---- lines of a group
+place-kept : (p : Place) (c : Contents) (begun : ℕ) → Kept c begun → Kept (with_place p c) begun
+place-kept (behind n) c begun h = h
+place-kept (at_head n code) c begun h = h
+
+names-kept : (l : OperationLine) (c : Contents) (begun : ℕ) → Kept c begun → Kept (with_names l c) begun
+names-kept (insert n r p) c begun h = place-kept p (with_node n c) begun h
+names-kept (parallel n r s j a b) c begun h = h
+names-kept (conditional n r s j p) c begun h = place-kept p (with_node j (with_node s (with_node n c))) begun h
+names-kept (delete n) c begun h = h
+names-kept (move n p) c begun h = place-kept p (with_node n c) begun h
+names-kept (sync a b) c begun h = h
+names-kept (unsync a b) c begun h = h
+names-kept (element e k) c begun h = h
+names-kept (read n e m) c begun h = h
+names-kept (unread n e) c begun h = h
+names-kept (write n e) c begun h = h
+names-kept (unwrite n e) c begun h = h
+names-kept (set_role n r) c begun h = h
+names-kept group_end c begun h = h
+
+group_effort : (t : Target) (ops : List Op) → act_effort (act_of t ops) ≡ 3 * length ops
+group_effort (target.Case id) ops = refl
+group_effort (target.«Type» t) ops = refl
+
+-- an open group was counted with all the operations that it may have
+closed-kept : (g : Group) (lines : List Line) (c : Contents) → Kept c (phase_effort lines + 769) → length g.ops ≤ 256 → Kept c (phase_effort (lines ++ line_of_group g ∷ []))
+closed-kept g lines c h fits = record {
+  small = h.small;
+  within = h.within;
+  effort = omega (arith, h.effort, more_effort lines (line_of_group g), group_effort g.target g.ops);
+}
+
+grouped-kept : (o : Option Op) (g : Group) (lines : List Line) (c : Contents) → Kept c (phase_effort lines + 769) → length g.ops ≤ 256 → KeptStep (grouped o g lines c)
+grouped-kept None g lines c h fits = closed-kept g lines c h fits
+grouped-kept (Some o) g lines c h fits =
+    within-kept (nat_le 256 (length g.ops)) limit.Ops c (at_place (place.InGroup lines (with_op o g)) c)
+    (λ below. (h, omega (arith, leb-false 256 (length g.ops) below, length-append g.ops (o ∷ []))))
+
+pub operated-kept : (l : OperationLine) (g : Group) (lines : List Line) (c : Contents) → Kept c (phase_effort lines + 769) → length g.ops ≤ 256 → KeptStep (operated l g lines c)
+operated-kept l g lines c h fits = grouped-kept (op_in l c) g lines (with_names l c) (names-kept l c (phase_effort lines + 769) h) fits

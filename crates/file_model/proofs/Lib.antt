@@ -1,0 +1,10 @@
+pub mod CountedCases
+pub mod AtEnd
+pub mod Kept
+pub mod KeptByLines
+pub mod Bounds
+pub mod Examples
+pub mod FileExamples
+pub mod FaultExamples
+pub mod ReadingExamples
+pub mod SoundExamples

@@ -1,0 +1,10 @@
+pub mod RefusalTexts
+pub mod Outcomes
+pub mod Steps
+pub mod CaseCounts
+pub mod Declaring
+pub mod Typing
+pub mod Scripting
+pub mod Operating
+pub mod Reading
+pub mod Sizes

@@ -1,0 +1,101 @@
+-- Lines of a phase.
+use Rattle.std.specs.Prelude.{ℕ, ◌+◌, List, [], ◌∷◌, ◌++◌, length, nat_lt, nat_le, slice_get, Option, Some, None, option_map}
+use Rattle.std.specs.Option.{option_or}
+use Rattle.wsm_lists.specs.declared.values.Value.{Value}
+use Rattle.wsm_sound.specs.declared.versions.CaseId.{CaseId}
+use Rattle.file_words.specs.Lines.{Bytes}
+use Rattle.file_names.specs.Names.{place_of}
+use Rattle.file_forms.specs.PieceForms.{◌>>=◌}
+use Rattle.file_forms.specs.Forms.{Deed, to_create, to_start, to_end, to_change, to_install, to_migrate, ScriptLine, next_phase, a_deed}
+use Rattle.file_model.specs.Steps.{State, Step, at_place, refuse, unless, over, node_in, with_node, element_in, with_element}
+use Rattle.file_model.specs.CaseCounts.{cases_of}
+use Rattle.file_model.specs.declared.files.Line.{Line}
+use Rattle.file_model.specs.declared.files.Act.{Act}
+use Rattle.file_model.specs.declared.files.Act.TheVariants as act
+use Rattle.file_model.specs.declared.refusals.FileLimit.TheVariants as limit
+use Rattle.file_model.specs.declared.refusals.Why.TheVariants as why
+use Rattle.file_model.specs.declared.states.Contents.{Contents}
+use Rattle.file_model.specs.declared.states.Target.{Target}
+use Rattle.file_model.specs.declared.states.Target.TheVariants as target
+use Rattle.file_model.specs.declared.states.Place.TheVariants as place
+
+-- the case with a name
+abbrev pub case_in : Bytes → Contents → Option CaseId
+case_in n c = place_of c.cases.names n >>= λ i. option_map (λ d. d.id) (slice_get c.cases.items i)
+
+-- one more script line
+abbrev pub counted : Contents → Contents
+counted c = record c { counts = record c.counts { lines = c.counts.lines + 1 } }
+
+abbrev pub line_of : ℕ → ℕ → Act → Contents → Line
+line_of at actor a c = record { at = at; order = c.counts.lines + 1; actor = actor; act = a }
+
+-- a script line of its own behind others of its phase
+abbrev pub with_line : List Line → ℕ → ℕ → Act → Contents → Step
+with_line lines at actor a c =
+    unless (over (nat_le 60000 c.counts.lines) limit.Lines) c
+    (at_place (place.InPhase (lines ++ line_of at actor a c ∷ [])) (counted c))
+
+-- the state in which the operations of a group are read
+abbrev pub with_group : List Line → ℕ → ℕ → Target → Contents → State
+with_group lines at actor t c =
+    at_place (place.InGroup lines (record { at = at; order = c.counts.lines + 1; actor = actor; target = t; ops = [] })) (counted c)
+
+abbrev pub changing : List Line → ℕ → ℕ → CaseId → Contents → Step
+changing lines at actor id c =
+    unless (over (nat_le 60000 c.counts.lines) limit.Lines) c (with_group lines at actor (target.Case id) c)
+
+abbrev pub one_install : Contents → Contents
+one_install c = record c { counts = record c.counts { installs = c.counts.installs + 1 } }
+
+abbrev pub installing : List Line → ℕ → ℕ → ℕ → Contents → Step
+installing lines at actor t c =
+    unless (option_or (over (nat_le 60000 c.counts.lines) limit.Lines) (over (nat_le 1024 c.counts.installs) limit.Installs)) c
+    (with_group lines at actor (target.«Type» t) (one_install c))
+
+-- the migrations so far with those of a type
+abbrev pub migrations_with : ℕ → Contents → ℕ
+migrations_with t c = c.counts.migrations + cases_of t c.cases.items
+
+abbrev pub migrating : List Line → ℕ → ℕ → ℕ → Contents → Step
+migrating lines at actor t c =
+    unless (option_or (over (nat_le 60000 c.counts.lines) limit.Lines) (over (nat_lt 65536 (migrations_with t c)) limit.Migrations)) c
+    (at_place (place.InPhase (lines ++ line_of at actor (act.Migrate t) c ∷ []))
+    (counted (record c { counts = record c.counts { migrations = migrations_with t c } })))
+
+-- writes with the numbers of their elements, and the contents with their names
+abbrev pub with_elements : List (Bytes × Value) → Contents → Contents
+with_elements [] c = c
+with_elements (w ∷ ws) c = with_elements ws (with_element w.0 c)
+
+abbrev pub numbered : List (Bytes × Value) → Contents → List (ℕ × Value)
+numbered [] c = []
+numbered (w ∷ ws) c = (element_in w.0 c, w.1) ∷ numbered ws (with_element w.0 c)
+
+abbrev pub if_known : {A : Type 0} → Option A → (A → Step) → Contents → Step
+if_known None go c = refuse c why.Unknown
+if_known (Some x) go c = go x
+
+abbrev pub acted : Deed → ℕ → List Line → ℕ → Contents → Step
+acted (to_create n) actor lines at c = if_known (case_in n c) (λ id. with_line lines at actor (act.Create id) c) c
+acted (to_start n node) actor lines at c =
+    if_known (case_in n c) (λ id. with_line lines at actor (act.Start id (node_in node c)) (with_node node c)) c
+acted (to_end n node choice writes) actor lines at c =
+    if_known (case_in n c) (λ id.
+    let c1 = with_node node c in
+    with_line lines at actor (act.End id (node_in node c) (numbered writes c1) choice) (with_elements writes c1)) c
+acted (to_change n) actor lines at c = if_known (case_in n c) (λ id. changing lines at actor id c) c
+acted (to_install n) actor lines at c = if_known (place_of c.types.names n) (λ t. installing lines at actor t c) c
+acted (to_migrate n) actor lines at c = if_known (place_of c.types.names n) (λ t. migrating lines at actor t c) c
+
+-- actors are numbered from 1
+abbrev pub actor_in : Bytes → Contents → Option ℕ
+actor_in a c = option_map (λ i. i + 1) (place_of c.actors.names a)
+
+abbrev pub with_phase : List Line → Contents → Contents
+with_phase lines c = record c { phases = c.phases ++ lines ∷ [] }
+
+abbrev pub scripted : ScriptLine → List Line → ℕ → Contents → Step
+scripted next_phase lines at c =
+    unless (over (nat_le 255 (length c.phases)) limit.Phases) c (at_place (place.InPhase []) (with_phase lines c))
+scripted (a_deed a d) lines at c = if_known (actor_in a c) (λ actor. acted d actor lines at c) c

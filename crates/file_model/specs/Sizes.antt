@@ -1,0 +1,32 @@
+-- How large a file that is read can be.
+use Rattle.std.specs.Prelude.{ℕ, ◌+◌, ◌*◌, ◌≡◌, ◌≤◌, Bool, true, List, length, nat_le}
+use Rattle.std.specs.List.{list_all, sum_by}
+use Rattle.file_model.specs.declared.files.Act.{Act}
+use Rattle.file_model.specs.declared.files.Act.TheVariants as act
+use Rattle.file_model.specs.declared.files.File.{File}
+use Rattle.file_model.specs.declared.files.Line.{Line}
+use Rattle.file_model.specs.declared.files.TypeDecl.{TypeDecl}
+use Rattle.wsm_schema.specs.Flat.{cards_of}
+
+abbrev pub is_small : TypeDecl → Bool
+is_small t = nat_le (length (cards_of t.schema)) 1024
+
+-- how much a line asks of a type or a case at most: one, and three for each operation
+abbrev pub act_effort : Act → ℕ
+act_effort (act.Change c ops) = 3 * length ops
+act_effort (act.Install t ops) = 3 * length ops
+act_effort _ = 0
+
+abbrev pub line_effort : Line → ℕ
+line_effort l = 1 + act_effort l.act
+
+abbrev pub phase_effort : List Line → ℕ
+phase_effort lines = sum_by line_effort lines
+
+abbrev pub effort : File → ℕ
+effort f = sum_by phase_effort f.phases
+
+-- what holds of each file that is read: 60,000 lines of at most 256 operations each are below the bound
+pub record IsBounded (f : File) : Type 0 where
+  pub small : list_all is_small f.types ≡ true
+  pub effort : effort f ≤ 50000000

@@ -1,0 +1,100 @@
+-- Lines of a type. Names get their numbers in the order of the line.
+use Rattle.std.specs.Prelude.{Bool, true, false, not, length, nat_le, Option, Some, None, Ok}
+use Rattle.std.specs.Option.{is_some}
+use Rattle.wsm_lists.specs.Rows.{row_at}
+use Rattle.wsm_lists.specs.Keys.{both, first, first_two}
+use Rattle.wsm_schema.specs.SchemaModel.{SchemaModel}
+use Rattle.wsm_sound.specs.Faults.{fault_of}
+use Rattle.wsm_sound.specs.declared.faults.Fault.{Fault}
+use Rattle.file_words.specs.Lines.{Bytes}
+use Rattle.file_forms.specs.Forms.{TypeLine, activity, opens_and, opens_xor, opens_branch, opens_loop, closes_block, a_sync, an_element, a_read, a_write, type_end}
+use Rattle.file_drafts.specs.Drafts.{with_role, with_activity, gate_opened, loop_opened, closed, branched, around, with_sync, with_read, with_write, whole}
+use Rattle.file_drafts.specs.Drafts as draft
+use Rattle.file_drafts.specs.declared.drafts.Draft.{Draft}
+use Rattle.file_drafts.specs.declared.drafts.Around.{Around}
+use Rattle.file_drafts.specs.declared.drafts.Around.TheVariants.{NoBlock, BeforeBranches, InBranch, InBody}
+use Rattle.file_drafts.specs.declared.frames.GateKind.TheVariants as kind
+use Rattle.file_model.specs.Steps.{State, Step, at_place, refuse, unless, over, twice, node_in, with_node, element_in, with_element}
+use Rattle.file_model.specs.Declaring.{outside, with_type}
+use Rattle.file_model.specs.declared.refusals.FileLimit.TheVariants as limit
+use Rattle.file_model.specs.declared.refusals.Why.TheVariants as why
+use Rattle.file_model.specs.declared.states.Contents.{Contents}
+use Rattle.file_model.specs.declared.states.Place.TheVariants as place
+
+-- whether blocks and branches may stand there
+abbrev pub takes_blocks : Around → Bool
+takes_blocks BeforeBranches = false
+takes_blocks _ = true
+
+abbrev pub takes_branch : Around → Bool
+takes_branch NoBlock = false
+takes_branch BeforeBranches = true
+takes_branch InBranch = true
+takes_branch InBody = false
+
+abbrev pub is_outside : Around → Bool
+is_outside NoBlock = true
+is_outside _ = false
+
+-- whether a line may stand there: behind the line that opens a block, a branch or the block's end stands
+abbrev pub fits_in : Around → TypeLine → Bool
+fits_in a (activity node role) = takes_blocks a
+fits_in a (opens_and split join) = takes_blocks a
+fits_in a (opens_xor split join role) = takes_blocks a
+fits_in a (opens_loop start end role) = takes_blocks a
+fits_in a (opens_branch code) = takes_branch a
+fits_in a closes_block = not (is_outside a)
+fits_in a (a_sync source target) = is_outside a
+fits_in a (an_element element kind) = is_outside a
+fits_in a (a_read node element mandatory) = is_outside a
+fits_in a (a_write node element) = is_outside a
+fits_in a type_end = is_outside a
+
+abbrev pub drafted : Draft → Contents → Step
+drafted d c = Ok (at_place (place.InType d) c)
+
+-- one block more is open; on a refusal no name of the line is noted
+abbrev pub opened : Draft → Contents → State → Step
+opened d c s = unless (over (nat_le 64 (length d.frames)) limit.Depth) c s
+
+abbrev pub unless_there : Bool → Draft → Contents → Step
+unless_there there d c = unless (twice there) c (at_place (place.InType d) c)
+
+abbrev pub ended : Bytes → SchemaModel → Option Fault → Contents → Step
+ended n schema None c = Ok (outside (with_type n schema c))
+ended n schema (Some fault) c = refuse c (why.Unsound fault)
+
+abbrev pub typed : TypeLine → Draft → Contents → Step
+typed (activity n role) d c = let node = node_in n c in drafted (with_role node role (with_activity node d)) (with_node n c)
+typed (opens_and a b) d c =
+    let c1 = with_node a c in
+    opened d c (at_place (place.InType (gate_opened kind.And (node_in a c) (node_in b c1) d)) (with_node b c1))
+typed (opens_xor a b role) d c =
+    let c1 = with_node a c in
+    let split = node_in a c in
+    opened d c (at_place (place.InType (with_role split role (gate_opened kind.Xor split (node_in b c1) d))) (with_node b c1))
+typed (opens_branch code) d c = drafted (branched code d) c
+typed (opens_loop a b role) d c =
+    let c1 = with_node a c in
+    let end = node_in b c1 in
+    opened d c (at_place (place.InType (with_role end role (loop_opened (node_in a c) end d))) (with_node b c1))
+typed closes_block d c = drafted (closed d) c
+typed (a_sync a b) d c =
+    let c1 = with_node a c in
+    let source = node_in a c in
+    let target = node_in b c1 in
+    unless_there (is_some (row_at both (source, target) d.schema.syncs)) (with_sync source target d) (with_node b c1)
+typed (an_element e k) d c =
+    let element = element_in e c in
+    unless_there (is_some (row_at first (element, 0) d.schema.elements)) (draft.with_element element k d) (with_element e c)
+typed (a_read n e mandatory) d c =
+    let c1 = with_node n c in
+    let node = node_in n c in
+    let element = element_in e c1 in
+    unless_there (is_some (row_at first_two (node, element) d.schema.reads)) (with_read node element mandatory d) (with_element e c1)
+typed (a_write n e) d c =
+    let c1 = with_node n c in
+    let node = node_in n c in
+    let element = element_in e c1 in
+    unless_there (is_some (row_at both (node, element) d.schema.writes)) (with_write node element d) (with_element e c1)
+typed type_end d c = ended d.name (whole d) (fault_of (whole d)) c

@@ -1,0 +1,81 @@
+// A file while its lines are read.
+use crate::case_tables::CaseTable;
+use crate::files::{ActorDecl, Lines, Phases, TypeDecl};
+use crate::refusals::Why;
+use file_drafts::Draft;
+use file_names::{DeclaredList, NameTable};
+use wsm_lists::NoMemory;
+use wsm_ops::Ops;
+use wsm_sound::CaseId;
+
+/// What a group of operations changes: a case, or a type.
+#[derive(Clone, Copy, PartialEq, Eq, Debug)]
+pub enum Target {
+    Case(CaseId),
+    Type(u32),
+}
+
+/// A group whose end was not read yet, with the line that began it.
+#[derive(Drop)]
+pub struct Group {
+    pub at: u32,
+    pub order: u32,
+    pub actor: u32,
+    pub target: Target,
+    pub ops: Ops,
+}
+
+/// Where the next line stands.
+#[derive(Drop)]
+pub enum Place {
+    /// Before the header.
+    Head,
+    /// Outside of types and phases.
+    Outside,
+    /// In a type.
+    InType(Draft),
+    /// In a phase, behind these lines of it.
+    InPhase(Lines),
+    /// In a group, behind these lines of its phase.
+    InGroup(Lines, Group),
+}
+
+/// How many script lines, installs and migrations of cases there were.
+#[derive(Clone, Copy, PartialEq, Eq, Debug)]
+pub struct Counts {
+    pub lines: u32,
+    pub installs: u32,
+    pub migrations: u32,
+}
+
+/// What was read so far. The open phase is not among the phases.
+#[derive(Drop)]
+pub struct Contents {
+    pub nodes: NameTable,
+    pub elements: NameTable,
+    pub types: DeclaredList<TypeDecl>,
+    pub actors: DeclaredList<ActorDecl>,
+    pub cases: CaseTable,
+    pub phases: Phases,
+    pub counts: Counts,
+}
+
+/// Why a line is not taken in.
+#[derive(Clone, Copy, PartialEq, Eq, Debug)]
+pub enum Stop {
+    /// The line is refused.
+    Refused(Why),
+    /// There was not enough memory.
+    NoMemory,
+}
+
+impl From<NoMemory> for Stop {
+    ghost use Rattle.std.specs.Prelude.{◌≡◌};
+    ghost use Rattle.file_model.specs.declared.states.Stop.TheVariants as stop;
+
+    ghost from_gives = { λ _ e. e ≡ stop.NoMemory };
+
+    fn from(_error: NoMemory) -> Stop {
+        Stop::NoMemory
+    }
+}

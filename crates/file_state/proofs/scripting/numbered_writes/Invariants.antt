@@ -1,0 +1,10 @@
+use Rattle.std.proofs.Common.{◌≡◌, ◌++◌, map, drop}
+use Rattle.file_words.specs.Shown.{shown_pair}
+use Rattle.file_model.specs.Scripting.{with_elements, numbered}
+use Rattle.file_state.proofs.scripting.numbered_writes.Given as goal
+
+abbrev pub invariant-loop-word : goal.invariant-loop-word
+invariant-loop-word l = record {
+  noted : with_elements (map shown_pair (drop l.word-index l.words)) l.contents ≡ with_elements (map shown_pair l.words) l.initial.contents;
+  writes : l.writes ++ numbered (map shown_pair (drop l.word-index l.words)) l.contents ≡ numbered (map shown_pair l.words) l.initial.contents;
+}

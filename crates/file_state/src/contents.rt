@@ -1,0 +1,110 @@
+// What was read so far: names and refusals.
+ghost use Rattle.std.specs.Prelude.{◌≡◌, Err, IfOk, OnOk};
+ghost use Rattle.file_names.specs.Names.{place_of};
+ghost use Rattle.file_model.specs.Outcomes.{Tells};
+ghost use Rattle.file_model.specs.Reading.{refused};
+ghost use Rattle.file_model.specs.Steps.{no_contents, node_in, with_node, element_in, with_element};
+
+use crate::texts::text_of;
+use file_model::{CaseTable, Contents, Counts, FileRefusal, Phases, Refused, Why};
+use file_names::{DeclaredList, NameTable, narrow};
+use file_words::NameWord;
+use std::alloc::Global;
+use wsm_lists::NoMemory;
+
+/// The number of what was declared with a name.
+pub fn place_in(names: &NameTable, name: NameWord<'_>) -> Result<Option<u32>, NoMemory>
+    ensures { IfOk result (λ found. found ≡ place_of names.now name.entry.bytes.now) }
+{
+    match names.find(name) {
+        None => Ok(None),
+        Some(index) => Ok(Some(narrow(index)?)),
+    }
+}
+
+/// Before the first line.
+pub fn no_contents(alloc: Global) -> Result<Contents, NoMemory>
+    ensures { IfOk result (λ contents. contents ≡ no_contents) }
+{
+    Ok(Contents {
+        nodes: NameTable::start_and_finish(alloc)?,
+        elements: NameTable::new(alloc),
+        types: DeclaredList::new(alloc),
+        actors: DeclaredList::new(alloc),
+        cases: CaseTable::new(alloc)?,
+        phases: Phases::new(alloc),
+        counts: Counts {
+            lines: 0,
+            installs: 0,
+            migrations: 0,
+        },
+    })
+}
+
+/// The refusal of a file at a line, or want of memory for its text.
+pub fn refusal(contents: &Contents, alloc: Global, at: u32, why: Why) -> FileRefusal
+    ensures { Tells (Err (refused at why contents.now)) result }
+{
+    match text_of(alloc, &contents.nodes, &contents.elements, why) {
+        Ok(text) => FileRefusal::Refused(Refused {
+            line: at,
+            why,
+            text,
+        }),
+        Err(_) => FileRefusal::NoMemory,
+    }
+}
+
+/// The number of a node, which gets the next one where it has none.
+pub fn node_number(
+    contents: &mut Contents,
+    alloc: Global,
+    name: NameWord<'_>,
+) -> Result<u32, NoMemory>
+    ensures noted { OnOk result (contents.new ≡ with_node name.entry.bytes.now contents.old) }
+    ensures number { IfOk result (λ number. number ≡ node_in name.entry.bytes.now contents.old) }
+{
+    contents.nodes.note(alloc, name)
+}
+
+/// The number of an element, which gets the next one where it has none.
+pub fn element_number(
+    contents: &mut Contents,
+    alloc: Global,
+    name: NameWord<'_>,
+) -> Result<u32, NoMemory>
+    ensures noted { OnOk result (contents.new ≡ with_element name.entry.bytes.now contents.old) }
+    ensures number { IfOk result (λ number. number ≡ element_in name.entry.bytes.now contents.old) }
+{
+    contents.elements.note(alloc, name)
+}
+
+/// The numbers of two nodes, in this order.
+pub fn node_numbers(
+    contents: &mut Contents,
+    alloc: Global,
+    a: NameWord<'_>,
+    b: NameWord<'_>,
+) -> Result<(u32, u32), NoMemory>
+    ensures noted { OnOk result (contents.new ≡ with_node b.entry.bytes.now (with_node a.entry.bytes.now contents.old)) }
+    ensures numbers { IfOk result (λ p. p ≡ (node_in a.entry.bytes.now contents.old, node_in b.entry.bytes.now (with_node a.entry.bytes.now contents.old))) }
+{
+    let first = node_number(contents, alloc, a)?;
+    let second = node_number(contents, alloc, b)?;
+    Ok((first, second))
+}
+
+/// The numbers of a node and of an element, in this order.
+pub fn node_and_element_numbers(
+    contents: &mut Contents,
+    alloc: Global,
+    node: NameWord<'_>,
+    element: NameWord<'_>,
+) -> Result<(u32, u32), NoMemory>
+    ensures noted { OnOk result (contents.new ≡ with_element element.entry.bytes.now (with_node node.entry.bytes.now contents.old)) }
+    ensures numbers { IfOk result (λ p. p ≡ (node_in node.entry.bytes.now contents.old, element_in element.entry.bytes.now (with_node node.entry.bytes.now contents.old))) }
+{
+    let first = node_number(contents, alloc, node)?;
+    let second = element_number(contents, alloc, element)?;
+    Ok((first, second))
+}

@@ -1,0 +1,171 @@
+// The header, and declarations.
+ghost use Rattle.std.specs.Prelude.{◌≡◌, Ok, Some, IfOk, IfErr, OnOk};
+ghost use Rattle.file_words.specs.Shown.{shown};
+ghost use Rattle.file_forms.specs.Shown.{shown_declaration};
+ghost use Rattle.file_forms.specs.Forms.{a_type, an_actor, a_case};
+ghost use Rattle.file_model.specs.Outcomes.{Stops};
+ghost use Rattle.file_model.specs.Steps.{at_place};
+ghost use Rattle.file_model.specs.Declaring.{declared, with_actor, case_declared, with_case};
+ghost use Rattle.file_model.specs.Reading.{headed};
+
+use crate::contents::place_in;
+use file_drafts::Draft;
+use file_forms::{Declaration, is_header};
+use file_model::{ActorDecl, CaseDecl, Contents, FileLimit, Lines, Place, Stop, Why};
+use file_names::Name64;
+use file_words::NameWord;
+use std::alloc::Global;
+use wsm_lists::{NoMemory, RoleList};
+use wsm_sound::CaseId;
+
+/// How many types, actors and cases a file may have, and roles an actor.
+const MAX_TYPES: usize = 64;
+
+const MAX_ACTORS: usize = 32;
+
+const MAX_CASES: usize = 4096;
+
+const MAX_ROLES: usize = 32;
+
+/// A file's first line.
+pub fn headed(contents: &mut Contents, words: &[&[u8]]) -> Result<Place, Stop>
+    ensures ok { IfOk result (λ place. headed (shown words.now) contents.old ≡ Ok (at_place place contents.new)) }
+    ensures refused { IfErr result (λ stop. Stops (headed (shown words.now) contents.old) contents.new stop) }
+{
+    if is_header(words) {
+        Ok(Place::Outside)
+    } else {
+        Err(Stop::Refused(Why::Header))
+    }
+}
+
+/// A line outside of types and phases.
+pub fn declared(
+    contents: &mut Contents,
+    alloc: Global,
+    line: Declaration<'_>,
+) -> Result<Place, Stop>
+    ensures ok { IfOk result (λ place. declared (shown_declaration line.entry) contents.old ≡ Ok (at_place place contents.new)) }
+    ensures refused { IfErr result (λ stop. Stops (declared (shown_declaration line.entry) contents.old) contents.new stop) }
+{
+    match line {
+        Declaration::Type(name) => with_type(contents, alloc, name),
+        Declaration::Actor { name, roles } => with_actor(contents, alloc, name, roles),
+        Declaration::Case { name, kind } => with_case(contents, alloc, name, kind),
+        Declaration::Phase => Ok(Place::InPhase(Lines::new(alloc))),
+    }
+}
+
+fn with_type(contents: &mut Contents, alloc: Global, name: NameWord<'_>) -> Result<Place, Stop>
+    ensures ok { IfOk result (λ place. declared (a_type name.entry.bytes.now) contents.old ≡ Ok (at_place place contents.new)) }
+    ensures refused { IfErr result (λ stop. Stops (declared (a_type name.entry.bytes.now) contents.old) contents.new stop) }
+{
+    if contents.types.names.has(name) {
+        return Err(Stop::Refused(Why::Twice));
+    }
+    if contents.types.items.len() >= MAX_TYPES {
+        return Err(Stop::Refused(Why::Limit(FileLimit::Types)));
+    }
+    let draft = Draft::new(alloc, Name64::of_word(alloc, name)?);
+    Ok(Place::InType(draft))
+}
+
+fn with_actor(
+    contents: &mut Contents,
+    alloc: Global,
+    name: NameWord<'_>,
+    roles: RoleList,
+) -> Result<Place, Stop>
+    ensures ok { IfOk result (λ place. declared (an_actor name.entry.bytes.now roles) contents.old ≡ Ok (at_place place contents.new)) }
+    ensures refused { IfErr result (λ stop. Stops (declared (an_actor name.entry.bytes.now roles) contents.old) contents.new stop) }
+{
+    if contents.actors.names.has(name) {
+        return Err(Stop::Refused(Why::Twice));
+    }
+    if contents.actors.items.len() >= MAX_ACTORS {
+        return Err(Stop::Refused(Why::Limit(FileLimit::Actors)));
+    }
+    if roles.len() > MAX_ROLES {
+        return Err(Stop::Refused(Why::Limit(FileLimit::Roles)));
+    }
+    add_actor(contents, alloc, name, roles)?;
+    Ok(Place::Outside)
+}
+
+fn add_actor(
+    contents: &mut Contents,
+    alloc: Global,
+    name: NameWord<'_>,
+    roles: RoleList,
+) -> Result<(), NoMemory>
+    ensures { OnOk result (contents.new ≡ with_actor name.entry.bytes.now roles contents.old) }
+{
+    let actor = ActorDecl {
+        name: Name64::of_word(alloc, name)?,
+        roles,
+    };
+    contents.actors.push(alloc, name, actor)
+}
+
+fn with_case(
+    contents: &mut Contents,
+    alloc: Global,
+    name: NameWord<'_>,
+    kind: NameWord<'_>,
+) -> Result<Place, Stop>
+    ensures ok { IfOk result (λ place. declared (a_case name.entry.bytes.now kind.entry.bytes.now) contents.old ≡ Ok (at_place place contents.new)) }
+    ensures refused { IfErr result (λ stop. Stops (declared (a_case name.entry.bytes.now kind.entry.bytes.now) contents.old) contents.new stop) }
+{
+    let found = place_in(&contents.types.names, kind)?;
+    with_case_of(contents, alloc, name, found)
+}
+
+fn with_case_of(
+    contents: &mut Contents,
+    alloc: Global,
+    name: NameWord<'_>,
+    found: Option<u32>,
+) -> Result<Place, Stop>
+    ensures ok { IfOk result (λ place. case_declared name.entry.bytes.now found contents.old ≡ Ok (at_place place contents.new)) }
+    ensures refused { IfErr result (λ stop. Stops (case_declared name.entry.bytes.now found contents.old) contents.new stop) }
+{
+    match found {
+        None => Err(Stop::Refused(Why::Unknown)),
+        Some(type_no) => with_known_type(contents, alloc, name, type_no),
+    }
+}
+
+fn with_known_type(
+    contents: &mut Contents,
+    alloc: Global,
+    name: NameWord<'_>,
+    type_no: u32,
+) -> Result<Place, Stop>
+    ensures ok { IfOk result (λ place. case_declared name.entry.bytes.now (Some type_no) contents.old ≡ Ok (at_place place contents.new)) }
+    ensures refused { IfErr result (λ stop. Stops (case_declared name.entry.bytes.now (Some type_no) contents.old) contents.new stop) }
+{
+    if contents.cases.names().has(name) {
+        return Err(Stop::Refused(Why::Twice));
+    }
+    if contents.cases.items().len() >= MAX_CASES {
+        return Err(Stop::Refused(Why::Limit(FileLimit::Cases)));
+    }
+    add_case(contents, alloc, name, type_no)?;
+    Ok(Place::Outside)
+}
+
+fn add_case(
+    contents: &mut Contents,
+    alloc: Global,
+    name: NameWord<'_>,
+    type_no: u32,
+) -> Result<(), NoMemory>
+    ensures { OnOk result (contents.new ≡ with_case name.entry.bytes.now type_no contents.old) }
+{
+    let place = contents.cases.count(type_no);
+    let case = CaseDecl {
+        name: Name64::of_word(alloc, name)?,
+        id: CaseId { type_no, place },
+    };
+    contents.cases.push(alloc, name, case)
+}

@@ -1,0 +1,348 @@
+// Lines of a group of operations.
+ghost use Rattle.std.specs.Prelude.{◌≡◌, [], ◌∷◌, ◌++◌, Ok, Some, IfOk, IfErr, OnOk};
+ghost use Rattle.file_forms.specs.Shown.{shown_place, shown_operation};
+ghost use Rattle.file_forms.specs.Forms.{insert, parallel, conditional, delete, move, sync, unsync, element, read, unread, write, unwrite, set_role};
+ghost use Rattle.file_model.specs.Outcomes.{Stops};
+ghost use Rattle.file_model.specs.Steps.{at_place, node_in, with_node};
+ghost use Rattle.file_model.specs.Operating.{gap_in, with_place, op_in, with_names, line_of_group, grouped, operated};
+
+use crate::contents::{element_number, node_and_element_numbers, node_number, node_numbers};
+use file_forms::{OperationLine, Place};
+use file_model::{
+    Act, Contents, FileLimit, Group, Line, Lines, Place as LinePlace, Stop, Target, Why,
+};
+use file_words::NameWord;
+use std::alloc::Global;
+use wsm_lists::{ElementKind, NoMemory};
+use wsm_ops::{Gap, Op};
+
+/// How many operations a group may have.
+const MAX_OPS: usize = 256;
+
+// The script line of a group that has ended.
+fn line_of_group(group: Group) -> Line
+    ensures { result ≡ line_of_group group }
+{
+    let act = match group.target {
+        Target::Case(id) => Act::Change(id, group.ops),
+        Target::Type(type_no) => Act::Install(type_no, group.ops),
+    };
+    Line {
+        at: group.at,
+        order: group.order,
+        actor: group.actor,
+        act,
+    }
+}
+
+// The lines of a phase with that of a group at their end.
+fn ended(lines: Lines, group: Group) -> Result<Lines, NoMemory>
+    ensures { IfOk result (λ all. all ≡ lines ++ line_of_group group ∷ []) }
+{
+    let mut all = lines;
+    all.push(line_of_group(group))?;
+    Ok(all)
+}
+
+/// A line of a group.
+pub fn operated(
+    contents: &mut Contents,
+    alloc: Global,
+    lines: Lines,
+    group: Group,
+    line: OperationLine<'_>,
+) -> Result<LinePlace, Stop>
+    ensures ok { IfOk result (λ next. operated (shown_operation line.entry) group lines contents.old ≡ Ok (at_place next contents.new)) }
+    ensures refused { IfErr result (λ stop. Stops (operated (shown_operation line.entry) group lines contents.old) contents.new stop) }
+{
+    let found = operation(contents, alloc, line)?;
+    grouped(contents, lines, group, found)
+}
+
+fn grouped(
+    contents: &mut Contents,
+    lines: Lines,
+    group: Group,
+    found: Option<Op>,
+) -> Result<LinePlace, Stop>
+    ensures ok { IfOk result (λ next. grouped found group lines contents.old ≡ Ok (at_place next contents.new)) }
+    ensures refused { IfErr result (λ stop. Stops (grouped found group lines contents.old) contents.new stop) }
+{
+    match found {
+        None => Ok(LinePlace::InPhase(ended(lines, group)?)),
+        Some(op) => with_operation(contents, lines, group, op),
+    }
+}
+
+fn with_operation(
+    contents: &mut Contents,
+    lines: Lines,
+    group: Group,
+    op: Op,
+) -> Result<LinePlace, Stop>
+    ensures ok { IfOk result (λ next. grouped (Some op) group lines contents.old ≡ Ok (at_place next contents.new)) }
+    ensures refused { IfErr result (λ stop. Stops (grouped (Some op) group lines contents.old) contents.new stop) }
+{
+    if group.ops.len() >= MAX_OPS {
+        return Err(Stop::Refused(Why::Limit(FileLimit::Ops)));
+    }
+    let mut longer = group;
+    longer.ops.push(op)?;
+    Ok(LinePlace::InGroup(lines, longer))
+}
+
+// The operation of a line. None where the group ends.
+fn operation(
+    contents: &mut Contents,
+    alloc: Global,
+    line: OperationLine<'_>,
+) -> Result<Option<Op>, NoMemory>
+    ensures noted { OnOk result (contents.new ≡ with_names (shown_operation line.entry) contents.old) }
+    ensures op { IfOk result (λ found. found ≡ op_in (shown_operation line.entry) contents.old) }
+{
+    match line {
+        OperationLine::Insert { node, role, place } => insertion(
+            contents, alloc, node, role, place,
+        ),
+        OperationLine::Parallel {
+            node,
+            role,
+            split,
+            join,
+            first,
+            last,
+        } => parallel_insertion(contents, alloc, node, role, split, join, first, last),
+        OperationLine::Conditional {
+            node,
+            role,
+            split,
+            join,
+            place,
+        } => conditional_insertion(contents, alloc, node, role, split, join, place),
+        OperationLine::Delete(node) => deletion(contents, alloc, node),
+        OperationLine::Move { node, place } => movement(contents, alloc, node, place),
+        OperationLine::Sync { source, target } => new_sync(contents, alloc, source, target),
+        OperationLine::Unsync { source, target } => lost_sync(contents, alloc, source, target),
+        OperationLine::Element { element, kind } => new_element(contents, alloc, element, kind),
+        OperationLine::Read {
+            node,
+            element,
+            mandatory,
+        } => new_read(contents, alloc, node, element, mandatory),
+        OperationLine::Unread { node, element } => lost_read(contents, alloc, node, element),
+        OperationLine::Write { node, element } => new_write(contents, alloc, node, element),
+        OperationLine::Unwrite { node, element } => lost_write(contents, alloc, node, element),
+        OperationLine::Role { node, role } => new_role(contents, alloc, node, role),
+        OperationLine::GroupEnd => Ok(None),
+    }
+}
+
+fn gap(contents: &mut Contents, alloc: Global, place: Place<'_>) -> Result<Gap, NoMemory>
+    ensures noted { OnOk result (contents.new ≡ with_place (shown_place place.entry) contents.old) }
+    ensures gap { IfOk result (λ gap. gap ≡ gap_in (shown_place place.entry) contents.old) }
+{
+    match place {
+        Place::After(node) => Ok(Gap::After(node_number(contents, alloc, node)?)),
+        Place::Head { split, code } => Ok(Gap::Head(node_number(contents, alloc, split)?, code)),
+    }
+}
+
+fn insertion(
+    contents: &mut Contents,
+    alloc: Global,
+    node: NameWord<'_>,
+    role: u32,
+    place: Place<'_>,
+) -> Result<Option<Op>, NoMemory>
+    ensures noted { OnOk result (contents.new ≡ with_names (insert node.entry.bytes.now role (shown_place place.entry)) contents.old) }
+    ensures op { IfOk result (λ found. found ≡ op_in (insert node.entry.bytes.now role (shown_place place.entry)) contents.old) }
+{
+    let node = node_number(contents, alloc, node)?;
+    let gap = gap(contents, alloc, place)?;
+    Ok(Some(Op::InsertSerial { node, role, gap }))
+}
+
+fn parallel_insertion(
+    contents: &mut Contents,
+    alloc: Global,
+    node: NameWord<'_>,
+    role: u32,
+    split: NameWord<'_>,
+    join: NameWord<'_>,
+    first: NameWord<'_>,
+    last: NameWord<'_>,
+) -> Result<Option<Op>, NoMemory>
+    ensures noted { OnOk result (contents.new ≡ with_names (parallel node.entry.bytes.now role split.entry.bytes.now join.entry.bytes.now first.entry.bytes.now last.entry.bytes.now) contents.old) }
+    ensures op { IfOk result (λ found. found ≡ op_in (parallel node.entry.bytes.now role split.entry.bytes.now join.entry.bytes.now first.entry.bytes.now last.entry.bytes.now) contents.old) }
+{
+    let node = node_number(contents, alloc, node)?;
+    let (split, join) = node_numbers(contents, alloc, split, join)?;
+    let (first, last) = node_numbers(contents, alloc, first, last)?;
+    Ok(Some(Op::InsertParallel {
+        node,
+        role,
+        split,
+        join,
+        first,
+        last,
+    }))
+}
+
+fn conditional_insertion(
+    contents: &mut Contents,
+    alloc: Global,
+    node: NameWord<'_>,
+    role: u32,
+    split: NameWord<'_>,
+    join: NameWord<'_>,
+    place: Place<'_>,
+) -> Result<Option<Op>, NoMemory>
+    ensures noted { OnOk result (contents.new ≡ with_names (conditional node.entry.bytes.now role split.entry.bytes.now join.entry.bytes.now (shown_place place.entry)) contents.old) }
+    ensures op { IfOk result (λ found. found ≡ op_in (conditional node.entry.bytes.now role split.entry.bytes.now join.entry.bytes.now (shown_place place.entry)) contents.old) }
+{
+    let node = node_number(contents, alloc, node)?;
+    let (split, join) = node_numbers(contents, alloc, split, join)?;
+    let gap = gap(contents, alloc, place)?;
+    Ok(Some(Op::InsertConditional {
+        node,
+        role,
+        split,
+        join,
+        gap,
+    }))
+}
+
+fn deletion(
+    contents: &mut Contents,
+    alloc: Global,
+    node: NameWord<'_>,
+) -> Result<Option<Op>, NoMemory>
+    ensures noted { OnOk result (contents.new ≡ with_names (delete node.entry.bytes.now) contents.old) }
+    ensures op { IfOk result (λ found. found ≡ op_in (delete node.entry.bytes.now) contents.old) }
+{
+    let node = node_number(contents, alloc, node)?;
+    Ok(Some(Op::DeleteActivity { node }))
+}
+
+fn movement(
+    contents: &mut Contents,
+    alloc: Global,
+    node: NameWord<'_>,
+    place: Place<'_>,
+) -> Result<Option<Op>, NoMemory>
+    ensures noted { OnOk result (contents.new ≡ with_names (move node.entry.bytes.now (shown_place place.entry)) contents.old) }
+    ensures op { IfOk result (λ found. found ≡ op_in (move node.entry.bytes.now (shown_place place.entry)) contents.old) }
+{
+    let node = node_number(contents, alloc, node)?;
+    let gap = gap(contents, alloc, place)?;
+    Ok(Some(Op::MoveActivity { node, gap }))
+}
+
+fn new_sync(
+    contents: &mut Contents,
+    alloc: Global,
+    source: NameWord<'_>,
+    target: NameWord<'_>,
+) -> Result<Option<Op>, NoMemory>
+    ensures noted { OnOk result (contents.new ≡ with_names (sync source.entry.bytes.now target.entry.bytes.now) contents.old) }
+    ensures op { IfOk result (λ found. found ≡ op_in (sync source.entry.bytes.now target.entry.bytes.now) contents.old) }
+{
+    let (source, target) = node_numbers(contents, alloc, source, target)?;
+    Ok(Some(Op::InsertSync { source, target }))
+}
+
+fn lost_sync(
+    contents: &mut Contents,
+    alloc: Global,
+    source: NameWord<'_>,
+    target: NameWord<'_>,
+) -> Result<Option<Op>, NoMemory>
+    ensures noted { OnOk result (contents.new ≡ with_names (unsync source.entry.bytes.now target.entry.bytes.now) contents.old) }
+    ensures op { IfOk result (λ found. found ≡ op_in (unsync source.entry.bytes.now target.entry.bytes.now) contents.old) }
+{
+    let (source, target) = node_numbers(contents, alloc, source, target)?;
+    Ok(Some(Op::DeleteSync { source, target }))
+}
+
+fn new_element(
+    contents: &mut Contents,
+    alloc: Global,
+    name: NameWord<'_>,
+    kind: ElementKind,
+) -> Result<Option<Op>, NoMemory>
+    ensures noted { OnOk result (contents.new ≡ with_names (element name.entry.bytes.now kind) contents.old) }
+    ensures op { IfOk result (λ found. found ≡ op_in (element name.entry.bytes.now kind) contents.old) }
+{
+    let element = element_number(contents, alloc, name)?;
+    Ok(Some(Op::AddElement { element, kind }))
+}
+
+fn new_read(
+    contents: &mut Contents,
+    alloc: Global,
+    node: NameWord<'_>,
+    element: NameWord<'_>,
+    mandatory: bool,
+) -> Result<Option<Op>, NoMemory>
+    ensures noted { OnOk result (contents.new ≡ with_names (read node.entry.bytes.now element.entry.bytes.now mandatory) contents.old) }
+    ensures op { IfOk result (λ found. found ≡ op_in (read node.entry.bytes.now element.entry.bytes.now mandatory) contents.old) }
+{
+    let (node, element) = node_and_element_numbers(contents, alloc, node, element)?;
+    Ok(Some(Op::AddRead {
+        node,
+        element,
+        mandatory,
+    }))
+}
+
+fn lost_read(
+    contents: &mut Contents,
+    alloc: Global,
+    node: NameWord<'_>,
+    element: NameWord<'_>,
+) -> Result<Option<Op>, NoMemory>
+    ensures noted { OnOk result (contents.new ≡ with_names (unread node.entry.bytes.now element.entry.bytes.now) contents.old) }
+    ensures op { IfOk result (λ found. found ≡ op_in (unread node.entry.bytes.now element.entry.bytes.now) contents.old) }
+{
+    let (node, element) = node_and_element_numbers(contents, alloc, node, element)?;
+    Ok(Some(Op::RemoveRead { node, element }))
+}
+
+fn new_write(
+    contents: &mut Contents,
+    alloc: Global,
+    node: NameWord<'_>,
+    element: NameWord<'_>,
+) -> Result<Option<Op>, NoMemory>
+    ensures noted { OnOk result (contents.new ≡ with_names (write node.entry.bytes.now element.entry.bytes.now) contents.old) }
+    ensures op { IfOk result (λ found. found ≡ op_in (write node.entry.bytes.now element.entry.bytes.now) contents.old) }
+{
+    let (node, element) = node_and_element_numbers(contents, alloc, node, element)?;
+    Ok(Some(Op::AddWrite { node, element }))
+}
+
+fn lost_write(
+    contents: &mut Contents,
+    alloc: Global,
+    node: NameWord<'_>,
+    element: NameWord<'_>,
+) -> Result<Option<Op>, NoMemory>
+    ensures noted { OnOk result (contents.new ≡ with_names (unwrite node.entry.bytes.now element.entry.bytes.now) contents.old) }
+    ensures op { IfOk result (λ found. found ≡ op_in (unwrite node.entry.bytes.now element.entry.bytes.now) contents.old) }
+{
+    let (node, element) = node_and_element_numbers(contents, alloc, node, element)?;
+    Ok(Some(Op::RemoveWrite { node, element }))
+}
+
+fn new_role(
+    contents: &mut Contents,
+    alloc: Global,
+    node: NameWord<'_>,
+    role: u32,
+) -> Result<Option<Op>, NoMemory>
+    ensures noted { OnOk result (contents.new ≡ with_names (set_role node.entry.bytes.now role) contents.old) }
+    ensures op { IfOk result (λ found. found ≡ op_in (set_role node.entry.bytes.now role) contents.old) }
+{
+    let node = node_number(contents, alloc, node)?;
+    Ok(Some(Op::SetRole { node, role }))
+}

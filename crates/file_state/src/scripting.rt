@@ -1,0 +1,467 @@
+// Lines of a phase.
+ghost use Rattle.std.specs.Prelude.{◌≡◌, ◌+◌, ◌<◌, [], ◌∷◌, ◌++◌, map, Ok, IfOk, IfErr, OnOk};
+ghost use Rattle.file_words.specs.Shown.{shown_literal, shown_pair};
+ghost use Rattle.file_forms.specs.Shown.{shown_deed, shown_script_line};
+ghost use Rattle.file_forms.specs.Forms.{to_create, to_start, to_end, to_change, to_install, to_migrate, next_phase, a_deed};
+ghost use Rattle.file_model.specs.Outcomes.{Stops};
+ghost use Rattle.file_model.specs.Steps.{at_place, node_in, with_node};
+ghost use Rattle.file_model.specs.Scripting.{actor_in, if_known, case_in, with_line, line_of, counted, with_group, changing, one_install, installing, migrations_with, migrating, with_elements, numbered, acted, scripted};
+
+use crate::contents::{element_number, node_number, place_in};
+use file_forms::{Deed, ScriptLine, WriteWords};
+use file_model::{Act, Contents, FileLimit, Group, Line, Lines, Place, Stop, Target, Why};
+use file_words::{Literal, NameWord};
+use std::alloc::{AllocError, Global};
+use wsm_lists::{NoMemory, ShortText, Value, Writes};
+use wsm_ops::Ops;
+use wsm_sound::CaseId;
+
+/// How many phases and script lines a file may have, how many of them that install, and how many migrations of cases.
+const MAX_PHASES: usize = 256;
+
+const MAX_LINES: u32 = 60_000;
+
+const MAX_INSTALLS: u32 = 1024;
+
+const MAX_MIGRATIONS: u64 = 65_536;
+
+// The value of a literal. The reader refuses a line with a longer text first; here it counts as want of memory.
+fn value_of(alloc: Global, literal: &Literal) -> Result<Value, NoMemory>
+    ensures { IfOk result (λ value. value ≡ shown_literal literal.now) }
+{
+    match literal {
+        Literal::Int(n) => Ok(Value::Int(*n)),
+        Literal::Text(bytes) => match ShortText::of(alloc, bytes)? {
+            Some(text) => Ok(Value::Text(text)),
+            None => Err(AllocError),
+        },
+    }
+}
+
+// The number of what stands at an index, where they are counted from 1.
+fn next_number(index: usize) -> Result<u32, NoMemory>
+    ensures { IfOk result (λ number. number ≡ index + 1) }
+{
+    if index < 0xffff_ffff {
+        Ok(index as u32 + 1)
+    } else {
+        Err(AllocError)
+    }
+}
+
+fn case_of(contents: &Contents, name: NameWord<'_>) -> Option<CaseId>
+    ensures { result ≡ case_in name.entry.bytes.now contents.now }
+{
+    let index = contents.cases.names().find(name)?;
+    let case = contents.cases.items().get(index)?;
+    Some(case.id)
+}
+
+// The writes with the numbers of their elements.
+fn numbered_writes(
+    contents: &mut Contents,
+    alloc: Global,
+    words: &[(NameWord<'_>, Literal)],
+) -> Result<Writes, NoMemory>
+    ensures noted { OnOk result (contents.new ≡ with_elements (map shown_pair words.now) contents.old) }
+    ensures writes { IfOk result (λ writes. writes ≡ numbered (map shown_pair words.now) contents.old) }
+{
+    let mut writes = Writes::new(alloc);
+    for word in words {
+        let element = element_number(contents, alloc, word.0)?;
+        writes.push((element, value_of(alloc, &word.1)?))?;
+    }
+    Ok(writes)
+}
+
+/// A line of a phase.
+pub fn scripted(
+    contents: &mut Contents,
+    alloc: Global,
+    at: u32,
+    lines: Lines,
+    line: ScriptLine<'_>,
+) -> Result<Place, Stop>
+    ensures ok { IfOk result (λ place. scripted (shown_script_line line.entry) lines at contents.old ≡ Ok (at_place place contents.new)) }
+    ensures refused { IfErr result (λ stop. Stops (scripted (shown_script_line line.entry) lines at contents.old) contents.new stop) }
+{
+    match line {
+        ScriptLine::Phase => phase_line(contents, alloc, lines),
+        ScriptLine::Deed { actor, deed } => deed_line(contents, alloc, at, lines, actor, deed),
+    }
+}
+
+fn phase_line(contents: &mut Contents, alloc: Global, lines: Lines) -> Result<Place, Stop>
+    ensures ok { IfOk result (λ place. scripted next_phase lines 0 contents.old ≡ Ok (at_place place contents.new)) }
+    ensures refused { IfErr result (λ stop. Stops (scripted next_phase lines 0 contents.old) contents.new stop) }
+{
+    if contents.phases.len() >= MAX_PHASES - 1 {
+        return Err(Stop::Refused(Why::Limit(FileLimit::Phases)));
+    }
+    contents.phases.push(lines)?;
+    Ok(Place::InPhase(Lines::new(alloc)))
+}
+
+// The number of an actor, from 1.
+fn actor_in(contents: &Contents, name: NameWord<'_>) -> Result<Option<u32>, NoMemory>
+    ensures { IfOk result (λ found. found ≡ actor_in name.entry.bytes.now contents.now) }
+{
+    match contents.actors.names.find(name) {
+        None => Ok(None),
+        Some(index) => Ok(Some(next_number(index)?)),
+    }
+}
+
+fn deed_line(
+    contents: &mut Contents,
+    alloc: Global,
+    at: u32,
+    lines: Lines,
+    actor: NameWord<'_>,
+    deed: Deed<'_>,
+) -> Result<Place, Stop>
+    ensures ok { IfOk result (λ place. scripted (a_deed actor.entry.bytes.now (shown_deed deed.entry)) lines at contents.old ≡ Ok (at_place place contents.new)) }
+    ensures refused { IfErr result (λ stop. Stops (scripted (a_deed actor.entry.bytes.now (shown_deed deed.entry)) lines at contents.old) contents.new stop) }
+{
+    let found = actor_in(contents, actor)?;
+    acted_by(contents, alloc, at, lines, found, deed)
+}
+
+fn acted_by(
+    contents: &mut Contents,
+    alloc: Global,
+    at: u32,
+    lines: Lines,
+    found: Option<u32>,
+    deed: Deed<'_>,
+) -> Result<Place, Stop>
+    ensures ok { IfOk result (λ place. if_known found (λ actor. acted (shown_deed deed.entry) actor lines at contents.old) contents.old ≡ Ok (at_place place contents.new)) }
+    ensures refused { IfErr result (λ stop. Stops (if_known found (λ actor. acted (shown_deed deed.entry) actor lines at contents.old) contents.old) contents.new stop) }
+{
+    match found {
+        None => Err(Stop::Refused(Why::Unknown)),
+        Some(actor) => acted(contents, alloc, at, lines, actor, deed),
+    }
+}
+
+fn acted(
+    contents: &mut Contents,
+    alloc: Global,
+    at: u32,
+    lines: Lines,
+    actor: u32,
+    deed: Deed<'_>,
+) -> Result<Place, Stop>
+    ensures ok { IfOk result (λ place. acted (shown_deed deed.entry) actor lines at contents.old ≡ Ok (at_place place contents.new)) }
+    ensures refused { IfErr result (λ stop. Stops (acted (shown_deed deed.entry) actor lines at contents.old) contents.new stop) }
+{
+    match deed {
+        Deed::Create(case) => create_line(contents, at, lines, actor, case),
+        Deed::Start { case, node } => start_line(contents, alloc, at, lines, actor, case, node),
+        Deed::End {
+            case,
+            node,
+            choice,
+            writes,
+        } => end_of_node(
+            contents, alloc, at, lines, actor, case, node, choice, writes,
+        ),
+        Deed::Change(case) => change_line(contents, alloc, at, lines, actor, case),
+        Deed::Install(kind) => install_line(contents, alloc, at, lines, actor, kind),
+        Deed::Migrate(kind) => migrate_line(contents, at, lines, actor, kind),
+    }
+}
+
+fn create_line(
+    contents: &mut Contents,
+    at: u32,
+    lines: Lines,
+    actor: u32,
+    case: NameWord<'_>,
+) -> Result<Place, Stop>
+    ensures ok { IfOk result (λ place. acted (to_create case.entry.bytes.now) actor lines at contents.old ≡ Ok (at_place place contents.new)) }
+    ensures refused { IfErr result (λ stop. Stops (acted (to_create case.entry.bytes.now) actor lines at contents.old) contents.new stop) }
+{
+    match case_of(contents, case) {
+        None => Err(Stop::Refused(Why::Unknown)),
+        Some(id) => with_line(contents, at, lines, actor, Act::Create(id)),
+    }
+}
+
+fn start_line(
+    contents: &mut Contents,
+    alloc: Global,
+    at: u32,
+    lines: Lines,
+    actor: u32,
+    case: NameWord<'_>,
+    node: NameWord<'_>,
+) -> Result<Place, Stop>
+    ensures ok { IfOk result (λ place. acted (to_start case.entry.bytes.now node.entry.bytes.now) actor lines at contents.old ≡ Ok (at_place place contents.new)) }
+    ensures refused { IfErr result (λ stop. Stops (acted (to_start case.entry.bytes.now node.entry.bytes.now) actor lines at contents.old) contents.new stop) }
+{
+    match case_of(contents, case) {
+        None => Err(Stop::Refused(Why::Unknown)),
+        Some(id) => start_node(contents, alloc, at, lines, actor, id, node),
+    }
+}
+
+fn start_node(
+    contents: &mut Contents,
+    alloc: Global,
+    at: u32,
+    lines: Lines,
+    actor: u32,
+    id: CaseId,
+    node: NameWord<'_>,
+) -> Result<Place, Stop>
+    ensures ok { IfOk result (λ place. with_line lines at actor (Act.Start id (node_in node.entry.bytes.now contents.old)) (with_node node.entry.bytes.now contents.old) ≡ Ok (at_place place contents.new)) }
+    ensures refused { IfErr result (λ stop. Stops (with_line lines at actor (Act.Start id (node_in node.entry.bytes.now contents.old)) (with_node node.entry.bytes.now contents.old)) contents.new stop) }
+{
+    let node = node_number(contents, alloc, node)?;
+    with_line(contents, at, lines, actor, Act::Start(id, node))
+}
+
+fn end_of_node(
+    contents: &mut Contents,
+    alloc: Global,
+    at: u32,
+    lines: Lines,
+    actor: u32,
+    case: NameWord<'_>,
+    node: NameWord<'_>,
+    choice: Option<u16>,
+    writes: WriteWords<'_>,
+) -> Result<Place, Stop>
+    ensures ok { IfOk result (λ place. acted (to_end case.entry.bytes.now node.entry.bytes.now choice (map shown_pair writes.entry.items)) actor lines at contents.old ≡ Ok (at_place place contents.new)) }
+    ensures refused { IfErr result (λ stop. Stops (acted (to_end case.entry.bytes.now node.entry.bytes.now choice (map shown_pair writes.entry.items)) actor lines at contents.old) contents.new stop) }
+{
+    match case_of(contents, case) {
+        None => Err(Stop::Refused(Why::Unknown)),
+        Some(id) => end_node(contents, alloc, at, lines, actor, id, node, choice, writes),
+    }
+}
+
+fn end_node(
+    contents: &mut Contents,
+    alloc: Global,
+    at: u32,
+    lines: Lines,
+    actor: u32,
+    id: CaseId,
+    node: NameWord<'_>,
+    choice: Option<u16>,
+    words: WriteWords<'_>,
+) -> Result<Place, Stop>
+    ensures ok { IfOk result (λ place. with_line lines at actor (Act.End id (node_in node.entry.bytes.now contents.old) (numbered (map shown_pair words.entry.items) (with_node node.entry.bytes.now contents.old)) choice) (with_elements (map shown_pair words.entry.items) (with_node node.entry.bytes.now contents.old)) ≡ Ok (at_place place contents.new)) }
+    ensures refused { IfErr result (λ stop. Stops (with_line lines at actor (Act.End id (node_in node.entry.bytes.now contents.old) (numbered (map shown_pair words.entry.items) (with_node node.entry.bytes.now contents.old)) choice) (with_elements (map shown_pair words.entry.items) (with_node node.entry.bytes.now contents.old))) contents.new stop) }
+{
+    let node = node_number(contents, alloc, node)?;
+    let writes = numbered_writes(contents, alloc, &words)?;
+    with_line(
+        contents,
+        at,
+        lines,
+        actor,
+        Act::End(id, node, writes, choice),
+    )
+}
+
+fn change_line(
+    contents: &mut Contents,
+    alloc: Global,
+    at: u32,
+    lines: Lines,
+    actor: u32,
+    case: NameWord<'_>,
+) -> Result<Place, Stop>
+    ensures ok { IfOk result (λ place. acted (to_change case.entry.bytes.now) actor lines at contents.old ≡ Ok (at_place place contents.new)) }
+    ensures refused { IfErr result (λ stop. Stops (acted (to_change case.entry.bytes.now) actor lines at contents.old) contents.new stop) }
+{
+    match case_of(contents, case) {
+        None => Err(Stop::Refused(Why::Unknown)),
+        Some(id) => changing(contents, alloc, at, lines, actor, id),
+    }
+}
+
+fn changing(
+    contents: &mut Contents,
+    alloc: Global,
+    at: u32,
+    lines: Lines,
+    actor: u32,
+    id: CaseId,
+) -> Result<Place, Stop>
+    ensures ok { IfOk result (λ place. changing lines at actor id contents.old ≡ Ok (at_place place contents.new)) }
+    ensures refused { IfErr result (λ stop. Stops (changing lines at actor id contents.old) contents.new stop) }
+{
+    if contents.counts.lines >= MAX_LINES {
+        return Err(Stop::Refused(Why::Limit(FileLimit::Lines)));
+    }
+    Ok(with_group(contents, alloc, at, lines, actor, Target::Case(id)))
+}
+
+fn install_line(
+    contents: &mut Contents,
+    alloc: Global,
+    at: u32,
+    lines: Lines,
+    actor: u32,
+    kind: NameWord<'_>,
+) -> Result<Place, Stop>
+    ensures ok { IfOk result (λ place. acted (to_install kind.entry.bytes.now) actor lines at contents.old ≡ Ok (at_place place contents.new)) }
+    ensures refused { IfErr result (λ stop. Stops (acted (to_install kind.entry.bytes.now) actor lines at contents.old) contents.new stop) }
+{
+    let found = place_in(&contents.types.names, kind)?;
+    install_known(contents, alloc, at, lines, actor, found)
+}
+
+fn install_known(
+    contents: &mut Contents,
+    alloc: Global,
+    at: u32,
+    lines: Lines,
+    actor: u32,
+    found: Option<u32>,
+) -> Result<Place, Stop>
+    ensures ok { IfOk result (λ place. if_known found (λ t. installing lines at actor t contents.old) contents.old ≡ Ok (at_place place contents.new)) }
+    ensures refused { IfErr result (λ stop. Stops (if_known found (λ t. installing lines at actor t contents.old) contents.old) contents.new stop) }
+{
+    match found {
+        None => Err(Stop::Refused(Why::Unknown)),
+        Some(type_no) => installing(contents, alloc, at, lines, actor, type_no),
+    }
+}
+
+fn installing(
+    contents: &mut Contents,
+    alloc: Global,
+    at: u32,
+    lines: Lines,
+    actor: u32,
+    type_no: u32,
+) -> Result<Place, Stop>
+    ensures ok { IfOk result (λ place. installing lines at actor type_no contents.old ≡ Ok (at_place place contents.new)) }
+    ensures refused { IfErr result (λ stop. Stops (installing lines at actor type_no contents.old) contents.new stop) }
+{
+    if contents.counts.lines >= MAX_LINES {
+        return Err(Stop::Refused(Why::Limit(FileLimit::Lines)));
+    }
+    if contents.counts.installs >= MAX_INSTALLS {
+        return Err(Stop::Refused(Why::Limit(FileLimit::Installs)));
+    }
+    contents.counts.installs += 1;
+    Ok(with_group(contents, alloc, at, lines, actor, Target::Type(type_no)))
+}
+
+fn migrate_line(
+    contents: &mut Contents,
+    at: u32,
+    lines: Lines,
+    actor: u32,
+    kind: NameWord<'_>,
+) -> Result<Place, Stop>
+    ensures ok { IfOk result (λ place. acted (to_migrate kind.entry.bytes.now) actor lines at contents.old ≡ Ok (at_place place contents.new)) }
+    ensures refused { IfErr result (λ stop. Stops (acted (to_migrate kind.entry.bytes.now) actor lines at contents.old) contents.new stop) }
+{
+    let found = place_in(&contents.types.names, kind)?;
+    migrate_known(contents, at, lines, actor, found)
+}
+
+fn migrate_known(
+    contents: &mut Contents,
+    at: u32,
+    lines: Lines,
+    actor: u32,
+    found: Option<u32>,
+) -> Result<Place, Stop>
+    ensures ok { IfOk result (λ place. if_known found (λ t. migrating lines at actor t contents.old) contents.old ≡ Ok (at_place place contents.new)) }
+    ensures refused { IfErr result (λ stop. Stops (if_known found (λ t. migrating lines at actor t contents.old) contents.old) contents.new stop) }
+{
+    match found {
+        None => Err(Stop::Refused(Why::Unknown)),
+        Some(type_no) => migrating(contents, at, lines, actor, type_no),
+    }
+}
+
+fn migrating(
+    contents: &mut Contents,
+    at: u32,
+    lines: Lines,
+    actor: u32,
+    type_no: u32,
+) -> Result<Place, Stop>
+    ensures ok { IfOk result (λ place. migrating lines at actor type_no contents.old ≡ Ok (at_place place contents.new)) }
+    ensures refused { IfErr result (λ stop. Stops (migrating lines at actor type_no contents.old) contents.new stop) }
+{
+    if contents.counts.lines >= MAX_LINES {
+        return Err(Stop::Refused(Why::Limit(FileLimit::Lines)));
+    }
+    let migrations = contents.counts.migrations as u64 + contents.cases.count(type_no) as u64;
+    if migrations > MAX_MIGRATIONS {
+        return Err(Stop::Refused(Why::Limit(FileLimit::Migrations)));
+    }
+    contents.counts.migrations = migrations as u32;
+    Ok(Place::InPhase(push_line(contents, at, lines, actor, Act::Migrate(type_no))?))
+}
+
+fn with_line(
+    contents: &mut Contents,
+    at: u32,
+    lines: Lines,
+    actor: u32,
+    act: Act,
+) -> Result<Place, Stop>
+    ensures ok { IfOk result (λ place. with_line lines at actor act contents.old ≡ Ok (at_place place contents.new)) }
+    ensures refused { IfErr result (λ stop. Stops (with_line lines at actor act contents.old) contents.new stop) }
+{
+    if contents.counts.lines >= MAX_LINES {
+        return Err(Stop::Refused(Why::Limit(FileLimit::Lines)));
+    }
+    Ok(Place::InPhase(push_line(contents, at, lines, actor, act)?))
+}
+
+fn push_line(
+    contents: &mut Contents,
+    at: u32,
+    lines: Lines,
+    actor: u32,
+    act: Act,
+) -> Result<Lines, NoMemory>
+    requires { contents.old.counts.lines < 60000 }
+    ensures counted { OnOk result (contents.new ≡ counted contents.old) }
+    ensures lines { IfOk result (λ all. all ≡ lines ++ line_of at actor act contents.old ∷ []) }
+{
+    contents.counts.lines += 1;
+    let order = contents.counts.lines;
+    let mut all = lines;
+    all.push(Line {
+        at,
+        order,
+        actor,
+        act,
+    })?;
+    Ok(all)
+}
+
+fn with_group(
+    contents: &mut Contents,
+    alloc: Global,
+    at: u32,
+    lines: Lines,
+    actor: u32,
+    target: Target,
+) -> Place
+    requires { contents.old.counts.lines < 60000 }
+    ensures { at_place result contents.new ≡ with_group lines at actor target contents.old }
+{
+    contents.counts.lines += 1;
+    let group = Group {
+        at,
+        order: contents.counts.lines,
+        actor,
+        target,
+        ops: Ops::new(alloc),
+    };
+    Place::InGroup(lines, group)
+}

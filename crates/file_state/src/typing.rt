@@ -1,0 +1,418 @@
+// Lines of a type.
+ghost use Rattle.std.specs.Prelude.{◌≡◌, not, Ok, IfOk, IfErr, OnOk, if◌then◌else◌};
+ghost use Rattle.std.specs.Option.{is_some};
+ghost use Rattle.wsm_lists.specs.Rows.{row_at};
+ghost use Rattle.wsm_lists.specs.Keys.{both, first, first_two};
+ghost use Rattle.file_forms.specs.Shown.{shown_type_line};
+ghost use Rattle.file_forms.specs.Forms.{activity, opens_and, opens_xor, opens_branch, opens_loop, closes_block, a_sync, an_element, a_read, a_write, type_end};
+ghost use Rattle.file_drafts.specs.Drafts.{with_role, with_activity, gate_opened, loop_opened, closed, branched, with_sync, with_read, with_write, whole};
+ghost use Rattle.file_drafts.specs.Drafts as draft_specs;
+ghost use Rattle.file_model.specs.Outcomes.{Stops};
+ghost use Rattle.file_model.specs.Steps.{at_place, node_in, with_node, element_in, with_element};
+ghost use Rattle.file_model.specs.Declaring.{with_type};
+ghost use Rattle.file_model.specs.Typing.{takes_blocks, takes_branch, is_outside, fits_in, typed};
+
+use crate::contents::{element_number, node_and_element_numbers, node_number, node_numbers};
+use file_drafts::{Around, Draft, GateKind};
+use file_forms::TypeLine;
+use file_model::{Contents, FileLimit, Place, Stop, TypeDecl, Why};
+use file_names::Name64;
+use file_words::NameWord;
+use std::alloc::Global;
+use wsm_lists::{ElementKind, NoMemory};
+use wsm_sound::{Checked, SoundRefusal, check};
+
+/// How many blocks may be open.
+const MAX_DEPTH: usize = 64;
+
+fn takes_blocks(around: Around) -> bool
+    ensures { result ≡ takes_blocks around }
+{
+    match around {
+        Around::BeforeBranches => false,
+        Around::NoBlock | Around::InBranch | Around::InBody => true,
+    }
+}
+
+fn takes_branch(around: Around) -> bool
+    ensures { result ≡ takes_branch around }
+{
+    match around {
+        Around::NoBlock | Around::InBody => false,
+        Around::BeforeBranches | Around::InBranch => true,
+    }
+}
+
+fn is_outside(around: Around) -> bool
+    ensures { result ≡ is_outside around }
+{
+    match around {
+        Around::NoBlock => true,
+        Around::BeforeBranches | Around::InBranch | Around::InBody => false,
+    }
+}
+
+/// Whether a line of this form may stand there.
+pub fn fits_in(around: Around, line: TypeLine<'_>) -> bool
+    ensures { result ≡ fits_in around (shown_type_line line.entry) }
+{
+    match line {
+        TypeLine::Activity { .. }
+        | TypeLine::And { .. }
+        | TypeLine::Xor { .. }
+        | TypeLine::Loop { .. } => takes_blocks(around),
+        TypeLine::Branch(_) => takes_branch(around),
+        TypeLine::Done => !is_outside(around),
+        TypeLine::Sync { .. }
+        | TypeLine::Element { .. }
+        | TypeLine::Read { .. }
+        | TypeLine::Write { .. }
+        | TypeLine::TypeEnd => is_outside(around),
+    }
+}
+
+/// A line of a type, where it may stand.
+pub fn typed(
+    contents: &mut Contents,
+    alloc: Global,
+    draft: Draft,
+    line: TypeLine<'_>,
+) -> Result<Place, Stop>
+    ensures ok { IfOk result (λ place. typed (shown_type_line line.entry) draft contents.old ≡ Ok (at_place place contents.new)) }
+    ensures refused { IfErr result (λ stop. Stops (typed (shown_type_line line.entry) draft contents.old) contents.new stop) }
+{
+    match line {
+        TypeLine::Activity { node, role } => activity_line(contents, alloc, draft, node, role),
+        TypeLine::And { split, join } => and_line(contents, alloc, draft, split, join),
+        TypeLine::Xor { split, join, role } => xor_line(contents, alloc, draft, split, join, role),
+        TypeLine::Branch(code) => branch_line(contents, alloc, draft, code),
+        TypeLine::Loop { start, end, role } => loop_line(contents, alloc, draft, start, end, role),
+        TypeLine::Done => done_line(contents, alloc, draft),
+        TypeLine::Sync { source, target } => sync_line(contents, alloc, draft, source, target),
+        TypeLine::Element { element, kind } => element_line(contents, alloc, draft, element, kind),
+        TypeLine::Read {
+            node,
+            element,
+            mandatory,
+        } => read_line(contents, alloc, draft, node, element, mandatory),
+        TypeLine::Write { node, element } => write_line(contents, alloc, draft, node, element),
+        TypeLine::TypeEnd => end_line(contents, alloc, draft),
+    }
+}
+
+fn activity_line(
+    contents: &mut Contents,
+    alloc: Global,
+    draft: Draft,
+    node: NameWord<'_>,
+    role: u32,
+) -> Result<Place, Stop>
+    ensures ok { IfOk result (λ place. typed (activity node.entry.bytes.now role) draft contents.old ≡ Ok (at_place place contents.new)) }
+    ensures refused { IfErr result (λ stop. Stops (typed (activity node.entry.bytes.now role) draft contents.old) contents.new stop) }
+{
+    let mut draft = draft;
+    add_activity(contents, alloc, &mut draft, node, role)?;
+    Ok(Place::InType(draft))
+}
+
+fn and_line(
+    contents: &mut Contents,
+    alloc: Global,
+    draft: Draft,
+    split: NameWord<'_>,
+    join: NameWord<'_>,
+) -> Result<Place, Stop>
+    ensures ok { IfOk result (λ place. typed (opens_and split.entry.bytes.now join.entry.bytes.now) draft contents.old ≡ Ok (at_place place contents.new)) }
+    ensures refused { IfErr result (λ stop. Stops (typed (opens_and split.entry.bytes.now join.entry.bytes.now) draft contents.old) contents.new stop) }
+{
+    if draft.depth() >= MAX_DEPTH {
+        return Err(Stop::Refused(Why::Limit(FileLimit::Depth)));
+    }
+    let mut draft = draft;
+    open_and(contents, alloc, &mut draft, split, join)?;
+    Ok(Place::InType(draft))
+}
+
+fn xor_line(
+    contents: &mut Contents,
+    alloc: Global,
+    draft: Draft,
+    split: NameWord<'_>,
+    join: NameWord<'_>,
+    role: u32,
+) -> Result<Place, Stop>
+    ensures ok { IfOk result (λ place. typed (opens_xor split.entry.bytes.now join.entry.bytes.now role) draft contents.old ≡ Ok (at_place place contents.new)) }
+    ensures refused { IfErr result (λ stop. Stops (typed (opens_xor split.entry.bytes.now join.entry.bytes.now role) draft contents.old) contents.new stop) }
+{
+    if draft.depth() >= MAX_DEPTH {
+        return Err(Stop::Refused(Why::Limit(FileLimit::Depth)));
+    }
+    let mut draft = draft;
+    open_xor(contents, alloc, &mut draft, split, join, role)?;
+    Ok(Place::InType(draft))
+}
+
+fn loop_line(
+    contents: &mut Contents,
+    alloc: Global,
+    draft: Draft,
+    start: NameWord<'_>,
+    end: NameWord<'_>,
+    role: u32,
+) -> Result<Place, Stop>
+    ensures ok { IfOk result (λ place. typed (opens_loop start.entry.bytes.now end.entry.bytes.now role) draft contents.old ≡ Ok (at_place place contents.new)) }
+    ensures refused { IfErr result (λ stop. Stops (typed (opens_loop start.entry.bytes.now end.entry.bytes.now role) draft contents.old) contents.new stop) }
+{
+    if draft.depth() >= MAX_DEPTH {
+        return Err(Stop::Refused(Why::Limit(FileLimit::Depth)));
+    }
+    let mut draft = draft;
+    open_loop(contents, alloc, &mut draft, start, end, role)?;
+    Ok(Place::InType(draft))
+}
+
+fn branch_line(
+    contents: &mut Contents,
+    alloc: Global,
+    draft: Draft,
+    code: u16,
+) -> Result<Place, Stop>
+    ensures ok { IfOk result (λ place. typed (opens_branch code) draft contents.old ≡ Ok (at_place place contents.new)) }
+    ensures refused { IfErr result (λ stop. Stops (typed (opens_branch code) draft contents.old) contents.new stop) }
+{
+    let mut draft = draft;
+    draft.open_branch(alloc, code)?;
+    Ok(Place::InType(draft))
+}
+
+fn done_line(contents: &mut Contents, alloc: Global, draft: Draft) -> Result<Place, Stop>
+    ensures ok { IfOk result (λ place. typed (closes_block) draft contents.old ≡ Ok (at_place place contents.new)) }
+    ensures refused { IfErr result (λ stop. Stops (typed (closes_block) draft contents.old) contents.new stop) }
+{
+    let mut draft = draft;
+    draft.close_block(alloc)?;
+    Ok(Place::InType(draft))
+}
+
+fn sync_line(
+    contents: &mut Contents,
+    alloc: Global,
+    draft: Draft,
+    source: NameWord<'_>,
+    target: NameWord<'_>,
+) -> Result<Place, Stop>
+    ensures ok { IfOk result (λ place. typed (a_sync source.entry.bytes.now target.entry.bytes.now) draft contents.old ≡ Ok (at_place place contents.new)) }
+    ensures refused { IfErr result (λ stop. Stops (typed (a_sync source.entry.bytes.now target.entry.bytes.now) draft contents.old) contents.new stop) }
+{
+    let mut draft = draft;
+    if put_sync(contents, alloc, &mut draft, source, target)? {
+        Ok(Place::InType(draft))
+    } else {
+        Err(Stop::Refused(Why::Twice))
+    }
+}
+
+fn element_line(
+    contents: &mut Contents,
+    alloc: Global,
+    draft: Draft,
+    element: NameWord<'_>,
+    kind: ElementKind,
+) -> Result<Place, Stop>
+    ensures ok { IfOk result (λ place. typed (an_element element.entry.bytes.now kind) draft contents.old ≡ Ok (at_place place contents.new)) }
+    ensures refused { IfErr result (λ stop. Stops (typed (an_element element.entry.bytes.now kind) draft contents.old) contents.new stop) }
+{
+    let mut draft = draft;
+    if put_element(contents, alloc, &mut draft, element, kind)? {
+        Ok(Place::InType(draft))
+    } else {
+        Err(Stop::Refused(Why::Twice))
+    }
+}
+
+fn read_line(
+    contents: &mut Contents,
+    alloc: Global,
+    draft: Draft,
+    node: NameWord<'_>,
+    element: NameWord<'_>,
+    mandatory: bool,
+) -> Result<Place, Stop>
+    ensures ok { IfOk result (λ place. typed (a_read node.entry.bytes.now element.entry.bytes.now mandatory) draft contents.old ≡ Ok (at_place place contents.new)) }
+    ensures refused { IfErr result (λ stop. Stops (typed (a_read node.entry.bytes.now element.entry.bytes.now mandatory) draft contents.old) contents.new stop) }
+{
+    let mut draft = draft;
+    if put_read(contents, alloc, &mut draft, node, element, mandatory)? {
+        Ok(Place::InType(draft))
+    } else {
+        Err(Stop::Refused(Why::Twice))
+    }
+}
+
+fn write_line(
+    contents: &mut Contents,
+    alloc: Global,
+    draft: Draft,
+    node: NameWord<'_>,
+    element: NameWord<'_>,
+) -> Result<Place, Stop>
+    ensures ok { IfOk result (λ place. typed (a_write node.entry.bytes.now element.entry.bytes.now) draft contents.old ≡ Ok (at_place place contents.new)) }
+    ensures refused { IfErr result (λ stop. Stops (typed (a_write node.entry.bytes.now element.entry.bytes.now) draft contents.old) contents.new stop) }
+{
+    let mut draft = draft;
+    if put_write(contents, alloc, &mut draft, node, element)? {
+        Ok(Place::InType(draft))
+    } else {
+        Err(Stop::Refused(Why::Twice))
+    }
+}
+
+fn end_line(contents: &mut Contents, alloc: Global, draft: Draft) -> Result<Place, Stop>
+    ensures ok { IfOk result (λ place. typed (type_end) draft contents.old ≡ Ok (at_place place contents.new)) }
+    ensures refused { IfErr result (λ stop. Stops (typed (type_end) draft contents.old) contents.new stop) }
+{
+    let (name, schema) = draft.finish(alloc)?;
+    match check(alloc, schema) {
+        Ok(checked) => {
+            add_type(contents, alloc, name, &checked)?;
+            Ok(Place::Outside)
+        }
+        Err(SoundRefusal::Fault(fault)) => Err(Stop::Refused(Why::Unsound(fault))),
+        Err(SoundRefusal::NoMemory) => Err(Stop::NoMemory),
+    }
+}
+
+fn add_activity(
+    contents: &mut Contents,
+    alloc: Global,
+    draft: &mut Draft,
+    node: NameWord<'_>,
+    role: u32,
+) -> Result<(), NoMemory>
+    ensures noted { OnOk result (contents.new ≡ with_node node.entry.bytes.now contents.old) }
+    ensures draft { OnOk result (draft.new ≡ with_role (node_in node.entry.bytes.now contents.old) role (with_activity (node_in node.entry.bytes.now contents.old) draft.old)) }
+{
+    let node = node_number(contents, alloc, node)?;
+    draft.push_activity(node)?;
+    draft.put_role(node, role)
+}
+
+fn open_and(
+    contents: &mut Contents,
+    alloc: Global,
+    draft: &mut Draft,
+    split: NameWord<'_>,
+    join: NameWord<'_>,
+) -> Result<(), NoMemory>
+    ensures noted { OnOk result (contents.new ≡ with_node join.entry.bytes.now (with_node split.entry.bytes.now contents.old)) }
+    ensures draft { OnOk result (draft.new ≡ gate_opened GateKind.And (node_in split.entry.bytes.now contents.old) (node_in join.entry.bytes.now (with_node split.entry.bytes.now contents.old)) draft.old) }
+{
+    let (split, join) = node_numbers(contents, alloc, split, join)?;
+    draft.open_gate(alloc, GateKind::And, split, join)
+}
+
+fn open_xor(
+    contents: &mut Contents,
+    alloc: Global,
+    draft: &mut Draft,
+    split: NameWord<'_>,
+    join: NameWord<'_>,
+    role: u32,
+) -> Result<(), NoMemory>
+    ensures noted { OnOk result (contents.new ≡ with_node join.entry.bytes.now (with_node split.entry.bytes.now contents.old)) }
+    ensures draft { OnOk result (draft.new ≡ with_role (node_in split.entry.bytes.now contents.old) role (gate_opened GateKind.Xor (node_in split.entry.bytes.now contents.old) (node_in join.entry.bytes.now (with_node split.entry.bytes.now contents.old)) draft.old)) }
+{
+    let (split, join) = node_numbers(contents, alloc, split, join)?;
+    draft.open_gate(alloc, GateKind::Xor, split, join)?;
+    draft.put_role(split, role)
+}
+
+fn open_loop(
+    contents: &mut Contents,
+    alloc: Global,
+    draft: &mut Draft,
+    start: NameWord<'_>,
+    end: NameWord<'_>,
+    role: u32,
+) -> Result<(), NoMemory>
+    ensures noted { OnOk result (contents.new ≡ with_node end.entry.bytes.now (with_node start.entry.bytes.now contents.old)) }
+    ensures draft { OnOk result (draft.new ≡ with_role (node_in end.entry.bytes.now (with_node start.entry.bytes.now contents.old)) role (loop_opened (node_in start.entry.bytes.now contents.old) (node_in end.entry.bytes.now (with_node start.entry.bytes.now contents.old)) draft.old)) }
+{
+    let (start, end) = node_numbers(contents, alloc, start, end)?;
+    draft.open_loop(alloc, start, end)?;
+    draft.put_role(end, role)
+}
+
+fn put_sync(
+    contents: &mut Contents,
+    alloc: Global,
+    draft: &mut Draft,
+    source: NameWord<'_>,
+    target: NameWord<'_>,
+) -> Result<bool, NoMemory>
+    ensures noted { OnOk result (contents.new ≡ with_node target.entry.bytes.now (with_node source.entry.bytes.now contents.old)) }
+    ensures added { IfOk result (λ added. added ≡ not (is_some (row_at both (node_in source.entry.bytes.now contents.old, node_in target.entry.bytes.now (with_node source.entry.bytes.now contents.old)) draft.old.schema.syncs))) }
+    ensures rows { IfOk result (λ added. draft.new ≡ (if added then with_sync (node_in source.entry.bytes.now contents.old) (node_in target.entry.bytes.now (with_node source.entry.bytes.now contents.old)) draft.old else draft.old)) }
+{
+    let (source, target) = node_numbers(contents, alloc, source, target)?;
+    draft.put_sync(source, target)
+}
+
+fn put_element(
+    contents: &mut Contents,
+    alloc: Global,
+    draft: &mut Draft,
+    element: NameWord<'_>,
+    kind: ElementKind,
+) -> Result<bool, NoMemory>
+    ensures noted { OnOk result (contents.new ≡ with_element element.entry.bytes.now contents.old) }
+    ensures added { IfOk result (λ added. added ≡ not (is_some (row_at first (element_in element.entry.bytes.now contents.old, 0) draft.old.schema.elements))) }
+    ensures rows { IfOk result (λ added. draft.new ≡ (if added then draft_specs.with_element (element_in element.entry.bytes.now contents.old) kind draft.old else draft.old)) }
+{
+    let element = element_number(contents, alloc, element)?;
+    draft.put_element(element, kind)
+}
+
+fn put_read(
+    contents: &mut Contents,
+    alloc: Global,
+    draft: &mut Draft,
+    node: NameWord<'_>,
+    element: NameWord<'_>,
+    mandatory: bool,
+) -> Result<bool, NoMemory>
+    ensures noted { OnOk result (contents.new ≡ with_element element.entry.bytes.now (with_node node.entry.bytes.now contents.old)) }
+    ensures added { IfOk result (λ added. added ≡ not (is_some (row_at first_two (node_in node.entry.bytes.now contents.old, element_in element.entry.bytes.now (with_node node.entry.bytes.now contents.old)) draft.old.schema.reads))) }
+    ensures rows { IfOk result (λ added. draft.new ≡ (if added then with_read (node_in node.entry.bytes.now contents.old) (element_in element.entry.bytes.now (with_node node.entry.bytes.now contents.old)) mandatory draft.old else draft.old)) }
+{
+    let (node, element) = node_and_element_numbers(contents, alloc, node, element)?;
+    draft.put_read(node, element, mandatory)
+}
+
+fn put_write(
+    contents: &mut Contents,
+    alloc: Global,
+    draft: &mut Draft,
+    node: NameWord<'_>,
+    element: NameWord<'_>,
+) -> Result<bool, NoMemory>
+    ensures noted { OnOk result (contents.new ≡ with_element element.entry.bytes.now (with_node node.entry.bytes.now contents.old)) }
+    ensures added { IfOk result (λ added. added ≡ not (is_some (row_at both (node_in node.entry.bytes.now contents.old, element_in element.entry.bytes.now (with_node node.entry.bytes.now contents.old)) draft.old.schema.writes))) }
+    ensures rows { IfOk result (λ added. draft.new ≡ (if added then with_write (node_in node.entry.bytes.now contents.old) (element_in element.entry.bytes.now (with_node node.entry.bytes.now contents.old)) draft.old else draft.old)) }
+{
+    let (node, element) = node_and_element_numbers(contents, alloc, node, element)?;
+    draft.put_write(node, element)
+}
+
+fn add_type(
+    contents: &mut Contents,
+    alloc: Global,
+    name: Name64,
+    checked: &Checked,
+) -> Result<(), NoMemory>
+    ensures { OnOk result (contents.new ≡ with_type name checked.now contents.old) }
+{
+    let schema = checked.schema().copy(alloc)?;
+    contents.types.names.note(alloc, name.word())?;
+    contents.types.items.push(TypeDecl { name, schema })
+}

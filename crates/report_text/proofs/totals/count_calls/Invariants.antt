@@ -1,7 +1,0 @@
-use Rattle.std.proofs.Common.{◌≡◌, ◌≤◌, ◌*◌, ◌^◌, take}
-use Rattle.std.specs.List.{sum_by}
-use Rattle.report_text.specs.Report.{calls_of}
-use Rattle.report_text.proofs.totals.count_calls.Given as goal
-
-abbrev pub invariant-loop-case : goal.invariant-loop-case
-invariant-loop-case l = (l.count ≡ sum_by calls_of (take l.case-index l.cases)) × (l.count ≤ l.case-index * 2 ^ 64)

@@ -1,0 +1,7 @@
+use Rattle.std.proofs.Common.{◌≡◌, ◌≤◌, ◌*◌, ◌^◌, take}
+use Rattle.std.specs.List.{sum_by}
+use Rattle.report_words.specs.Totals.{calls_of}
+use Rattle.report_words.proofs.totals.count_calls.Given as goal
+
+abbrev pub invariant-loop-case : goal.invariant-loop-case
+invariant-loop-case l = (l.count ≡ sum_by calls_of (take l.case-index l.cases)) × (l.count ≤ l.case-index * 2 ^ 64)
