@@ -115,11 +115,11 @@ not_there : (n : ℕ) (s : SchemaModel) → is_some (card_at n (cards_of s)) ≡
 not_there n s h = sym (count-weight n 1 s) ∙ absent n (cards_of s) h
 
 -- a refusal that is none
-first_none : {X : Type 0} (a b : Option X) → option_or a b ≡ None → (a ≡ None) × (b ≡ None)
+pub first_none : {X : Type 0} (a b : Option X) → option_or a b ≡ None → (a ≡ None) × (b ≡ None)
 first_none (Some x) b h = absurd (cc)
 first_none None b h = (refl, h)
 
-when_none : {X : Type 0} (test : Bool) (x : X) → when test x ≡ None → test ≡ false
+pub when_none : {X : Type 0} (test : Bool) (x : X) → when test x ≡ None → test ≡ false
 when_none true x h = absurd (cc)
 when_none false x h = refl
 
@@ -168,7 +168,7 @@ three_new s node split join distinct free n =
     let bc = apart split join n both_differ.0 in
     omega (arith, a, b, c, ab, ac, bc)
 
-put-distinct : (g : Gap) (x : Part) (s : SchemaModel) → IsDistinct s → IsNew s (λ n. part_weight (named n) x) → IsDistinct (put_at g x s)
+pub put-distinct : (g : Gap) (x : Part) (s : SchemaModel) → IsDistinct s → IsNew s (λ n. part_weight (named n) x) → IsDistinct (put_at g x s)
 put-distinct g x s distinct new =
     from_times (put_at g x s) (λ n.
     let more : ℕ = part_weight (named n) x in
@@ -179,7 +179,7 @@ put-distinct g x s distinct new =
     let few = new n in
     omega (arith, inner, with_head, head, once, few))
 
-wrap-distinct : (s : SchemaModel) (node split join first last : ℕ) → IsDistinct s → one_taken (cards_of s) node split join ≡ None →
+pub wrap-distinct : (s : SchemaModel) (node split join first last : ℕ) → IsDistinct s → one_taken (cards_of s) node split join ≡ None →
     IsDistinct (record s { body = change (first, last) (beside node split join) s.body })
 wrap-distinct s node split join first last distinct free =
     from_times (record s { body = change (first, last) (beside node split join) s.body }) (λ n.
@@ -223,7 +223,7 @@ moved-distinct s node g distinct there =
     ])
 
 -- an operation that is not refused
-step-distinct : (s : SchemaModel) (o : Op) → IsDistinct s → refusal s o ≡ None → IsDistinct (effect s o)
+pub step-distinct : (s : SchemaModel) (o : Op) → IsDistinct s → refusal s o ≡ None → IsDistinct (effect s o)
 step-distinct s (op.InsertSerial node role g) distinct free =
     let new = or_parts _ _ (when_none _ _ (first_none _ _ free).0) in
     fewer (put_at g (act node) s) (effect s (op.InsertSerial node role g)) (λ n. omega arith) (put-distinct g (act node) s distinct (one_new s node distinct new.0))

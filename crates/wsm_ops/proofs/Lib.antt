@@ -1,5 +1,13 @@
 pub mod ExamplesApply
-pub mod AtEnd
+pub mod PieceReading
+pub mod PieceEdits
+pub mod PieceWraps
+pub mod PieceCards
+pub mod PieceSeats
+pub mod PieceEffects
+pub mod Shown
+pub mod DraftEdits
+pub mod SeatCards
 pub mod Rising
 pub mod Steps
 pub mod Weights

@@ -2,3 +2,6 @@ pub mod Edit
 pub mod Onto
 pub mod Refusals
 pub mod Apply
+pub mod Outline
+pub mod Readings
+pub mod Putting

@@ -4,12 +4,13 @@ ghost use Rattle.wsm_schema.specs.Flat.{cards_of};
 ghost use Rattle.wsm_schema.specs.Sound.{nodes_of, twice};
 ghost use Rattle.wsm_ops.specs.Apply.{applied, applied_from, IsOpFault};
 
+use crate::drafts::Draft;
 use crate::effects::effect;
 use crate::faults::{ApplyRefusal, OpFault};
 use crate::operations::{Op, Ops};
 use crate::refusals::refusal;
 use std::alloc::Global;
-use wsm_schema::{Flat, Schema};
+use wsm_schema::Schema;
 
 /// The schema after all operations, each of which meets what the earlier ones made. The given schema stays as it is.
 pub fn apply(alloc: Global, schema: &Schema, ops: &Ops) -> Result<Schema, ApplyRefusal>
@@ -19,21 +20,20 @@ pub fn apply(alloc: Global, schema: &Schema, ops: &Ops) -> Result<Schema, ApplyR
     ensures distinct { IfOk result (λ new. twice [] (nodes_of (cards_of new)) ≡ None) }
     ensures fault { IfErr result (λ refusal. IsOpFault (applied schema.now ops.now) refusal) }
 {
-    let mut new = schema.copy(alloc)?;
+    let mut draft = Draft::of(alloc, schema)?;
     for (i, op) in ops.as_slice().iter().enumerate() {
-        new = after(alloc, new, i as u32 + 1, op)?;
+        draft = after(alloc, draft, i as u32 + 1, op)?;
     }
-    Ok(new)
+    Ok(draft.into_schema(alloc)?)
 }
 
-// The schema after one operation, which stands at that index of its list.
-fn after(alloc: Global, schema: Schema, index: u32, op: &Op) -> Result<Schema, ApplyRefusal>
-    ensures ok { IfOk result (λ new. applied_from index schema (op.now ∷ []) ≡ Ok new) }
-    ensures fault { IfErr result (λ refusal. IsOpFault (applied_from index schema (op.now ∷ [])) refusal) }
+// The draft after one operation, which stands at that index of its list.
+fn after(alloc: Global, draft: Draft, index: u32, op: &Op) -> Result<Draft, ApplyRefusal>
+    ensures ok { IfOk result (λ new. applied_from index draft (op.now ∷ []) ≡ Ok new) }
+    ensures fault { IfErr result (λ refusal. IsOpFault (applied_from index draft (op.now ∷ [])) refusal) }
 {
-    let flat = Flat::of(alloc, &schema)?;
-    match refusal(&schema, &flat, op) {
+    match refusal(&draft, op) {
         Some(why) => Err(ApplyRefusal::Fault(OpFault { index, why })),
-        None => Ok(effect(alloc, schema, op)?),
+        None => Ok(effect(alloc, draft, op)?),
     }
 }

@@ -1,22 +1,28 @@
 // What operations do that are not refused.
 ghost use Rattle.std.specs.Prelude.{◌≡◌, ◌||◌, ◌==◌, not, IfOk, filter};
+ghost use Rattle.std.specs.Prelude.{None};
+ghost use Rattle.wsm_schema.specs.Flat.{cards_of};
 ghost use Rattle.wsm_ops.specs.Edit.{new_part, without};
-ghost use Rattle.wsm_ops.specs.Apply.{effect, put_at, with_role};
+ghost use Rattle.wsm_ops.specs.Refusals.{unless_activity};
+ghost use Rattle.wsm_ops.specs.Apply.{refusal, effect, put_at, with_role};
+ghost use Rattle.wsm_ops.specs.Putting.{put_op};
 ghost use Rattle.wsm_ops.specs.declared.operations.Op.TheVariants as op;
 
-use crate::insertions::{New, put};
+use crate::drafts::Draft;
+use crate::insertions::New;
 use crate::operations::{Gap, Op};
-use crate::removals::{reads_without, syncs_without, without, writes_without};
-use crate::wraps::{Wrap, wrapped};
+use crate::removals::{reads_without, syncs_without, writes_without};
+use crate::wraps::Wrap;
 use std::alloc::Global;
-use wsm_schema::{ElementKind, NoMemory, Schema};
+use wsm_schema::{ElementKind, NoMemory};
 
-/// The schema after the operation.
-pub fn effect(alloc: Global, schema: Schema, op: &Op) -> Result<Schema, NoMemory>
-    ensures { IfOk result (λ new. new ≡ effect schema op.now) }
+/// The draft after the operation, which is not refused.
+pub fn effect(alloc: Global, draft: Draft, op: &Op) -> Result<Draft, NoMemory>
+    requires { refusal draft op.now ≡ None }
+    ensures { IfOk result (λ new. new ≡ effect draft op.now) }
 {
     match *op {
-        Op::InsertSerial { node, role, gap } => serial(alloc, schema, node, role, gap),
+        Op::InsertSerial { node, role, gap } => serial(alloc, draft, node, role, gap),
         Op::InsertParallel {
             node,
             role,
@@ -32,7 +38,7 @@ pub fn effect(alloc: Global, schema: Schema, op: &Op) -> Result<Schema, NoMemory
                 first,
                 last,
             };
-            parallel(alloc, schema, &wrap, role)
+            parallel(alloc, draft, &wrap, role)
         }
         Op::InsertConditional {
             node,
@@ -40,166 +46,168 @@ pub fn effect(alloc: Global, schema: Schema, op: &Op) -> Result<Schema, NoMemory
             split,
             join,
             gap,
-        } => conditional(alloc, schema, node, role, split, join, gap),
-        Op::DeleteActivity { node } => deleted(alloc, schema, node),
-        Op::MoveActivity { node, gap } => moved(alloc, schema, node, gap),
-        Op::InsertSync { source, target } => with_sync(schema, source, target),
-        Op::DeleteSync { source, target } => Ok(without_sync(schema, source, target)),
-        Op::AddElement { element, kind } => with_element(schema, element, kind),
+        } => conditional(alloc, draft, node, role, split, join, gap),
+        Op::DeleteActivity { node } => deleted(alloc, draft, node),
+        Op::MoveActivity { node, gap } => moved(alloc, draft, node, gap),
+        Op::InsertSync { source, target } => with_sync(draft, source, target),
+        Op::DeleteSync { source, target } => Ok(without_sync(draft, source, target)),
+        Op::AddElement { element, kind } => with_element(draft, element, kind),
         Op::AddRead {
             node,
             element,
             mandatory,
-        } => with_read(schema, node, element, mandatory),
-        Op::RemoveRead { node, element } => Ok(without_read(schema, node, element)),
-        Op::AddWrite { node, element } => with_write(schema, node, element),
-        Op::RemoveWrite { node, element } => Ok(without_write(schema, node, element)),
-        Op::SetRole { node, role } => with_role(schema, node, role),
+        } => with_read(draft, node, element, mandatory),
+        Op::RemoveRead { node, element } => Ok(without_read(draft, node, element)),
+        Op::AddWrite { node, element } => with_write(draft, node, element),
+        Op::RemoveWrite { node, element } => Ok(without_write(draft, node, element)),
+        Op::SetRole { node, role } => with_role(draft, node, role),
     }
 }
 
-// Something new at the gap, of which the head of the schema is the one behind its start.
-fn put_at(alloc: Global, mut schema: Schema, gap: Gap, new: New) -> Result<Schema, NoMemory>
-    ensures { IfOk result (λ s. s ≡ put_at gap (new_part new) schema) }
+// Something new at the gap.
+fn put_at(alloc: Global, mut draft: Draft, gap: Gap, new: New) -> Result<Draft, NoMemory>
+    requires { refusal draft (put_op new gap) ≡ None }
+    ensures { IfOk result (λ s. s ≡ put_at gap (new_part new) draft) }
 {
-    let at_head = gap.is_behind(schema.start);
-    schema.body = put(alloc, &schema.body, at_head, gap, new)?;
-    Ok(schema)
+    draft.outline = new.put(alloc, draft.outline, gap)?;
+    Ok(draft)
 }
 
-fn with_role(mut schema: Schema, node: u32, role: u32) -> Result<Schema, NoMemory>
-    ensures { IfOk result (λ s. s ≡ with_role node role schema) }
+fn with_role(mut draft: Draft, node: u32, role: u32) -> Result<Draft, NoMemory>
+    ensures { IfOk result (λ s. s ≡ with_role node role draft) }
 {
-    schema.roles.put(node, role)?;
-    Ok(schema)
+    draft.roles.put(node, role)?;
+    Ok(draft)
 }
 
-fn serial(alloc: Global, schema: Schema, node: u32, role: u32, gap: Gap) -> Result<Schema, NoMemory>
-    ensures { IfOk result (λ s. s ≡ effect schema (op.InsertSerial node role gap)) }
+fn serial(alloc: Global, draft: Draft, node: u32, role: u32, gap: Gap) -> Result<Draft, NoMemory>
+    requires { refusal draft (op.InsertSerial node role gap) ≡ None }
+    ensures { IfOk result (λ s. s ≡ effect draft (op.InsertSerial node role gap)) }
 {
-    let schema = put_at(alloc, schema, gap, New::Activity(node))?;
-    with_role(schema, node, role)
+    let draft = put_at(alloc, draft, gap, New::Activity(node))?;
+    with_role(draft, node, role)
 }
 
-fn parallel(alloc: Global, mut schema: Schema, wrap: &Wrap, role: u32) -> Result<Schema, NoMemory>
-    ensures { IfOk result (λ s. s ≡ effect schema (op.InsertParallel wrap.now.node role wrap.now.split wrap.now.join wrap.now.first wrap.now.last)) }
+fn parallel(alloc: Global, mut draft: Draft, wrap: &Wrap, role: u32) -> Result<Draft, NoMemory>
+    requires { refusal draft (op.InsertParallel wrap.now.node role wrap.now.split wrap.now.join wrap.now.first wrap.now.last) ≡ None }
+    ensures { IfOk result (λ s. s ≡ effect draft (op.InsertParallel wrap.now.node role wrap.now.split wrap.now.join wrap.now.first wrap.now.last)) }
 {
-    schema.body = wrapped(alloc, &schema.body, wrap)?;
-    with_role(schema, wrap.node, role)
+    draft.outline = wrap.put(alloc, draft.outline)?;
+    with_role(draft, wrap.node, role)
 }
 
 fn conditional(
     alloc: Global,
-    schema: Schema,
+    draft: Draft,
     node: u32,
     role: u32,
     split: u32,
     join: u32,
     gap: Gap,
-) -> Result<Schema, NoMemory>
-    ensures { IfOk result (λ s. s ≡ effect schema (op.InsertConditional node role split join gap)) }
+) -> Result<Draft, NoMemory>
+    requires { refusal draft (op.InsertConditional node role split join gap) ≡ None }
+    ensures { IfOk result (λ s. s ≡ effect draft (op.InsertConditional node role split join gap)) }
 {
-    let schema = put_at(alloc, schema, gap, New::Choice { node, split, join })?;
-    let schema = with_role(schema, node, role)?;
-    with_role(schema, split, role)
+    let draft = put_at(alloc, draft, gap, New::Choice { node, split, join })?;
+    let draft = with_role(draft, node, role)?;
+    with_role(draft, split, role)
 }
 
-fn deleted(alloc: Global, schema: Schema, node: u32) -> Result<Schema, NoMemory>
-    ensures { IfOk result (λ s. s ≡ effect schema (op.DeleteActivity node)) }
+fn deleted(alloc: Global, draft: Draft, node: u32) -> Result<Draft, NoMemory>
+    requires { refusal draft (op.DeleteActivity node) ≡ None }
+    ensures { IfOk result (λ s. s ≡ effect draft (op.DeleteActivity node)) }
 {
-    let schema = without_activity(alloc, schema, node)?;
-    let schema = without_syncs(alloc, schema, node)?;
-    let schema = without_reads(alloc, schema, node)?;
-    let schema = without_writes(alloc, schema, node)?;
-    with_role(schema, node, 0)
+    let draft = without_activity(alloc, draft, node)?;
+    let draft = without_syncs(alloc, draft, node)?;
+    let draft = without_reads(alloc, draft, node)?;
+    let draft = without_writes(alloc, draft, node)?;
+    with_role(draft, node, 0)
 }
 
-fn without_activity(alloc: Global, mut schema: Schema, node: u32) -> Result<Schema, NoMemory>
-    ensures { IfOk result (λ s. s ≡ record schema { body = without node schema.body }) }
+fn without_activity(alloc: Global, mut draft: Draft, node: u32) -> Result<Draft, NoMemory>
+    requires { unless_activity (cards_of draft) node ≡ None }
+    ensures { IfOk result (λ s. s ≡ record draft { body = without node draft.body }) }
 {
-    schema.body = without(alloc, &schema.body, node)?;
-    Ok(schema)
+    draft.outline = draft.outline.without(alloc, node)?;
+    Ok(draft)
 }
 
 // The node then ends no sync edge, at either side.
-fn without_syncs(alloc: Global, mut schema: Schema, node: u32) -> Result<Schema, NoMemory>
-    ensures { IfOk result (λ s. s ≡ record schema { syncs = filter (λ e. not (e.0 == node || e.1 == node)) schema.syncs }) }
+fn without_syncs(alloc: Global, mut draft: Draft, node: u32) -> Result<Draft, NoMemory>
+    ensures { IfOk result (λ s. s ≡ record draft { syncs = filter (λ e. not (e.0 == node || e.1 == node)) draft.syncs }) }
 {
-    schema.syncs = syncs_without(alloc, &schema.syncs, node)?;
-    Ok(schema)
+    draft.syncs = syncs_without(alloc, &draft.syncs, node)?;
+    Ok(draft)
 }
 
-fn without_reads(alloc: Global, mut schema: Schema, node: u32) -> Result<Schema, NoMemory>
-    ensures { IfOk result (λ s. s ≡ record schema { reads = filter (λ r. not (r.0 == node)) schema.reads }) }
+fn without_reads(alloc: Global, mut draft: Draft, node: u32) -> Result<Draft, NoMemory>
+    ensures { IfOk result (λ s. s ≡ record draft { reads = filter (λ r. not (r.0 == node)) draft.reads }) }
 {
-    schema.reads = reads_without(alloc, &schema.reads, node)?;
-    Ok(schema)
+    draft.reads = reads_without(alloc, &draft.reads, node)?;
+    Ok(draft)
 }
 
-fn without_writes(alloc: Global, mut schema: Schema, node: u32) -> Result<Schema, NoMemory>
-    ensures { IfOk result (λ s. s ≡ record schema { writes = filter (λ w. not (w.0 == node)) schema.writes }) }
+fn without_writes(alloc: Global, mut draft: Draft, node: u32) -> Result<Draft, NoMemory>
+    ensures { IfOk result (λ s. s ≡ record draft { writes = filter (λ w. not (w.0 == node)) draft.writes }) }
 {
-    schema.writes = writes_without(alloc, &schema.writes, node)?;
-    Ok(schema)
+    draft.writes = writes_without(alloc, &draft.writes, node)?;
+    Ok(draft)
 }
 
-fn moved(alloc: Global, schema: Schema, node: u32, gap: Gap) -> Result<Schema, NoMemory>
-    ensures { IfOk result (λ s. s ≡ effect schema (op.MoveActivity node gap)) }
+fn moved(alloc: Global, mut draft: Draft, node: u32, gap: Gap) -> Result<Draft, NoMemory>
+    requires { refusal draft (op.MoveActivity node gap) ≡ None }
+    ensures { IfOk result (λ s. s ≡ effect draft (op.MoveActivity node gap)) }
 {
-    let schema = without_activity(alloc, schema, node)?;
-    put_at(alloc, schema, gap, New::Activity(node))
+    let rest = draft.outline.without(alloc, node)?;
+    draft.outline = New::Activity(node).put(alloc, rest, gap)?;
+    Ok(draft)
 }
 
-fn with_sync(mut schema: Schema, source: u32, target: u32) -> Result<Schema, NoMemory>
-    ensures { IfOk result (λ s. s ≡ effect schema (op.InsertSync source target)) }
+fn with_sync(mut draft: Draft, source: u32, target: u32) -> Result<Draft, NoMemory>
+    ensures { IfOk result (λ s. s ≡ effect draft (op.InsertSync source target)) }
 {
-    schema.syncs.set((source, target))?;
-    Ok(schema)
+    draft.syncs.set((source, target))?;
+    Ok(draft)
 }
 
-fn without_sync(mut schema: Schema, source: u32, target: u32) -> Schema
-    ensures { result ≡ effect schema (op.DeleteSync source target) }
+fn without_sync(mut draft: Draft, source: u32, target: u32) -> Draft
+    ensures { result ≡ effect draft (op.DeleteSync source target) }
 {
-    schema.syncs.remove((source, target));
-    schema
+    draft.syncs.remove((source, target));
+    draft
 }
 
-fn with_element(mut schema: Schema, element: u32, kind: ElementKind) -> Result<Schema, NoMemory>
-    ensures { IfOk result (λ s. s ≡ effect schema (op.AddElement element kind)) }
+fn with_element(mut draft: Draft, element: u32, kind: ElementKind) -> Result<Draft, NoMemory>
+    ensures { IfOk result (λ s. s ≡ effect draft (op.AddElement element kind)) }
 {
-    schema.elements.set((element, kind))?;
-    Ok(schema)
+    draft.elements.set((element, kind))?;
+    Ok(draft)
 }
 
-fn with_read(
-    mut schema: Schema,
-    node: u32,
-    element: u32,
-    mandatory: bool,
-) -> Result<Schema, NoMemory>
-    ensures { IfOk result (λ s. s ≡ effect schema (op.AddRead node element mandatory)) }
+fn with_read(mut draft: Draft, node: u32, element: u32, mandatory: bool) -> Result<Draft, NoMemory>
+    ensures { IfOk result (λ s. s ≡ effect draft (op.AddRead node element mandatory)) }
 {
-    schema.reads.set((node, element, mandatory))?;
-    Ok(schema)
+    draft.reads.set((node, element, mandatory))?;
+    Ok(draft)
 }
 
-fn without_read(mut schema: Schema, node: u32, element: u32) -> Schema
-    ensures { result ≡ effect schema (op.RemoveRead node element) }
+fn without_read(mut draft: Draft, node: u32, element: u32) -> Draft
+    ensures { result ≡ effect draft (op.RemoveRead node element) }
 {
-    schema.reads.remove((node, element));
-    schema
+    draft.reads.remove((node, element));
+    draft
 }
 
-fn with_write(mut schema: Schema, node: u32, element: u32) -> Result<Schema, NoMemory>
-    ensures { IfOk result (λ s. s ≡ effect schema (op.AddWrite node element)) }
+fn with_write(mut draft: Draft, node: u32, element: u32) -> Result<Draft, NoMemory>
+    ensures { IfOk result (λ s. s ≡ effect draft (op.AddWrite node element)) }
 {
-    schema.writes.set((node, element))?;
-    Ok(schema)
+    draft.writes.set((node, element))?;
+    Ok(draft)
 }
 
-fn without_write(mut schema: Schema, node: u32, element: u32) -> Schema
-    ensures { result ≡ effect schema (op.RemoveWrite node element) }
+fn without_write(mut draft: Draft, node: u32, element: u32) -> Draft
+    ensures { result ≡ effect draft (op.RemoveWrite node element) }
 {
-    schema.writes.remove((node, element));
-    schema
+    draft.writes.remove((node, element));
+    draft
 }

@@ -2,12 +2,17 @@
 #![tactic(auto)]
 
 mod applications;
+mod drafts;
 mod effects;
 mod faults;
 mod insertions;
 mod operations;
+mod outlines;
+mod pieces;
+mod readers;
 mod refusals;
 mod removals;
+mod walks;
 mod wraps;
 
 pub use applications::apply;

@@ -1,86 +1,9 @@
-// Trees without an activity, and rows without a node.
-ghost use Rattle.std.specs.Prelude.{◌≡◌, ◌||◌, ◌==◌, not, IfOk, filter, map};
+// Rows without a node.
+ghost use Rattle.std.specs.Prelude.{◌≡◌, ◌||◌, ◌==◌, not, IfOk, filter};
 ghost use Rattle.wsm_lists.specs.Rows.{Ascends};
-ghost use Rattle.wsm_schema.specs.Tree.{lanes};
-ghost use Rattle.wsm_schema.specs.TreeOf.{part_of, parts_of, lanes_of};
-ghost use Rattle.wsm_ops.specs.Onto.{list_of, lane_list};
-ghost use Rattle.wsm_ops.specs.Edit.{is_act_of, without, without_inside, without_lanes};
 
 use std::alloc::Global;
-use wsm_schema::{Block, Branch, Branches, Items, Keys, NoMemory, Reads, Syncs, Table, WriteEdges};
-
-/// The items without the activity of the node.
-#[cycle(without)]
-pub fn without(alloc: Global, items: &[Block], node: u32) -> Result<Items, NoMemory>
-    ensures { IfOk result (λ all. parts_of all.items ≡ without node (parts_of items.now)) }
-{
-    let mut all = Vec::new(alloc);
-    for i in 0..items.len() {
-        if !is_activity(&items[i], node) {
-            all.push(without_inside(alloc, &items[i], node)?)?;
-        }
-    }
-    Ok(all)
-}
-
-// Whether the block is the activity of the node.
-fn is_activity(block: &Block, node: u32) -> bool
-    ensures { result ≡ is_act_of node (part_of block.now) }
-{
-    match block {
-        Block::Act(n) => *n == node,
-        Block::And { .. } | Block::Xor { .. } | Block::Loop { .. } => false,
-    }
-}
-
-// The block without the activity of the node inside it.
-#[cycle(without)]
-fn without_inside(alloc: Global, block: &Block, node: u32) -> Result<Block, NoMemory>
-    ensures { IfOk result (λ b. part_of b ≡ without_inside node (part_of block.now)) }
-{
-    match block {
-        Block::Act(n) => Ok(Block::Act(*n)),
-        Block::And {
-            split,
-            join,
-            branches,
-        } => Ok(Block::And {
-            split: *split,
-            join: *join,
-            branches: without_branches(alloc, branches, node)?,
-        }),
-        Block::Xor {
-            split,
-            join,
-            branches,
-        } => Ok(Block::Xor {
-            split: *split,
-            join: *join,
-            branches: without_branches(alloc, branches, node)?,
-        }),
-        Block::Loop { start, end, body } => Ok(Block::Loop {
-            start: *start,
-            end: *end,
-            body: without(alloc, body, node)?,
-        }),
-    }
-}
-
-// The branches without the activity of the node inside them.
-#[cycle(without)]
-fn without_branches(alloc: Global, branches: &[Branch], node: u32) -> Result<Branches, NoMemory>
-    ensures { IfOk result (λ all. lanes (lanes_of all.items) ≡ without_lanes node (lanes (lanes_of branches.now))) }
-{
-    let mut all = Vec::new(alloc);
-    for i in 0..branches.len() {
-        let items = without(alloc, &branches[i].items, node)?;
-        all.push(Branch {
-            code: branches[i].code,
-            items,
-        })?;
-    }
-    Ok(all)
-}
+use wsm_schema::{Keys, NoMemory, Reads, Syncs, Table, WriteEdges};
 
 /// The sync edges that the node does not end, at either side.
 pub fn syncs_without(alloc: Global, syncs: &Syncs, node: u32) -> Result<Syncs, NoMemory>

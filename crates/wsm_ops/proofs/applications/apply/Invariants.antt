@@ -3,4 +3,4 @@ use Rattle.wsm_ops.specs.Apply.{applied, applied_from}
 use Rattle.wsm_ops.proofs.applications.apply.Given as goal
 
 abbrev pub invariant-loop-i : goal.invariant-loop-i
-invariant-loop-i l = applied_from (l.i + 1) l.new (drop l.i l.op-items) ≡ applied l.schema l.op-items
+invariant-loop-i l = applied_from (l.i + 1) l.draft (drop l.i l.op-items) ≡ applied l.schema l.op-items
