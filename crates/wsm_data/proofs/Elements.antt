@@ -1,11 +1,13 @@
 -- What a set has after a put, and in what is left of a list.
-use Rattle.std.proofs.Common.{◌≡◌, ℕ, Bool, true, false, cond, not, ◌||◌, eqb, List, [], ◌∷◌, refl, ap, sym, ◌∙◌, inl, inr}
+use Rattle.std.proofs.Common.{◌≡◌, ℕ, ◌<◌, ◌≤◌, Bool, true, false, ◌||◌, ◌&&◌, eqb, List, [], ◌∷◌, length, get_or, subst, refl, ap, sym, ◌∙◌, inl, inr}
+use Rattle.std.specs.List.{insert, slice_get}
 use Rattle.std.specs.Option.{is_some}
+use Rattle.std.proofs.lemmas.Option.{slice_get-get_or, slice_get_past}
 use Rattle.std.proofs.lemmas.Bool.{cases_Bool, eqb-true}
-use Rattle.wsm_lists.specs.Rows.{key_eq, key_lt, row_at, put_row}
-use Rattle.wsm_lists.proofs.Rows.{eq_means}
+use Rattle.wsm_lists.specs.Rows.{key_eq, key_lt, row_at, rows_below, is_row_at, put_row}
+use Rattle.wsm_lists.proofs.Rows.{eq_means, row_is_there, insert_where_absent, ascends_put}
 use Rattle.wsm_schema.specs.Sound.{has_number}
-use Rattle.wsm_data.specs.Sets.{number}
+use Rattle.wsm_data.specs.Sets.{number, InOrder}
 
 pub eq_number : (a n : ℕ) → key_eq (a, 0) (n, 0) ≡ eqb a n
 eq_number a n =
@@ -25,6 +27,10 @@ pub or_group : (a b c : Bool) → ((a || b) || c) ≡ (a || (b || c))
 or_group true b c = refl
 or_group false b c = refl
 
+pub and_false : (a : Bool) → (a && false) ≡ false
+and_false true = refl
+and_false false = refl
+
 or_twice : (a b : Bool) → ((a || b) || a) ≡ (a || b)
 or_twice true b = refl
 or_twice false true = refl
@@ -39,7 +45,7 @@ has-is d (x ∷ xs) =
       | inr other ↦ rw (eq_number x d, other) (has-is d xs)
     ]
 
-has-put_row : (d x : ℕ) (set : List ℕ) → has_number d (put_row number x set) ≡ (has_number d set || eqb x d)
+pub has-put_row : (d x : ℕ) (set : List ℕ) → has_number d (put_row number x set) ≡ (has_number d set || eqb x d)
 has-put_row d x [] = or_swap (eqb x d) false
 has-put_row d x (y ∷ ys) =
     elim (cases_Bool (key_lt (y, 0) (x, 0))) [
@@ -52,17 +58,28 @@ has-put_row d x (y ∷ ys) =
       ]
     ]
 
-has-there : (d x : ℕ) (set : List ℕ) → has_number x set ≡ true → has_number d set ≡ (has_number d set || eqb x d)
+pub has-there : (d x : ℕ) (set : List ℕ) → has_number x set ≡ true → has_number d set ≡ (has_number d set || eqb x d)
 has-there d x set there =
     elim (cases_Bool (eqb x d)) [
       | inl same ↦ let here : has_number d set ≡ true = ap (λ k. has_number k set) (sym (eqb-true x d same)) ∙ there in rw here refl
       | inr other ↦ rw other (or_swap false (has_number d set))
     ]
 
--- a put that leaves what is there
-pub has-put : (d x : ℕ) (set : List ℕ) → has_number d (cond (not (is_some (row_at number (x, 0) set))) (put_row number x set) set) ≡ (has_number d set || eqb x d)
-has-put d x set =
-    elim (cases_Bool (is_some (row_at number (x, 0) set))) [
-      | inl there ↦ rw there (has-there d x set (sym (has-is x set) ∙ there))
-      | inr absent ↦ rw absent (has-put_row d x set)
-    ]
+-- a number stands at its place, or nowhere
+pub stands-at : (d at : ℕ) (set : List ℕ) → InOrder set → at ≡ rows_below number (d, 0) set → at < length set → eqb (get_or set at 0) d ≡ has_number d set
+stands-at d at set order place within =
+    sym (eq_number (get_or set at 0) d)
+    ∙ ap (is_row_at number (d, 0)) (sym (slice_get-get_or set at 0 within)) ∙ ap (λ n. is_row_at number (d, 0) (slice_get set n)) place
+    ∙ row_is_there number (d, 0) set order ∙ has-is d set
+
+pub stands-nowhere : (d at : ℕ) (set : List ℕ) → InOrder set → at ≡ rows_below number (d, 0) set → length set ≤ at → false ≡ has_number d set
+stands-nowhere d at set order place beyond =
+    ap (is_row_at number (d, 0)) (sym (slice_get_past set at beyond)) ∙ ap (λ n. is_row_at number (d, 0) (slice_get set n)) place
+    ∙ row_is_there number (d, 0) set order ∙ has-is d set
+
+-- one more number at its place
+pub insert-put : (d at : ℕ) (old new : List ℕ) → InOrder old → at ≡ rows_below number (d, 0) old → has_number d old ≡ false → new ≡ insert old at d → new ≡ put_row number d old
+insert-put d at old new order place absent is = is ∙ ap (λ n. insert old n d) place ∙ sym (insert_where_absent number d old order (has-is d old ∙ absent))
+
+pub insert-order : (d : ℕ) (old new : List ℕ) → InOrder old → new ≡ put_row number d old → InOrder new
+insert-order d old new order is = subst InOrder (sym is) (ascends_put number d old order)

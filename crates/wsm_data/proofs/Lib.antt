@@ -5,5 +5,5 @@ pub mod Sure
 pub mod Pass
 pub mod Syncs
 pub mod Clauses
-pub mod Beside
+pub mod Merging
 pub mod Writers

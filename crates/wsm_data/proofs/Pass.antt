@@ -1,16 +1,21 @@
 -- The steps of the pass: what is sure at the next card, and the table with a row for it.
-use Rattle.std.proofs.Common.{◌≡◌, ℕ, suc, ◌+◌, ◌<◌, Bool, true, false, not, ◌||◌, ◌&&◌, eqb, List, [], ◌∷◌, ◌++◌, map, length, take, drop, get_or, refl, ap, sym, ◌∙◌, subst, inl, inr, Option, Some, add-one, drop-cons}
+use Rattle.std.proofs.Common.{◌≡◌, ℕ, suc, ◌+◌, ◌<◌, Bool, true, false, not, ◌||◌, ◌&&◌, eqb, List, [], ◌∷◌, ◌++◌, map, length, take, drop, get_or, refl, ap, sym, ◌∙◌, subst, inl, inr, Option, Some, None, add-one, drop-cons}
 use Rattle.std.proofs.Math.Seq.{take-suc}
 use Rattle.std.proofs.lemmas.List.{map-append}
 use Rattle.std.specs.List.{list_any, filter}
 use Rattle.std.specs.Prelude.{find, option_map, is_some}
+use Rattle.std.specs.Option.{option_or}
 use Rattle.std.proofs.lemmas.Bool.{cases_Bool, both_ways, eqb-true, eq-eqb}
 use Rattle.wsm_lists.specs.Rows.{key_eq, key_lt, row_at, put_row}
 use Rattle.wsm_lists.proofs.Lists.{map-same, all-rows-map}
 use Rattle.wsm_lists.proofs.Rows.{eq_means, lt_not_eq}
 use Rattle.wsm_schema.specs.SchemaModel.{SchemaModel}
-use Rattle.wsm_schema.specs.Sound.{sure_by, sure_of, first_some, missing_at, nodes_of, has_number, writes_of}
+use Rattle.wsm_schema.specs.Flat.{card_of, cards_of}
+use Rattle.wsm_schema.specs.Places.{places}
+use Rattle.wsm_schema.specs.Sound.{Sure, sure_by, sure_of, first_some, missing_at, nodes_of, has_number, writes_of}
 use Rattle.wsm_schema.specs.declared.cards.Card.{Card}
+use Rattle.wsm_schema.specs.declared.faults.DataFault.TheVariants.{Missing}
+use Rattle.wsm_schema.specs.declared.places.Place.{Place}
 use Rattle.wsm_marks.proofs.Lists.{one_of-last}
 use Rattle.wsm_data.specs.Passes.{IsNext, Passes}
 use Rattle.wsm_data.specs.Sets.{Holds}
@@ -109,3 +114,14 @@ first-left f xs i x found all lt is here none rest =
 -- a put by what is sure
 pub put-sure : (s : SchemaModel) (node : ℕ) (set : List ℕ) (old new : List Behind) → Holds set (sure_of s node) → IsPut (λ d. has_number d set || writes_of s node d) node old new → IsPut (sure_behind s node) node old new
 put-sure s node set old new holds put = record { here = λ d. put.here d ∙ ap (λ b. b || writes_of s node d) (holds d); others = put.others }
+
+-- where nothing is read, no read misses its value
+pub nothing-read : (s : SchemaModel) (sure : Sure) → s.reads ≡ [] → None ≡ first_some (missing_at sure) (cards_of s)
+nothing-read s sure none = go (places s.start s.body s.finish)
+  where
+    go : (ps : List Place) → None ≡ first_some (missing_at sure) (map (card_of s) ps)
+    go [] = refl
+    go (p ∷ ps) =
+        go ps
+        ∙ ap (λ o. option_or o (first_some (missing_at sure) (map (card_of s) ps)))
+        (sym (ap (λ rs. option_map (λ (r : ℕ × Bool). Missing p.node r.0) (find (λ (r : ℕ × Bool). r.1 && not (sure p.node r.0)) (map (λ (r : ℕ × ℕ × Bool). (r.1, r.2)) (filter (λ r. eqb r.0 p.node) rs)))) none))

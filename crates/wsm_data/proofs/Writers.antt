@@ -1,13 +1,20 @@
--- Cards without writes, and the marks of the cards behind a place.
-use Rattle.std.proofs.Common.{◌≡◌, ℕ, ◌-◌, Bool, not, ◌&&◌, List, [], ◌∷◌, map, length, take, drop, take_all, length-drop, refl, ap, sym, ◌∙◌, inl, inr, arith, None}
+-- What cards write, and cards without writes.
+use Rattle.std.proofs.Common.{◌≡◌, ℕ, true, not, ◌&&◌, eqb, List, [], ◌∷◌, map, filter, refl, ap, sym, ◌∙◌, subst, inl, inr, arith, None}
 use Rattle.std.specs.Prelude.{find, option_map}
 use Rattle.std.specs.Option.{option_or}
-use Rattle.std.proofs.lemmas.Bool.{cases_Bool}
-use Rattle.std.proofs.lemmas.List.{drop-map}
+use Rattle.std.proofs.lemmas.Bool.{cases_Bool, eqb-true}
+use Rattle.wsm_lists.specs.Keys.{both}
+use Rattle.wsm_lists.specs.Rows.{AllRows, Ascends, key_lt}
+use Rattle.wsm_lists.proofs.Rows.{lt_means, lt_from}
+use Rattle.wsm_lists.proofs.Lists.{all_rows, rows-map}
 use Rattle.wsm_schema.specs.SchemaModel.{SchemaModel}
-use Rattle.wsm_schema.specs.Sound.{first_some, has_number, parts_apart, synced, parallel_write}
+use Rattle.wsm_schema.specs.Flat.{card_of, cards_of}
+use Rattle.wsm_schema.specs.Places.{places}
+use Rattle.wsm_schema.specs.Sound.{first_some, has_number, parts_apart, synced, parallel_write, parallel_writes}
 use Rattle.wsm_schema.specs.declared.cards.Card.{Card}
 use Rattle.wsm_schema.specs.declared.faults.DataFault.TheVariants.{ParallelWrite}
+use Rattle.wsm_schema.specs.declared.places.Place.{Place}
+use Rattle.wsm_data.specs.Sets.{number, InOrder, WritesInOrder}
 
 no-write : (s : SchemaModel) (a b : Card) → a.writes ≡ [] → parallel_write s a b ≡ None
 no-write s a b none =
@@ -21,6 +28,41 @@ pub no-writes : (s : SchemaModel) (a : Card) (others : List Card) → a.writes �
 no-writes s a [] none = refl
 no-writes s a (b ∷ bs) none = no-writes s a bs none ∙ ap (λ o. option_or o (first_some (parallel_write s a) bs)) (sym (no-write s a b none))
 
-pub marks-behind : {X : Type 0} (f : X → Bool) (xs others : List X) (marks : List Bool) (before : ℕ) → marks ≡ map f xs → others ≡ drop before xs → take (length marks - before) (drop before marks) ≡ map f others
-marks-behind f xs others marks before is rest =
-    take_all (length marks - before) (drop before marks) (omega (arith, length-drop before marks)) ∙ ap (drop before) is ∙ drop-map f before xs ∙ ap (map f) (sym rest)
+-- where no node writes, none writes beside another
+pub nothing-written : (s : SchemaModel) → s.writes ≡ [] → None ≡ parallel_writes s (cards_of s)
+nothing-written s none = go (places s.start s.body s.finish)
+  where
+    go : (ps : List Place) → None ≡ parallel_writes s (map (card_of s) ps)
+    go [] = refl
+    go (p ∷ ps) =
+        go ps
+        ∙ ap (λ o. option_or o (parallel_writes s (map (card_of s) ps))) (no-writes s (card_of s p) (map (card_of s) ps) (ap (λ ws. map (λ (w : ℕ × ℕ). w.1) (filter (λ w. eqb w.0 p.node) ws)) none))
+
+-- what one node writes ascends as the write edges do
+seconds-above : (n x : ℕ) (ws : List (ℕ × ℕ)) → AllRows (λ w. key_lt (n, x) w ≡ true) ws → AllRows (λ y. key_lt (number x) (number y) ≡ true) (map (λ w. w.1) (filter (λ w. eqb w.0 n) ws))
+seconds-above n x [] h = tt
+seconds-above n x (w ∷ ws) h =
+    elim (cases_Bool (eqb w.0 n)) [
+      | inl same ↦ rw same (
+        lt_from (number x) (number w.1)
+            (inl (elim (lt_means (n, x) w h.0) [ inl less ↦ absurd (let one = eqb-true w.0 n same in omega (arith, less, one)) | inr later ↦ later.1 ])),
+        seconds-above n x ws h.1,
+      )
+      | inr other ↦ rw other (seconds-above n x ws h.1)
+    ]
+
+seconds-ascend : (n : ℕ) (ws : List (ℕ × ℕ)) → Ascends both ws → InOrder (map (λ w. w.1) (filter (λ w. eqb w.0 n) ws))
+seconds-ascend n [] h = tt
+seconds-ascend n (w ∷ ws) h =
+    elim (cases_Bool (eqb w.0 n)) [
+      | inl same ↦ rw same (seconds-above n w.1 ws (ap-first (eqb-true w.0 n same) h.0), seconds-ascend n ws h.1)
+      | inr other ↦ rw other (seconds-ascend n ws h.1)
+    ]
+  where
+    ap-first : w.0 ≡ n → AllRows (λ v. key_lt w v ≡ true) ws → AllRows (λ v. key_lt (n, w.1) v ≡ true) ws
+    ap-first one above = subst (λ m. AllRows (λ v. key_lt (m, w.1) v ≡ true) ws) one above
+
+pub writes-ascend : (s : SchemaModel) → Ascends both s.writes → WritesInOrder (cards_of s)
+writes-ascend s order =
+    rows-map (λ (c : Card). InOrder c.writes) (card_of s) (places s.start s.body s.finish)
+    (all_rows _ (λ (p : Place). seconds-ascend p.node s.writes order) (places s.start s.body s.finish))

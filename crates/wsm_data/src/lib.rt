@@ -2,12 +2,12 @@
 #![tactic(auto)]
 
 mod checks;
+mod merges;
 mod missing;
 mod parallels;
 mod refusals;
 mod sets;
 mod tables;
-mod trees;
 mod unknowns;
 
 pub use checks::check_data;

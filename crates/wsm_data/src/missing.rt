@@ -6,7 +6,7 @@ ghost use Rattle.wsm_schema.specs.Sound.{block_fault, first_some, has_number, mi
 ghost use Rattle.wsm_data.specs.Tables.{IsPut};
 ghost use Rattle.wsm_data.specs.Sets.{Holds};
 
-use crate::sets::{ElementSet, add, contains};
+use crate::sets::ElementSet;
 use crate::tables::{Behind, BehindTable, sure_at};
 use std::alloc::Global;
 use wsm_schema::{Card, DataFault, Flat, NoMemory, Schema};
@@ -16,14 +16,14 @@ fn missing_at(sure: &ElementSet, card: &Card) -> Option<DataFault>
     ensures { result ≡ missing_at (λ n d. has_number d sure.now) card.now }
 {
     for read in card.reads.as_slice() {
-        if read.1 && !contains(sure, read.0) {
+        if read.1 && !sure.contains(read.0) {
             return Some(DataFault::Missing(card.node, read.0));
         }
     }
     None
 }
 
-/// The first mandatory read that may find no value, by one pass over the nodes in document order.
+/// The first mandatory read that may find no value, by one pass over the nodes in document order, where there are reads.
 pub fn missing_read(
     alloc: Global,
     schema: &Schema,
@@ -33,6 +33,9 @@ pub fn missing_read(
     requires blocks { block_fault schema.now ≡ None }
     ensures { IfOk result (λ found. found ≡ first_some (missing_at (sure_of schema.now)) (cards_of schema.now)) }
 {
+    if schema.reads.is_empty() {
+        return Ok(None);
+    }
     let mut table = BehindTable::new(alloc);
     for card in flat.cards() {
         let sure = sure_at(alloc, &table, card)?;
@@ -64,7 +67,7 @@ fn add_written(set: &mut ElementSet, writes: &[(u32, u32)]) -> Result<(), NoMemo
     ensures { OnOk result (Holds set.new (λ d. has_number d set.old || list_any (λ w. w.1 == d) writes.now)) }
 {
     for write in writes {
-        add(set, write.1)?;
+        set.add(write.1)?;
     }
     Ok(())
 }

@@ -1,11 +1,12 @@
 // Writes of one element side by side.
-ghost use Rattle.std.specs.Prelude.{◌≡◌, ◌≤◌, None, find, map, drop, length, IfOk};
+ghost use Rattle.std.specs.Prelude.{◌≡◌, None, find, IfOk};
 ghost use Rattle.wsm_schema.specs.Flat.{flat_of, cards_of};
-ghost use Rattle.wsm_schema.specs.Sound.{block_fault, parts_apart, first_some, has_number, synced, parallel_write, parallel_writes};
+ghost use Rattle.wsm_schema.specs.Sound.{block_fault, first_some, has_number, synced, parallel_write, parallel_writes};
+ghost use Rattle.wsm_data.specs.Sets.{InOrder, WritesInOrder};
 
-use crate::trees::beside;
+use crate::merges::shared_element;
 use std::alloc::Global;
-use wsm_schema::{Card, DataFault, Flat, NoMemory, Schema};
+use wsm_schema::{Card, DataFault, Enclosures, Flat, NoMemory, Schema};
 
 /// The first two nodes in document order that write one element in different branches of an AND block with no sync edge
 /// between them, and the least such element.
@@ -18,44 +19,22 @@ pub fn parallel_writes(
     requires blocks { block_fault schema.now ≡ None }
     ensures { IfOk result (λ found. found ≡ parallel_writes schema.now (cards_of schema.now)) }
 {
-    let cards = flat.cards();
-    for place in 0..cards.len() {
-        let card = &cards[place];
-        let found = parallel_behind(alloc, schema, card, &cards[place + 1..], place + 1)?;
-        if found.is_some() {
-            return Ok(found);
-        }
-    }
-    Ok(None)
-}
-
-// The first of the other cards whose node writes beside that of `card`; the others are all cards but the first `before`.
-fn parallel_behind(
-    alloc: Global,
-    schema: &Schema,
-    card: &Card,
-    others: &[Card],
-    before: usize,
-) -> Result<Option<DataFault>, NoMemory>
-    requires before { before ≤ length (cards_of schema.now) }
-    requires others { others.now ≡ drop before (cards_of schema.now) }
-    requires blocks { block_fault schema.now ≡ None }
-    ensures { IfOk result (λ found. found ≡ first_some (parallel_write schema.now card.now) others.now) }
-{
-    if card.writes.is_empty() {
+    if schema.writes.is_empty() {
         return Ok(None);
     }
-    let marks = beside(alloc, schema, card.node)?;
-    Ok(parallel_to(schema, card, others, &marks[before..]))
+    let _ = schema.writes.as_slice();
+    let enclosures = Enclosures::of(alloc, schema, flat)?;
+    Ok(first_parallel(schema, &enclosures, flat.cards()))
 }
 
-// The first of the other cards whose node writes beside that of `card`, where the marks tell which nodes stand apart.
-fn parallel_to(schema: &Schema, card: &Card, others: &[Card], apart: &[bool]) -> Option<DataFault>
-    requires { apart.now ≡ map (λ c. parts_apart schema.now.body card.now.node c.node) others.now }
-    ensures { result ≡ first_some (parallel_write schema.now card.now) others.now }
+// The first two of these cards that write side by side.
+fn first_parallel(schema: &Schema, enclosures: &Enclosures<'_>, cards: &[Card]) -> Option<DataFault>
+    requires enclosed { enclosures.now ≡ schema.now }
+    requires order { WritesInOrder cards.now }
+    ensures { result ≡ parallel_writes schema.now cards.now }
 {
-    for i in 0..others.len() {
-        let found = parallel_write(schema, card, &others[i], apart[i]);
+    for place in 0..cards.len() {
+        let found = parallel_behind(schema, enclosures, &cards[place], &cards[place + 1..]);
         if found.is_some() {
             return found;
         }
@@ -63,36 +42,51 @@ fn parallel_to(schema: &Schema, card: &Card, others: &[Card], apart: &[bool]) ->
     None
 }
 
-// Whether two nodes write one element side by side, where `apart` tells whether they stand so.
-fn parallel_write(schema: &Schema, a: &Card, b: &Card, apart: bool) -> Option<DataFault>
-    requires { apart ≡ parts_apart schema.now.body a.now.node b.now.node }
-    ensures { result ≡ parallel_write schema.now a.now b.now }
+// The first of the other cards whose node writes beside that of `card`.
+fn parallel_behind(
+    schema: &Schema,
+    enclosures: &Enclosures<'_>,
+    card: &Card,
+    others: &[Card],
+) -> Option<DataFault>
+    requires enclosed { enclosures.now ≡ schema.now }
+    requires own { InOrder card.now.writes }
+    requires order { WritesInOrder others.now }
+    ensures { result ≡ first_some (parallel_write schema.now card.now) others.now }
 {
-    if !apart || is_synced(schema, a.node, b.node) {
+    if card.writes.is_empty() {
         return None;
     }
-    match shared_element(a.writes.as_slice(), b.writes.as_slice()) {
-        None => None,
-        Some(element) => Some(DataFault::ParallelWrite(a.node, b.node, element)),
-    }
-}
-
-// The first element of one list that stands in another.
-fn shared_element(elements: &[u32], others: &[u32]) -> Option<u32>
-    ensures { result ≡ find (λ d. has_number d others.now) elements.now }
-{
-    for element in elements {
-        if is_one_of(*element, others) {
-            return Some(*element);
+    for i in 0..others.len() {
+        let found = parallel_write(schema, enclosures, card, &others[i]);
+        if found.is_some() {
+            return found;
         }
     }
     None
 }
 
-fn is_one_of(element: u32, elements: &[u32]) -> bool
-    ensures { result ≡ has_number element elements.now }
+// Whether two nodes write one element side by side. Most share none, so that is asked first.
+fn parallel_write(
+    schema: &Schema,
+    enclosures: &Enclosures<'_>,
+    a: &Card,
+    b: &Card,
+) -> Option<DataFault>
+    requires enclosed { enclosures.now ≡ schema.now }
+    requires first { InOrder a.now.writes }
+    requires second { InOrder b.now.writes }
+    ensures { result ≡ parallel_write schema.now a.now b.now }
 {
-    elements.iter().any(|other| *other == element)
+    match shared_element(a.writes.as_slice(), b.writes.as_slice()) {
+        None => None,
+        Some(element) => {
+            if !enclosures.are_apart(a.node, b.node) || is_synced(schema, a.node, b.node) {
+                return None;
+            }
+            Some(DataFault::ParallelWrite(a.node, b.node, element))
+        }
+    }
 }
 
 // Whether a sync edge joins the nodes, either way.

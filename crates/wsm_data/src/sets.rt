@@ -1,69 +1,119 @@
 // Sets of elements.
-ghost use Rattle.std.specs.Prelude.{◌≡◌, ◌==◌, ◌||◌, ◌&&◌, IfOk, OnOk};
+ghost use Rattle.std.specs.Prelude.{◌≡◌, ◌==◌, ◌||◌, ◌&&◌, ◌≤◌, [], length, IfOk, OnOk};
+ghost use Rattle.wsm_lists.specs.Rows.{rows_below, key_lt};
 ghost use Rattle.wsm_schema.specs.Sound.{has_number};
-ghost use Rattle.wsm_data.specs.Sets.{number, Holds};
+ghost use Rattle.wsm_data.specs.Sets.{number, Holds, InOrder};
 
+use crate::merges::shared_elements;
 use std::alloc::Global;
-use wsm_lists::{Keys, NoMemory, Table};
+use std::marker::Model;
+use wsm_lists::NoMemory;
 
-/// Numbers by themselves.
-pub struct ByNumber;
+/// A set of elements: numbers that ascend.
+#[derive(Drop)]
+pub struct ElementSet {
+    numbers: Vec<u32>,
+}
 
-impl Keys for ByNumber {
-    type Row = u32;
+impl Model for ElementSet {
+    ghost use Rattle.std.specs.Prelude.{ℕ, List};
+    ghost use Rattle.wsm_data.specs.Sets.{InOrder};
 
-    ghost key_of = { number };
+    ghost Value = { List ℕ };
 
-    fn key(row: &u32) -> (u32, u32) {
-        (*row, 0)
+    ghost view = { λ a. a.numbers.items };
+
+    ghost invariant = { λ a. InOrder a.numbers.items };
+}
+
+impl ElementSet {
+    /// The set without elements.
+    pub fn new(alloc: Global) -> ElementSet
+        ensures { result ≡ [] }
+    {
+        ElementSet {
+            numbers: Vec::new(alloc),
+        }
+    }
+
+    /// All elements.
+    pub fn as_slice(&self) -> &[u32]
+        ensures rows { result.now ≡ self.now }
+        ensures order { InOrder result.now }
+    {
+        &self.numbers
+    }
+
+    /// An equal set.
+    pub fn copy(&self, alloc: Global) -> Result<ElementSet, NoMemory>
+        ensures { IfOk result (λ new. new ≡ self.now) }
+    {
+        Ok(ElementSet {
+            numbers: Vec::from_slice(alloc, &self.numbers)?,
+        })
+    }
+
+    /// Whether the element is one of the set, by a binary search.
+    pub fn contains(&self, element: u32) -> bool
+        ensures { result ≡ has_number element self.now }
+    {
+        let at = place_of(&self.numbers, element);
+        stands_at(&self.numbers, at, element)
+    }
+
+    /// The set with one element more.
+    pub fn add(&mut self, element: u32) -> Result<(), NoMemory>
+        ensures { OnOk result (Holds self.new (λ d. has_number d self.old || element == d)) }
+    {
+        let at = place_of(&self.numbers, element);
+        if stands_at(&self.numbers, at, element) {
+            return Ok(());
+        }
+        self.numbers.insert(at, element)?;
+        Ok(())
+    }
+
+    /// The set with these elements too.
+    pub fn add_all(&mut self, elements: &[u32]) -> Result<(), NoMemory>
+        ensures { OnOk result (Holds self.new (λ d. has_number d self.old || has_number d elements.now)) }
+    {
+        for element in elements {
+            self.add(*element)?;
+        }
+        Ok(())
+    }
+
+    /// What the set and a list in order share.
+    pub fn common(&self, alloc: Global, elements: &[u32]) -> Result<ElementSet, NoMemory>
+        requires { InOrder elements.now }
+        ensures { IfOk result (λ new. Holds new (λ d. has_number d self.now && has_number d elements.now)) }
+    {
+        Ok(ElementSet {
+            numbers: shared_elements(alloc, &self.numbers, elements)?,
+        })
     }
 }
 
-/// A set of elements.
-pub type ElementSet = Table<ByNumber>;
-
-/// Whether the element is one of the set.
-pub fn contains(set: &ElementSet, element: u32) -> bool
-    ensures { result ≡ has_number element set.now }
+// How many numbers are below the element, by a binary search.
+fn place_of(numbers: &[u32], element: u32) -> usize
+    requires { InOrder numbers.now }
+    ensures place { result ≡ rows_below number (element, 0) numbers.now }
+    ensures bound { result ≤ length numbers.now }
 {
-    set.has((element, 0))
+    numbers.partition_point(|number| is_below(*number, element))
 }
 
-/// The set with one element more.
-pub fn add(set: &mut ElementSet, element: u32) -> Result<(), NoMemory>
-    ensures { OnOk result (Holds set.new (λ d. has_number d set.old || element == d)) }
+fn is_below(a: u32, b: u32) -> bool
+    ensures { result ≡ key_lt (number a) (number b) }
 {
-    set.put(element)?;
-    Ok(())
+    a < b
 }
 
-/// The set with these elements too.
-pub fn add_all(set: &mut ElementSet, elements: &[u32]) -> Result<(), NoMemory>
-    ensures { OnOk result (Holds set.new (λ d. has_number d set.old || has_number d elements.now)) }
+// Whether the element stands at its place.
+fn stands_at(numbers: &[u32], at: usize, element: u32) -> bool
+    requires order { InOrder numbers.now }
+    requires place { at ≡ rows_below number (element, 0) numbers.now }
+    ensures { result ≡ has_number element numbers.now }
 {
-    for element in elements {
-        add(set, *element)?;
-    }
-    Ok(())
-}
-
-/// What a set and a list share.
-pub fn common(alloc: Global, set: &ElementSet, elements: &[u32]) -> Result<ElementSet, NoMemory>
-    ensures { IfOk result (λ new. Holds new (λ d. has_number d set.now && has_number d elements.now)) }
-{
-    let mut shared = ElementSet::new(alloc);
-    for element in elements {
-        add_shared(&mut shared, set, *element)?;
-    }
-    Ok(shared)
-}
-
-// The element too, if it is one of `set`.
-fn add_shared(shared: &mut ElementSet, set: &ElementSet, element: u32) -> Result<(), NoMemory>
-    ensures { OnOk result (Holds shared.new (λ d. has_number d shared.old || (has_number d set.now && element == d))) }
-{
-    if contains(set, element) {
-        return add(shared, element);
-    }
-    Ok(())
+    at < numbers.len() && numbers[at] == element
 }

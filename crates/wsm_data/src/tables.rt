@@ -3,10 +3,10 @@ ghost use Rattle.std.specs.Prelude.{◌≡◌, ◌<◌, map, length, IfOk};
 ghost use Rattle.std.specs.List.{list_all, list_any};
 ghost use Rattle.wsm_schema.specs.Sound.{has_number, sure_by};
 ghost use Rattle.wsm_marks.specs.Loops.{HasEdge};
-ghost use Rattle.wsm_data.specs.Sets.{Holds};
+ghost use Rattle.wsm_data.specs.Sets.{Holds, InOrder};
 ghost use Rattle.wsm_data.specs.Tables.{by_node, set_behind};
 
-use crate::sets::{ElementSet, add_all, common};
+use crate::sets::ElementSet;
 use std::alloc::Global;
 use wsm_lists::{Keys, NoMemory, Table};
 use wsm_schema::{Card, End, NodeKind};
@@ -55,7 +55,8 @@ pub fn sure_at(alloc: Global, table: &BehindTable, card: &Card) -> Result<Elemen
 
 // The elements behind a node.
 fn set_behind(table: &BehindTable, node: u32) -> &[u32]
-    ensures { result.now ≡ set_behind table.now node }
+    ensures set { result.now ≡ set_behind table.now node }
+    ensures order { InOrder result.now }
 {
     match table.find((node, 0)) {
         None => &[],
@@ -80,7 +81,7 @@ fn behind_some(alloc: Global, table: &BehindTable, ends: &[End]) -> Result<Eleme
 {
     let mut set = copy_behind(alloc, table, ends[0].node)?;
     for i in 1..ends.len() {
-        add_all(&mut set, set_behind(table, ends[i].node))?;
+        set.add_all(set_behind(table, ends[i].node))?;
     }
     Ok(set)
 }
@@ -92,7 +93,7 @@ fn behind_all(alloc: Global, table: &BehindTable, ends: &[End]) -> Result<Elemen
 {
     let mut set = copy_behind(alloc, table, ends[0].node)?;
     for i in 1..ends.len() {
-        set = common(alloc, &set, set_behind(table, ends[i].node))?;
+        set = set.common(alloc, set_behind(table, ends[i].node))?;
     }
     Ok(set)
 }

@@ -1,12 +1,13 @@
 use Rattle.std.proofs.Common.{arith, ◌≡◌, ◌+◌, [], ◌++◌, ◌∷◌, take, drop, refl, ap, sym, ◌∙◌, subst}
 use Rattle.std.proofs.lemmas.Bool.{both_ways}
+use Rattle.wsm_schema.specs.SchemaModel.{SchemaModel}
 use Rattle.wsm_schema.specs.Flat.{cards_of}
 use Rattle.wsm_schema.specs.Sound.{first_some, missing_at, sure_of, nodes_of}
 use Rattle.wsm_data.specs.Passes.{Passes}
 use Rattle.wsm_data.specs.Sets.{Holds}
 use Rattle.wsm_data.specs.Tables.{Tells}
 use Rattle.wsm_data.proofs.Sure.{document-passes}
-use Rattle.wsm_data.proofs.Pass.{sure-there, missing-there, passes-step, nodes-step, tells-next, put-sure, first-found, first-left}
+use Rattle.wsm_data.proofs.Pass.{sure-there, missing-there, passes-step, nodes-step, tells-next, put-sure, first-found, first-left, nothing-read}
 use Rattle.wsm_data.proofs.missing.missing_read.Goals as goal
 
 pub loop-card-init : goal.loop-card-init
@@ -18,6 +19,9 @@ loop-card-init c =
       told = λ n d there. absurd (both_ways _ refl there);
       left = subst (Passes s []) (sym all) (document-passes s c.requires.blocks);
     }
+
+pub returns-then-is_empty : goal.returns-then-is_empty
+returns-then-is_empty c = nothing-read c.args.schema.now (sure_of c.args.schema.now) (ap (λ (m : SchemaModel). m.reads) (sym c.schema.view_is) ∙ c.is_empty.ensures.0 c.if-is_empty.true)
 
 pub returns-then-is_some : goal.returns-then-is_some
 returns-then-is_some c =

@@ -1,7 +1,11 @@
-use Rattle.std.proofs.Common.{◌≡◌, drop}
-use Rattle.wsm_schema.specs.Sound.{first_some}
+use Rattle.std.proofs.Common.{◌≡◌, true, drop}
+use Rattle.std.specs.Prelude.{IfSome}
+use Rattle.wsm_schema.specs.Sound.{first_some, is_worked_on_in}
 use Rattle.wsm_data.specs.Unknowns.{unknown_in}
 use Rattle.wsm_data.proofs.unknowns.unknown_write.Given as goal
 
 abbrev pub invariant-loop-write : goal.invariant-loop-write
-invariant-loop-write l = first_some (λ w. unknown_in l.flat w.0 w.1) (drop l.write-index l.writes) ≡ first_some (λ w. unknown_in l.flat w.0 w.1) l.writes
+invariant-loop-write l = record {
+  rest : first_some (λ r. unknown_in l.flat r.0 r.1) (drop l.write-index l.writes) ≡ first_some (λ r. unknown_in l.flat r.0 r.1) l.writes;
+  last : IfSome l.last (λ n. is_worked_on_in l.flat.cards n ≡ true);
+}

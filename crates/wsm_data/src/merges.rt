@@ -1,0 +1,79 @@
+// What two ascending lists of elements share, and both together.
+ghost use Rattle.std.specs.Prelude.{◌≡◌, find, IsTrue, IfOk, ◌&&◌};
+ghost use Rattle.wsm_schema.specs.Sound.{has_number};
+ghost use Rattle.wsm_data.specs.Sets.{InOrder, AllBelow, Holds};
+
+use std::alloc::Global;
+use wsm_lists::NoMemory;
+
+/// The first element of one list that stands in another.
+pub fn shared_element(elements: &[u32], others: &[u32]) -> Option<u32>
+    requires first { InOrder elements.now }
+    requires second { InOrder others.now }
+    ensures { result ≡ find (λ d. has_number d others.now) elements.now }
+{
+    if are_below(elements, others) || are_below(others, elements) {
+        return None;
+    }
+    first_shared(elements, others)
+}
+
+// Whether all elements of one list are found to be below those of another.
+fn are_below(lower: &[u32], upper: &[u32]) -> bool
+    requires first { InOrder lower.now }
+    requires second { InOrder upper.now }
+    ensures { IsTrue result → AllBelow lower.now upper.now }
+{
+    if lower.is_empty() || upper.is_empty() {
+        return true;
+    }
+    lower[lower.len() - 1] < upper[0]
+}
+
+// The first element of one list that stands in another, by one pass over both.
+fn first_shared(elements: &[u32], others: &[u32]) -> Option<u32>
+    requires first { InOrder elements.now }
+    requires second { InOrder others.now }
+    ensures { result ≡ find (λ d. has_number d others.now) elements.now }
+{
+    let mut i = 0;
+    let mut j = 0;
+    'both: while i < elements.len() && j < others.len() {
+        if elements[i] == others[j] {
+            return Some(elements[i]);
+        }
+        if elements[i] < others[j] {
+            i += 1;
+        } else {
+            j += 1;
+        }
+    }
+    None
+}
+
+/// What both lists have, in order, by one pass over both.
+pub fn shared_elements(
+    alloc: Global,
+    elements: &[u32],
+    others: &[u32],
+) -> Result<Vec<u32>, NoMemory>
+    requires first { InOrder elements.now }
+    requires second { InOrder others.now }
+    ensures order { IfOk result (λ new. InOrder new.items) }
+    ensures members { IfOk result (λ new. Holds new.items (λ d. has_number d elements.now && has_number d others.now)) }
+{
+    let mut shared = Vec::new(alloc);
+    let mut i = 0;
+    let mut j = 0;
+    'both: while i < elements.len() && j < others.len() {
+        if elements[i] < others[j] {
+            i += 1;
+        } else if others[j] < elements[i] {
+            j += 1;
+        } else {
+            shared.push(elements[i])?;
+            i += 1;
+        }
+    }
+    Ok(shared)
+}
