@@ -1,0 +1,12 @@
+pub mod Trees
+pub mod SameRows
+pub mod Footprints
+pub mod RowsAtKeys
+pub mod RowEffects
+pub mod Looks
+pub mod TreeEffects
+pub mod LooksKept
+pub mod RefusalsKept
+pub mod Pairs
+pub mod Reorders
+pub mod ListsCommute

@@ -1,0 +1,2 @@
+//! Lists of operations that do not overlap make one schema in any order.
+#![tactic(auto)]
