@@ -10,3 +10,4 @@ pub mod RefusalsKept
 pub mod Pairs
 pub mod Reorders
 pub mod ListsCommute
+pub mod TwoLists

@@ -6,8 +6,9 @@ use Rattle.wsm_ops.specs.Apply.{refusal, effect, unless_refused, applied_from, a
 use Rattle.wsm_ops.specs.declared.operations.Op.{Op}
 use Rattle.wsm_ops.specs.declared.faults.OpWhy.{OpWhy}
 use Rattle.wsm_commute.specs.Merging.{unless_fault, in_order}
+use Rattle.wsm_commute.specs.Ordered.{IsOrdered}
 use Rattle.wsm_commute.proofs.Footprints.{Apart, flip, ApartFrom, AllApart}
-use Rattle.wsm_commute.proofs.Pairs.{IsOrdered, effect-ordered, effects-commute, refusal-stays}
+use Rattle.wsm_commute.proofs.Pairs.{effect-ordered, effects-commute, refusal-stays}
 use Rattle.wsm_commute.proofs.Reorders.{Reorder, same, under, exchange, joined}
 
 -- ---- the first operation of a list that applies

@@ -12,19 +12,12 @@ use Rattle.wsm_ops.specs.declared.operations.Gap.TheVariants as gap
 use Rattle.wsm_ops.specs.declared.operations.Op.{Op}
 use Rattle.wsm_ops.specs.declared.operations.Op.TheVariants as op
 use Rattle.wsm_foot.specs.Foot.{gap_owner}
+use Rattle.wsm_commute.specs.Ordered.{IsOrdered}
 use Rattle.wsm_commute.proofs.Footprints.{In, foot, Apart}
 use Rattle.wsm_commute.proofs.RowEffects.{on_syncs, on_elements, on_reads, on_writes, on_roles, syncs-rewritten, elements-rewritten, reads-rewritten, writes-rewritten, roles-rewritten, syncs-told, elements-told, reads-told, writes-told, roles-told, sync_name, sync_nodes, element_name, no_node, read_name, write_name, role_name, one_node, Names, rows-commute, named-stays}
 use Rattle.wsm_commute.proofs.TreeEffects.{Touches, bodies-commute, effect-start, effect-finish}
 use Rattle.wsm_commute.proofs.LooksKept.{seen-stays}
 use Rattle.wsm_commute.proofs.RefusalsKept.{SameSeen, gap_node, wrong-same, by_kind, taken-same, three-same, gap-same, item-same}
-
--- each list ascends by its key
-pub record IsOrdered (s : SchemaModel) : Type 0 where
-  pub syncs : Ascends both s.syncs
-  pub elements : Ascends first s.elements
-  pub reads : Ascends first_two s.reads
-  pub writes : Ascends both s.writes
-  pub roles : Ascends first s.roles
 
 pub effect-ordered : (s : SchemaModel) (o : Op) → IsOrdered s → IsOrdered (effect s o)
 effect-ordered s o h = record {

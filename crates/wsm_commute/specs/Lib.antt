@@ -1,1 +1,3 @@
 pub mod Merging
+pub mod Ordered
+pub mod Refusals
