@@ -11,3 +11,5 @@ pub mod Pairs
 pub mod Reorders
 pub mod ListsCommute
 pub mod TwoLists
+pub mod FirstPairs
+pub mod ManyLists

@@ -1,6 +1,6 @@
 -- Two operations that are apart: each is refused behind the other as it was before, and both orders make one schema.
 use Rattle.std.proofs.Common.{◌≡◌, ℕ, Bool, List, [], refl, ap, sym, ◌∙◌, inl, inr}
-use Rattle.wsm_lists.specs.Rows.{Ascends, row_at}
+use Rattle.wsm_lists.specs.Rows.{row_at}
 use Rattle.wsm_lists.specs.Keys.{both, first, first_two}
 use Rattle.wsm_lists.specs.declared.values.ElementKind.{ElementKind}
 use Rattle.wsm_schema.specs.Tree.{Parts}

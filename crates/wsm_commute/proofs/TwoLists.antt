@@ -1,5 +1,5 @@
 -- Two lists that apply to one schema and do not overlap.
-use Rattle.std.proofs.Common.{◌≡◌, List, [], ◌∷◌, sym, ◌∙◌, Option, None, Result, Ok, Err}
+use Rattle.std.proofs.Common.{◌≡◌, List, [], ◌∷◌, sym, ◌∙◌, None, Ok, Err}
 use Rattle.wsm_schema.specs.SchemaModel.{SchemaModel}
 use Rattle.wsm_ops.specs.Apply.{applied}
 use Rattle.wsm_ops.specs.declared.operations.Op.{Op}

@@ -1,9 +1,7 @@
 -- Lists of operations that change one schema: what speaks against all of them together, and the schema behind them.
-use Rattle.std.specs.Prelude.{ℕ, ◌+◌, List, [], ◌∷◌, Result, Ok, Err, Option, None, Some, option_map}
+use Rattle.std.specs.Prelude.{ℕ, ◌+◌, List, [], ◌∷◌, Result, Ok, Err, Option, None, option_map}
 use Rattle.std.specs.Option.{option_or}
 use Rattle.std.specs.Result.{result_err}
-use Rattle.wsm_lists.specs.Rows.{Ascends}
-use Rattle.wsm_lists.specs.Keys.{both, first, first_two}
 use Rattle.wsm_schema.specs.SchemaModel.{SchemaModel}
 use Rattle.wsm_ops.specs.Apply.{applied}
 use Rattle.wsm_ops.specs.declared.operations.Op.{Op}

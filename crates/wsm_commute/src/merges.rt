@@ -7,9 +7,9 @@ ghost use Rattle.wsm_foot.specs.Foot.{least_overlap};
 ghost use Rattle.std.specs.Result.{result_err};
 ghost use Rattle.wsm_commute.specs.declared.refusals.MergeRefusal.TheVariants as refusal;
 ghost use Rattle.wsm_commute.specs.Merging.{in_order, merge_fault, many_fault, in_many};
-ghost use Rattle.wsm_commute.specs.Ordered.{IsOrdered};
 ghost use Rattle.wsm_commute.specs.Refusals.{IsMergeRefusal};
 
+use crate::ordered::read_lists;
 use crate::refusals::MergeRefusal;
 use std::alloc::Global;
 use wsm_foot::overlap;
@@ -77,15 +77,4 @@ fn no_overlap(alloc: Global, left: &Ops, right: &Ops) -> Result<(), MergeRefusal
         None => Ok(()),
         Some(name) => Err(MergeRefusal::Overlap(name)),
     }
-}
-
-// Reads the lists of a schema, which tells that they ascend.
-fn read_lists(schema: &Schema)
-    ensures { IsOrdered schema.now }
-{
-    let _syncs = schema.syncs.as_slice();
-    let _elements = schema.elements.as_slice();
-    let _reads = schema.reads.as_slice();
-    let _writes = schema.writes.as_slice();
-    let _roles = schema.roles.as_slice();
 }
