@@ -137,11 +137,19 @@ fn set_of(alloc: Global, names: Vec<Name>) -> Result<BTreeSet<Name>, NoMemory>
     names.into_iter().collect(alloc)
 }
 
-/// All names that the operations change or use.
-pub fn footprint(alloc: Global, ops: &Ops) -> Result<BTreeSet<Name>, NoMemory>
-    ensures { IfOk result (λ set. (n : Name) → contains name_cmp set n ≡ is_among (footprint ops.now) n) }
+/// All names that the operations change or use, those that they change first.
+pub fn all_touched(alloc: Global, ops: &Ops) -> Result<Vec<Name>, NoMemory>
+    ensures { IfOk result (λ names. names.items ≡ footprint ops.now) }
 {
     let mut names = all_changes(alloc, ops)?;
     put_all_uses(&mut names, ops)?;
+    Ok(names)
+}
+
+/// All names that the operations change or use, as a set.
+pub fn footprint(alloc: Global, ops: &Ops) -> Result<BTreeSet<Name>, NoMemory>
+    ensures { IfOk result (λ set. (n : Name) → contains name_cmp set n ≡ is_among (footprint ops.now) n) }
+{
+    let names = all_touched(alloc, ops)?;
     set_of(alloc, names)
 }

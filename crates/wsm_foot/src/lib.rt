@@ -5,5 +5,6 @@ mod footprints;
 mod names;
 mod overlaps;
 
+pub use footprints::{all_changes, all_touched};
 pub use names::Name;
 pub use overlaps::overlap;

@@ -1,0 +1,15 @@
+pub mod Trees
+pub mod SameRows
+pub mod Footprints
+pub mod RowsAtKeys
+pub mod RowEffects
+pub mod Looks
+pub mod TreeEffects
+pub mod LooksKept
+pub mod RefusalsKept
+pub mod Pairs
+pub mod Reorders
+pub mod ListsCommute
+pub mod TwoLists
+pub mod FirstPairs
+pub mod ManyLists

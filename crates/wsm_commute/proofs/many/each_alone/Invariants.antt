@@ -1,0 +1,6 @@
+use Rattle.std.proofs.Common.{◌≡◌, ◌+◌, drop}
+use Rattle.wsm_commute.specs.Merging.{first_refused}
+use Rattle.wsm_commute.proofs.many.each_alone.Given as goal
+
+abbrev pub invariant-loop-place : goal.invariant-loop-place
+invariant-loop-place l = first_refused (l.place + 1) l.base (drop l.place l.lists) ≡ first_refused 1 l.base l.lists

@@ -1,0 +1,4 @@
+pub mod Merging
+pub mod Ordered
+pub mod Refusals
+pub mod Sweep
