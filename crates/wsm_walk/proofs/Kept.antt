@@ -3,16 +3,17 @@ use Rattle.std.proofs.Common.{◌≡◌, ℕ, Bool, true, false, ◌||◌, eqb, 
 use Rattle.std.specs.Prelude.{if◌then◌else◌, ◌==◌, is_some}
 use Rattle.std.specs.List.{fold}
 use Rattle.std.proofs.lemmas.Bool.{cases_Bool, both_ways, eqb-true}
+use Rattle.wsm_lists.specs.ByNumber.{item_at}
 use Rattle.wsm_lists.specs.Rows.{put_row}
+use Rattle.wsm_lists.proofs.ByNumber.{item_at-put}
 use Rattle.wsm_schema.specs.Flat.{card_at}
 use Rattle.wsm_schema.specs.Marks.{list_marks, mark_key, says_something}
-use Rattle.wsm_trail.proofs.Numbered.{item_at-put}
 use Rattle.wsm_schema.specs.declared.cards.Card.{Card}
 use Rattle.wsm_schema.specs.declared.marks.Mark.{Mark}
 use Rattle.wsm_schema.specs.declared.states.Flow.TheVariants.{Yes, No}
 use Rattle.wsm_marks.specs.MarkBy.{mark_by, since}
 use Rattle.wsm_marks.specs.Timed.{Entries, Marking, Timed}
-use Rattle.wsm_walk.specs.Kept.{mark_in, mark_or, no_mark, timed_from, timed_of}
+use Rattle.wsm_walk.specs.Kept.{mark_or, no_mark, timed_from, timed_of}
 
 -- a mark of a solution tells that solution
 pub timed_from-since : (x : Timed) → timed_from (since Yes x) (since No x) ≡ x
@@ -47,36 +48,32 @@ silent-none k h =
     let w = none-of k.again a.1 in
     λ i. record { ready_at = r i; skipped_at = s i; started = t i; ended = u i; choice = v i; again = w i }
 
--- one more mark in the table
-pub mark_in-put : (n k : ℕ) (x : Mark) (ms : List (ℕ × Mark)) → mark_in n (put_row mark_key (k, x) ms) ≡ (if k == n then Some x else mark_in n ms)
-mark_in-put n k x ms = item_at-put n (k, x) ms
-
 module _ (mark : ℕ → Mark) (n : ℕ) where
   abbrev step : List (ℕ × Mark) → Card → List (ℕ × Mark)
   step ms c = if says_something (mark c.node) then put_row mark_key (c.node, mark c.node) ms else ms
 
   -- what the table tells of n stays
-  stays : (cards : List Card) (ms : List (ℕ × Mark)) → mark_or (mark_in n ms) ≡ mark n → mark_or (mark_in n (fold step ms cards)) ≡ mark n
+  stays : (cards : List Card) (ms : List (ℕ × Mark)) → mark_or (item_at n ms) ≡ mark n → mark_or (item_at n (fold step ms cards)) ≡ mark n
   stays [] ms h = h
   stays (c ∷ cs) ms h = stays cs (step ms c) (elim (cases_Bool (says_something (mark c.node))) [
     | inr silent ↦ rw silent h
-    | inl says ↦ rw says (ap mark_or (mark_in-put n c.node (mark c.node) ms) ∙ elim (cases_Bool (eqb c.node n)) [ inl same ↦ rw same (ap mark (eqb-true c.node n same)) | inr other ↦ rw other h ])
+    | inl says ↦ rw says (ap mark_or (item_at-put n (c.node, mark c.node) ms) ∙ elim (cases_Bool (eqb c.node n)) [ inl same ↦ rw same (ap mark (eqb-true c.node n same)) | inr other ↦ rw other h ])
   ])
 
-  read : (cards : List Card) (ms : List (ℕ × Mark)) → mark_in n ms ≡ None → (c : Card) → card_at n cards ≡ Some c → mark_or (mark_in n (fold step ms cards)) ≡ mark n
+  read : (cards : List Card) (ms : List (ℕ × Mark)) → item_at n ms ≡ None → (c : Card) → card_at n cards ≡ Some c → mark_or (item_at n (fold step ms cards)) ≡ mark n
   read [] ms none c at = let p : None ≡ Some c = at in absurd (cc)
   read (d ∷ ds) ms none c at =
       elim (cases_Bool (eqb d.node n)) [
         | inl same ↦ stays ds (step ms d) (elim (cases_Bool (says_something (mark d.node))) [
           | inr silent ↦ rw silent (ap mark_or none ∙ sym (silent-none (mark d.node) silent) ∙ ap mark (eqb-true d.node n same))
-          | inl says ↦ rw says (ap mark_or (mark_in-put n d.node (mark d.node) ms) ∙ rw same (ap mark (eqb-true d.node n same)))
+          | inl says ↦ rw says (ap mark_or (item_at-put n (d.node, mark d.node) ms) ∙ rw same (ap mark (eqb-true d.node n same)))
         ])
         | inr other ↦ read ds (step ms d) (elim (cases_Bool (says_something (mark d.node))) [
           | inr silent ↦ rw silent none
-          | inl says ↦ rw says (mark_in-put n d.node (mark d.node) ms ∙ rw other none)
+          | inl says ↦ rw says (item_at-put n (d.node, mark d.node) ms ∙ rw other none)
         ]) c (rw other at at)
       ]
 
   -- the table of all marks tells each node's mark
-  pub listed-read : (cards : List Card) (c : Card) → card_at n cards ≡ Some c → mark_or (mark_in n (list_marks mark cards)) ≡ mark n
+  pub listed-read : (cards : List Card) (c : Card) → card_at n cards ≡ Some c → mark_or (item_at n (list_marks mark cards)) ≡ mark n
   listed-read cards c at = read cards [] refl c at
