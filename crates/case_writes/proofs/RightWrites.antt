@@ -13,7 +13,7 @@ use Rattle.wsm_marks.proofs.NoFault.{not_false}
 use Rattle.wsm_schema.specs.Flat.{kind_in}
 use Rattle.wsm_schema.specs.Replay.{fits_edges, is_of_kind}
 use Rattle.wsm_schema.specs.Trail.{is_one_of}
-use Rattle.wsm_trail.proofs.Numbered.{lt_number, eq_number, row_at-put}
+use Rattle.wsm_lists.proofs.ByNumber.{lt_number, eq_number, row_at-put}
 
 -- ---- an empty answer
 is_empty : {X : Type 0} → List X → Bool

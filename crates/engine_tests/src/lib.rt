@@ -16,6 +16,8 @@ mod footprints;
 #[cfg(test)]
 mod lists;
 #[cfg(test)]
+mod marks;
+#[cfg(test)]
 mod operations;
 #[cfg(test)]
 mod replays;

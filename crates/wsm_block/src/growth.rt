@@ -22,7 +22,7 @@ pub fn grown_rank(alloc: Global, flat: &Flat, syncs: &[(u32, u32)]) -> Result<Ra
 {
     let nodes = nodes_of(alloc, flat.cards())?;
     if syncs.is_empty() {
-        return Ok(Rank::from_vec(nodes));
+        return Ok(Rank::from_vec(alloc, nodes)?);
     }
     let control = control_edges(alloc, flat.cards())?;
     let front = longest_front(alloc, flat, nodes, &control, syncs)?;
@@ -52,7 +52,7 @@ fn grown_from(
         }
         put_first(&mut edges, *edge)?;
     }
-    Ok(Rank::from_vec(nodes))
+    Ok(Rank::from_vec(alloc, nodes)?)
 }
 
 // The edge before the others.

@@ -2,3 +2,5 @@ pub mod Rows
 pub mod Keys
 pub mod Values
 pub mod Entries
+pub mod ByNumber
+pub mod TakenIn

@@ -1,8 +1,8 @@
 // Tables while many rows are put, one after another and in any order.
 ghost use Rattle.std.specs.Prelude.{◌≡◌, ◌<◌, ℕ, [], not, OnErr, OnOk, IfOk, if◌then◌else◌};
-ghost use Rattle.std.specs.Option.{is_some};
+ghost use Rattle.std.specs.Option.{is_some, option_copied};
 ghost use Rattle.wsm_lists.specs.Keys.{put_role};
-ghost use Rattle.wsm_lists.specs.Rows.{put_row, drop_row, row_at};
+ghost use Rattle.wsm_lists.specs.Rows.{Ascends, put_row, drop_row, row_at};
 
 use crate::NoMemory;
 use crate::keys::{ByNode, Keys};
@@ -38,6 +38,14 @@ impl<K: Keys> GrowingTable<K> {
         GrowingTable {
             map: BTreeMap::new(alloc),
         }
+    }
+
+    /// The row with that key.
+    pub fn find(&self, key: (u32, u32)) -> Option<&K::Row>
+        ensures found { option_copied result ≡ row_at K.key_of key self.now }
+        ensures ascends { Ascends K.key_of self.now }
+    {
+        self.map.get(&key)
     }
 
     /// Whether there is a row with that key.

@@ -3,6 +3,7 @@ ghost use Rattle.std.specs.Prelude.{◌≡◌, ℕ};
 ghost use Rattle.wsm_lists.specs.Keys.{both, first, first_two};
 
 use crate::values::ElementKind;
+use std::marker::PhantomData;
 
 /// What orders the rows of a table: a key of two numbers, by the first and then by the second.
 pub trait Keys {
@@ -63,5 +64,20 @@ impl Keys for ByRead {
 
     fn key(row: &(u32, u32, bool)) -> (u32, u32) {
         (row.0, row.1)
+    }
+}
+
+/// Rows with a number in front, by that number.
+pub struct ByFirst<T> {
+    of: PhantomData<T>,
+}
+
+impl<T: Drop> Keys for ByFirst<T> {
+    type Row = (u32, T);
+
+    ghost key_of = { first };
+
+    fn key(row: &(u32, T)) -> (u32, u32) {
+        (row.0, 0)
     }
 }

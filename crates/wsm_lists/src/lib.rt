@@ -4,15 +4,20 @@
 mod growing;
 mod keys;
 mod listings;
+mod reserved;
 mod roles;
+mod steps;
 mod tables;
+mod taking;
 mod values;
 
 pub use growing::{GrowingRoles, GrowingTable};
-pub use keys::{ByEdge, ByElement, ByNode, ByRead, Keys};
+pub use keys::{ByEdge, ByElement, ByFirst, ByNode, ByRead, Keys};
 pub use listings::Listing;
+pub use reserved::NumberedRows;
 pub use roles::Roles;
 pub use std::alloc::AllocError as NoMemory;
+pub use steps::Steps;
 pub use tables::Table;
 pub use values::{ElementKind, ReadValues, ShortText, Value, Writes, copy_option};
 

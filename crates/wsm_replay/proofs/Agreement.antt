@@ -15,7 +15,7 @@ use Rattle.wsm_schema.specs.declared.entries.Entry.TheVariants as entry
 use Rattle.wsm_schema.specs.declared.states.Spot.{Spot}
 use Rattle.wsm_schema.specs.declared.states.State.TheVariants.{NotActivated}
 use Rattle.wsm_schema.specs.declared.states.Verdict.{Verdict}
-use Rattle.wsm_trail.proofs.Numbered.{eq_number, row_at-put}
+use Rattle.wsm_lists.proofs.ByNumber.{eq_number, row_at-put}
 use Rattle.wsm_replay.specs.SameSpots.{SameSpots, SameRows}
 use Rattle.wsm_replay.specs.SpotOf.{spot_of}
 

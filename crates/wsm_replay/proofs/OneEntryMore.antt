@@ -18,7 +18,7 @@ use Rattle.wsm_trail.specs.LastWrites.{noted_entries}
 use Rattle.wsm_trail.specs.TrailWithRoom.{Rises}
 use Rattle.wsm_schema.proofs.Rounds.{node_of-spot_in}
 use Rattle.wsm_trail.proofs.LastWrite.{value_before, below-append}
-use Rattle.wsm_trail.proofs.Numbered.{row_at-put}
+use Rattle.wsm_lists.proofs.ByNumber.{row_at-put}
 use Rattle.wsm_trail.proofs.Rising.{rises-le}
 use Rattle.wsm_replay.specs.Answer.{answer}
 use Rattle.wsm_replay.specs.SameSpots.{SameSpots}

@@ -9,7 +9,7 @@ use Rattle.std.proofs.lemmas.Bool.{cases_Bool, cases_order, eq-eqb, ne_eqb, eqb-
 use Rattle.wsm_schema.specs.Flat.{card_at}
 use Rattle.wsm_schema.specs.Trail.{is_one_of}
 use Rattle.wsm_schema.specs.Sound.{nodes_of}
-use Rattle.wsm_schema.specs.Groups.{rows_with, SameGroups, reversed, numbered, IsStart, IsEnd}
+use Rattle.wsm_schema.specs.Groups.{rows_with, SameGroups, reversed, numbered, placed, IsStart, IsEnd}
 use Rattle.wsm_schema.specs.declared.cards.Card.{Card}
 
 module _ {A : Type 0} (n : ℕ) where
@@ -149,6 +149,15 @@ place-numbered n start (c ∷ cs) =
     elim (cases_Bool (eqb c.node n)) [
       | inl here ↦ rw here refl
       | inr other ↦ rw other (place-numbered n (start + 1) cs)
+    ]
+
+-- the same of a list of nodes
+pub place-placed : (n start : ℕ) (nodes : List ℕ) → option_map (λ (r : ℕ × ℕ). r.1) (slice_get (rows_with n (placed start nodes)) 0) ≡ position_from (λ k. eqb k n) start nodes
+place-placed n start [] = refl
+place-placed n start (k ∷ ks) =
+    elim (cases_Bool (eqb k n)) [
+      | inl here ↦ rw here refl
+      | inr other ↦ rw other (place-placed n (start + 1) ks)
     ]
 
 -- and that card stands there

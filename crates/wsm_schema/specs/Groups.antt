@@ -20,6 +20,11 @@ abbrev pub numbered : ℕ → List Card → List (ℕ × ℕ)
 numbered place [] = []
 numbered place (c ∷ cs) = (c.node, place) ∷ numbered (place + 1) cs
 
+-- numbers with their places in the list, from a place on
+abbrev pub placed : ℕ → List ℕ → List (ℕ × ℕ)
+placed place [] = []
+placed place (n ∷ ns) = (n, place) ∷ placed (place + 1) ns
+
 -- where the rows below a number end, and where those up to it end
 abbrev pub IsStart : {A : Type 0} → ℕ → List (ℕ × A) → ℕ → Type 0
 IsStart {A} number = IsPartitionPoint (λ (r : ℕ × A). r.0 < number) (λ (r : ℕ × A). number ≤ r.0)

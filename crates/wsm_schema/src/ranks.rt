@@ -1,20 +1,29 @@
 // Ranks of a net's nodes.
-ghost use Rattle.std.specs.Prelude.{◌≡◌};
+ghost use Rattle.std.specs.Prelude.{◌≡◌, ◌==◌, IfOk};
+ghost use Rattle.std.specs.List.{position_from};
+ghost use Rattle.wsm_schema.specs.Groups.{placed};
 
+use crate::groups::Groups;
+use std::alloc::Global;
 use std::marker::Model;
+use wsm_lists::NoMemory;
 
 /// The nodes of a net in an order in which the source of each edge, sync edges too, stands before its target.
 #[derive(Drop)]
 pub struct Rank {
     list: Vec<u32>,
+    index: Groups<usize>,
 }
 
 impl Model for Rank {
     ghost use Rattle.std.specs.Prelude.{ℕ, List};
+    ghost use Rattle.wsm_schema.specs.Groups.{SameGroups, placed};
 
     ghost Value = { List ℕ };
 
     ghost view = { λ a. a.list.items };
+
+    ghost invariant = { λ a. SameGroups (placed 0 a.list.items) a.index };
 }
 
 impl Rank {
@@ -25,10 +34,32 @@ impl Rank {
         &self.list
     }
 
-    /// The rank of these nodes, which its maker has put into such an order.
-    pub fn from_vec(nodes: Vec<u32>) -> Rank
-        ensures { result ≡ nodes.items }
+    /// The place of a node in that order, by a binary search.
+    pub fn place(&self, node: u32) -> Option<usize>
+        ensures { result ≡ position_from (λ n. n == node) 0 self.now }
     {
-        Rank { list: nodes }
+        match self.index.first_with(node) {
+            Some(row) => Some(row.1),
+            None => None,
+        }
     }
+
+    /// The rank of these nodes, which its maker has put into such an order.
+    pub fn from_vec(alloc: Global, nodes: Vec<u32>) -> Result<Rank, NoMemory>
+        ensures { IfOk result (λ rank. rank ≡ nodes.items) }
+    {
+        let index = Groups::of(placed(alloc, &nodes)?)?;
+        Ok(Rank { list: nodes, index })
+    }
+}
+
+// The nodes, each with its place.
+fn placed(alloc: Global, nodes: &[u32]) -> Result<Vec<(u32, usize)>, NoMemory>
+    ensures { IfOk result (λ new. new.items ≡ placed 0 nodes.now) }
+{
+    let mut all = Vec::new(alloc);
+    for (place, node) in nodes.iter().enumerate() {
+        all.push((*node, place))?;
+    }
+    Ok(all)
 }

@@ -10,10 +10,11 @@ use Rattle.wsm_lists.specs.declared.values.Value.{Value}
 use Rattle.wsm_lists.proofs.Rows.{ascends_put}
 use Rattle.wsm_schema.specs.Trail.{written_by, later_or, value_below}
 use Rattle.wsm_schema.specs.declared.entries.Entry.{Entry}
-use Rattle.wsm_trail.specs.EntryAt.{item_at, entry_at, entry_of, written_to, value_noted}
+use Rattle.wsm_lists.specs.ByNumber.{item_at}
+use Rattle.wsm_trail.specs.EntryAt.{entry_at, entry_of, written_to, value_noted}
 use Rattle.wsm_trail.specs.LastWrites.{noted, noted_entry, noted_entries, write_of, values_at}
 use Rattle.wsm_trail.specs.TrailWithRoom.{Rises}
-use Rattle.wsm_trail.proofs.Numbered.{item_at-put, lt_number, eq_number}
+use Rattle.wsm_lists.proofs.ByNumber.{item_at-put, lt_number, eq_number}
 use Rattle.wsm_trail.proofs.Rising.{rises-le}
 
 -- ---- the table

@@ -1,4 +1,3 @@
-pub mod Numbered
 pub mod Rising
 pub mod LastWrite
 pub mod Cutting

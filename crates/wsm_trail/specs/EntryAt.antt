@@ -1,15 +1,10 @@
 -- The entry at a position, and what it wrote.
-use Rattle.std.specs.Prelude.{ℕ, List, Option, Some, None, option_map}
-use Rattle.wsm_lists.specs.Keys.{first}
-use Rattle.wsm_lists.specs.Rows.{row_at}
+use Rattle.std.specs.Prelude.{ℕ, List, Option, Some, None}
+use Rattle.wsm_lists.specs.ByNumber.{item_at}
 use Rattle.wsm_lists.specs.Values.{value_in}
 use Rattle.wsm_lists.specs.declared.values.Value.{Value}
 use Rattle.wsm_schema.specs.Trail.{written_by}
 use Rattle.wsm_schema.specs.declared.entries.Entry.{Entry}
-
--- what the row of a number holds
-abbrev pub item_at : {A : Type 0} → ℕ → List (ℕ × A) → Option A
-item_at number rows = option_map (λ r. r.1) (row_at first (number, 0) rows)
 
 abbrev pub entry_at : ℕ → List (ℕ × Entry) → Option Entry
 entry_at position entries = item_at position entries

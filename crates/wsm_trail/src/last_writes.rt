@@ -4,7 +4,7 @@ ghost use Rattle.std.specs.List.{insert};
 ghost use Rattle.std.specs.Option.{is_some};
 ghost use Rattle.wsm_lists.specs.Keys.{first};
 ghost use Rattle.wsm_lists.specs.Rows.{put_row, Ascends};
-ghost use Rattle.wsm_trail.specs.EntryAt.{item_at};
+ghost use Rattle.wsm_lists.specs.ByNumber.{item_at};
 ghost use Rattle.wsm_trail.specs.LastWrites.{noted};
 
 use crate::lookups::{find, place_of};

@@ -3,7 +3,7 @@ ghost use Rattle.std.specs.Prelude.{◌≡◌, length, slice_get};
 ghost use Rattle.std.specs.Option.{option_copied};
 ghost use Rattle.wsm_lists.specs.Keys.{first};
 ghost use Rattle.wsm_lists.specs.Rows.{Ascends, rows_below};
-ghost use Rattle.wsm_trail.specs.EntryAt.{item_at};
+ghost use Rattle.wsm_lists.specs.ByNumber.{item_at};
 
 /// How many rows have a smaller number, by a binary search.
 pub fn place_of<T>(rows: &[(u32, T)], number: u32) -> usize

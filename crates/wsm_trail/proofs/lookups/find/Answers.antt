@@ -3,7 +3,7 @@ use Rattle.std.specs.Option.{option_copied, option_map}
 use Rattle.std.proofs.lemmas.Bool.{eq-eqb, ne_eqb}
 use Rattle.wsm_lists.specs.Keys.{first}
 use Rattle.wsm_lists.proofs.Rows.{row_at-found, row_at-absent}
-use Rattle.wsm_trail.proofs.Numbered.{eq_number}
+use Rattle.wsm_lists.proofs.ByNumber.{eq_number}
 use Rattle.wsm_trail.proofs.lookups.find.Goals as goal
 
 pub returns-then-row-number : goal.returns-then-row-number

@@ -1,6 +1,7 @@
 use Rattle.std.proofs.Common.{◌≡◌, Some, None, ap, sym, ◌∙◌}
 use Rattle.wsm_schema.specs.Trail.{value_below}
-use Rattle.wsm_trail.specs.EntryAt.{item_at, entry_at, written_to}
+use Rattle.wsm_lists.specs.ByNumber.{item_at}
+use Rattle.wsm_trail.specs.EntryAt.{entry_at, written_to}
 use Rattle.wsm_trail.specs.LastWrites.{noted_entries}
 use Rattle.wsm_trail.proofs.LastWrite.{value_where_noted, value_where_none}
 use Rattle.wsm_trail.proofs.trails.Trail.value.Goals as goal

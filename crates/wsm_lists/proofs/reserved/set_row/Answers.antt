@@ -1,0 +1,40 @@
+use Rattle.std.proofs.Common.{◌≡◌, true, false, ap, sym, ◌∙◌, rules}
+use Rattle.std.specs.Option.{is_some}
+use Rattle.wsm_lists.specs.ByNumber.{item_at}
+use Rattle.wsm_lists.specs.Keys.{first}
+use Rattle.wsm_lists.specs.Rows.{row_at, rows_below}
+use Rattle.wsm_lists.proofs.ByNumber.{is_some-map}
+use Rattle.wsm_lists.proofs.Rows.{place_within, rows_below_le, set_where_there, insert_where_absent}
+use Rattle.wsm_lists.proofs.reserved.set_row.Goals as goal
+
+pub index_mut-requires : goal.index_mut-requires
+index_mut-requires g c =
+    let items = c.args.rows.now.items in
+    let there : is_some (row_at first (c.args.row.0, 0) items) ≡ true =
+    sym (is_some-map (λ r. r.1) (row_at first (c.args.row.0, 0) items)) ∙ ap (λ xs. is_some (item_at c.args.row.0 xs)) (sym c.deref-2.ensures.value) ∙ sym c.has.ensures ∙ c.if-has.true in
+    let at = c.place_of-at.ensures ∙ ap (rows_below first (c.args.row.0, 0)) c.deref.ensures.value in
+    let within = place_within first (c.args.row.0, 0) items c.requires.ascends there in
+    search rules
+
+pub insert_row-requires-clause-place : goal.insert_row-requires-clause-place
+insert_row-requires-clause-place g c =
+    let items = c.args.rows.now.items in
+    let at = c.place_of-at.ensures ∙ ap (rows_below first (c.args.row.0, 0)) c.deref.ensures.value in
+    let within = rows_below_le first (c.args.row.0, 0) items in
+    search rules
+
+pub returns-then-has-clause-rows : goal.returns-then-has-clause-rows
+returns-then-has-clause-rows g c =
+    let items = c.args.rows.now.items in
+    let there : is_some (row_at first (c.args.row.0, 0) items) ≡ true =
+    sym (is_some-map (λ r. r.1) (row_at first (c.args.row.0, 0) items)) ∙ ap (λ xs. is_some (item_at c.args.row.0 xs)) (sym c.deref-2.ensures.value) ∙ sym c.has.ensures ∙ c.if-has.true in
+    let at = c.place_of-at.ensures ∙ ap (rows_below first (c.args.row.0, 0)) c.deref.ensures.value in
+    rw at (sym (set_where_there first c.args.row items c.requires.ascends there))
+
+pub returns-else-has-clause-rows : goal.returns-else-has-clause-rows
+returns-else-has-clause-rows g c =
+    let items = c.args.rows.now.items in
+    let absent : is_some (row_at first (c.args.row.0, 0) items) ≡ false =
+    sym (is_some-map (λ r. r.1) (row_at first (c.args.row.0, 0) items)) ∙ ap (λ xs. is_some (item_at c.args.row.0 xs)) (sym c.deref-2.ensures.value) ∙ sym c.has.ensures ∙ c.if-has.false in
+    let at = c.place_of-at.ensures ∙ ap (rows_below first (c.args.row.0, 0)) c.deref.ensures.value in
+    c.insert_row.ensures.rows ∙ rw at (sym (insert_where_absent first c.args.row items c.requires.ascends absent))

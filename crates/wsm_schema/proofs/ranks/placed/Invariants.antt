@@ -1,0 +1,6 @@
+use Rattle.std.proofs.Common.{◌≡◌, ◌++◌, drop}
+use Rattle.wsm_schema.specs.Groups.{placed}
+use Rattle.wsm_schema.proofs.ranks.placed.Given as goal
+
+abbrev pub invariant-loop-place : goal.invariant-loop-place
+invariant-loop-place l = l.all.items ++ placed l.place (drop l.place l.nodes) ≡ placed 0 l.nodes

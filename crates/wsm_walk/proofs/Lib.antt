@@ -1,0 +1,16 @@
+pub mod Reached
+pub mod Costs
+pub mod Walk
+pub mod WalkStarts
+pub mod Targets
+pub mod Kept
+pub mod LeastMisfit
+pub mod Touches
+pub mod Regions
+pub mod WalkSteps
+pub mod Once
+pub mod RegionMisfit
+pub mod Adapts
+pub mod MarkStates
+pub mod Blocked
+pub mod FoundAt
