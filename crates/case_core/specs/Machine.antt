@@ -11,6 +11,7 @@ use Rattle.wsm_lists.specs.Values.{Written}
 use Rattle.wsm_lists.specs.declared.values.Value.{Value}
 use Rattle.wsm_schema.specs.Flat.{flat_of, card_at, loop_nodes}
 use Rattle.wsm_schema.specs.Kinds.{is_loop_end}
+use Rattle.wsm_schema.specs.Marks.{is_start_of}
 use Rattle.wsm_schema.specs.Replay.{is_in_state, fits_choice}
 use Rattle.wsm_schema.specs.Trail.{TrailModel, pushed, cut_by, is_one_of}
 use Rattle.wsm_schema.specs.declared.cards.Card.{Card}
@@ -44,10 +45,6 @@ abbrev pub may_work : ℕ → List ℕ → Bool
 may_work role roles = role == 0 || is_one_of role roles
 
 -- who started a node last
-abbrev pub is_start_of : ℕ → Entry → Bool
-is_start_of n (entry.Start node user reads) = node == n
-is_start_of n _ = false
-
 abbrev pub user_of : Option (ℕ × Entry) → ℕ
 user_of None = 0
 user_of (Some e) = by e.1

@@ -3,13 +3,13 @@ ghost use Rattle.std.specs.Prelude.{◌≡◌, ◌++◌, true, Some, IfOk, OnOk}
 ghost use Rattle.case_core.specs.Promises.{IsFair, goes_on};
 ghost use Rattle.case_core.specs.Shown.{item_of, items_in, items_of, shown_live};
 ghost use Rattle.wsm_schema.specs.Flat.{card_at, cards_of};
-ghost use Rattle.wsm_schema.specs.Kinds.{worked_on};
 
 use crate::items::{Item, ItemList};
 use crate::live::Live;
 use crate::views::View;
 use std::alloc::Global;
-use wsm_schema::{NoMemory, NodeKind, Spot, State};
+use wsm_rules::is_worked_on;
+use wsm_schema::{NoMemory, Spot, State};
 
 impl Live {
     /// What the case shows: its version and its own operations, its marking, its values and its work items.
@@ -74,20 +74,5 @@ impl Live {
             }),
             State::NotActivated | State::Completed | State::Skipped => None,
         }
-    }
-}
-
-// Whether an actor starts and ends nodes of that kind.
-fn is_worked_on(kind: NodeKind) -> bool
-    ensures { result ≡ worked_on kind }
-{
-    match kind {
-        NodeKind::Activity | NodeKind::XorSplit | NodeKind::LoopEnd => true,
-        NodeKind::Start
-        | NodeKind::Finish
-        | NodeKind::AndSplit
-        | NodeKind::AndJoin
-        | NodeKind::XorJoin
-        | NodeKind::LoopStart => false,
     }
 }

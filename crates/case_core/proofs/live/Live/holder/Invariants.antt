@@ -1,5 +1,6 @@
 use Rattle.std.proofs.Common.{◌≡◌, drop, find}
-use Rattle.case_core.specs.Machine.{holder_of, is_start_of, user_of}
+use Rattle.case_core.specs.Machine.{holder_of, user_of}
+use Rattle.wsm_schema.specs.Marks.{is_start_of}
 use Rattle.case_core.proofs.live.Live.holder.Given as goal
 
 abbrev pub invariant-loop-entry : goal.invariant-loop-entry
