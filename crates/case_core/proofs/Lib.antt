@@ -1,3 +1,4 @@
+pub mod NoOverlap
 pub mod AgesOfSteps
 pub mod States
 pub mod Keeping

@@ -75,13 +75,18 @@ impl Live {
         }
     }
 
-    // What the case's own operations and those that made the versions since its base have in common.
+    // What the case's own operations and those that made the versions since its base have in common. Where it has none, that
+    // is nothing.
     #[tactic(auto, unfolding(crate::specs::Machine::overlap_with))]
     fn overlap_with(&self, alloc: Global, version: &Version) -> Result<Option<Name>, NoMemory>
         ensures { IfOk result (λ name. name ≡ overlap_with self.now version.now) }
     {
+        let own = self.own();
+        if own.is_empty() {
+            return Ok(None);
+        }
         let later = ops_after(alloc, version, self.base().number())?;
-        overlap(alloc, self.own(), &later)
+        overlap(alloc, own, &later)
     }
 
     // What the case's own operations make of the version's schema, which is shared where there are none.

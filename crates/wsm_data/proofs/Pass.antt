@@ -2,10 +2,10 @@
 use Rattle.std.proofs.Common.{◌≡◌, ℕ, suc, ◌+◌, ◌<◌, Bool, true, false, not, ◌||◌, ◌&&◌, eqb, List, [], ◌∷◌, ◌++◌, map, length, take, drop, get_or, refl, ap, sym, ◌∙◌, subst, inl, inr, Option, Some, None, add-one, drop-cons}
 use Rattle.std.proofs.Math.Seq.{take-suc}
 use Rattle.std.proofs.lemmas.List.{map-append}
-use Rattle.std.specs.List.{list_any, filter}
+use Rattle.std.specs.List.{list_any, list_all, filter}
 use Rattle.std.specs.Prelude.{find, option_map, is_some}
 use Rattle.std.specs.Option.{option_or}
-use Rattle.std.proofs.lemmas.Bool.{cases_Bool, both_ways, eqb-true, eq-eqb}
+use Rattle.std.proofs.lemmas.Bool.{cases_Bool, both_ways, and_parts, eqb-true, eq-eqb}
 use Rattle.wsm_lists.specs.Rows.{key_eq, key_lt, row_at, put_row}
 use Rattle.wsm_lists.proofs.Lists.{map-same, all-rows-map}
 use Rattle.wsm_lists.proofs.Rows.{eq_means, lt_not_eq}
@@ -21,7 +21,7 @@ use Rattle.wsm_data.specs.Passes.{IsNext, Passes}
 use Rattle.wsm_data.specs.Sets.{Holds}
 use Rattle.wsm_data.specs.Tables.{by_node, set_of, set_behind, sure_behind, Tells, IsPut}
 use Rattle.wsm_data.specs.declared.tables.Behind.{Behind}
-use Rattle.wsm_data.proofs.Elements.{eq_number}
+use Rattle.wsm_data.proofs.Elements.{eq_number, or_swap, has-there}
 use Rattle.wsm_data.proofs.Firsts.{first-some, first-none}
 
 -- what a table gives for a card is sure there
@@ -76,7 +76,7 @@ row-others b (x ∷ xs) n away =
     ]
 
 -- what a put makes of a table
-pub put-is : (test : ℕ → Bool) (b : Behind) (old new : List Behind) → Holds b.elements test → new ≡ put_row by_node b old → IsPut test b.node old new
+pub put-is : (test : ℕ → Bool) (b : Behind) (old new : List Behind) → Holds b.elements.value test → new ≡ put_row by_node b old → IsPut test b.node old new
 put-is test b old new holds put = record {
   here = λ d. ap (λ rows. has_number d (set_behind rows b.node)) put ∙ ap (λ o. has_number d (set_of o)) (row-here b old) ∙ holds d;
   others = λ n away. ap (λ rows. set_behind rows n) put ∙ ap set_of (row-others b old n away);
@@ -125,3 +125,17 @@ nothing-read s sure none = go (places s.start s.body s.finish)
         go ps
         ∙ ap (λ o. option_or o (first_some (missing_at sure) (map (card_of s) ps)))
         (sym (ap (λ rs. option_map (λ (r : ℕ × Bool). Missing p.node r.0) (find (λ (r : ℕ × Bool). r.1 && not (sure p.node r.0)) (map (λ (r : ℕ × ℕ × Bool). (r.1, r.2)) (filter (λ r. eqb r.0 p.node) rs)))) none))
+
+-- where all that is written is in a set, it adds nothing
+pub written-there : (d : ℕ) (set : List ℕ) (ws : List (ℕ × ℕ)) → list_all (λ w. has_number w.1 set) ws ≡ true → has_number d set ≡ (has_number d set || list_any (λ w. eqb w.1 d) ws)
+written-there d set [] all = or_swap false (has_number d set)
+written-there d set (w ∷ ws) all =
+    let parts = and_parts (has_number w.1 set) _ all in
+    has-there d w.1 set parts.0 ∙ ap (λ b. b || eqb w.1 d) (written-there d set ws parts.1)
+    ∙ or_last (has_number d set) (list_any (λ v. eqb v.1 d) ws) (eqb w.1 d)
+  where
+    or_last : (a b c : Bool) → ((a || b) || c) ≡ (a || (c || b))
+    or_last true b c = refl
+    or_last false true true = refl
+    or_last false true false = refl
+    or_last false false c = or_swap false c

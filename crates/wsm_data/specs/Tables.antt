@@ -13,7 +13,7 @@ by_node b = (b.node, 0)
 -- the set of a row, where there is one
 abbrev pub set_of : Option Behind → List ℕ
 set_of None = []
-set_of (Some b) = b.elements
+set_of (Some b) = b.elements.value
 
 -- the set that a table has for a node
 abbrev pub set_behind : List Behind → ℕ → List ℕ

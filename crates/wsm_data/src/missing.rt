@@ -1,14 +1,15 @@
 // Mandatory reads that may find no value.
 ghost use Rattle.std.specs.Prelude.{◌≡◌, ◌||◌, ◌==◌, None, IfOk, OnOk};
-ghost use Rattle.std.specs.List.{list_any};
+ghost use Rattle.std.specs.List.{list_all, list_any};
 ghost use Rattle.wsm_schema.specs.Flat.{flat_of, cards_of};
 ghost use Rattle.wsm_schema.specs.Sound.{block_fault, first_some, has_number, missing_at, sure_of, writes_of};
 ghost use Rattle.wsm_data.specs.Tables.{IsPut};
 ghost use Rattle.wsm_data.specs.Sets.{Holds};
 
 use crate::sets::ElementSet;
-use crate::tables::{Behind, BehindTable, sure_at};
+use crate::tables::{Behind, BehindTable, shared, sure_at};
 use std::alloc::Global;
+use std::sync::Arc;
 use wsm_schema::{Card, DataFault, Flat, NoMemory, Schema};
 
 // The first mandatory read of a card whose element is not one of those that are sure there.
@@ -43,23 +44,51 @@ pub fn missing_read(
         if found.is_some() {
             return Ok(found);
         }
-        put_behind(&mut table, schema, card.node, sure)?;
+        put_behind(alloc, &mut table, schema, card.node, sure)?;
     }
     Ok(None)
 }
 
 // One more row: behind a node there is what is sure there, and what it writes.
 fn put_behind(
+    alloc: Global,
     table: &mut BehindTable,
     schema: &Schema,
     node: u32,
-    sure: ElementSet,
+    sure: Arc<ElementSet>,
 ) -> Result<(), NoMemory>
-    ensures { OnOk result (IsPut (λ d. has_number d sure || writes_of schema.now node d) node table.old table.new) }
+    ensures { OnOk result (IsPut (λ d. has_number d sure.value || writes_of schema.now node d) node table.old table.new) }
 {
-    let mut elements = sure;
-    add_written(&mut elements, schema.writes.rows_of(node))?;
+    let elements = with_written(alloc, sure, schema.writes.rows_of(node))?;
     table.set(Behind { node, elements })
+}
+
+// The set with the elements that are written too; the same one, where it has them all.
+fn with_written(
+    alloc: Global,
+    set: Arc<ElementSet>,
+    writes: &[(u32, u32)],
+) -> Result<Arc<ElementSet>, NoMemory>
+    ensures { IfOk result (λ new. Holds new.value (λ d. has_number d set.value || list_any (λ w. w.1 == d) writes.now)) }
+{
+    if has_written(&set, writes) {
+        return Ok(set);
+    }
+    let mut more = set.copy(alloc)?;
+    add_written(&mut more, writes)?;
+    shared(alloc, more)
+}
+
+// Whether all elements that are written are in the set.
+fn has_written(set: &ElementSet, writes: &[(u32, u32)]) -> bool
+    ensures { result ≡ list_all (λ w. has_number w.1 set.now) writes.now }
+{
+    for write in writes {
+        if !set.contains(write.1) {
+            return false;
+        }
+    }
+    true
 }
 
 // The set with the elements that are written too.

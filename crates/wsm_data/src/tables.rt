@@ -8,14 +8,15 @@ ghost use Rattle.wsm_data.specs.Tables.{by_node, set_behind};
 
 use crate::sets::ElementSet;
 use std::alloc::Global;
+use std::sync::Arc;
 use wsm_lists::{Keys, NoMemory, Table};
 use wsm_schema::{Card, End, NodeKind};
 
-/// A node, and the elements that have a value behind it, whatever came before.
+/// A node, and the elements that have a value behind it, whatever came before. Nodes share one set where it is the same.
 #[derive(Drop)]
 pub struct Behind {
     pub node: u32,
-    pub elements: ElementSet,
+    pub elements: Arc<ElementSet>,
 }
 
 /// Rows by their node.
@@ -36,12 +37,12 @@ pub type BehindTable = Table<ByBehind>;
 
 /// The elements that are sure at a card, where the table tells them of its sources: at an AND join those behind some
 /// source, elsewhere those behind all.
-pub fn sure_at(alloc: Global, table: &BehindTable, card: &Card) -> Result<ElementSet, NoMemory>
+pub fn sure_at(alloc: Global, table: &BehindTable, card: &Card) -> Result<Arc<ElementSet>, NoMemory>
     requires { HasEdge card.now.kind card.now.ins }
-    ensures { IfOk result (λ set. Holds set (λ d. sure_by card.now.kind (map (λ e. has_number d (set_behind table.now e.node)) card.now.ins))) }
+    ensures { IfOk result (λ set. Holds set.value (λ d. sure_by card.now.kind (map (λ e. has_number d (set_behind table.now e.node)) card.now.ins))) }
 {
     match card.kind {
-        NodeKind::Start => Ok(ElementSet::new(alloc)),
+        NodeKind::Start => shared(alloc, ElementSet::new(alloc)),
         NodeKind::AndJoin => behind_some(alloc, table, card.ins.as_slice()),
         NodeKind::Finish
         | NodeKind::Activity
@@ -51,6 +52,13 @@ pub fn sure_at(alloc: Global, table: &BehindTable, card: &Card) -> Result<Elemen
         | NodeKind::LoopStart
         | NodeKind::LoopEnd => behind_all(alloc, table, card.ins.as_slice()),
     }
+}
+
+/// The set, to be shared.
+pub fn shared(alloc: Global, set: ElementSet) -> Result<Arc<ElementSet>, NoMemory>
+    ensures { IfOk result (λ new. new.value ≡ set) }
+{
+    Ok(Arc::new(alloc, set)?)
 }
 
 // The elements behind a node.
@@ -64,36 +72,41 @@ fn set_behind(table: &BehindTable, node: u32) -> &[u32]
     }
 }
 
-// The same as a set.
-fn copy_behind(alloc: Global, table: &BehindTable, node: u32) -> Result<ElementSet, NoMemory>
-    ensures { IfOk result (λ set. set ≡ set_behind table.now node) }
+// The same, shared with the table.
+fn share_behind(alloc: Global, table: &BehindTable, node: u32) -> Result<Arc<ElementSet>, NoMemory>
+    ensures { IfOk result (λ set. set.value ≡ set_behind table.now node) }
 {
     match table.find((node, 0)) {
-        None => Ok(ElementSet::new(alloc)),
-        Some(row) => row.elements.copy(alloc),
+        None => shared(alloc, ElementSet::new(alloc)),
+        Some(row) => Ok(Arc::try_clone(&row.elements)?),
     }
 }
 
 // The elements that are sure behind one of the sources.
-fn behind_some(alloc: Global, table: &BehindTable, ends: &[End]) -> Result<ElementSet, NoMemory>
+fn behind_some(
+    alloc: Global,
+    table: &BehindTable,
+    ends: &[End],
+) -> Result<Arc<ElementSet>, NoMemory>
     requires { 0 < length ends.now }
-    ensures { IfOk result (λ set. Holds set (λ d. list_any (λ b. b) (map (λ e. has_number d (set_behind table.now e.node)) ends.now))) }
+    ensures { IfOk result (λ set. Holds set.value (λ d. list_any (λ b. b) (map (λ e. has_number d (set_behind table.now e.node)) ends.now))) }
 {
-    let mut set = copy_behind(alloc, table, ends[0].node)?;
+    let first = share_behind(alloc, table, ends[0].node)?;
+    let mut set = first.copy(alloc)?;
     for i in 1..ends.len() {
         set.add_all(set_behind(table, ends[i].node))?;
     }
-    Ok(set)
+    shared(alloc, set)
 }
 
 // The elements that are sure behind all sources.
-fn behind_all(alloc: Global, table: &BehindTable, ends: &[End]) -> Result<ElementSet, NoMemory>
+fn behind_all(alloc: Global, table: &BehindTable, ends: &[End]) -> Result<Arc<ElementSet>, NoMemory>
     requires { 0 < length ends.now }
-    ensures { IfOk result (λ set. Holds set (λ d. list_all (λ b. b) (map (λ e. has_number d (set_behind table.now e.node)) ends.now))) }
+    ensures { IfOk result (λ set. Holds set.value (λ d. list_all (λ b. b) (map (λ e. has_number d (set_behind table.now e.node)) ends.now))) }
 {
-    let mut set = copy_behind(alloc, table, ends[0].node)?;
+    let mut set = share_behind(alloc, table, ends[0].node)?;
     for i in 1..ends.len() {
-        set = set.common(alloc, set_behind(table, ends[i].node))?;
+        set = shared(alloc, set.common(alloc, set_behind(table, ends[i].node))?)?;
     }
     Ok(set)
 }

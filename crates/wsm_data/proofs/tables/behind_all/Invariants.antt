@@ -6,5 +6,5 @@ use Rattle.wsm_data.proofs.tables.behind_all.Given as goal
 
 abbrev pub invariant-loop-i : goal.invariant-loop-i
 invariant-loop-i l = (d : ℕ) →
-    (has_number d l.set && list_all (λ b. b) (map (λ e. has_number d (set_behind l.table e.node)) (drop l.i l.ends)))
+    (has_number d l.set.value && list_all (λ b. b) (map (λ e. has_number d (set_behind l.table e.node)) (drop l.i l.ends)))
     ≡ list_all (λ b. b) (map (λ e. has_number d (set_behind l.table e.node)) l.ends)
