@@ -4,6 +4,10 @@ pub mod Walk
 pub mod WalkStarts
 pub mod Targets
 pub mod Kept
+pub mod Listed
+pub mod Stands
+pub mod Ends
+pub mod OneMore
 pub mod LeastMisfit
 pub mod Touches
 pub mod Regions

@@ -52,7 +52,7 @@ module _ (cards1 : List Card) (f1 : Facts) (old : Marking) (s1 : Solves cards1 f
   Stands front places now = Walked cards1 f1 old cards2 f2 new front (is_pending rank places) now
 
   -- the nodes between where the walk stands and the least pending place are not pending
-  idle-between : (front skipped rest : List ℕ) (places : List ℕ) → rank ≡ front ++ (skipped ++ rest) → AllRows (λ p. length front + length skipped ≤ p) places → AllRows (λ n. is_pending rank places n ≡ false) skipped
+  pub idle-between : (front skipped rest : List ℕ) (places : List ℕ) → rank ≡ front ++ (skipped ++ rest) → AllRows (λ p. length front + length skipped ≤ p) places → AllRows (λ n. is_pending rank places n ≡ false) skipped
   idle-between front [] rest places at high = tt
   idle-between front (n ∷ ns) rest places at high = (
     (let here : rank_place n rank ≡ length front = ap (rank_place n) at ∙ place-behind front (ns ++ rest) n (is.once front (ns ++ rest) n at) in
