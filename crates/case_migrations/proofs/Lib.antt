@@ -1,0 +1,2 @@
+pub mod Evolving
+pub mod NeverRefused

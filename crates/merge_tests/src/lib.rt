@@ -1,0 +1,5 @@
+//! Tests of merged lists.
+#![tactic(auto)]
+
+#[cfg(test)]
+mod merges;
