@@ -1,5 +1,5 @@
 -- What an edit of its pieces makes of the schema that a draft shows.
-use Rattle.std.proofs.Common.{◌≡◌, ℕ, List, [], refl, ap, sym, ◌∙◌, None}
+use Rattle.std.proofs.Common.{◌≡◌, ℕ, List, [], refl, ap, sym, ◌∙◌, subst, None}
 use Rattle.wsm_schema.specs.Tree.{act}
 use Rattle.wsm_schema.specs.SchemaModel.{SchemaModel}
 use Rattle.wsm_schema.specs.Flat.{cards_of}
@@ -7,7 +7,7 @@ use Rattle.wsm_schema.specs.Sound.{twice}
 use Rattle.wsm_ops.specs.Edit.{new_part, without, change, beside}
 use Rattle.wsm_ops.specs.Refusals.{gap_refusal, unless_activity}
 use Rattle.wsm_ops.specs.Apply.{refusal, effect, put_at}
-use Rattle.wsm_ops.specs.Outline.{IsOutline, tree_in, schema_pieces, part_pieces, nodes_in, is_node, at_gap, behind, before, without_node, opening, closing}
+use Rattle.wsm_ops.specs.Outline.{IsOutline, tree_in, schema_pieces, part_pieces, nodes_in, is_node, at_gap, behind, before, without_node, opening, closing, IsOnce}
 use Rattle.wsm_ops.specs.Putting.{put_op}
 use Rattle.wsm_ops.specs.declared.operations.Gap.{Gap}
 use Rattle.wsm_ops.specs.declared.operations.Gap.TheVariants.{After}
@@ -19,6 +19,7 @@ use Rattle.wsm_ops.specs.declared.pieces.Piece.{Piece}
 use Rattle.wsm_ops.proofs.Distinct.{IsDistinct, first_none, step-distinct}
 use Rattle.wsm_ops.proofs.PieceCards.{card-nodes}
 use Rattle.wsm_ops.proofs.PieceEffects.{put-done, without-done, moved-done, wrap-done, behind-node}
+use Rattle.wsm_ops.proofs.OncePieces.{once-of, once-before}
 use Rattle.wsm_ops.proofs.Shown.{shown-distinct, outline-of, body-of}
 
 -- pieces that are an outline of a schema
@@ -39,6 +40,21 @@ put-distinct s g (new.Choice node split join) distinct free =
 put-gap : (s : SchemaModel) (g : Gap) (x : New) → refusal s (put_op x g) ≡ None → gap_refusal (cards_of s) g ≡ None
 put-gap s g (new.Activity node) free = (first_none _ _ free).1
 put-gap s g (new.Choice node split join) free = (first_none _ _ free).1
+
+-- pieces that open a block have each gap once, since those of the whole block do
+module _ (view s : SchemaModel) (same : view ≡ s) (ps : List Piece) (is : ps ≡ schema_pieces view) (once : twice [] (nodes_in ps) ≡ None) where
+  pub opened-once : (node role split join first last : ℕ) → refusal s (op.InsertParallel node role split join first last) ≡ None → IsOnce (at_gap (After last)) (before (is_node first) (opening split join) ps)
+  opened-once node role split join first last free =
+      let distinct = shown-distinct view ps is once in
+      let o : Op = op.InsertParallel node role split join first last in
+      let fits : refusal view o ≡ None = ap (λ t. refusal t o) same ∙ free in
+      let parts = first_none _ _ fits in
+      let t : SchemaModel = record view { body = change (first, last) (beside node split join) view.body } in
+      let opened : List Piece = before (is_node first) (opening split join) (schema_pieces view) in
+      let whole : behind (at_gap (After last)) (closing node split join) opened ≡ schema_pieces t = behind-node last (closing node split join) opened ∙ wrap-done node split join first last view distinct parts.0 parts.1 in
+      let made : IsDistinct t = same-nodes (effect view o) t refl (step-distinct view o distinct fits) in
+      let all : IsOnce (at_gap (After last)) (behind (at_gap (After last)) (closing node split join) opened) = once-of t _ whole (ap (λ qs. twice [] (nodes_in qs)) whole ∙ ap (twice []) (sym (card-nodes t)) ∙ made) (After last) in
+      subst (λ qs. IsOnce (at_gap (After last)) (before (is_node first) (opening split join) qs)) (sym is) (once-before (at_gap (After last)) (at_gap (After last)) (closing node split join) opened all)
 
 module _ (view s : SchemaModel) (same : view ≡ s) (ps qs : List Piece) (is : ps ≡ schema_pieces view) (once : twice [] (nodes_in ps) ≡ None) where
   pub put-made : (g : Gap) (x : New) → refusal s (put_op x g) ≡ None → qs ≡ behind (at_gap g) (part_pieces (new_part x)) ps → Makes qs (put_at g (new_part x) view)

@@ -12,3 +12,5 @@ pub mod Rising
 pub mod Steps
 pub mod Weights
 pub mod Distinct
+pub mod OnePlace
+pub mod OncePieces

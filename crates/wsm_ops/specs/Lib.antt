@@ -5,3 +5,4 @@ pub mod Apply
 pub mod Outline
 pub mod Readings
 pub mod Putting
+pub mod Wrapped

@@ -1,5 +1,5 @@
 -- A tree as the list of its pieces in document order, and what edits do to such a list.
-use Rattle.std.specs.Prelude.{◌≡◌, ℕ, Bool, true, false, ◌&&◌, ◌==◌, not, List, [], ◌∷◌, ◌++◌, filter, Option, Some, None, if◌then◌else◌}
+use Rattle.std.specs.Prelude.{◌≡◌, ℕ, ◌≤◌, Bool, true, false, ◌&&◌, ◌==◌, not, List, [], ◌∷◌, ◌++◌, filter, length, Option, Some, None, if◌then◌else◌}
 use Rattle.std.specs.List.{flat_map, list_any}
 use Rattle.wsm_schema.specs.Tree.{Part, Parts, Lanes, act, gate, loop, nothing, part, no_lane, lane, and_gate, xor_gate}
 use Rattle.wsm_schema.specs.Tokens.{Token, Levels, an_act, open_gate, open_loop, a_branch, close, empty, read_token}
@@ -105,7 +105,7 @@ seat_at n (Head split code is_first ∷ ps) = seat_at n ps
 abbrev pub seat_of : Card → Seat
 seat_of c = record { kind = c.kind; partner = c.partner }
 
--- whether the branches behind a split are more than one kind of code
+-- whether a card is that of a split with a branch of the code
 abbrev pub has_branch : ℕ → Option Card → Bool
 has_branch code None = false
 has_branch code (Some c) = is_split c.kind && has_code code c.outs
@@ -137,6 +137,10 @@ before test new ps = flat_map (with_before test new) ps
 -- pieces without a node
 abbrev pub without_node : ℕ → List Piece → List Piece
 without_node n ps = filter (λ p. not (is_node n p)) ps
+
+-- at most one piece passes a test
+abbrev pub IsOnce : (Piece → Bool) → List Piece → Type 0
+IsOnce test ps = length (filter test ps) ≤ 1
 
 -- what stands before an item, and behind it, in a block with an activity beside it
 abbrev pub opening : (split join : ℕ) → List Piece

@@ -22,7 +22,7 @@ pub fn effect(alloc: Global, draft: Draft, op: &Op) -> Result<Draft, NoMemory>
     ensures { IfOk result (λ new. new ≡ effect draft op.now) }
 {
     match *op {
-        Op::InsertSerial { node, role, gap } => serial(alloc, draft, node, role, gap),
+        Op::InsertSerial { node, role, gap } => serial(draft, node, role, gap),
         Op::InsertParallel {
             node,
             role,
@@ -38,7 +38,7 @@ pub fn effect(alloc: Global, draft: Draft, op: &Op) -> Result<Draft, NoMemory>
                 first,
                 last,
             };
-            parallel(alloc, draft, &wrap, role)
+            parallel(draft, &wrap, role)
         }
         Op::InsertConditional {
             node,
@@ -46,9 +46,9 @@ pub fn effect(alloc: Global, draft: Draft, op: &Op) -> Result<Draft, NoMemory>
             split,
             join,
             gap,
-        } => conditional(alloc, draft, node, role, split, join, gap),
+        } => conditional(draft, node, role, split, join, gap),
         Op::DeleteActivity { node } => deleted(alloc, draft, node),
-        Op::MoveActivity { node, gap } => moved(alloc, draft, node, gap),
+        Op::MoveActivity { node, gap } => moved(draft, node, gap),
         Op::InsertSync { source, target } => with_sync(draft, source, target),
         Op::DeleteSync { source, target } => Ok(without_sync(draft, source, target)),
         Op::AddElement { element, kind } => with_element(draft, element, kind),
@@ -65,11 +65,11 @@ pub fn effect(alloc: Global, draft: Draft, op: &Op) -> Result<Draft, NoMemory>
 }
 
 // Something new at the gap.
-fn put_at(alloc: Global, mut draft: Draft, gap: Gap, new: New) -> Result<Draft, NoMemory>
+fn put_at(mut draft: Draft, gap: Gap, new: New) -> Result<Draft, NoMemory>
     requires { refusal draft (put_op new gap) ≡ None }
     ensures { IfOk result (λ s. s ≡ put_at gap (new_part new) draft) }
 {
-    draft.outline = new.put(alloc, draft.outline, gap)?;
+    draft.outline = new.put(draft.outline, gap)?;
     Ok(draft)
 }
 
@@ -80,24 +80,23 @@ fn with_role(mut draft: Draft, node: u32, role: u32) -> Result<Draft, NoMemory>
     Ok(draft)
 }
 
-fn serial(alloc: Global, draft: Draft, node: u32, role: u32, gap: Gap) -> Result<Draft, NoMemory>
+fn serial(draft: Draft, node: u32, role: u32, gap: Gap) -> Result<Draft, NoMemory>
     requires { refusal draft (op.InsertSerial node role gap) ≡ None }
     ensures { IfOk result (λ s. s ≡ effect draft (op.InsertSerial node role gap)) }
 {
-    let draft = put_at(alloc, draft, gap, New::Activity(node))?;
+    let draft = put_at(draft, gap, New::Activity(node))?;
     with_role(draft, node, role)
 }
 
-fn parallel(alloc: Global, mut draft: Draft, wrap: &Wrap, role: u32) -> Result<Draft, NoMemory>
+fn parallel(mut draft: Draft, wrap: &Wrap, role: u32) -> Result<Draft, NoMemory>
     requires { refusal draft (op.InsertParallel wrap.now.node role wrap.now.split wrap.now.join wrap.now.first wrap.now.last) ≡ None }
     ensures { IfOk result (λ s. s ≡ effect draft (op.InsertParallel wrap.now.node role wrap.now.split wrap.now.join wrap.now.first wrap.now.last)) }
 {
-    draft.outline = wrap.put(alloc, draft.outline)?;
+    draft.outline = wrap.put(draft.outline)?;
     with_role(draft, wrap.node, role)
 }
 
 fn conditional(
-    alloc: Global,
     draft: Draft,
     node: u32,
     role: u32,
@@ -108,7 +107,7 @@ fn conditional(
     requires { refusal draft (op.InsertConditional node role split join gap) ≡ None }
     ensures { IfOk result (λ s. s ≡ effect draft (op.InsertConditional node role split join gap)) }
 {
-    let draft = put_at(alloc, draft, gap, New::Choice { node, split, join })?;
+    let draft = put_at(draft, gap, New::Choice { node, split, join })?;
     let draft = with_role(draft, node, role)?;
     with_role(draft, split, role)
 }
@@ -117,19 +116,19 @@ fn deleted(alloc: Global, draft: Draft, node: u32) -> Result<Draft, NoMemory>
     requires { refusal draft (op.DeleteActivity node) ≡ None }
     ensures { IfOk result (λ s. s ≡ effect draft (op.DeleteActivity node)) }
 {
-    let draft = without_activity(alloc, draft, node)?;
+    let draft = without_activity(draft, node);
     let draft = without_syncs(alloc, draft, node)?;
     let draft = without_reads(alloc, draft, node)?;
     let draft = without_writes(alloc, draft, node)?;
     with_role(draft, node, 0)
 }
 
-fn without_activity(alloc: Global, mut draft: Draft, node: u32) -> Result<Draft, NoMemory>
+fn without_activity(mut draft: Draft, node: u32) -> Draft
     requires { unless_activity (cards_of draft) node ≡ None }
-    ensures { IfOk result (λ s. s ≡ record draft { body = without node draft.body }) }
+    ensures { result ≡ record draft { body = without node draft.body } }
 {
-    draft.outline = draft.outline.without(alloc, node)?;
-    Ok(draft)
+    draft.outline = draft.outline.without(node);
+    draft
 }
 
 // The node then ends no sync edge, at either side.
@@ -154,12 +153,12 @@ fn without_writes(alloc: Global, mut draft: Draft, node: u32) -> Result<Draft, N
     Ok(draft)
 }
 
-fn moved(alloc: Global, mut draft: Draft, node: u32, gap: Gap) -> Result<Draft, NoMemory>
+fn moved(mut draft: Draft, node: u32, gap: Gap) -> Result<Draft, NoMemory>
     requires { refusal draft (op.MoveActivity node gap) ≡ None }
     ensures { IfOk result (λ s. s ≡ effect draft (op.MoveActivity node gap)) }
 {
-    let rest = draft.outline.without(alloc, node)?;
-    draft.outline = New::Activity(node).put(alloc, rest, gap)?;
+    let rest = draft.outline.without(node);
+    draft.outline = New::Activity(node).put(rest, gap)?;
     Ok(draft)
 }
 

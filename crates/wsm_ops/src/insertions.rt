@@ -1,12 +1,11 @@
 // What operations put at gaps.
 ghost use Rattle.std.specs.Prelude.{◌≡◌, IfOk};
 ghost use Rattle.wsm_ops.specs.Edit.{new_part};
-ghost use Rattle.wsm_ops.specs.Outline.{part_pieces, at_gap, behind};
+ghost use Rattle.wsm_ops.specs.Outline.{part_pieces, at_gap, behind, IsOnce};
 
 use crate::operations::Gap;
 use crate::outlines::Outline;
 use crate::pieces::Piece;
-use std::alloc::Global;
 use wsm_schema::{NoMemory, NodeKind};
 
 /// What an operation puts at a gap.
@@ -19,13 +18,13 @@ pub enum New {
 
 impl New {
     /// The outline with it at the gap.
-    pub fn put(self, alloc: Global, outline: Outline, gap: Gap) -> Result<Outline, NoMemory>
+    pub fn put(self, outline: Outline, gap: Gap) -> Result<Outline, NoMemory>
+        requires { IsOnce (at_gap gap) outline }
         ensures { IfOk result (λ new. new ≡ behind (at_gap gap) (part_pieces (new_part self)) outline) }
     {
         match self {
-            New::Activity(node) => outline.put_behind(alloc, gap, &[Piece::activity(node)]),
+            New::Activity(node) => outline.put_behind(gap, &[Piece::activity(node)]),
             New::Choice { node, split, join } => outline.put_behind(
-                alloc,
                 gap,
                 &[
                     Piece::end_of_block(split, NodeKind::XorSplit, join),

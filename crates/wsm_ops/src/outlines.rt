@@ -1,10 +1,10 @@
 // The pieces of a schema in document order, and edits of them.
-ghost use Rattle.std.specs.Prelude.{◌≡◌, IfOk};
-ghost use Rattle.wsm_ops.specs.Outline.{is_node, at_gap, seat_at, has_head, behind, before, without_node};
+ghost use Rattle.std.specs.Prelude.{◌≡◌, ◌≤◌, ◌++◌, length, take, drop, position, OnOk, IfOk};
+ghost use Rattle.wsm_ops.specs.Outline.{is_node, at_gap, seat_at, has_head, behind, before, without_node, IsOnce};
+ghost use Rattle.wsm_ops.specs.declared.operations.Gap.TheVariants.{After};
 
 use crate::operations::Gap;
 use crate::pieces::{Piece, Seat};
-use std::alloc::Global;
 use std::marker::Model;
 use wsm_schema::NoMemory;
 
@@ -53,45 +53,67 @@ impl Outline {
     }
 
     /// New pieces at the gap.
-    pub fn put_behind(self, alloc: Global, gap: Gap, new: &[Piece]) -> Result<Outline, NoMemory>
+    pub fn put_behind(self, gap: Gap, new: &[Piece]) -> Result<Outline, NoMemory>
+        requires { IsOnce (at_gap gap) self }
         ensures { IfOk result (λ o. o ≡ behind (at_gap gap) new.now self) }
     {
-        let mut all = Vec::new(alloc);
-        for piece in &self.pieces {
-            all.push(*piece)?;
-            if piece.is_at(gap) {
-                all.extend_from_slice(new)?;
+        let mut pieces = self.pieces;
+        match place_in(&pieces, gap) {
+            None => Ok(Outline { pieces }),
+            Some(at) => {
+                put_all(&mut pieces, at + 1, new)?;
+                Ok(Outline { pieces })
             }
         }
-        Ok(Outline { pieces: all })
     }
 
     /// New pieces before the node.
-    pub fn put_before(self, alloc: Global, node: u32, new: &[Piece]) -> Result<Outline, NoMemory>
+    pub fn put_before(self, node: u32, new: &[Piece]) -> Result<Outline, NoMemory>
+        requires { IsOnce (at_gap (After node)) self }
         ensures { IfOk result (λ o. o ≡ before (is_node node) new.now self) }
     {
-        let mut all = Vec::new(alloc);
-        for piece in &self.pieces {
-            if piece.is_node(node) {
-                all.extend_from_slice(new)?;
+        let mut pieces = self.pieces;
+        match place_in(&pieces, Gap::After(node)) {
+            None => Ok(Outline { pieces }),
+            Some(at) => {
+                put_all(&mut pieces, at, new)?;
+                Ok(Outline { pieces })
             }
-            all.push(*piece)?;
         }
-        Ok(Outline { pieces: all })
     }
 
     /// The pieces without the node.
-    pub fn without(self, alloc: Global, node: u32) -> Result<Outline, NoMemory>
-        ensures { IfOk result (λ o. o ≡ without_node node self) }
+    pub fn without(self, node: u32) -> Outline
+        requires { IsOnce (at_gap (After node)) self }
+        ensures { result ≡ without_node node self }
     {
-        let mut all = Vec::new(alloc);
-        for piece in &self.pieces {
-            if !piece.is_node(node) {
-                all.push(*piece)?;
+        let mut pieces = self.pieces;
+        match place_in(&pieces, Gap::After(node)) {
+            None => Outline { pieces },
+            Some(at) => {
+                pieces.remove(at);
+                Outline { pieces }
             }
         }
-        Ok(Outline { pieces: all })
     }
+}
+
+// Where the first piece stands that the gap is behind.
+fn place_in(pieces: &[Piece], gap: Gap) -> Option<usize>
+    ensures { result ≡ position (at_gap gap) pieces.now }
+{
+    pieces.iter().position(|piece| piece.is_at(gap))
+}
+
+// New pieces at a place, in their order.
+fn put_all(pieces: &mut Vec<Piece>, at: usize, new: &[Piece]) -> Result<(), NoMemory>
+    requires { at ≤ length pieces.old.items }
+    ensures { OnOk result (pieces.new.items ≡ take at pieces.old.items ++ (new.now ++ drop at pieces.old.items)) }
+{
+    let mut rest = pieces.split_off(at)?;
+    pieces.extend_from_slice(new)?;
+    pieces.append(&mut rest)?;
+    Ok(())
 }
 
 // What the first piece of the node says of it.

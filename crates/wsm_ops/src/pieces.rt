@@ -2,7 +2,7 @@
 ghost use Rattle.std.specs.Prelude.{◌≡◌, true};
 ghost use Rattle.wsm_schema.specs.declared.cards.NodeKind.TheVariants.{Activity};
 ghost use Rattle.wsm_ops.specs.declared.pieces.Piece.TheVariants.{Node, Head};
-ghost use Rattle.wsm_ops.specs.Outline.{is_node, is_head, at_gap, seat_on, ends_with};
+ghost use Rattle.wsm_ops.specs.Outline.{is_head, at_gap, seat_on, ends_with};
 
 use crate::operations::{Gap, is_code};
 use wsm_schema::NodeKind;
@@ -75,16 +75,6 @@ impl Piece {
             split,
             code,
             first: true,
-        }
-    }
-
-    /// Whether it is the node.
-    pub fn is_node(self, node: u32) -> bool
-        ensures { result ≡ is_node node self }
-    {
-        match self {
-            Piece::Node { node: n, .. } => n == node,
-            Piece::Head { .. } => false,
         }
     }
 

@@ -1,12 +1,12 @@
 // An AND block round an item.
 ghost use Rattle.std.specs.Prelude.{◌≡◌, IfOk};
-ghost use Rattle.wsm_ops.specs.Outline.{is_node, at_gap, behind, before, opening, closing};
+ghost use Rattle.wsm_ops.specs.Outline.{at_gap, IsOnce};
+ghost use Rattle.wsm_ops.specs.Wrapped.{opened, wrapped, closed};
 ghost use Rattle.wsm_ops.specs.declared.operations.Gap.TheVariants.{After};
 
 use crate::operations::Gap;
 use crate::outlines::Outline;
 use crate::pieces::Piece;
-use std::alloc::Global;
 use wsm_schema::{NoMemory, NodeKind};
 
 /// A new AND block round the item from `first` to `last`, with an activity beside it.
@@ -21,18 +21,20 @@ pub struct Wrap {
 
 impl Wrap {
     /// The outline with the block round the item.
-    pub fn put(&self, alloc: Global, outline: Outline) -> Result<Outline, NoMemory>
-        ensures { IfOk result (λ new. new ≡ behind (at_gap (After self.now.last)) (closing self.now.node self.now.split self.now.join) (before (is_node self.now.first) (opening self.now.split self.now.join) outline)) }
+    pub fn put(&self, outline: Outline) -> Result<Outline, NoMemory>
+        requires first { IsOnce (at_gap (After self.now.first)) outline }
+        requires last { IsOnce (at_gap (After self.now.last)) (opened self.now outline) }
+        ensures { IfOk result (λ new. new ≡ wrapped self.now outline) }
     {
-        self.put_behind(alloc, self.put_before(alloc, outline)?)
+        self.put_behind(self.put_before(outline)?)
     }
 
     // What stands before the item.
-    fn put_before(&self, alloc: Global, outline: Outline) -> Result<Outline, NoMemory>
-        ensures { IfOk result (λ new. new ≡ before (is_node self.now.first) (opening self.now.split self.now.join) outline) }
+    fn put_before(&self, outline: Outline) -> Result<Outline, NoMemory>
+        requires { IsOnce (at_gap (After self.now.first)) outline }
+        ensures { IfOk result (λ new. new ≡ opened self.now outline) }
     {
         outline.put_before(
-            alloc,
             self.first,
             &[
                 Piece::end_of_block(self.split, NodeKind::AndSplit, self.join),
@@ -42,11 +44,11 @@ impl Wrap {
     }
 
     // What stands behind the item.
-    fn put_behind(&self, alloc: Global, outline: Outline) -> Result<Outline, NoMemory>
-        ensures { IfOk result (λ new. new ≡ behind (at_gap (After self.now.last)) (closing self.now.node self.now.split self.now.join) outline) }
+    fn put_behind(&self, outline: Outline) -> Result<Outline, NoMemory>
+        requires { IsOnce (at_gap (After self.now.last)) outline }
+        ensures { IfOk result (λ new. new ≡ closed self.now outline) }
     {
         outline.put_behind(
-            alloc,
             Gap::After(self.last),
             &[
                 Piece::first_head(self.split, 1),

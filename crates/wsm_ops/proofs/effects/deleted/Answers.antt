@@ -17,6 +17,6 @@ in_turn n s treeless unsynced unread unwritten a b c d = rw (d, c, b, a) refl
 pub returns : goal.returns
 returns c =
     subst (λ s. IfOk c.with_role.result (λ new. new ≡ s))
-    (in_turn c.args.node c.args.draft c.in_ok-draft.draft c.in_ok-draft-2.draft c.in_ok-draft-3.draft c.in_ok-draft-4.draft
-    c.in_ok-draft.ensures c.in_ok-draft-2.ensures c.in_ok-draft-3.ensures c.in_ok-draft-4.ensures)
+    (in_turn c.args.node c.args.draft c.without_activity-draft.result c.in_ok-draft.draft c.in_ok-draft-2.draft c.in_ok-draft-3.draft
+    c.without_activity-draft.ensures c.in_ok-draft.ensures c.in_ok-draft-2.ensures c.in_ok-draft-3.ensures)
     c.with_role.ensures

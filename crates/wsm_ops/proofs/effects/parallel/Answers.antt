@@ -2,8 +2,18 @@ use Rattle.std.proofs.Common.{◌≡◌, ap, subst, IfOk}
 use Rattle.wsm_schema.specs.SchemaModel.{SchemaModel}
 use Rattle.wsm_ops.specs.Edit.{change, beside}
 use Rattle.wsm_ops.specs.Apply.{with_role}
-use Rattle.wsm_ops.proofs.DraftEdits.{wrap-made}
+use Rattle.wsm_ops.proofs.DraftEdits.{wrap-made, opened-once}
+use Rattle.wsm_ops.proofs.OncePieces.{once-in}
+use Rattle.wsm_ops.specs.declared.operations.Gap.TheVariants.{After}
 use Rattle.wsm_ops.proofs.effects.parallel.Goals as goal
+
+pub put-requires-clause-first : goal.put-requires-clause-first
+put-requires-clause-first c = once-in c.draft.inside.start c.draft.inside.finish c.draft.inside.outline c.draft.invariant (After c.args.wrap.now.first)
+
+pub put-requires-clause-last : goal.put-requires-clause-last
+put-requires-clause-last c =
+    let w = c.args.wrap.now in
+    opened-once _ c.args.draft c.draft.view_is c.draft.inside.outline c.draft.invariant.0 c.draft.invariant.1 w.node c.args.role w.split w.join w.first w.last c.requires
 
 pub invariant_of-draft : goal.invariant_of-draft
 invariant_of-draft c =

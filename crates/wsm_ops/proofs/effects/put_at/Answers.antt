@@ -2,7 +2,11 @@ use Rattle.std.proofs.Common.{ap}
 use Rattle.wsm_ops.specs.Edit.{new_part}
 use Rattle.wsm_ops.specs.Apply.{put_at}
 use Rattle.wsm_ops.proofs.DraftEdits.{put-made}
+use Rattle.wsm_ops.proofs.OncePieces.{once-in}
 use Rattle.wsm_ops.proofs.effects.put_at.Goals as goal
+
+pub put-requires : goal.put-requires
+put-requires c = once-in c.draft.inside.start c.draft.inside.finish c.draft.inside.outline c.draft.invariant c.args.gap
 
 pub invariant_of-draft : goal.invariant_of-draft
 invariant_of-draft c =
