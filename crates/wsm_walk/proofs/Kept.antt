@@ -1,6 +1,6 @@
 -- A table of marks, looked up by node.
 use Rattle.std.proofs.Common.{◌≡◌, ℕ, Bool, true, false, ◌||◌, eqb, List, [], ◌∷◌, refl, ap, sym, ◌∙◌, inl, inr, Option, Some, None}
-use Rattle.std.specs.Prelude.{if◌then◌else◌, ◌==◌, is_some}
+use Rattle.std.specs.Prelude.{if◌then◌else◌, is_some}
 use Rattle.std.specs.List.{fold}
 use Rattle.std.proofs.lemmas.Bool.{cases_Bool, both_ways, eqb-true}
 use Rattle.wsm_lists.specs.ByNumber.{item_at}

@@ -1,8 +1,8 @@
 -- The table of all marks holds, of each node of the net, its mark where that says something; and what changes make of it.
-use Rattle.std.proofs.Common.{◌≡◌, ℕ, Bool, true, false, eqb, List, [], ◌∷◌, refl, ap, sym, ◌∙◌, inl, inr, Option, Some, None}
+use Rattle.std.proofs.Common.{◌≡◌, ℕ, true, false, eqb, List, [], ◌∷◌, refl, ap, sym, ◌∙◌, inl, inr, Option, Some, None}
 use Rattle.std.specs.Prelude.{if◌then◌else◌}
 use Rattle.std.specs.List.{fold}
-use Rattle.std.proofs.lemmas.Bool.{cases_Bool, both_ways, eqb-true}
+use Rattle.std.proofs.lemmas.Bool.{cases_Bool, eqb-true}
 use Rattle.wsm_lists.specs.ByNumber.{changed, item_after, item_at}
 use Rattle.wsm_lists.specs.Keys.{first}
 use Rattle.wsm_lists.specs.Rows.{Ascends, put_row}
@@ -12,7 +12,7 @@ use Rattle.wsm_schema.specs.Flat.{card_at}
 use Rattle.wsm_schema.specs.Marks.{list_marks, mark_key, says_something}
 use Rattle.wsm_schema.specs.declared.cards.Card.{Card}
 use Rattle.wsm_schema.specs.declared.marks.Mark.{Mark}
-use Rattle.wsm_walk.specs.Kept.{mark_or, no_mark}
+use Rattle.wsm_walk.specs.Kept.{mark_or}
 use Rattle.wsm_walk.specs.Listed.{listed, said}
 use Rattle.wsm_walk.proofs.Kept.{silent-none}
 

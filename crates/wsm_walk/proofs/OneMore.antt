@@ -1,14 +1,13 @@
 -- The marks of a trail with one entry more.
-use Rattle.std.proofs.Common.{◌≡◌, ℕ, ◌+◌, ◌≤◌, Bool, true, false, eqb, List, [], ◌∷◌, ◌++◌, refl, ap, sym, ◌∙◌, subst, inl, inr, arith, Option, Some, None}
-use Rattle.std.specs.Prelude.{is_some, option_map, nat_lt}
-use Rattle.std.proofs.lemmas.Bool.{cases_Bool, both_ways, eqb-true, eq-eqb, lt-ltb}
+use Rattle.std.proofs.Common.{◌≡◌, ℕ, ◌+◌, Bool, true, false, eqb, List, [], ◌∷◌, ◌++◌, refl, ap, sym, ◌∙◌, inl, inr, arith, Option, Some, None}
+use Rattle.std.specs.Prelude.{is_some, option_map}
+use Rattle.std.proofs.lemmas.Bool.{cases_Bool, eqb-true, lt-ltb}
 use Rattle.wsm_lists.specs.ByNumber.{changed, item_after, item_at}
 use Rattle.wsm_lists.specs.Keys.{first}
 use Rattle.wsm_lists.specs.Rows.{AllRows, Ascends}
 use Rattle.wsm_lists.proofs.Lists.{rows-parts}
 use Rattle.wsm_schema.specs.Flat.{card_at, cards_of, flat_of}
-use Rattle.wsm_schema.specs.Marks.{choice_of, facts_of, is_again_of, is_end_of, is_start_of, list_marks, marks_of, position_of, says_something}
-use Rattle.wsm_schema.specs.Rank.{IsRank}
+use Rattle.wsm_schema.specs.Marks.{choice_of, facts_of, is_again_of, is_end_of, is_start_of, marks_of, position_of, says_something}
 use Rattle.wsm_schema.specs.Replay.{replay_of, whole}
 use Rattle.wsm_schema.specs.Rules.{Spots}
 use Rattle.wsm_schema.specs.SchemaModel.{SchemaModel}
@@ -21,7 +20,7 @@ use Rattle.wsm_trail.specs.TrailWithRoom.{Rises}
 use Rattle.wsm_marks.specs.Fits.{InOrder, RisesAfter}
 use Rattle.wsm_marks.specs.Schemas.{HasCard}
 use Rattle.wsm_marks.specs.Solving.{solution}
-use Rattle.wsm_marks.specs.Timed.{Entries, Marking}
+use Rattle.wsm_marks.specs.Timed.{Entries}
 use Rattle.wsm_marks.specs.MarkBy.{since}
 use Rattle.wsm_schema.specs.declared.states.Flow.TheVariants.{Yes, No}
 use Rattle.wsm_marks.proofs.Cards.{on_card-true}

@@ -45,7 +45,7 @@ reached-append cards [] ms inside = refl
 reached-append cards (n ∷ ns) ms inside = reached-append cards ns ms (if is_entered inside (card_at n cards) then n ∷ inside else inside)
 
 -- none of a list where no row passes
-none-any : {X : Type 0} (test : X → Bool) (xs : List X) → list_any test xs ≡ false → AllRows (λ x. test x ≡ false) xs
+pub none-any : {X : Type 0} (test : X → Bool) (xs : List X) → list_any test xs ≡ false → AllRows (λ x. test x ≡ false) xs
 none-any test [] h = tt
 none-any test (x ∷ xs) h = elim (cases_Bool (test x)) [ inl it ↦ absurd (both_ways _ (rw it at h) refl) | inr other ↦ (other, none-any test xs (rw other at h)) ]
 
@@ -65,7 +65,7 @@ any-member test (x ∷ xs) h =
     ]
 
 -- one of two tests
-or-true : (a b : Bool) → (a || b) ≡ true → (a ≡ true) ⊎ (b ≡ true)
+pub or-true : (a b : Bool) → (a || b) ≡ true → (a ≡ true) ⊎ (b ≡ true)
 or-true true b h = inl refl
 or-true false b h = inr h
 

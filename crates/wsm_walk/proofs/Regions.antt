@@ -34,7 +34,7 @@ kinds-fit elements1 elements2 (w ∷ ws) (d ∷ ds) same =
     ∙ ap (λ x. (eqb w.0 d && is_of_kind (kind_in d elements2) w.1) && x) (kinds-fit elements1 elements2 ws ds same.1)
 
 -- a node that is no start has a first edge
-first-row : {X : Type 0} (G : Type 0) (k : NodeKind) (P : X → Type 0) (xs : List X) → Inner k xs → AllRows P xs → ((x : X) → P x → G) → G
+pub first-row : {X : Type 0} (G : Type 0) (k : NodeKind) (P : X → Type 0) (xs : List X) → Inner k xs → AllRows P xs → ((x : X) → P x → G) → G
 first-row G Start P xs inner rows then = absurd inner
 first-row G k P [] inner rows then = absurd inner
 first-row G k P (x ∷ xs) inner rows then = then x rows.0

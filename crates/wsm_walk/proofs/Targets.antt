@@ -18,6 +18,7 @@ use Rattle.wsm_marks.specs.Schemas.{Regular}
 use Rattle.wsm_marks.proofs.Cards.{placed-rows, same_card}
 use Rattle.wsm_walk.specs.Targets.{Leads, leads_to}
 use Rattle.wsm_walk.specs.Walk.{NoEdgeFrom}
+use Rattle.wsm_walk.proofs.Reached.{any-member, or-true, rows-member}
 
 module _ (R : ℕ → ℕ → Type 0) where
   -- the edges out of a place, and those into it, are of the relation
@@ -175,3 +176,40 @@ control-enters s regular =
     all-rows-map _ _ (λ e among d at. let same : card_of s p ≡ d = same_card (cards_of s) p.node (card_of s p) d placed at in
     subst (λ x. (list_any (λ y. eqb y.node e.node) x.ins || list_any (λ k. eqb k e.node) x.syncs_in) ≡ true) same (or-left (list_any (λ y. eqb y.node e.node) p.ins) _ among)) p.ins (self-any (λ x. x.node) p.ins))
     (places s.start s.body s.finish) (placed-rows s (places s.start s.body s.finish) regular.distinct))
+
+-- the sync edges out of each node stand in their targets' cards
+sync-mirrored : (syncs : List (ℕ × ℕ)) (n k : ℕ) → list_any (λ m. m == k) (map (λ x. x.1) (filter (λ x. eqb x.0 n) syncs)) ≡ true → list_any (λ m. m == n) (map (λ x. x.0) (filter (λ x. eqb x.1 k) syncs)) ≡ true
+sync-mirrored [] n k h = absurd (both_ways _ refl h)
+sync-mirrored (e ∷ es) n k h =
+    elim (cases_Bool (eqb e.0 n)) [
+      | inr apart ↦
+          let more = sync-mirrored es n k (rw apart at h) in
+          elim (cases_Bool (eqb e.1 k)) [ inl it ↦ rw it (or-right (eqb e.0 n) _ more) | inr other ↦ rw other more ]
+      | inl same ↦ elim (cases_Bool (eqb e.1 k)) [
+        | inl it ↦ rw (it, same) refl
+        | inr other ↦ rw other (sync-mirrored es n k (rw (same, other) at h))
+      ]
+    ]
+
+-- what a card names is entered from its node
+pub lead-enters : (s : SchemaModel) → Regular s → (n : ℕ) (c : Card) → card_at n (cards_of s) ≡ Some c → (k : ℕ) → leads_to c k ≡ true → EntersFrom s n k
+lead-enters s regular n c at_n k leads d at_k =
+    elim (or-true (list_any (λ o. o.node == k) c.outs) (list_any (λ m. m == k) c.syncs_out) leads) [
+      | inl control ↦
+          let outs : AllRows (λ o. EntersFrom s c.node o.node) c.outs =
+          all-rows-card_at (λ x. AllRows (λ o. EntersFrom s x.node o.node) x.outs) n (cards_of s) c
+          (rows-map _ (card_of s) (places s.start s.body s.finish) (control-enters s regular)) at_n in
+          let o = any-member (λ o. o.node == k) c.outs control in
+          let enters : EntersFrom s c.node o.0.node = rows-member (λ x. EntersFrom s c.node x.node) c.outs o.0 outs o.1 in
+          subst (λ x. (list_any (λ e. eqb e.node x) d.ins || list_any (λ m. eqb m x) d.syncs_in) ≡ true) (card_at-node n (cards_of s) c at_n)
+          (enters d (ap (λ x. card_at x (cards_of s)) (eqb-true o.0.node k o.2) ∙ at_k))
+      | inr sync ↦
+          let outs : c.syncs_out ≡ map (λ x. x.1) (filter (λ x. eqb x.0 c.node) s.syncs) =
+          all-rows-card_at (λ x. x.syncs_out ≡ map (λ y. y.1) (filter (λ y. eqb y.0 x.node) s.syncs)) n (cards_of s) c (rows-map _ (card_of s) (places s.start s.body s.finish) (all_rows _ (λ p. refl) (places s.start s.body s.finish))) at_n in
+          let ins : d.syncs_in ≡ map (λ x. x.0) (filter (λ x. eqb x.1 d.node) s.syncs) =
+          all-rows-card_at (λ x. x.syncs_in ≡ map (λ y. y.0) (filter (λ y. eqb y.1 x.node) s.syncs)) k (cards_of s) d (rows-map _ (card_of s) (places s.start s.body s.finish) (all_rows _ (λ p. refl) (places s.start s.body s.finish))) at_k in
+          let mirrored : list_any (λ m. m == c.node) (map (λ x. x.0) (filter (λ x. eqb x.1 k) s.syncs)) ≡ true = sync-mirrored s.syncs c.node k (ap (list_any (λ m. m == k)) (sym outs) ∙ sync) in
+          or-right (list_any (λ e. eqb e.node n) d.ins) _
+          (ap (list_any (λ m. m == n)) (ins ∙ ap (λ x. map (λ y. y.0) (filter (λ y. eqb y.1 x) s.syncs)) (card_at-node k (cards_of s) d at_k))
+          ∙ subst (λ x. list_any (λ m. m == x) (map (λ y. y.0) (filter (λ y. eqb y.1 k) s.syncs)) ≡ true) (card_at-node n (cards_of s) c at_n) mirrored)
+    ]
