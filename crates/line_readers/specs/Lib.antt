@@ -1,0 +1,4 @@
+pub mod Readers
+pub mod FirstWrong
+pub mod Owed
+pub mod Journals
