@@ -1,0 +1,5 @@
+mod Reading
+mod Finding
+mod Fields
+mod Spacing
+mod Examples
