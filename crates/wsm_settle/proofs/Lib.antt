@@ -1,1 +1,4 @@
 pub mod Results
+pub mod Handing
+pub mod Visits
+pub mod Begins

@@ -1,1 +1,5 @@
+pub mod Behind
 pub mod Events
+pub mod Freed
+pub mod Revised
+pub mod Signals

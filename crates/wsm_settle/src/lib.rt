@@ -1,8 +1,15 @@
 //! What an event does to kept marks: the changes that make them those of the trail with that event.
 #![tactic(auto)]
 
+mod ends;
+mod equations;
 mod overlays;
+mod pending;
+mod repeats;
 mod starts;
+mod walks;
 
+pub use ends::after_end;
+pub use repeats::after_again;
 pub use starts::after_start;
 pub use wsm_rules::{Changes, CountedMarks, Mark, MarkReads, Marks};

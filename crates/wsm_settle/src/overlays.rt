@@ -1,8 +1,26 @@
 // Marks as changes have them, over marks that are kept.
-ghost use Rattle.std.specs.Prelude.{◌≡◌};
+ghost use Rattle.std.specs.Prelude.{◌≡◌, ◌+◌, ◌≤◌};
 ghost use Rattle.wsm_walk.specs.Kept.{mark_or};
+ghost use Rattle.wsm_walk.specs.Listed.{said, seen};
 
-use wsm_rules::Mark;
+use wsm_lists::{ByFirst, GrowingTable};
+use wsm_rules::{Mark, MarkReads};
+
+/// Changes while they are found.
+pub type Overlay = GrowingTable<ByFirst<Option<Mark>>>;
+
+/// The mark of a node as the changes have it, else as it is kept.
+pub fn mark_at<M: MarkReads>(marks: &mut M, changes: &Overlay, node: u32) -> Mark
+    ensures mark { result ≡ seen (M.kept marks.old) changes.now node }
+    ensures same { M.kept marks.new ≡ M.kept marks.old }
+    ensures rises { M.reads marks.old ≤ M.reads marks.new }
+    ensures count { M.reads marks.new ≤ M.reads marks.old + 1 }
+{
+    match changes.find((node, 0)) {
+        Some(row) => or_blank(row.1),
+        None => or_blank(marks.get(node)),
+    }
+}
 
 /// The mark, or one with nothing in it.
 pub fn or_blank(mark: Option<Mark>) -> Mark
@@ -18,5 +36,18 @@ pub fn or_blank(mark: Option<Mark>) -> Mark
             choice: None,
             again: None,
         },
+    }
+}
+
+/// The mark, where it says something.
+pub fn said(mark: Mark) -> Option<Mark>
+    ensures { result ≡ said mark }
+{
+    let timed = mark.ready_at.is_some() || mark.skipped_at.is_some();
+    let told = mark.started.is_some() || mark.ended.is_some();
+    if timed || told || mark.choice.is_some() || mark.again.is_some() {
+        Some(mark)
+    } else {
+        None
     }
 }

@@ -120,7 +120,7 @@ module _ (s : SchemaModel) (rank : List ℕ) (es : Entries) (p : ℕ) (rows : Li
   in_loop-card : (n : ℕ) → is_one_of n body ≡ true → HasCard (cards_of s) n
   in_loop-card n inside = listed-card (cards_of s) n (listed-from l n (map (λ d. d.node) (cards_of s)) (listed-up e n (from_node l (map (λ d. d.node) (cards_of s))) (rw (found, ends, partner) at inside)))
 
-  module _ (changes : List (ℕ × Option Mark)) (are : (n : ℕ) → item_at n changes ≡ (if is_one_of n body then Some (said (freed e p n)) else None)) where
+  module _ (changes : List (ℕ × Option Mark)) (ascends : Ascends first changes) (are : (n : ℕ) → item_at n changes ≡ (if is_one_of n body then Some (said (freed e p n)) else None)) where
     abbrev see : ℕ → Mark
     see = seen rows changes
 
@@ -209,6 +209,7 @@ module _ (s : SchemaModel) (rank : List ℕ) (es : Entries) (p : ℕ) (rows : Li
             (all-rows-map _ _ (λ x o. same-signal x.label x.node o) d.ins (loop.ins n d at (inl out)))
             (all-rows-map _ _ (λ x o. same-signal None x (inl o)) d.syncs_in (loop.syncs n d at (inl out)));
       };
+      ascends = ascends;
       says = λ n o is. elim (cases_Bool (is_one_of n body)) [
         | inl inside ↦
             let one : said (freed e p n) ≡ o = some-one _ _ (sym (are n ∙ rw inside refl) ∙ is) in
@@ -218,9 +219,9 @@ module _ (s : SchemaModel) (rank : List ℕ) (es : Entries) (p : ℕ) (rows : Li
     }
 
   -- and ends with the marks of the trail that the cut leaves, with the repeat behind it
-  pub again-changes : (changes : List (ℕ × Option Mark)) → Ascends first changes → Stands (cards_of s) rank (mark_now s rank later) rows [] changes → changed changes rows ≡ marks_of (flat_of s) later
-  again-changes changes ascends st =
-      changes-right s rank es p rows now later is_whole.0 rises-later is_whole.1 changes ascends
+  pub again-changes : (changes : List (ℕ × Option Mark)) → Stands (cards_of s) rank (mark_now s rank later) rows [] changes → changed changes rows ≡ marks_of (flat_of s) later
+  again-changes changes st =
+      changes-right s rank es p rows now later is_whole.0 rises-later is_whole.1 changes st.ascends
       (stands-say (cards_of s) rank (mark_now s rank later) (trail-aim s now.regular rank now.ranked later) rows (mark_now s rank es) changes (kept-item s rank es p rows now) st)
     where
       rises-later : RisesAfter 0 later

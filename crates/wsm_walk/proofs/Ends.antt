@@ -2,8 +2,6 @@
 use Rattle.std.proofs.Common.{◌≡◌, ◌⊎◌, ℕ, ◌+◌, ◌≤◌, false, eqb, ltb, List, [], ◌∷◌, ◌++◌, refl, ap, sym, ◌∙◌, subst, inl, inr, arith, Option, Some, None}
 use Rattle.std.proofs.lemmas.Bool.{cases_Bool, both_ways, eqb-true, eq-eqb, ltb-true, ltb-false}
 use Rattle.wsm_lists.specs.ByNumber.{changed, item_at}
-use Rattle.wsm_lists.specs.Keys.{first}
-use Rattle.wsm_lists.specs.Rows.{Ascends}
 use Rattle.wsm_lists.proofs.Lists.{all-rows-map}
 use Rattle.wsm_lists.specs.Values.{Written}
 use Rattle.wsm_schema.specs.Flat.{card_at, cards_of, flat_of}
@@ -138,6 +136,7 @@ module _ (s : SchemaModel) (rank : List ℕ) (es : Entries) (p : ℕ) (rows : Li
           (all-rows-map _ _ (λ x o e at_x. sym (see-other x.node e at_x o)) d.ins none.0)
           (all-rows-map _ _ (λ x o e at_x. sym (see-other x e at_x o)) d.syncs_in none.1);
     };
+    ascends = (tt, tt);
     says = λ n o is. elim (cases_Bool (eqb node n)) [
       | inr other ↦ let q : None ≡ Some o = rw other at is in absurd (cc)
       | inl same ↦
@@ -151,7 +150,7 @@ module _ (s : SchemaModel) (rank : List ℕ) (es : Entries) (p : ℕ) (rows : Li
   }
 
   -- and ends with the marks of the trail with the End
-  pub end-changes : (changes : List (ℕ × Option Mark)) → Ascends first changes → Stands (cards_of s) rank (mark_now s rank later) rows [] changes → changed changes rows ≡ marks_of (flat_of s) later
-  end-changes changes ascends st =
-      changes-right s rank es p rows now later t (rises-last 0 p (entry.End node writes choice) es now.rises) is_whole changes ascends
+  pub end-changes : (changes : List (ℕ × Option Mark)) → Stands (cards_of s) rank (mark_now s rank later) rows [] changes → changed changes rows ≡ marks_of (flat_of s) later
+  end-changes changes st =
+      changes-right s rank es p rows now later t (rises-last 0 p (entry.End node writes choice) es now.rises) is_whole changes st.ascends
       (stands-say (cards_of s) rank (mark_now s rank later) (trail-aim s now.regular rank now.ranked later) rows (mark_now s rank es) changes (kept-item s rank es p rows now) st)

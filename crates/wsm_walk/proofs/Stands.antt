@@ -4,9 +4,10 @@ use Rattle.std.specs.Prelude.{get_or}
 use Rattle.std.proofs.lemmas.Bool.{cases_Bool, both_ways, eqb-true, eq-eqb}
 use Rattle.wsm_lists.specs.ByNumber.{item_after, item_at}
 use Rattle.wsm_lists.specs.Keys.{first}
-use Rattle.wsm_lists.specs.Rows.{put_row}
+use Rattle.wsm_lists.specs.Rows.{Ascends, put_row}
 use Rattle.wsm_lists.proofs.Lists.{all_rows}
 use Rattle.wsm_lists.proofs.ByNumber.{item_at-put}
+use Rattle.wsm_lists.proofs.Rows.{ascends_put}
 use Rattle.wsm_schema.specs.Flat.{card_at}
 use Rattle.wsm_schema.specs.Trail.{is_one_of}
 use Rattle.wsm_schema.specs.declared.cards.Card.{Card}
@@ -44,6 +45,7 @@ module _ (cards : List Card) (rank : List ℕ) (goal : ℕ → Mark) (aim : Aim 
     pub at : rank ≡ front ++ (n ∷ more)
     pub size : length front ≡ p
     pub walked : Walked cards goal front (is_pending rank (p ∷ keys)) (seen kept changes)
+    pub ascends : Ascends first changes
     pub says : SaysOf cards changes
 
   -- all pending places are the first one or behind it
@@ -65,6 +67,7 @@ module _ (cards : List Card) (rank : List ℕ) (goal : ℕ → Mark) (aim : Aim 
         at = s.3;
         size = s.4;
         walked = walk-over cards rank goal aim st.front s.0 (n ∷ s.1) (is_pending rank (p ∷ keys)) (seen kept changes) s.2 st.walked idle;
+        ascends = st.ascends;
         says = st.says;
       }
 
@@ -85,6 +88,7 @@ module _ (cards : List Card) (rank : List ℕ) (goal : ℕ → Mark) (aim : Aim 
       walked =
           walk-on cards rank goal aim there.front there.more n (is_pending rank (p ∷ keys)) (is_pending rank keys) (seen kept changes) there.at there.walked right
           (fewer-places cards rank aim.ranked there.front there.more n p keys keys there.at there.size (λ q in_q. in_q));
+      ascends = there.ascends;
       says = there.says;
     }
 
@@ -116,6 +120,7 @@ module _ (cards : List Card) (rank : List ℕ) (goal : ℕ → Mark) (aim : Aim 
             (λ k other. ap (λ o. mark_or (item_after o (item_at k kept))) (sym (put-other k other))) own
             (fewer-places cards rank aim.ranked there.front there.more n p keys places' there.at there.size handed.stay)
             (λ k e at_k out idle. aim.behind n c found k e at_k (not-led k e at_k out idle));
+        ascends = ascends_put first (n, said mark) changes there.ascends;
         says = λ k o is. elim (cases_Bool (eqb n k)) [
           | inr other ↦ there.says k o (sym (put-other k other) ∙ is)
           | inl same ↦

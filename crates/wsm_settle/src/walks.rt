@@ -1,0 +1,114 @@
+// A walk over the nodes behind a change, the least pending place at a time.
+ghost use Rattle.std.specs.Prelude.{◌≡◌, ◌+◌, ◌<◌, ◌≤◌, ◌∷◌, [], length, get_or, IfOk, OnOk};
+ghost use Rattle.wsm_schema.specs.Flat.{card_at};
+ghost use Rattle.wsm_settle.specs.Revised.{IsRevised};
+ghost use Rattle.wsm_walk.specs.Listed.{seen};
+ghost use Rattle.wsm_walk.specs.RankPlaces.{AllBehind, AllWithin};
+ghost use Rattle.wsm_walk.specs.Spent.{ReadsFew, Spends, visit_cost};
+ghost use Rattle.wsm_walk.specs.Walk.{Walks, with_time};
+
+use crate::equations::{Timed, equation, time_of};
+use crate::overlays::{Overlay, mark_at, said};
+use crate::pending::{Pending, hand_on};
+use std::alloc::Global;
+use wsm_lists::NoMemory;
+use wsm_rules::{Flow, Mark, MarkReads};
+use wsm_schema::{Card, Flat, Rank};
+
+/// All that is pending is visited, in the order of the rank.
+pub fn walk<M: MarkReads>(
+    alloc: Global,
+    flat: &Flat,
+    rank: &Rank,
+    marks: &mut M,
+    changes: &mut Overlay,
+    pending: &mut Pending,
+) -> Result<(), NoMemory>
+    requires within { AllWithin (length rank.now) pending.old.keys }
+    ensures walked { OnOk result (Walks flat.now.cards rank.now (M.kept marks.old) pending.old.keys changes.old [] changes.new) }
+    ensures same { M.kept marks.new ≡ M.kept marks.old }
+    ensures rises { M.reads marks.old ≤ M.reads marks.new }
+    ensures few { ReadsFew flat.now.cards rank.now (M.reads marks.old) pending.old.keys (M.reads marks.new) }
+{
+    while let Some(place) = pending.pop_first() {
+        visit(alloc, flat, rank, marks, changes, pending, place)?;
+    }
+    Ok(())
+}
+
+// The node at a place gets the time of its equation; where that is another one, the nodes behind it become pending.
+fn visit<M: MarkReads>(
+    alloc: Global,
+    flat: &Flat,
+    rank: &Rank,
+    marks: &mut M,
+    changes: &mut Overlay,
+    pending: &mut Pending,
+    place: usize,
+) -> Result<(), NoMemory>
+    requires place { place < length rank.now }
+    requires behind { AllBehind place pending.old.keys }
+    requires within { AllWithin (length rank.now) pending.old.keys }
+    ensures walked { OnOk result (Walks flat.now.cards rank.now (M.kept marks.old) (place ∷ pending.old.keys) changes.old pending.new.keys changes.new) }
+    ensures spent { OnOk result (Spends flat.now.cards rank.now (M.reads marks.old) (place ∷ pending.old.keys) (M.reads marks.new) pending.new.keys) }
+    ensures behind { OnOk result (AllBehind place pending.new.keys) }
+    ensures within { OnOk result (AllWithin (length rank.now) pending.new.keys) }
+    ensures same { M.kept marks.new ≡ M.kept marks.old }
+    ensures rises { M.reads marks.old ≤ M.reads marks.new }
+    ensures count { M.reads marks.new ≤ M.reads marks.old + visit_cost (card_at (get_or rank.now place 0) flat.now.cards) }
+{
+    match flat.card(rank.nodes()[place]) {
+        None => Ok(()),
+        Some(card) => match revised(alloc, flat, marks, changes, card)? {
+            None => Ok(()),
+            Some(mark) => {
+                changes.set((card.node, said(mark)))?;
+                hand_on(rank, card, Some(place), pending)
+            }
+        },
+    }
+}
+
+// The node's mark with the time of its equation. None where it has that time.
+fn revised<M: MarkReads>(
+    alloc: Global,
+    flat: &Flat,
+    marks: &mut M,
+    changes: &Overlay,
+    card: &Card,
+) -> Result<Option<Mark>, NoMemory>
+    ensures mark { IfOk result (λ mark. IsRevised flat.now.cards (seen (M.kept marks.old) changes.now) card.now mark) }
+    ensures same { M.kept marks.new ≡ M.kept marks.old }
+    ensures rises { M.reads marks.old ≤ M.reads marks.new }
+    ensures count { M.reads marks.new ≤ M.reads marks.old + (1 + (length card.now.ins + length card.now.syncs_in)) }
+{
+    let old = mark_at(marks, changes, card.node);
+    let timed = equation(alloc, flat, marks, changes, card)?;
+    if timed == time_of(&old) {
+        return Ok(None);
+    }
+    Ok(Some(with_time(old, timed)))
+}
+
+// The mark with another time.
+fn with_time(mark: Mark, timed: Timed) -> Mark
+    ensures { result ≡ with_time timed mark }
+{
+    match timed {
+        None => Mark {
+            ready_at: None,
+            skipped_at: None,
+            ..mark
+        },
+        Some((position, Flow::Yes)) => Mark {
+            ready_at: Some(position),
+            skipped_at: None,
+            ..mark
+        },
+        Some((position, Flow::No)) => Mark {
+            ready_at: None,
+            skipped_at: Some(position),
+            ..mark
+        },
+    }
+}
