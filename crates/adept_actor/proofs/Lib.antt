@@ -1,3 +1,4 @@
 pub mod Doing
 pub mod Desks
 pub mod Acts
+pub mod Leaving

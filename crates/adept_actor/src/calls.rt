@@ -1,5 +1,6 @@
 // The calls of a line.
 ghost use Rattle.std.specs.Prelude.{◌≡◌};
+ghost use Rattle.adept_actor.specs.Others.{LeavesOthers};
 ghost use Rattle.adept_actor.specs.Work.{Acts, CanAct, first_fault};
 ghost use Rattle.adept_server.specs.Desks.{IsDeskOf, desk_view};
 
@@ -28,6 +29,7 @@ pub fn act<R: Threads + Wait + Sync, G: Gate + Sync>(
     requires able { CanAct (desk_view desk.old) act.now }
     ensures desk { IsDeskOf server.now desk.new }
     ensures worked { Acts roles.now act.now result (desk_view desk.old) (desk_view desk.new) }
+    ensures others { LeavesOthers act.now (desk_view desk.old) (desk_view desk.new) }
 {
     match act {
         Act::Create(id) => {

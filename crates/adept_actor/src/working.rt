@@ -1,4 +1,5 @@
 // The lines of an actor.
+ghost use Rattle.adept_actor.specs.Others.{LeavesOthers, LeavesUnnamed};
 ghost use Rattle.adept_actor.specs.Work.{Acts, CanAct, CanWork, Works};
 ghost use Rattle.adept_server.specs.Desks.{IsDeskOf, desk_view};
 
@@ -12,7 +13,8 @@ use turn_cell::{CallFault, Gate, Side};
 use wsm_lists::RoleList;
 
 /// Makes the calls of the desk's own lines among these, in order, for an actor with these roles. The gate is reached before
-/// and after each of them. The first fault of a call is answered, and no line after that one is worked.
+/// and after each of them. The first fault of a call is answered, and no line after that one is worked. Passes of cells that no
+/// line names are as before.
 pub fn work<R: Threads + Wait + Sync, G: Gate + Sync>(
     rt: &R,
     alloc: Global,
@@ -26,6 +28,7 @@ pub fn work<R: Threads + Wait + Sync, G: Gate + Sync>(
     requires able { CanWork (desk_view desk.old) lines.now }
     ensures desk { IsDeskOf server.now desk.new }
     ensures worked { Works roles.now lines.now result (desk_view desk.old) (desk_view desk.new) }
+    ensures others { LeavesUnnamed lines.now (desk_view desk.old) (desk_view desk.new) }
 {
     for line in lines.as_slice() {
         if line.actor == desk.number() {
@@ -48,6 +51,7 @@ fn work_line<R: Threads + Wait + Sync, G: Gate + Sync>(
     requires able { CanAct (desk_view desk.old) line.now.act }
     ensures desk { IsDeskOf server.now desk.new }
     ensures worked { Acts roles.now line.now.act result (desk_view desk.old) (desk_view desk.new) }
+    ensures others { LeavesOthers line.now.act (desk_view desk.old) (desk_view desk.new) }
 {
     let actor = desk.number();
     gate.reach(actor, line.order, Side::Before);

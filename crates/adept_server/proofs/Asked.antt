@@ -1,13 +1,12 @@
 -- What a type answers to whom it defines and who asks it.
-use Rattle.std.proofs.Common.{◌≡◌, ℕ, ◌+◌, ◌<◌, Bool, true, false, List, [], ◌∷◌, ◌++◌, length, Option, Some, None, OnOk, IfOk, IsSome, IsErrAnd, Result, Ok, Err, slice_get, set, refl, sym, ap, ◌∙◌, subst, arith}
-use Rattle.std.proofs.lemmas.Option.{slice_get_within}
+use Rattle.std.proofs.Common.{◌≡◌, ℕ, ◌<◌, true, List, [], ◌∷◌, ◌++◌, length, Option, Some, None, OnOk, IsErrAnd, Result, Ok, Err, slice_get, refl, sym, ap, ◌∙◌, subst, arith}
 use Rattle.std.specs.Result.{result_map_both}
 use Rattle.adept_server.proofs.Called.{not_called}
 use Rattle.adept_server.proofs.Histories.{state-append, last-reply}
-use Rattle.adept_server.proofs.Keeping.{answered, kind_now_defined, kind_still_defined, case_still_defined}
+use Rattle.adept_server.proofs.Keeping.{answered, kind_now_defined}
 use Rattle.adept_server.proofs.Places.{set_same}
 use Rattle.adept_server.proofs.Rows.{there_at, in_there}
-use Rattle.adept_server.specs.Calling.{CallsOne, CallsKind, CallsCase, Creates, Migrates, tells_version, tells_newest}
+use Rattle.adept_server.specs.Calling.{CallsKind, CallsCase, Creates, Migrates, tells_version, tells_newest}
 use Rattle.adept_server.specs.Calling.Creates.{unasked}
 use Rattle.adept_server.specs.Calling.Migrates.{unasked as none_moves, asked as none_told}
 use Rattle.adept_server.specs.Desks.{KindPass, CasePass, DeskView, in_row, case_pass, has_kind, has_case, has_version, IsDefinedFor, IsDesk}

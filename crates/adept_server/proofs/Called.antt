@@ -1,5 +1,5 @@
 -- One call with one of many passes.
-use Rattle.std.proofs.Common.{◌≡◌, ℕ, zero, suc, ◌+◌, ◌<◌, ◌≤◌, List, [], ◌∷◌, ◌++◌, length, map, Option, Some, None, Result, Ok, Err, IfOk, IfErr, OnErr, slice_get, slice_index_or, set, refl, sym, ap, ◌∙◌, subst, arith}
+use Rattle.std.proofs.Common.{◌≡◌, ℕ, zero, suc, List, [], ◌∷◌, length, map, Some, Result, Ok, Err, IfOk, IfErr, OnErr, slice_get, set, refl, ap, ◌∙◌, subst}
 use Rattle.std.proofs.lemmas.List.{map-set, append-nil}
 use Rattle.std.proofs.lemmas.Option.{slice_get-map}
 use Rattle.std.specs.Prelude.{option_map}

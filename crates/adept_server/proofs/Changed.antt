@@ -1,14 +1,14 @@
 -- Desks that were made of others.
-use Rattle.std.proofs.Common.{◌≡◌, ℕ, ◌+◌, ◌<◌, Bool, true, List, length, map, All, Option, Some, None, slice_get, ◌⊎◌, inl, inr, refl, sym, ap, ◌∙◌, subst, arith}
+use Rattle.std.proofs.Common.{◌≡◌, ℕ, Bool, true, List, length, All, Option, Some, None, slice_get, inl, inr, refl, sym, ap, ◌∙◌, subst, arith}
 use Rattle.std.specs.Prelude.{◌||◌}
 use Rattle.std.specs.List.{AllZip}
 use Rattle.case_core.specs.Machine.{case_after, case_reply}
 use Rattle.turn_cell.specs.Passes.{PassView, IsLegalView}
 use Rattle.turn_rows.specs.Rows.{IsSeenBy, zip_with}
 use Rattle.turn_rows.proofs.Places.{All-slice_get}
-use Rattle.adept_server.specs.Desks.{KindPass, CasePass, DeskView, at_case, case_pass, has_version, IsDefinedFor, IsPassAt, IsDesk}
+use Rattle.adept_server.specs.Desks.{KindPass, CasePass, DeskView, at_case, case_pass, has_version, AreShort, IsDefinedFor, IsPassAt, IsDesk}
 use Rattle.adept_server.proofs.Keeping.{has_more}
-use Rattle.adept_server.proofs.Zips.{zip_there, zip_of_case, map_there, map_of_case, all_of_case, beside, either_raised}
+use Rattle.adept_server.proofs.Zips.{zip_there, zip_of_case, all_of_case, beside, either_raised}
 use Rattle.case_core.specs.CaseModel.{not_created}
 use Rattle.type_core.specs.KindModel.{not_defined}
 use Rattle.type_core.specs.Machine.{kind_after, kind_reply}
@@ -31,15 +31,17 @@ module _ {M E R W S : Type 0} (after : S → E → S) (reply : S → E → R) (v
       record { opening_is = comes.opening ∙ k.opening_is; number = counts.0; made = counts.1; taken = counts.2; legal = comes.legal }
 
 -- where each pass was made of one of another desk
-pub desk_again : (v x : DeskView) → IsDesk v → (length x.kinds ≡ length v.kinds) × (length x.cases ≡ length v.cases) × (length x.defined ≡ length v.defined)
+pub desk_again : (v x : DeskView) → IsDesk v → (length x.kinds ≡ length v.kinds) × (length x.cases ≡ length v.cases) × (length x.defined ≡ length v.defined) → AreShort x.cases
     → ((t : ℕ) (q : KindPass) → slice_get x.kinds t ≡ Some q → (p : KindPass) × (slice_get v.kinds t ≡ Some p) × ComesOf kind_after kind_reply v x p q)
     → ((c : CaseId) (q : CasePass) → case_pass x c ≡ Some q → (p : CasePass) × (case_pass v c ≡ Some p) × ComesOf case_after case_reply v x p q)
     → ((t : ℕ) → slice_get x.defined t ≡ Some true → IsDefinedFor x t) → IsDesk x
-desk_again v x desk even kinds cases known = record {
+desk_again v x desk even short kinds cases known = record {
   kinds = λ t q is. let p = kinds t q is in pass_again kind_after kind_reply v x (not_defined t) p.0 q (desk.kinds t p.0 p.1) p.2;
   cases = λ c q is. let p = cases c q is in pass_again case_after case_reply v x (not_created c.type_no) p.0 q (desk.cases c p.0 p.1) p.2;
   rows = even.1 ∙ (desk.rows ∙ sym even.0);
   flags = even.2 ∙ (desk.flags ∙ sym even.0);
+  few = omega (arith, even.1, desk.few);
+  short = short;
   known = known;
 }
 

@@ -1,13 +1,11 @@
 -- How a server ends.
-use Rattle.std.proofs.Common.{◌≡◌, ℕ, zero, suc, ◌+◌, List, [], ◌∷◌, length, map, All, Some, Vec, slice_get, refl, sym, ap, ◌∙◌, subst, arith}
+use Rattle.std.proofs.Common.{◌≡◌, suc, ◌+◌, List, [], ◌∷◌, length, map, All, Some, Vec, refl, sym, ap, ◌∙◌, subst}
 use Rattle.std.specs.List.{AllZip}
-use Rattle.std.proofs.lemmas.List.{length-map}
 use Rattle.case_core.specs.Machine.{case_after, case_reply}
 use Rattle.turn_cell.specs.declared.journal.Closed.{Closed}
 use Rattle.turn_cell.specs.declared.pass.Pass.{Pass}
-use Rattle.turn_cell.specs.Passes.{PassView, view_of, IsClosed}
 use Rattle.turn_rows.specs.Rows.{CanClose, IsClosedAs, views}
-use Rattle.adept_server.specs.Desks.{DeskView, IsDesk, IsDeskOf, at_case, desk_view, in_row}
+use Rattle.adept_server.specs.Desks.{DeskView, IsDeskOf, at_case, desk_view, in_row}
 use Rattle.adept_server.specs.Opening.{IsClosedServer}
 use Rattle.adept_server.specs.Vecs.{lists_of, row_views}
 use Rattle.adept_server.specs.declared.closing.ClosedServer.{ClosedServer}

@@ -1,20 +1,20 @@
 -- How a server begins.
-use Rattle.std.proofs.Common.{◌≡◌, ℕ, zero, suc, ◌+◌, ◌<◌, ◌≤◌, Bool, true, false, List, [], ◌∷◌, ◌++◌, length, map, take, get_or, replicate, All, Vec, Option, Some, None, slice_get, ◌⊎◌, inl, inr, refl, sym, ap, ◌∙◌, subst, arith}
-use Rattle.std.proofs.lemmas.List.{length-map, length-replicate, length-take-le, map_push}
+use Rattle.std.proofs.Common.{◌≡◌, ℕ, zero, suc, ◌+◌, ◌^◌, ◌<◌, true, false, List, [], ◌∷◌, ◌++◌, length, map, sum, take, get_or, replicate, All, Vec, Some, None, slice_get, ◌⊎◌, inl, inr, refl, sym, ap, ◌∙◌, subst, arith}
+use Rattle.std.proofs.lemmas.List.{length-map, length-take-le, map_push}
 use Rattle.case_core.specs.Machine.{case_after, case_reply}
 use Rattle.turn_rows.proofs.Lists.{take_item}
 use Rattle.turn_batch.specs.Batch.{AreOf}
-use Rattle.turn_batch.proofs.Calls.{length-passes}
-use Rattle.turn_cell.specs.Passes.{PassView, IsLegalView, cell_id, first_of, view_of}
+use Rattle.turn_cell.specs.Passes.{PassView, IsLegalView, first_of, view_of}
 use Rattle.turn_cell.specs.declared.cell.Cell.{Cell}
 use Rattle.turn_cell.specs.declared.pass.Pass.{Pass}
 use Rattle.turn_rows.specs.Rows.{AreOpened, views}
-use Rattle.adept_server.specs.Desks.{KindPass, CasePass, DeskView, IsDefinedFor, IsDesk, IsDeskOf, IsPassAt, AreRowsOf, at_case, case_pass, desk_view, in_row}
+use Rattle.adept_server.specs.Desks.{CasePass, DeskView, IsDesk, IsDeskOf, IsPassAt, desk_view, in_row}
 use Rattle.adept_server.specs.Firsts.{AreFirstCases, AreFirstKinds, AreFirstsOf, IsFirst}
 use Rattle.adept_server.specs.Opening.{IsFirstDesk, IsUnused}
-use Rattle.adept_server.specs.Vecs.{AreVecsOf, lists_of, row_views}
+use Rattle.adept_server.specs.Vecs.{AreVecsOf, row_views}
 use Rattle.adept_server.specs.declared.desks.Desk.{Desk}
 use Rattle.adept_server.specs.declared.servers.Server.{Server}
+use Rattle.adept_server.proofs.Short.{short_counts}
 use Rattle.adept_server.proofs.Zips.{all_from_places, row_of_case}
 use Rattle.case_core.specs.CaseModel.{CaseModel, not_created}
 use Rattle.case_core.specs.declared.events.Event.{Event}
@@ -24,7 +24,6 @@ use Rattle.type_core.specs.Machine.{kind_after, kind_reply}
 use Rattle.type_core.specs.declared.events.KindEvent.{KindEvent}
 use Rattle.type_core.specs.declared.replies.KindReply.{KindReply}
 use Rattle.type_core.specs.KindModel.{KindModel, not_defined}
-use Rattle.wsm_sound.specs.declared.versions.CaseId.{CaseId}
 
 -- what a first pass of a cell is
 module _ {M E R W S : Type 0} (after : S → E → S) (reply : S → E → R) where
@@ -54,12 +53,14 @@ all_lowered [] = refl
 all_lowered (x ∷ xs) = ap (λ bs. false ∷ bs) (all_lowered xs)
 
 module _ (counts : List ℕ) (v : DeskView) (number : v.number ≡ 0) (made : v.made ≡ 1) (taken : v.taken ≡ 0) (flags : v.defined ≡ map (λ _. false) counts) (kinds : AreFirstKinds (length counts) v.kinds) (cases : AreFirstsOf counts v.cases) where
-  pub first_desk_is_desk : IsDesk v
-  first_desk_is_desk = record {
+  pub first_desk_is_desk : length counts + sum counts < 2 ^ 32 → IsDesk v
+  first_desk_is_desk small = record {
     kinds = λ t p is. first_at kind_after kind_reply (not_defined t) v p number made taken (kinds.each t p is);
     cases = λ c p is. first_at case_after case_reply (not_created c.type_no) v p number made taken (cases.each c p is);
     rows = omega (arith, length-map v.cases (length {A = CasePass}), ap length cases.many, kinds.many);
     flags = omega (arith, ap length flags, length-map counts (λ (n : ℕ). false), kinds.many);
+    few = omega (arith, length-map v.cases (length {A = CasePass}), ap length cases.many, small);
+    short = short_counts counts v.cases cases.many (omega (arith, small));
     known = λ t is. absurd (none_raised counts t (ap (λ bs. slice_get bs t) (sym flags) ∙ is));
   }
 
@@ -79,8 +80,8 @@ module _ (counts : List ℕ) (d : Desk) (number : d.number ≡ 0) (made : d.made
   lowered : d.defined.items ≡ map (λ _. false) counts
   lowered = flags ∙ all_lowered counts
 
-  pub first_desk_of : {s : Server} → AreOf s.kinds.items d.kinds.items → AreVecsOf s.cases.items d.cases.items → IsDeskOf s d
-  first_desk_of of_kinds of_cases = record { kinds = of_kinds; cases = of_cases; desk = first_desk_is_desk counts (desk_view d) number made taken lowered kinds cases }
+  pub first_desk_of : {s : Server} → length counts + sum counts < 2 ^ 32 → AreOf s.kinds.items d.kinds.items → AreVecsOf s.cases.items d.cases.items → IsDeskOf s d
+  first_desk_of small of_kinds of_cases = record { kinds = of_kinds; cases = of_cases; desk = first_desk_is_desk counts (desk_view d) number made taken lowered kinds cases small }
 
   pub first_desk_is : IsFirstDesk counts (desk_view d)
   first_desk_is = is_first_desk counts (desk_view d) number made taken lowered kinds cases

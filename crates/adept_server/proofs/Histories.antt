@@ -1,5 +1,5 @@
 -- Journals that go on.
-use Rattle.std.proofs.Common.{◌≡◌, ℕ, List, [], ◌∷◌, ◌++◌, refl}
+use Rattle.std.proofs.Common.{◌≡◌, List, [], ◌∷◌, ◌++◌, refl}
 use Rattle.turn_cell.specs.History.{IsLegal, state_after}
 use Rattle.turn_cell.specs.declared.journal.Entry.{Entry}
 

@@ -1,5 +1,5 @@
 -- A desk stays one behind each call.
-use Rattle.std.proofs.Common.{◌≡◌, ℕ, ◌+◌, ◌<◌, ◌≤◌, Bool, true, false, List, [], ◌∷◌, ◌++◌, length, Option, Some, None, Result, Ok, Err, IsSome, MatchResult, slice_get, set, ◌⊎◌, inl, inr, refl, sym, ap, ◌∙◌, subst, arith, if◌then◌else◌}
+use Rattle.std.proofs.Common.{◌≡◌, ℕ, ◌^◌, ◌<◌, Bool, true, false, List, [], ◌∷◌, ◌++◌, length, Option, Some, None, Result, Ok, Err, slice_get, set, ◌⊎◌, inl, inr, refl, sym, ap, ◌∙◌, subst, arith, if◌then◌else◌}
 use Rattle.std.proofs.Math.ListN.{length-set}
 use Rattle.std.proofs.lemmas.Option.{slice_get_within}
 use mathlib.Core.List.{IsPrefix}
@@ -7,15 +7,16 @@ use Rattle.adept_server.proofs.Histories.{state-append, last-reply}
 use Rattle.adept_server.proofs.OneCall.{legal_behind, more_seen, one_behind, one_before, each_behind}
 use Rattle.adept_server.proofs.Places.{get-set_same, set_cases}
 use Rattle.adept_server.proofs.Rows.{case_cases}
+use Rattle.adept_server.proofs.Short.{each-even, short_set}
 use Rattle.adept_server.proofs.Versions.{told-version}
 use Rattle.adept_server.specs.Calling.{IsAnswered, CallsOne, CallsKind, CallsCase, CallsCases, answer_tells, tells_version}
-use Rattle.adept_server.specs.Desks.{KindPass, CasePass, DeskView, in_row, at_case, case_pass, has_version, IsDefinedFor, IsPassAt, IsDesk}
-use Rattle.case_core.specs.CaseModel.{CaseModel, not_created}
+use Rattle.adept_server.specs.Desks.{KindPass, CasePass, DeskView, in_row, at_case, case_pass, has_version, AreShort, IsDefinedFor, IsPassAt, IsDesk}
+use Rattle.case_core.specs.CaseModel.{not_created}
 use Rattle.case_core.specs.Machine.{case_after, case_reply}
 use Rattle.case_core.specs.declared.events.Event.{Event}
 use Rattle.case_core.specs.declared.replies.Reply.{Reply}
 use Rattle.turn_cell.specs.History.{IsLegal, IsLegalFrom, entry, state_after}
-use Rattle.turn_cell.specs.Passes.{PassView, Sees, Calls}
+use Rattle.turn_cell.specs.Passes.{PassView, Calls}
 use Rattle.turn_cell.specs.declared.faults.CallFault.{CallFault}
 use Rattle.type_core.proofs.Versions.{versions-kept}
 use Rattle.type_core.specs.KindModel.{KindModel, not_defined}
@@ -130,6 +131,8 @@ module _ (e : KindEvent) (t : ℕ) (answer : Result KindReply CallFault) (v w : 
     cases = λ c p is. pass_beside case_after case_reply v w kind_beside (not_created c.type_no) p (desk.cases c p (ap (λ rows. at_case rows c) (sym same_cases) ∙ is));
     rows = ap length same_cases ∙ (desk.rows ∙ sym kinds-length);
     flags = ap length (ap (λ (x : DeskView). x.defined) k.others) ∙ (flags-length (answer_tells answer) ∙ (desk.flags ∙ sym kinds-length));
+    few = subst (λ (rows : List (List CasePass)). length rows < 2 ^ 32) (sym same_cases) desk.few;
+    short = subst (λ (rows : List (List CasePass)). AreShort rows) (sym same_cases) desk.short;
     known = kind_known desk;
   }
     where
@@ -162,6 +165,8 @@ module _ (e : Event) (id : CaseId) (answer : Result Reply CallFault) (v w : Desk
     cases = λ c q is. go c q (case_cases v.cases id.type_no k.row_behind c q (ap (λ rows. at_case rows c) (sym cases_behind) ∙ is));
     rows = ap length cases_behind ∙ (length-set v.cases id.type_no k.row_behind ∙ (desk.rows ∙ ap length (sym same_kinds)));
     flags = ap length same_flags ∙ (desk.flags ∙ ap length (sym same_kinds));
+    few = omega (arith, ap length cases_behind, length-set v.cases id.type_no k.row_behind, desk.few);
+    short = subst (λ (rows : List (List CasePass)). AreShort rows) (sym cases_behind) (short_set v.cases id.type_no k.row k.row_behind k.there (ap length k.called.others ∙ length-set k.row id.place k.called.behind) desk.short);
     known = λ u is. case_still_defined u (desk.known u (ap (λ xs. slice_get xs u) (sym same_flags) ∙ is));
   }
     where
@@ -195,6 +200,8 @@ module _ (e : Event) (t : ℕ) (answers : List (Result Reply CallFault)) (v w : 
     cases = λ c q is. go c q (case_cases v.cases t k.row_behind c q (ap (λ rows. at_case rows c) (sym cases_behind) ∙ is));
     rows = ap length cases_behind ∙ (length-set v.cases t k.row_behind ∙ (desk.rows ∙ ap length (sym same_kinds)));
     flags = ap length same_flags ∙ (desk.flags ∙ ap length (sym same_kinds));
+    few = omega (arith, ap length cases_behind, length-set v.cases t k.row_behind, desk.few);
+    short = subst (λ (rows : List (List CasePass)). AreShort rows) (sym cases_behind) (short_set v.cases t k.row k.row_behind k.there (each-even case_after case_reply e k.row answers k.row_behind k.called) desk.short);
     known = λ u is. cases_still_defined u (desk.known u (ap (λ xs. slice_get xs u) (sym same_flags) ∙ is));
   }
     where

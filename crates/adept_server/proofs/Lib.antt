@@ -4,12 +4,14 @@ pub mod Histories
 pub mod Versions
 pub mod Rows
 pub mod OneCall
+pub mod Short
 pub mod Keeping
 pub mod Asked
 pub mod Looks
 pub mod Made
 pub mod Sent
 pub mod Zips
+pub mod Noted
 pub mod Changed
 pub mod RowsMet
 pub mod Meeting

@@ -1,7 +1,7 @@
 -- What looks leave of passes.
 use Rattle.std.proofs.Common.{◌≡◌, ℕ, zero, suc, ◌+◌, List, [], ◌∷◌, length, Some, slice_get, refl, sym, ap, ◌∙◌, subst, arith}
 use Rattle.std.proofs.lemmas.List.{append-nil}
-use Rattle.adept_server.specs.Desks.{CasePass, DeskView, IsDesk, has_version, in_row}
+use Rattle.adept_server.specs.Desks.{AreShort, CasePass, DeskView, IsDesk, has_version, in_row}
 use Rattle.adept_server.specs.Offering.{HasLooked, EachLooked, AllLooked, AllOpened, OpenedAs, Looks}
 use Rattle.adept_server.proofs.Keeping.{Beside, pass_beside}
 use Rattle.case_core.specs.CaseModel.{not_created}
@@ -62,6 +62,18 @@ looked-length [] (n ∷ news) k = absurd k
 looked-length (r ∷ rows) [] k = absurd k
 looked-length (r ∷ rows) (n ∷ news) k = ap suc (looked-length rows news k.1)
 
+row-even : (ps qs : List CasePass) → EachLooked ps qs → length qs ≡ length ps
+row-even [] [] k = refl
+row-even [] (q ∷ qs) k = absurd k
+row-even (p ∷ ps) [] k = absurd k
+row-even (p ∷ ps) (q ∷ qs) k = ap suc (row-even ps qs k.1)
+
+looked-short : (rows news : List (List CasePass)) → AllLooked rows news → AreShort rows → AreShort news
+looked-short [] [] k short = tt
+looked-short [] (n ∷ news) k short = absurd k
+looked-short (r ∷ rows) [] k short = absurd k
+looked-short (r ∷ rows) (n ∷ news) k short = (omega (arith, row-even r n k.0, short.0), looked-short rows news k.1 short.1)
+
 -- a desk is one still behind looks
 pub looks_keep : (v w : DeskView) → Looks v w → IsDesk v → IsDesk w
 looks_keep v w k desk = record {
@@ -78,6 +90,8 @@ looks_keep v w k desk = record {
       };
   rows = looked-length v.cases w.cases k.looked ∙ (desk.rows ∙ ap length (sym same_kinds));
   flags = ap length same_flags ∙ (desk.flags ∙ ap length (sym same_kinds));
+  few = omega (arith, looked-length v.cases w.cases k.looked, desk.few);
+  short = looked-short v.cases w.cases k.looked desk.short;
   known = λ u is. subst (λ ps. has_version u (slice_get ps u)) (sym same_kinds) (desk.known u (ap (λ xs. slice_get xs u) (sym same_flags) ∙ is));
 }
   where

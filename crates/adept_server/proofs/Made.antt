@@ -1,5 +1,5 @@
 -- The calls of a server's desks, and what they make of them.
-use Rattle.std.proofs.Common.{◌≡◌, ℕ, zero, suc, ◌+◌, ◌<◌, Bool, true, false, List, [], ◌∷◌, length, map, Option, Some, None, IsSome, IfOk, OnErr, Result, Ok, Err, slice_get, set, refl, sym, ap, ◌∙◌, subst, arith, if◌then◌else◌}
+use Rattle.std.proofs.Common.{◌≡◌, ℕ, ◌<◌, Bool, true, List, length, map, IfOk, OnErr, Result, Ok, Err, set, refl, sym, ap, ◌∙◌, subst, arith, if◌then◌else◌}
 use Rattle.std.proofs.Math.ListN.{length-map}
 use Rattle.adept_server.proofs.Keeping.{kind_call, kind_keeps, case_keeps, cases_keep}
 use Rattle.adept_server.proofs.Looks.{looks_keep}
@@ -14,7 +14,7 @@ use Rattle.case_core.specs.Machine.{case_after, case_reply}
 use Rattle.case_core.specs.declared.events.Event.{Event}
 use Rattle.case_core.specs.declared.replies.Reply.{Reply}
 use Rattle.turn_batch.specs.Batch.{AreOf}
-use Rattle.turn_cell.specs.Passes.{PassView, view_of}
+use Rattle.turn_cell.specs.Passes.{view_of}
 use Rattle.turn_cell.specs.declared.faults.CallFault.{CallFault}
 use Rattle.type_core.specs.Machine.{kind_after, kind_reply}
 use Rattle.type_core.specs.declared.events.KindEvent.{KindEvent}

@@ -1,19 +1,21 @@
 -- Desks that meet.
-use Rattle.std.proofs.Common.{◌≡◌, ℕ, Bool, List, length, map, All, refl, sym, ap, ◌∙◌, subst, arith}
+use Rattle.std.proofs.Common.{◌≡◌, Bool, length, All, refl, sym, ◌∙◌, subst, arith}
 use Rattle.std.specs.Prelude.{◌||◌}
 use Rattle.std.specs.List.{AllZip}
 use Rattle.case_core.specs.Machine.{case_after, case_reply}
 use Rattle.turn_batch.proofs.Calls.{length-passes}
-use Rattle.turn_cell.specs.Passes.{PassView, view_of, IsLegalView}
-use Rattle.turn_rows.specs.Rows.{IsSeenBy, first_met, second_met, views, zip_with}
+use Rattle.turn_cell.specs.Passes.{IsLegalView}
+use Rattle.turn_rows.specs.Rows.{IsSeenBy, first_met, second_met, zip_with}
 use Rattle.turn_rows.proofs.Places.{length-zip_with, length-views}
-use Rattle.adept_server.specs.Desks.{KindPass, CasePass, DeskView, IsDesk, IsDeskOf, desk_view}
+use Rattle.adept_server.specs.Desks.{DeskView, IsDesk, IsDeskOf, desk_view}
 use Rattle.adept_server.specs.Opening.{SeesMore, first_desk_met, second_desk_met}
-use Rattle.adept_server.specs.Vecs.{AllMet, RowMet, row_views}
+use Rattle.adept_server.specs.Vecs.{AllMet, RowMet}
 use Rattle.adept_server.specs.declared.desks.Desk.{Desk}
 use Rattle.adept_server.specs.declared.servers.Server.{Server}
-use Rattle.adept_server.proofs.Changed.{OfFirst, OfSecond, desk_again, first_comes, first_case_comes, second_comes, second_case_comes, known_by_both}
+use Rattle.adept_server.proofs.Changed.{desk_again, first_comes, first_case_comes, second_comes, second_case_comes, known_by_both}
 use Rattle.adept_server.proofs.Made.{same_views}
+use Rattle.adept_server.proofs.Short.{short_zip}
+use Rattle.adept_server.proofs.Zips.{all_from_places, all_from_cases}
 use Rattle.type_core.specs.Machine.{kind_after, kind_reply}
 
 module _ (v w : DeskView) (one : IsDesk v) (two : IsDesk w) (even : length w.kinds ≡ length v.kinds) where
@@ -28,7 +30,7 @@ module _ (v w : DeskView) (one : IsDesk v) (two : IsDesk w) (even : length w.kin
   first_is_desk legal legal_cases more =
       let x : DeskView = first_desk_met v w in
       desk_again v x one
-      (length-zip_with first_met v.kinds w.kinds even, length-zip_with (zip_with first_met) v.cases w.cases even_cases, length-zip_with (λ (a b : Bool). a || b) v.defined w.defined even_flags)
+      (length-zip_with first_met v.kinds w.kinds even, length-zip_with (zip_with first_met) v.cases w.cases even_cases, length-zip_with (λ (a b : Bool). a || b) v.defined w.defined even_flags) (short_zip first_met v.cases w.cases one.short)
       (first_comes kind_after kind_reply v x first_met (record { opening = λ p o. refl; counted = λ p o counts. counts }) v.kinds w.kinds legal)
       (first_case_comes case_after case_reply v x first_met (record { opening = λ p o. refl; counted = λ p o counts. counts }) v.cases w.cases legal_cases)
       (known_by_both v w x one two refl more.0 more.1)
@@ -38,10 +40,14 @@ module _ (v w : DeskView) (one : IsDesk v) (two : IsDesk w) (even : length w.kin
   second_is_desk legal legal_cases more =
       let x : DeskView = second_desk_met v w in
       desk_again w x two
-      (length-zip_with second_met v.kinds w.kinds even ∙ sym even, length-zip_with (zip_with second_met) v.cases w.cases even_cases ∙ sym even_cases, length-zip_with (λ (a b : Bool). a || b) v.defined w.defined even_flags ∙ sym even_flags)
+      (length-zip_with second_met v.kinds w.kinds even ∙ sym even, length-zip_with (zip_with second_met) v.cases w.cases even_cases ∙ sym even_cases, length-zip_with (λ (a b : Bool). a || b) v.defined w.defined even_flags ∙ sym even_flags) (short_zip second_met v.cases w.cases one.short)
       (second_comes kind_after kind_reply w x second_met (record { opening = λ o p. refl; counted = λ o p counts. counts }) v.kinds w.kinds legal)
       (second_case_comes case_after case_reply w x second_met (record { opening = λ o p. refl; counted = λ o p counts. counts }) v.cases w.cases legal_cases)
       (known_by_both v w x one two refl more.0 more.1)
+
+-- what each pass of a desk has seen is legal
+pub legal_desk : (v : DeskView) → IsDesk v → All (IsLegalView kind_after kind_reply) v.kinds × All (All (IsLegalView case_after case_reply)) v.cases
+legal_desk v desk = (all_from_places (IsLegalView kind_after kind_reply) v.kinds (λ t p is. (desk.kinds t p is).legal), all_from_cases (IsLegalView case_after case_reply) v.cases (λ c p is. (desk.cases c p is).legal))
 
 -- the same counts
 pub record SameCounts (d e : Desk) : Type 0 where

@@ -1,5 +1,5 @@
 -- What one call leaves of each pass of a list.
-use Rattle.std.proofs.Common.{◌≡◌, ℕ, zero, suc, List, [], ◌∷◌, ◌++◌, map, Option, Some, None, Result, Ok, Err, IfOk, OnErr, MatchResult, slice_get, set, ◌⊎◌, inl, inr, refl, sym, ap, ◌∙◌, subst, append_assoc}
+use Rattle.std.proofs.Common.{◌≡◌, ℕ, zero, suc, List, [], ◌∷◌, ◌++◌, map, Some, Result, Ok, Err, IfOk, OnErr, MatchResult, slice_get, ◌⊎◌, inl, inr, refl, sym, ap, ◌∙◌, subst, append_assoc}
 use mathlib.Core.List.{IsPrefix}
 use Rattle.adept_server.proofs.Places.{set_cases, stays_or_set}
 use Rattle.adept_server.specs.Calling.{IsAnswered, CallEach, CallsOne}

@@ -1,22 +1,21 @@
 -- A desk that makes another.
-use Rattle.std.proofs.Common.{◌≡◌, ℕ, ◌+◌, ◌-◌, ◌^◌, ◌<◌, true, List, [], ◌∷◌, ◌++◌, length, map, All, Some, slice_get, refl, sym, ap, ◌∙◌, subst, arith}
+use Rattle.std.proofs.Common.{◌≡◌, ◌+◌, ◌<◌, List, [], ◌∷◌, map, All, refl, sym, ap, ◌∙◌, subst, arith}
 use Rattle.std.specs.List.{AllZip}
 use Rattle.std.proofs.lemmas.List.{append-nil, length-map}
 use Rattle.case_core.specs.Machine.{case_after, case_reply}
-use Rattle.turn_batch.proofs.Calls.{length-passes}
-use Rattle.turn_cell.specs.Passes.{PassView, view_of, IsLegalView, split_off}
+use Rattle.turn_cell.specs.Passes.{PassView, IsLegalView, split_off}
 use Rattle.turn_rows.specs.Rows.{CanSplit, IsSeenBy, split_from, views}
 use Rattle.turn_rows.proofs.Places.{All-slice_get}
-use Rattle.adept_server.specs.Desks.{KindPass, CasePass, DeskView, IsDefinedFor, IsDesk, IsDeskOf, IsPassAt, at_case, case_pass, desk_view}
+use Rattle.adept_server.specs.Desks.{DeskView, IsDesk, IsDeskOf, desk_view}
 use Rattle.adept_server.specs.Opening.{new_desk, parent_desk}
 use Rattle.adept_server.specs.Vecs.{AllSplit, RowSplit, row_views}
 use Rattle.adept_server.specs.declared.desks.Desk.{Desk}
 use Rattle.adept_server.specs.declared.servers.Server.{Server}
 use Rattle.adept_server.proofs.Changed.{ComesOf, IsCountedBy, desk_again, still_defined}
 use Rattle.adept_server.proofs.Made.{same_views}
+use Rattle.adept_server.proofs.Short.{short_map}
 use Rattle.adept_server.proofs.Zips.{map_there, map_of_case, all_of_case, all_from_places, all_from_cases}
 use Rattle.type_core.specs.Machine.{kind_after, kind_reply}
-use Rattle.wsm_sound.specs.declared.versions.CaseId.{CaseId}
 
 -- passes that have seen the same have seen no less
 seen_by_image : {M E R W S : Type 0} (f : PassView M E R W S → PassView M E R W S) → ((p : PassView M E R W S) → (f p).seen ≡ p.seen) → (ps : List (PassView M E R W S)) → AllZip IsSeenBy ps (map f ps)
@@ -36,7 +35,7 @@ module _ (v : DeskView) (desk : IsDesk v) where
   pub parent_is_desk : IsDesk (parent_desk v)
   parent_is_desk =
       let x : DeskView = parent_desk v in
-      desk_again v x desk (length-map v.kinds split_from, length-map v.cases (map split_from), refl)
+      desk_again v x desk (length-map v.kinds split_from, length-map v.cases (map split_from), refl) (short_map split_from v.cases desk.short)
       (λ t q is. let p = map_there split_from v.kinds t q is in
       (p.0, p.1, image_comes kind_after kind_reply v x split_from (λ p. refl) (λ p counts. (counts.0, ap (λ n. n + 1) counts.1, counts.2)) p.0 q p.2 (still_legal kind_after kind_reply p.0 q p.2 (desk.kinds t p.0 p.1).legal)))
       (λ c q is. let p = map_of_case split_from v.cases c q is in
@@ -46,7 +45,7 @@ module _ (v : DeskView) (desk : IsDesk v) where
   pub new_is_desk : All (IsLegalView kind_after kind_reply) (map split_off v.kinds) → All (All (IsLegalView case_after case_reply)) (map (map split_off) v.cases) → IsDesk (new_desk v)
   new_is_desk legal legal_cases =
       let x : DeskView = new_desk v in
-      desk_again v x desk (length-map v.kinds split_off, length-map v.cases (map split_off), refl)
+      desk_again v x desk (length-map v.kinds split_off, length-map v.cases (map split_off), refl) (short_map split_off v.cases desk.short)
       (λ t q is. let p = map_there split_off v.kinds t q is in
       (p.0, p.1, image_comes kind_after kind_reply v x split_off (λ p. refl) (λ p counts. (counts.1, refl, refl)) p.0 q p.2 (All-slice_get (IsLegalView kind_after kind_reply) x.kinds t q legal is)))
       (λ c q is. let p = map_of_case split_off v.cases c q is in

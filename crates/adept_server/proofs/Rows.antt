@@ -1,5 +1,5 @@
 -- Rows of cells and of passes.
-use Rattle.std.proofs.Common.{◌≡◌, ℕ, zero, suc, ◌+◌, ◌<◌, ◌≤◌, ltb, Bool, true, List, [], ◌∷◌, length, map, Option, Some, None, IsSome, Vec, slice_get, get_or, set, ◌⊎◌, inl, inr, refl, sym, ap, ◌∙◌, subst, arith}
+use Rattle.std.proofs.Common.{◌≡◌, ℕ, zero, suc, ◌<◌, ◌≤◌, ltb, true, List, [], ◌∷◌, length, map, Option, Some, None, IsSome, Vec, slice_get, get_or, set, ◌⊎◌, inl, inr, refl, sym, ap, ◌∙◌, subst, arith}
 use borrow.Author.Tests.{ltb-true, lt-ltb, true-ltb}
 use Rattle.std.proofs.Math.ListN.{length-map}
 use Rattle.std.proofs.lemmas.List.{map-set}

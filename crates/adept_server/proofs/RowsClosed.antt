@@ -1,5 +1,5 @@
 -- Rows that have room for others, and rows of closed cells.
-use Rattle.std.proofs.Common.{◌≡◌, ℕ, suc, ◌+◌, ◌<◌, ◌≤◌, List, [], ◌∷◌, ◌++◌, length, map, take, get_or, All, Vec, vec_len, vec_capacity, refl, ap, subst, arith}
+use Rattle.std.proofs.Common.{◌≡◌, ℕ, suc, ◌+◌, ◌<◌, ◌≤◌, List, [], ◌∷◌, ◌++◌, length, map, take, get_or, Vec, vec_len, vec_capacity, refl, ap, arith}
 use Rattle.std.specs.List.{AllZip}
 use Rattle.std.proofs.lemmas.List.{map_push, take_all}
 use Rattle.turn_rows.proofs.Lists.{take_item}
@@ -8,7 +8,6 @@ use Rattle.adept_server.specs.Vecs.{AreVecsOf, lists_of, row_views}
 use Rattle.turn_cell.specs.declared.cell.Cell.{Cell}
 use Rattle.turn_cell.specs.declared.journal.Closed.{Closed}
 use Rattle.turn_cell.specs.declared.pass.Pass.{Pass}
-use Rattle.turn_cell.specs.Passes.{PassView}
 use Rattle.turn_rows.specs.Rows.{IsClosedAs, views}
 
 module _ {X Y A : Type 0} where

@@ -1,13 +1,13 @@
 -- Rows of which each has met another.
-use Rattle.std.proofs.Common.{◌≡◌, List, [], ◌∷◌, length, All, Vec, refl, ap, subst, arith}
-use Rattle.std.specs.List.{AllZip}
-use Rattle.std.proofs.lemmas.List.Elements.{All-nil, All-cons}
-use Rattle.adept_server.specs.Vecs.{AllMet, RowMet, AreVecsOf, row_views}
+use Rattle.std.proofs.Common.{◌≡◌, suc, Bool, List, [], ◌∷◌, length, All, Vec, refl, subst, arith}
+use Rattle.std.proofs.lemmas.List.Elements.{All-nil, All-cons, All-head, All-tail}
+use Rattle.adept_server.specs.Noting.{AreLevelRows}
+use Rattle.adept_server.specs.Vecs.{AllMet, RowMet, AreVecsOf, lists_of, row_views}
 use Rattle.turn_batch.specs.Batch.{AreOf}
 use Rattle.turn_cell.specs.declared.cell.Cell.{Cell}
 use Rattle.turn_cell.specs.declared.pass.Pass.{Pass}
 use Rattle.turn_cell.specs.Passes.{IsLegalView}
-use Rattle.turn_rows.specs.Rows.{IsSeenBy, first_met, second_met, views, zip_with}
+use Rattle.turn_rows.specs.Rows.{AreLevel, views}
 
 -- what is said of a row is said of the Vecs that have it
 pub met_in_vecs : {M E R W S : Type 0} {after : S → E → S} {reply : S → E → R} {g : _} {cells : List (Cell M E R W S)} {os us ns ms xs ys : List (Pass M E R W S g)} → RowMet after reply cells os us ns ms → xs ≡ ns → ys ≡ ms → RowMet after reply cells os us xs ys
@@ -67,3 +67,36 @@ met_of_cells {after = after} {reply = reply} {os = os} {us = us} {ns = ns} {ms =
 pub all_met_of : {M E R W S A : Type 0} {after : S → E → S} {reply : S → E → R} {g : _} {cells xs : List (Vec (Cell M E R W S) A)} {os us ns ms os' us' ns' ms' : List (Vec (Pass M E R W S g) A)}
     → AllMet after reply xs os' us' ns' ms' → xs ≡ cells → os' ≡ os → us' ≡ us → ns ≡ ns' → ms ≡ ms' → AllMet after reply cells os us ns ms
 all_met_of k cells one two met_one met_two = rw (met_one, met_two) (rw (cells, one, two) at k)
+
+-- what is said of two rows is said of those that they were read from
+pub level_before : {M E R W S : Type 0} {g : _} (called : List Bool) {os us xs ys : List (Pass M E R W S g)} → AreLevel called (views os) (views us) → xs ≡ os → ys ≡ us → AreLevel called (views xs) (views ys)
+level_before called k one two = rw (one, two) k
+
+pub legal_before : {M E R W S : Type 0} {after : S → E → S} {reply : S → E → R} {g : _} {os xs : List (Pass M E R W S g)} → All (IsLegalView after reply) (views os) → xs ≡ os → All (IsLegalView after reply) (views xs)
+legal_before k one = rw one k
+
+-- of rows that are level the first two are, and the others
+module _ {M E R W S A B : Type 0} {g : _} {called : List (Vec Bool B)} {os us : List (Vec (Pass M E R W S g) A)} (b : Vec Bool B) (bs : List (Vec Bool B)) (o u : Vec (Pass M E R W S g) A) (os_left us_left : List (Vec (Pass M E R W S g) A))
+    (called_are : called ≡ b ∷ bs) (os_are : os ≡ o ∷ os_left) (us_are : us ≡ u ∷ us_left) (level : AreLevelRows (lists_of called) (row_views os) (row_views us)) where
+  whole : AreLevelRows (lists_of (b ∷ bs)) (row_views (o ∷ os_left)) (row_views (u ∷ us_left))
+  whole = rw (called_are, os_are, us_are) at level
+
+  pub level_first : AreLevel b.items (views o.items) (views u.items)
+  level_first i calm = whole (record { type_no = 0; place = i }) calm
+
+  pub level_rest : AreLevelRows (lists_of bs) (row_views os_left) (row_views us_left)
+  level_rest c calm = whole (record { type_no = suc c.type_no; place = c.place }) calm
+
+pub legal_first : {M E R W S A : Type 0} {after : S → E → S} {reply : S → E → R} {g : _} {os : List (Vec (Pass M E R W S g) A)} (o : Vec (Pass M E R W S g) A) (os_left : List (Vec (Pass M E R W S g) A)) → os ≡ o ∷ os_left → All (All (IsLegalView after reply)) (row_views os)
+    → All (IsLegalView after reply) (views o.items) × All (All (IsLegalView after reply)) (row_views os_left)
+legal_first {after = after} {reply = reply} o os_left are legal =
+    let whole : All (All (IsLegalView after reply)) (row_views (o ∷ os_left)) = rw are at legal in
+    (All-head (All (IsLegalView after reply)) (views o.items) (row_views os_left) whole, All-tail (All (IsLegalView after reply)) (views o.items) (row_views os_left) whole)
+
+-- the same of rows
+pub level_rows_before : {M E R W S A B : Type 0} {g : _} {called flags : List (Vec Bool B)} {os us xs ys : List (Vec (Pass M E R W S g) A)} → AreLevelRows (lists_of called) (row_views os) (row_views us) → flags ≡ called → xs ≡ os → ys ≡ us
+    → AreLevelRows (lists_of flags) (row_views xs) (row_views ys)
+level_rows_before k called one two = rw (called, one, two) k
+
+pub legal_rows_before : {M E R W S A : Type 0} {after : S → E → S} {reply : S → E → R} {g : _} {os xs : List (Vec (Pass M E R W S g) A)} → All (All (IsLegalView after reply)) (row_views os) → xs ≡ os → All (All (IsLegalView after reply)) (row_views xs)
+legal_rows_before k one = rw one k

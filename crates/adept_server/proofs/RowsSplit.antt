@@ -1,13 +1,12 @@
 -- Rows of passes that were split.
-use Rattle.std.proofs.Common.{◌≡◌, List, [], ◌∷◌, length, map, All, Vec, refl, ap, subst, arith}
+use Rattle.std.proofs.Common.{◌≡◌, List, [], ◌∷◌, length, All, Vec, refl, subst, arith}
 use Rattle.std.proofs.lemmas.List.Elements.{All-nil, All-cons}
 use Rattle.adept_server.specs.Rooms.{HaveRoomFor}
 use Rattle.adept_server.specs.Vecs.{AllSplit, RowSplit, AreVecsOf, row_views}
-use Rattle.turn_batch.specs.Batch.{AreOf}
 use Rattle.turn_cell.specs.declared.cell.Cell.{Cell}
 use Rattle.turn_cell.specs.declared.pass.Pass.{Pass}
-use Rattle.turn_cell.specs.Passes.{PassView, IsLegalView, split_off}
-use Rattle.turn_rows.specs.Rows.{split_from, views}
+use Rattle.turn_cell.specs.Passes.{IsLegalView}
+use Rattle.turn_rows.specs.Rows.{views}
 
 pub split_in_vecs : {M E R W S : Type 0} {after : S → E → S} {reply : S → E → R} {g : _} {cells : List (Cell M E R W S)} {os ps ns us xs ys : List (Pass M E R W S g)} → RowSplit after reply cells ps ns us → ps ≡ os → xs ≡ ns → ys ≡ us → RowSplit after reply cells os xs ys
 split_in_vecs k before firsts new = rw (firsts, new) (rw before at k)

@@ -1,12 +1,12 @@
 -- A desk that takes another in.
-use Rattle.std.proofs.Common.{◌≡◌, ℕ, ◌+◌, ◌-◌, ◌^◌, ◌<◌, Bool, List, length, All, refl, sym, ap, ◌∙◌, subst, arith}
+use Rattle.std.proofs.Common.{◌≡◌, ◌+◌, ◌<◌, Bool, length, All, refl, sym, ap, ◌∙◌, subst, arith}
 use Rattle.std.specs.Prelude.{◌||◌}
 use Rattle.std.specs.List.{AllZip}
 use Rattle.case_core.specs.Machine.{case_after, case_reply}
-use Rattle.turn_cell.specs.Passes.{PassView, view_of, IsLegalView, joined}
+use Rattle.turn_cell.specs.Passes.{IsLegalView, joined}
 use Rattle.turn_rows.specs.Rows.{CanJoin, IsSeenBy, views, zip_with}
 use Rattle.turn_rows.proofs.Places.{length-zip_with}
-use Rattle.adept_server.specs.Desks.{DeskView, IsDesk, IsDeskOf, IsPassAt, desk_view}
+use Rattle.adept_server.specs.Desks.{DeskView, IsDesk, IsDeskOf, desk_view}
 use Rattle.adept_server.specs.Opening.{SeesMore, joined_desk}
 use Rattle.adept_server.specs.Vecs.{AllJoined, RowJoined, row_views}
 use Rattle.adept_server.specs.declared.desks.Desk.{Desk}
@@ -14,6 +14,7 @@ use Rattle.adept_server.specs.declared.servers.Server.{Server}
 use Rattle.adept_server.proofs.Changed.{desk_again, first_comes, first_case_comes, known_by_both}
 use Rattle.adept_server.proofs.Made.{same_views}
 use Rattle.adept_server.proofs.Meeting.{even_kinds}
+use Rattle.adept_server.proofs.Short.{short_zip}
 use Rattle.adept_server.proofs.Zips.{all_from_places, all_from_cases}
 use Rattle.type_core.specs.Machine.{kind_after, kind_reply}
 
@@ -23,7 +24,7 @@ joined_is_desk v w one two even legal legal_cases more =
     let x : DeskView = joined_desk v w in
     let even_cases : length w.cases ≡ length v.cases = two.rows ∙ (even ∙ sym one.rows) in
     let even_flags : length w.defined ≡ length v.defined = two.flags ∙ (even ∙ sym one.flags) in
-    desk_again v x one (length-zip_with joined v.kinds w.kinds even, length-zip_with (zip_with joined) v.cases w.cases even_cases, length-zip_with (λ (a b : Bool). a || b) v.defined w.defined even_flags)
+    desk_again v x one (length-zip_with joined v.kinds w.kinds even, length-zip_with (zip_with joined) v.cases w.cases even_cases, length-zip_with (λ (a b : Bool). a || b) v.defined w.defined even_flags) (short_zip joined v.cases w.cases one.short)
     (first_comes kind_after kind_reply v x joined (record { opening = λ p o. refl; counted = λ p o counts. (counts.0, counts.1, ap (λ n. n + 1) counts.2) }) v.kinds w.kinds legal)
     (first_case_comes case_after case_reply v x joined (record { opening = λ p o. refl; counted = λ p o counts. (counts.0, counts.1, ap (λ n. n + 1) counts.2) }) v.cases w.cases legal_cases)
     (known_by_both v w x one two refl more.0 more.1)

@@ -1,6 +1,6 @@
 -- What a call leaves of a desk: an entry more on each cell that it calls.
-use Rattle.std.specs.Prelude.{◌≡◌, ℕ, ◌==◌, ◌+◌, Bool, true, false, List, [], ◌∷◌, length, Option, Some, None, Result, Ok, Err, MatchResult, slice_get, slice_set, if◌then◌else◌}
-use Rattle.adept_server.specs.Desks.{KindPass, CasePass, DeskView}
+use Rattle.std.specs.Prelude.{◌≡◌, ℕ, Bool, true, false, List, [], ◌∷◌, length, Some, Result, Ok, Err, MatchResult, slice_get, slice_set, if◌then◌else◌}
+use Rattle.adept_server.specs.Desks.{CasePass, DeskView}
 use Rattle.case_core.specs.Machine.{case_after, case_reply}
 use Rattle.case_core.specs.declared.events.Event.{Event}
 use Rattle.case_core.specs.declared.events.Event.TheVariants as event

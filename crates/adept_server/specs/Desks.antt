@@ -1,5 +1,5 @@
 -- A desk as contracts see it: one pass of each type's cell and of each case's cell.
-use Rattle.std.specs.Prelude.{◌≡◌, ℕ, ◌<◌, Bool, true, List, [], ◌∷◌, length, map, Option, Some, None, IsSome, slice_get}
+use Rattle.std.specs.Prelude.{◌≡◌, ℕ, ◌^◌, ◌<◌, Bool, true, List, [], ◌∷◌, length, map, Option, Some, None, IsSome, slice_get}
 use Rattle.adept_server.specs.declared.desks.Desk.{Desk}
 use Rattle.adept_server.specs.declared.servers.Server.{Server}
 use Rattle.case_core.specs.CaseModel.{CaseModel, not_created}
@@ -8,7 +8,7 @@ use Rattle.case_core.specs.declared.events.Event.{Event}
 use Rattle.case_core.specs.declared.replies.Reply.{Reply}
 use Rattle.case_core.specs.declared.views.View.{View}
 use Rattle.turn_batch.specs.Batch.{AreOf}
-use Rattle.turn_cell.specs.History.{IsLegalFrom, state_after}
+use Rattle.turn_cell.specs.History.{state_after}
 use Rattle.turn_cell.specs.Passes.{PassView, view_of, IsLegalView}
 use Rattle.turn_cell.specs.declared.cell.Cell.{Cell}
 use Rattle.turn_cell.specs.declared.pass.Pass.{Pass}
@@ -72,11 +72,18 @@ pub record IsPassAt {M E R W S : Type 0} (after : S → E → S) (reply : S → 
   pub taken : p.taken ≡ v.taken
   pub legal : IsLegalView after reply p
 
+-- places in rows have numbers of 32 bits
+abbrev pub AreShort : {X : Type 0} → List (List X) → Type 0
+AreShort [] = Unit {0}
+AreShort (row ∷ rows) = (length row < 2 ^ 32) × AreShort rows
+
 pub record IsDesk (v : DeskView) : Type 0 where
   pub kinds : (t : ℕ) (p : KindPass) → slice_get v.kinds t ≡ Some p → IsPassAt kind_after kind_reply (not_defined t) v p
   pub cases : (c : CaseId) (p : CasePass) → case_pass v c ≡ Some p → IsPassAt case_after case_reply (not_created c.type_no) v p
   pub rows : length v.cases ≡ length v.kinds
   pub flags : length v.defined ≡ length v.kinds
+  pub few : length v.cases < 2 ^ 32
+  pub short : AreShort v.cases
   pub known : (t : ℕ) → slice_get v.defined t ≡ Some true → IsDefinedFor v t
 
 -- The passes are of the cells in rows.

@@ -1,9 +1,9 @@
 -- The passes of a first desk.
 use Rattle.std.specs.Prelude.{◌≡◌, ℕ, List, length, map, Some, slice_get}
 use Rattle.adept_server.specs.Desks.{KindPass, CasePass, at_case}
-use Rattle.case_core.specs.CaseModel.{CaseModel, not_created}
+use Rattle.case_core.specs.CaseModel.{not_created}
 use Rattle.turn_cell.specs.Passes.{PassView, first_of}
-use Rattle.type_core.specs.KindModel.{KindModel, not_defined}
+use Rattle.type_core.specs.KindModel.{not_defined}
 use Rattle.wsm_sound.specs.declared.versions.CaseId.{CaseId}
 
 -- the first pass of a cell that opened with a state

@@ -1,6 +1,7 @@
 pub mod Calling
 pub mod Desks
 pub mod Firsts
+pub mod Noting
 pub mod Offering
 pub mod Opening
 pub mod Rooms

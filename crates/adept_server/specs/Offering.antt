@@ -1,5 +1,5 @@
 -- What is offered to a role, in the views after what the passes of a desk have seen.
-use Rattle.std.specs.Prelude.{◌≡◌, ℕ, ◌+◌, ◌^◌, ◌<◌, ◌==◌, List, [], ◌∷◌, ◌++◌, length, Some, if◌then◌else◌}
+use Rattle.std.specs.Prelude.{◌≡◌, ℕ, ◌+◌, ◌==◌, List, [], ◌∷◌, ◌++◌, Some, if◌then◌else◌}
 use mathlib.Core.List.{IsPrefix}
 use Rattle.adept_server.specs.Desks.{CasePass, DeskView}
 use Rattle.adept_server.specs.declared.worklists.Offer.{Offer}
@@ -61,11 +61,6 @@ abbrev pub AllLooked : List (List CasePass) → List (List CasePass) → Type 0
 AllLooked [] [] = Unit {0}
 AllLooked (row ∷ rows) (new ∷ news) = EachLooked row new × AllLooked rows news
 AllLooked _ _ = ⊥
-
--- types and places have numbers of 32 bits
-abbrev pub AreShort : List (List CasePass) → Type 0
-AreShort [] = Unit {0}
-AreShort (row ∷ rows) = (length row < 2 ^ 32) × AreShort rows
 
 -- the cells opened with a case of that type that is not created
 abbrev pub OpenedAs : ℕ → List CasePass → Type 0

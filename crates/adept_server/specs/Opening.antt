@@ -1,5 +1,5 @@
 -- How desks begin, come to be, meet and end.
-use Rattle.std.specs.Prelude.{◌≡◌, ℕ, ◌+◌, Bool, true, false, ◌||◌, List, [], ◌∷◌, length, map, Option, Some, None, slice_get}
+use Rattle.std.specs.Prelude.{◌≡◌, ℕ, ◌+◌, false, ◌||◌, List, [], length, map, Some, slice_get}
 use Rattle.std.specs.List.{AllZip}
 use Rattle.adept_server.specs.Desks.{KindPass, CasePass, DeskView, at_case, case_pass}
 use Rattle.adept_server.specs.declared.closing.ClosedServer.{ClosedServer}

@@ -1,16 +1,18 @@
 // Rows of cells and of their passes: one row for each type.
-ghost use Rattle.std.specs.Prelude.{◌≡◌, ◌≤◌, All, IfOk, vec_len, vec_capacity};
+ghost use Rattle.std.specs.Prelude.{◌≡◌, ◌≤◌, All, IfOk, length, vec_len, vec_capacity};
 ghost use Rattle.std.specs.List.{AllZip};
 ghost use Rattle.std.specs.Vec.Iter.{into_iter_items};
+ghost use Rattle.adept_server.specs.Noting.{AreLevelRows};
 ghost use Rattle.adept_server.specs.Rooms.{HaveRoomFor};
 ghost use Rattle.adept_server.specs.Vecs.{AllJoined, AllMet, AllSplit, AreVecsOf, RowJoined, RowMet, RowSplit, lists_of, row_views};
 ghost use Rattle.turn_batch.specs.Batch.{AreOf};
-ghost use Rattle.turn_rows.specs.Rows.{CanClose, CanJoin, CanSplit, IsClosedAs, views};
+ghost use Rattle.turn_cell.specs.Passes.{IsLegalView};
+ghost use Rattle.turn_rows.specs.Rows.{AreLevel, CanClose, CanJoin, CanSplit, IsClosedAs, views};
 
 use std::alloc::Global;
 use std::vec::IntoIter;
 use turn_cell::{Cell, Closed, Machine, NoMemory, Pass};
-use turn_rows::{close_into, join_row, meet_rows, split_into};
+use turn_rows::{close_into, join_row, meet_called, meet_rows, split_into};
 
 pub(crate) fn meet_row<M: Machine>(
     cells: &[Cell<M>],
@@ -45,6 +47,51 @@ pub(crate) fn meet_all<M: Machine>(
     };
     meet_row(row, first, second);
     meet_all(cells_left, one_left, two_left);
+}
+
+pub(crate) fn meet_row_called<M: Machine>(
+    cells: &[Cell<M>],
+    called: &[bool],
+    one: &mut Vec<Pass<M>>,
+    two: &mut Vec<Pass<M>>,
+)
+    requires one { AreOf cells.now one.old.items }
+    requires two { AreOf cells.now two.old.items }
+    requires level { AreLevel called.now (views one.old.items) (views two.old.items) }
+    requires legal { All (IsLegalView M.after M.reply) (views one.old.items) × All (IsLegalView M.after M.reply) (views two.old.items) }
+    ensures { RowMet M.after M.reply cells.now one.old.items two.old.items one.new.items two.new.items }
+{
+    meet_called(cells, called, one, two);
+}
+
+// The same of the cells that were called, where the passes of the others have seen the same.
+pub(crate) fn meet_all_called<M: Machine>(
+    cells: &[Vec<Cell<M>>],
+    called: &[Vec<bool>],
+    one: &mut [Vec<Pass<M>>],
+    two: &mut [Vec<Pass<M>>],
+)
+    requires one { AreVecsOf cells.now one.old }
+    requires two { AreVecsOf cells.now two.old }
+    requires rows { length called.now ≡ length cells.now }
+    requires level { AreLevelRows (lists_of called.now) (row_views one.old) (row_views two.old) }
+    requires legal { All (All (IsLegalView M.after M.reply)) (row_views one.old) × All (All (IsLegalView M.after M.reply)) (row_views two.old) }
+    ensures { AllMet M.after M.reply cells.now one.old two.old one.new two.new }
+{
+    let Some((row, cells_left)) = cells.split_first() else {
+        return;
+    };
+    let Some((flags, called_left)) = called.split_first() else {
+        return;
+    };
+    let Some((first, one_left)) = one.split_first_mut() else {
+        return;
+    };
+    let Some((second, two_left)) = two.split_first_mut() else {
+        return;
+    };
+    meet_row_called(row, flags, first, second);
+    meet_all_called(cells_left, called_left, one_left, two_left);
 }
 
 pub(crate) fn join_row_in<M: Machine>(

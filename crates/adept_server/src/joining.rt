@@ -1,9 +1,13 @@
 // How desks meet and end.
 ghost use Rattle.std.specs.Prelude.{◌≡◌, ◌+◌, ◌<◌};
 ghost use Rattle.adept_server.specs.Desks.{IsDeskOf, desk_view};
+ghost use Rattle.adept_server.specs.Noting.{AreLevelDesks, IsCalledOf};
 ghost use Rattle.adept_server.specs.Opening.{SeesMore, first_desk_met, joined_desk, second_desk_met};
 
-use crate::all_rows::{join_all, join_row_in, meet_all, meet_row};
+use crate::all_rows::{
+    join_all, join_row_in, meet_all, meet_all_called, meet_row, meet_row_called,
+};
+use crate::call_flags::CallFlags;
 use crate::desks::Desk;
 use crate::flags::raise_all;
 use crate::servers::Server;
@@ -42,5 +46,21 @@ impl Server {
         two.defined.copy_from_slice(&one.defined);
         meet_row(&self.kinds, &mut one.kinds, &mut two.kinds);
         meet_all(&self.cases, &mut one.cases, &mut two.cases);
+    }
+
+    /// The same, where both have seen the same of each cell that was not called. It takes no memory, and passes over those cells.
+    pub fn meet_called(&self, called: &CallFlags, one: &mut Desk, two: &mut Desk)
+        requires desks { IsDeskOf self.now one.old × IsDeskOf self.now two.old }
+        requires called { IsCalledOf self.now called.now }
+        requires level { AreLevelDesks called.now (desk_view one.old) (desk_view two.old) }
+        ensures desks { IsDeskOf self.now one.new × IsDeskOf self.now two.new }
+        ensures one { desk_view one.new ≡ first_desk_met (desk_view one.old) (desk_view two.old) }
+        ensures two { desk_view two.new ≡ second_desk_met (desk_view one.old) (desk_view two.old) }
+        ensures more { SeesMore (desk_view one.old) (desk_view one.new) × SeesMore (desk_view two.old) (desk_view one.new) }
+    {
+        raise_all(&mut one.defined, &two.defined);
+        two.defined.copy_from_slice(&one.defined);
+        meet_row_called(&self.kinds, &called.kinds, &mut one.kinds, &mut two.kinds);
+        meet_all_called(&self.cases, &called.cases, &mut one.cases, &mut two.cases);
     }
 }

@@ -6,6 +6,7 @@
 
 mod all_rows;
 mod batches;
+mod call_flags;
 mod calls;
 mod closing;
 mod desks;
@@ -18,6 +19,7 @@ mod opening;
 mod servers;
 mod worklists;
 
+pub use call_flags::CallFlags;
 pub use closing::ClosedServer;
 pub use desks::Desk;
 pub use servers::Server;

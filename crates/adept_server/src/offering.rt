@@ -1,7 +1,7 @@
 // How work lists are made.
 ghost use Rattle.std.specs.Prelude.{◌≡◌, ◌+◌, ◌^◌, ◌<◌, ◌++◌, length, IfOk, OnOk, Some, map};
-ghost use Rattle.adept_server.specs.Desks.{AreRowsOf, IsDeskOf, desk_view};
-ghost use Rattle.adept_server.specs.Offering.{AllLooked, AllOpened, AreShort, EachLooked, HasLooked, Looks, OpenedAs, all_offers, offer_of, offers_in, offers_of, row_offers, view_after};
+ghost use Rattle.adept_server.specs.Desks.{AreRowsOf, AreShort, IsDeskOf, desk_view};
+ghost use Rattle.adept_server.specs.Offering.{AllLooked, AllOpened, EachLooked, HasLooked, Looks, OpenedAs, all_offers, offer_of, offers_in, offers_of, row_offers, view_after};
 ghost use Rattle.case_core.specs.CaseModel.{not_created};
 ghost use Rattle.turn_batch.specs.Batch.{AreOf};
 ghost use Rattle.turn_cell.specs.Passes.{IsPassOf, view_of};
@@ -154,8 +154,6 @@ impl Server {
         role: u32,
     ) -> Result<Offers, NoMemory>
         requires desk { IsDeskOf self.now desk.old }
-        requires few { length (desk_view desk.old).cases < 2 ^ 32 }
-        requires short { AreShort (desk_view desk.old).cases }
         ensures desk { IsDeskOf self.now desk.new }
         ensures looked { Looks (desk_view desk.old) (desk_view desk.new) }
         ensures ok { IfOk result (λ offers. offers ≡ all_offers role 0 (desk_view desk.new).cases) }

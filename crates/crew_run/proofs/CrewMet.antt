@@ -62,6 +62,7 @@ module _ (s : Server) (f : File) (workable : IsWorkable f) (v1 v2 : DeskView) (f
         numbered = crew-ready.numbered;
         actors = many;
         able = all-same f (desk_view first) (able-first known) (desks_of crew) same;
+        same = same;
         first_able = able-first known;
         first_number = heard.number ∙ (stays.1 ∙ (b.hired.parent.number ∙ b.opened.number));
         made = (let a = heard.made in let d = stays.2 in let h = b.made in let o = b.opened.made in omega (arith, many));

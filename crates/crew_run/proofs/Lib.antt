@@ -5,6 +5,8 @@ pub mod JournalLength
 pub mod ByPhases
 pub mod PassesMeet
 pub mod DesksMeet
+pub mod LevelDesks
+pub mod Unnamed
 pub mod PassesOfDesks
 pub mod PhaseByCell
 pub mod CrewHired

@@ -8,6 +8,7 @@ use Rattle.adept_server.specs.Desks.{DeskView, IsDesk, IsDeskOf, desk_view}
 use Rattle.adept_server.specs.declared.desks.Desk.{Desk}
 use Rattle.adept_server.specs.declared.servers.Server.{Server}
 use Rattle.crew_run.proofs.DesksCanWork.{able-heard, able-then, many-cases}
+use Rattle.crew_run.proofs.LevelDesks.{done-same}
 use Rattle.crew_run.proofs.PhaseByCell.{numbered-then}
 use Rattle.crew_run.specs.Crew.{ActorDone, DeskHeard, DeskSame, Works}
 use Rattle.crew_run.specs.Phases.{HasWorked, IsAble, IsCrew, Tries, ended}
@@ -104,6 +105,7 @@ crew-then s f first then old new Fit k desk desks heard done many = record {
   numbered = numbered-then Fit (desk_view then) 1 (desks_of old) (desks_of new) done k.numbered;
   actors = many ∙ k.actors;
   able = able-then f Fit (desk_view then) (desks_of old) (desks_of new) done k.able;
+  same = done-same Fit (desk_view then) (desks_of old) (desks_of new) done;
   first_able = able-heard f (desk_view first) (desk_view then) heard k.first_able;
   first_number = heard.number ∙ k.first_number;
   made = (let a = heard.made in let b = k.made in omega (arith, many));

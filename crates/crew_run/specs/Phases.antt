@@ -10,7 +10,7 @@ use Rattle.case_core.specs.Machine.{case_after, case_reply}
 use Rattle.crew_run.specs.Beginning.{AreHired}
 use Rattle.crew_run.specs.CaseCounts.{AreCounts}
 use Rattle.crew_run.specs.Cells.{HasMet}
-use Rattle.crew_run.specs.Crew.{AreNumbered, PhaseDone, PhasesDone, Works, kind_at, case_at}
+use Rattle.crew_run.specs.Crew.{AreNumbered, DeskSame, PhaseDone, PhasesDone, Works, kind_at, case_at}
 use Rattle.crew_run.specs.Defining.{KnowsTypes}
 use Rattle.crew_run.specs.Ready.{IsReady}
 use Rattle.crew_run.specs.Workers.{AreDesksOf, desks_of}
@@ -44,6 +44,7 @@ pub record IsCrew (s : Server) (f : File) (first : Desk) (crew : List Worker) : 
   pub numbered : AreNumbered 1 (desks_of crew)
   pub actors : length crew ≡ length f.actors
   pub able : AllByRecursion (IsAble f) (desks_of crew)
+  pub same : AllByRecursion (DeskSame (desk_view first)) (desks_of crew)
   pub first_able : IsAble f (desk_view first)
   pub first_number : (desk_view first).number ≡ 0
   pub made : (desk_view first).made ≡ length crew + 1

@@ -1,6 +1,7 @@
 // A file's script, worked by a crew.
 ghost use Rattle.std.specs.Prelude.{◌≡◌, ◌≢◌, IfErr, IfOk, OnOk};
 ghost use Rattle.adept_server.specs.Desks.{IsDeskOf, desk_view};
+ghost use Rattle.adept_server.specs.Noting.{AllCalled, IsCalledOf};
 ghost use Rattle.crew_run.specs.Phases.{AreTogether, HasWorkedAll, IsBegun, IsOverfull};
 ghost use Rattle.crew_run.specs.Workers.{AreDesksOf, desks_of};
 ghost use Rattle.file_facts.specs.Facts.{IsWorkable};
@@ -13,7 +14,7 @@ use crate::hiring::hire;
 use crate::meeting::meet_all;
 use crate::phases::work_phases;
 use crate::workers::Worker;
-use adept_server::{Desk, Server};
+use adept_server::{CallFlags, Desk, Server};
 use file_model::File;
 use script_run::Run;
 use std::alloc::Global;
@@ -35,7 +36,17 @@ pub fn crew_run<R: Threads + Wait + Sync, G: Gate + Sync>(
     let counts = case_counts(alloc, file)?;
     let (server, mut first) = Server::new(alloc, &counts)?;
     let mut crew = hire(alloc, &server, &mut first, file.actors.len())?;
-    let worked = work_file(rt, alloc, &server, file, &mut first, &mut crew, gate);
+    let mut called = server.all_called(alloc)?;
+    let worked = work_file(
+        rt,
+        alloc,
+        &server,
+        file,
+        &mut first,
+        &mut crew,
+        &mut called,
+        gate,
+    );
     dismiss(&server, &mut first, crew);
     let closed = server.close(first);
     match worked {
@@ -62,18 +73,20 @@ fn work_file<R: Threads + Wait + Sync, G: Gate + Sync>(
     file: &File,
     first: &mut Desk,
     crew: &mut [Worker],
+    called: &mut CallFlags,
     gate: &G,
 ) -> Result<(), CallFault>
     requires file { IsWorkable file.now }
     requires first { IsDeskOf server.now first.old }
     requires desks { AreDesksOf server.now crew.old }
     requires begun { IsBegun file.now (desk_view first.old) (desks_of crew.old) }
+    requires called { IsCalledOf server.now called.old × AllCalled called.old }
     ensures together { AreTogether server.now file.now first.new crew.new }
     ensures full { IfErr result (λ fault. fault ≡ CallFault.Full → IsOverfull file.now (desk_view first.new) (desks_of crew.new)) }
     ensures done { OnOk result (HasWorkedAll file.now (desk_view first.new) (desks_of crew.new)) }
 {
     let defined = define_types(rt, alloc, server, first, 0, file.types.as_slice(), gate);
-    meet_all(server, first, crew);
+    meet_all(server, called, first, crew);
     defined?;
-    work_phases(rt, alloc, server, file, first, crew, gate)
+    work_phases(rt, alloc, server, file, first, crew, called, gate)
 }

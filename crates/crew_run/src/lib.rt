@@ -10,6 +10,7 @@ mod crews;
 mod definitions;
 mod hiring;
 mod meeting;
+mod naming;
 mod phases;
 mod workers;
 

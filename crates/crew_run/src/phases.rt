@@ -2,7 +2,9 @@
 ghost use Rattle.std.specs.Prelude.{◌≡◌, ◌<◌, length, is_some, true, false, IfErr, OnErr, OnOk, slice_index_or};
 ghost use Rattle.std.specs.List.{list_any};
 ghost use Rattle.std.specs.Thread.{IsSync};
+ghost use Rattle.adept_actor.specs.Others.{LeavesUnnamed};
 ghost use Rattle.adept_server.specs.Desks.{IsDeskOf, desk_view};
+ghost use Rattle.adept_server.specs.Noting.{IsCalledOf, rows_of};
 ghost use Rattle.crew_run.specs.Crew.{PhaseDone, PhasesDone, Works};
 ghost use Rattle.crew_run.specs.Phases.{HasWorked, IsCrew, IsReadyAt, PhasesTried, SeesMany, Tries, is_full_fault};
 ghost use Rattle.crew_run.specs.Workers.{desks_of};
@@ -10,9 +12,10 @@ ghost use Rattle.file_facts.specs.Facts.{IsKnown, IsWorkable};
 ghost use Rattle.wsm_lists.specs.Rows.{AllRows};
 
 use crate::meeting::meet_all;
+use crate::naming::note_lines;
 use crate::workers::Worker;
 use adept_actor::work;
-use adept_server::{Desk, Server};
+use adept_server::{CallFlags, Desk, Server};
 use file_model::{File, Lines};
 use std::alloc::Global;
 use std::sync::Wait;
@@ -22,7 +25,8 @@ use turn_cell::{CallFault, Gate};
 /// So many threads work a phase at most: one for each actor that a file may have.
 const THREADS: usize = 32;
 
-/// Works phases one after another, each in work of its own for each worker. Behind each of them all have met.
+/// Works phases one after another, each in work of its own for each worker. Behind each of them all have met, at the cells that
+/// its lines name.
 pub fn work_phases<R: Threads + Wait + Sync, G: Gate + Sync>(
     rt: &R,
     alloc: Global,
@@ -30,17 +34,19 @@ pub fn work_phases<R: Threads + Wait + Sync, G: Gate + Sync>(
     file: &File,
     first: &mut Desk,
     crew: &mut [Worker],
+    called: &mut CallFlags,
     gate: &G,
 ) -> Result<(), CallFault>
     requires file { IsWorkable file.now }
     requires crew { IsCrew server.now file.now first.old crew.old }
+    requires called { IsCalledOf server.now called.old }
     ensures crew { IsCrew server.now file.now first.new crew.new }
     ensures tried { OnErr result (PhasesTried file.now file.now.phases (desk_view first.old) (desks_of crew.old) (desk_view first.new) (desks_of crew.new)) }
     ensures full { IfErr result (λ fault. fault ≡ CallFault.Full → SeesMany (desk_view first.new)) }
     ensures done { OnOk result (PhasesDone file.now file.now.phases (desk_view first.old) (desks_of crew.old) (desk_view first.new) (desks_of crew.new)) }
 {
     for lines in file.phases.as_slice() {
-        work_phase(rt, alloc, server, file, first, crew, lines, gate)?;
+        work_phase(rt, alloc, server, file, first, crew, called, lines, gate)?;
     }
     Ok(())
 }
@@ -52,19 +58,23 @@ fn work_phase<R: Threads + Wait + Sync, G: Gate + Sync>(
     file: &File,
     first: &mut Desk,
     crew: &mut [Worker],
+    called: &mut CallFlags,
     lines: &Lines,
     gate: &G,
 ) -> Result<(), CallFault>
     requires file { IsWorkable file.now }
     requires lines { AllRows (IsKnown (length file.now.types) (length file.now.actors) file.now.cases) lines.now }
     requires crew { IsCrew server.now file.now first.old crew.old }
+    requires called { IsCalledOf server.now called.old }
+    ensures called { rows_of called.new ≡ rows_of called.old }
     ensures crew { IsCrew server.now file.now first.new crew.new }
     ensures tried { PhaseDone (Tries file.now lines.now) (desk_view first.old) (desks_of crew.old) (desk_view first.new) (desks_of crew.new) }
     ensures full { IfErr result (λ fault. fault ≡ CallFault.Full → SeesMany (desk_view first.new)) }
     ensures done { OnOk result (PhaseDone (Works file.now lines.now) (desk_view first.old) (desks_of crew.old) (desk_view first.new) (desks_of crew.new)) }
 {
     work_lines(rt, alloc, server, file, crew, lines, gate);
-    meet_all(server, first, crew);
+    note_lines(called, lines);
+    meet_all(server, called, first, crew);
     outcome(crew)
 }
 
@@ -109,11 +119,11 @@ fn work_lines<R: Threads + Wait + Sync, G: Gate + Sync>(
 )
     requires actors { length crew.old ≡ length file.now.actors }
     requires ready { (i : _) (d : _) → i < length crew.old → IsReadyAt server.now lines.now i (slice_index_or crew.old i d) }
-    ensures { (i : _) (d : _) → i < length crew.old → IsDeskOf server.now (slice_index_or crew.new i d).desk × HasWorked file.now lines.now (slice_index_or crew.old i d) (slice_index_or crew.new i d) }
+    ensures { (i : _) (d : _) → i < length crew.old → IsDeskOf server.now (slice_index_or crew.new i d).desk × HasWorked file.now lines.now (slice_index_or crew.old i d) (slice_index_or crew.new i d) × LeavesUnnamed lines.now (desk_view (slice_index_or crew.old i d).desk) (desk_view (slice_index_or crew.new i d).desk) }
 {
     let work_own = |index: usize, worker: &mut Worker|
         requires { IsSync R.row × IsSync G.row × (index < length file.now.actors) × IsReadyAt server.now lines.now index worker.now }
-        ensures { IsDeskOf server.entry.now worker.exit.now.desk × HasWorked file.entry.now lines.entry.now worker.entry.now worker.exit.now }
+        ensures { IsDeskOf server.entry.now worker.exit.now.desk × HasWorked file.entry.now lines.entry.now worker.entry.now worker.exit.now × LeavesUnnamed lines.entry.now (desk_view worker.entry.now.desk) (desk_view worker.exit.now.desk) }
     {
         let roles = &file.actors.as_slice()[index].roles;
         worker.fault = work(rt, alloc, server, &mut worker.desk, roles, lines, gate).err();

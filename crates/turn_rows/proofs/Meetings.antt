@@ -1,27 +1,43 @@
 -- Passes of which the first ones have met.
-use Rattle.std.proofs.Common.{◌≡◌, ℕ, ◌+◌, ◌<◌, ◌≤◌, List, [], ◌∷◌, ◌++◌, length, take, get_or, set, All, refl, sym, ap, ◌∙◌, subst, arith}
+use Rattle.std.proofs.Common.{◌≡◌, ℕ, ◌+◌, ◌<◌, ◌≤◌, ltb, Bool, true, false, List, [], ◌∷◌, ◌++◌, length, take, get_or, set, All, Some, slice_get, refl, sym, ap, ◌∙◌, subst, arith, if◌then◌else◌}
 use mathlib.Core.List.{IsPrefix}
+use Rattle.std.specs.Prelude.{option_map}
 use Rattle.std.specs.List.{AllZip}
 use Rattle.std.proofs.lemmas.List.{map_more, take_all, length_push}
 use Rattle.std.proofs.lemmas.List.Elements.{All-push}
 use Rattle.std.proofs.lemmas.Slice.Zip.{all_zipped_more}
+use Rattle.std.proofs.lemmas.Option.{slice_get-get_or, slice_get-map}
+use Rattle.turn_cell.proofs.Prefixes.{prefix_self}
+use Rattle.turn_cell.specs.Rule.{longer}
+use Rattle.turn_cell.specs.declared.journal.Entry.{Entry}
 use Rattle.turn_cell.specs.declared.pass.Pass.{Pass}
 use Rattle.turn_cell.specs.declared.cell.Cell.{Cell}
 use Rattle.turn_cell.specs.Passes.{PassView, view_of, IsPassOf, IsLegalView}
 use Rattle.turn_batch.specs.Batch.{AreOf}
-use Rattle.turn_rows.specs.Rows.{IsSeenBy, first_met, second_met, views, zip_with}
+use Rattle.turn_rows.specs.Rows.{AreLevel, HasMet, IsSeenBy, first_met, second_met, seen_of, views, zip_with}
 use Rattle.turn_rows.proofs.Lists.{IsSameFrom, same_at, same_from_next, map-take_put, zip_with-push}
 use Rattle.turn_rows.proofs.Passes.{AreOf-set}
+use Rattle.turn_rows.proofs.Places.{All-slice_get}
+
+-- of two lists that are the same the longer is that list
+pub longer-same : {A : Type 0} (xs ys : List A) → xs ≡ ys → longer xs ys ≡ xs
+longer-same xs ys same = either (ltb (length ys) (length xs))
+  where
+    either : (b : Bool) → (if b then xs else ys) ≡ xs
+    either true = refl
+    either false = sym same
 
 module _ {M E R W S : Type 0} (after : S → E → S) (reply : S → E → R) where
-  -- the views of two passes, and those that they have once they have met
-  pub record HasMet (v w x y : PassView M E R W S) : Type 0 where
-    pub one : x ≡ record v { seen = y.seen }
-    pub two : y ≡ second_met v w
-    pub more : IsPrefix v.seen y.seen × IsPrefix w.seen y.seen
-    pub legal : IsLegalView after reply x × IsLegalView after reply y
+  -- two passes that have seen the same are as if they had met
+  pub level-met : (v w : PassView M E R W S) → v.seen ≡ w.seen → IsLegalView after reply v → IsLegalView after reply w → HasMet after reply v w v w
+  level-met v w same one two = record {
+    one = ap (λ (s : List (Entry M E R W S)). record v { seen = s }) same;
+    two = ap (λ (s : List (Entry M E R W S)). record w { seen = s }) (sym (longer-same w.seen v.seen (sym same)));
+    more = (subst (IsPrefix v.seen) same (prefix_self v.seen), prefix_self w.seen);
+    legal = (one, two);
+  }
 
-  -- the same of two rows
+  -- two rows of passes, and what they have once those at each place have met
   pub record HaveMet (vs ws xs ys : List (PassView M E R W S)) : Type 0 where
     pub even : length ws ≡ length vs
     pub one : xs ≡ zip_with first_met vs ws
@@ -30,7 +46,7 @@ module _ {M E R W S : Type 0} (after : S → E → S) (reply : S → E → R) wh
     pub more_of_two : AllZip IsSeenBy ws xs × AllZip IsSeenBy ws ys
     pub legal : All (IsLegalView after reply) xs × All (IsLegalView after reply) ys
 
-  HaveMet-push : (vs ws xs ys : List (PassView M E R W S)) (v w x y : PassView M E R W S) → HaveMet vs ws xs ys → HasMet v w x y → HaveMet (vs ++ v ∷ []) (ws ++ w ∷ []) (xs ++ x ∷ []) (ys ++ y ∷ [])
+  HaveMet-push : (vs ws xs ys : List (PassView M E R W S)) (v w x y : PassView M E R W S) → HaveMet vs ws xs ys → HasMet after reply v w x y → HaveMet (vs ++ v ∷ []) (ws ++ w ∷ []) (xs ++ x ∷ []) (ys ++ y ∷ [])
   HaveMet-push vs ws xs ys v w x y k new =
       let same : y.seen ≡ x.seen = sym (ap (λ u. u.seen) new.one) in
       let first = k.one in
@@ -60,7 +76,7 @@ module _ {M E R W S : Type 0} (after : S → E → S) (reply : S → E → R) wh
     }
 
     pub one_more_met : (n : ℕ) (cs : List (Cell M E R W S)) (os us ns ms : List (Pass M E R W S g)) (c : Cell M E R W S) (d e p q : Pass M E R W S g) → HaveMetUpTo n cs os us ns ms → n < length cs
-        → (length os ≡ length cs) × (length us ≡ length cs) × (length ns ≡ length cs) × (length ms ≡ length cs) → c ≡ get_or cs n c → IsPassOf c p × IsPassOf c q → HasMet (view_of (get_or ns n d)) (view_of (get_or ms n e)) (view_of p) (view_of q)
+        → (length os ≡ length cs) × (length us ≡ length cs) × (length ns ≡ length cs) × (length ms ≡ length cs) → c ≡ get_or cs n c → IsPassOf c p × IsPassOf c q → HasMet after reply (view_of (get_or ns n d)) (view_of (get_or ms n e)) (view_of p) (view_of q)
         → HaveMetUpTo (n + 1) cs os us (set ns n p) (set ms n q)
     one_more_met n cs os us ns ms c d e p q k lt even at of new = record {
       cells = (AreOf-set cs ns n c p k.cells.0 at of.0, AreOf-set cs ms n c q k.cells.1 at of.1);
@@ -73,3 +89,18 @@ module _ {M E R W S : Type 0} (after : S → E → S) (reply : S → E → R) wh
 
     pub all_met : (n : ℕ) (cs : List (Cell M E R W S)) (os us ns ms : List (Pass M E R W S g)) → HaveMetUpTo n cs os us ns ms → length cs ≤ n → (length os ≡ length cs) × (length us ≡ length cs) × (length ns ≡ length cs) × (length ms ≡ length cs) → HaveMet (views os) (views us) (views ns) (views ms)
     all_met n cs os us ns ms k le even = rw (take_all n os (omega arith), take_all n us (omega arith), take_all n ns (omega arith), take_all n ms (omega arith)) at k.met
+
+    view_there : (ps : List (Pass M E R W S g)) (n : ℕ) (d : Pass M E R W S g) → n < length ps → slice_get (views ps) n ≡ Some (view_of (get_or ps n d))
+    view_there ps n d lt = slice_get-map view_of ps n ∙ ap (option_map view_of) (slice_get-get_or ps n d lt)
+
+    -- what is level at first is so where nobody has met yet
+    pub level_there : (called : List Bool) (n : ℕ) (cs : List (Cell M E R W S)) (os us ns ms : List (Pass M E R W S g)) (d e : Pass M E R W S g) → HaveMetUpTo n cs os us ns ms → n < length os → n < length us → AreLevel called (views os) (views us)
+        → slice_get called n ≡ Some false → (view_of (get_or ns n d)).seen ≡ (view_of (get_or ms n e)).seen
+    level_there called n cs os us ns ms d e k lt lt_too level calm =
+        let both : Some (view_of (get_or os n d)).seen ≡ Some (view_of (get_or us n e)).seen =
+        ap seen_of (sym (view_there os n d lt)) ∙ (level n calm ∙ ap seen_of (view_there us n e lt_too)) in
+        rw (same_at n os ns d k.same.0, same_at n us ms e k.same.1) (cc (both))
+
+    pub legal_there : (n : ℕ) (os ns : List (Pass M E R W S g)) (d : Pass M E R W S g) → IsSameFrom n os ns → n < length os → All (IsLegalView after reply) (views os) → IsLegalView after reply (view_of (get_or ns n d))
+    legal_there n os ns d same lt legal =
+        rw (same_at n os ns d same) (All-slice_get (IsLegalView after reply) (views os) n (view_of (get_or os n d)) legal (view_there os n d lt))

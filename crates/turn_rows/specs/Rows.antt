@@ -1,11 +1,11 @@
 -- Rows: one pass of each of many cells.
-use Rattle.std.specs.Prelude.{◌≡◌, ◌+◌, ◌-◌, ◌^◌, ◌<◌, List, [], ◌∷◌, map}
+use Rattle.std.specs.Prelude.{◌≡◌, ℕ, ◌+◌, ◌-◌, ◌^◌, ◌<◌, Bool, false, List, [], ◌∷◌, map, Option, Some, None, slice_get}
 use mathlib.Core.List.{IsPrefix}
 use Rattle.turn_cell.specs.declared.journal.Closed.{Closed}
 use Rattle.turn_cell.specs.declared.journal.Entry.{Entry}
 use Rattle.turn_cell.specs.declared.pass.Pass.{Pass}
 use Rattle.turn_cell.specs.declared.cell.Cell.{Cell}
-use Rattle.turn_cell.specs.Passes.{PassView, view_of, cell_id, first_of, IsClosed}
+use Rattle.turn_cell.specs.Passes.{PassView, view_of, cell_id, first_of, IsClosed, IsLegalView}
 use Rattle.turn_cell.specs.Rule.{longer}
 
 -- f of the two items at each place
@@ -45,6 +45,22 @@ module _ {M E R W S : Type 0} where
   -- all that v has seen, w has seen
   abbrev pub IsSeenBy : PassView M E R W S → PassView M E R W S → Type 0
   IsSeenBy v w = IsPrefix v.seen w.seen
+
+  -- the views of two passes, and those that they have once they have met
+  pub record HasMet (after : S → E → S) (reply : S → E → R) (v w x y : PassView M E R W S) : Type 0 where
+    pub one : x ≡ record v { seen = y.seen }
+    pub two : y ≡ second_met v w
+    pub more : IsPrefix v.seen y.seen × IsPrefix w.seen y.seen
+    pub legal : IsLegalView after reply x × IsLegalView after reply y
+
+  -- what the pass at a place has seen, where there is one
+  abbrev pub seen_of : Option (PassView M E R W S) → Option (List (Entry M E R W S))
+  seen_of None = None
+  seen_of (Some v) = Some v.seen
+
+  -- of each cell that was not called two rows have seen the same
+  abbrev pub AreLevel : List Bool → List (PassView M E R W S) → List (PassView M E R W S) → Type 0
+  AreLevel called vs ws = (i : ℕ) → slice_get called i ≡ Some false → seen_of (slice_get vs i) ≡ seen_of (slice_get ws i)
 
   -- the cell of a last pass with the view v was closed as c
   abbrev pub IsClosedAs : (S → E → S) → (S → E → R) → (M → S) → PassView M E R W S → Closed M E R W S → Type 0

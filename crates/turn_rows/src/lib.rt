@@ -9,6 +9,6 @@ mod splitting;
 
 pub use closing::close_into;
 pub use joining::join_row;
-pub use meeting::meet_rows;
+pub use meeting::{meet_called, meet_rows};
 pub use opening::open_row;
 pub use splitting::split_into;

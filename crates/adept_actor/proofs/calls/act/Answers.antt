@@ -1,5 +1,7 @@
 use Rattle.std.proofs.Common.{Ok, Err, sym, ◌∙◌, subst}
 use Rattle.adept_actor.proofs.Acts.{acts-fault, create-acts, start-acts, end-acts, change-acts, install-acts, migrate-acts, migrate-fails}
+use Rattle.adept_actor.proofs.Leaving.{create-leaves, start-leaves, end-leaves, change-leaves, install-leaves, migrate-leaves}
+use Rattle.adept_actor.specs.Others.{LeavesOthers}
 use Rattle.adept_actor.specs.Work.{Acts}
 use Rattle.adept_server.specs.Desks.{desk_view}
 use Rattle.file_model.specs.declared.files.Act.TheVariants as act
@@ -103,3 +105,81 @@ returns-in_default-clause-worked g c =
     let answers = c.in_ok-answers-in-Migrate.answers.items.items in
     let moves = migrate-acts c.args.roles.now v w c.requires.desk.desk c.in-Migrate.type_no answers c.in_ok-answers-in-Migrate.ensures.called in
     subst (λ x. Acts {A = Unit {0}} c.args.roles.now x (Ok tt) v w) (sym c.in-Migrate.is) (moves.0 (sym c.first_fault.ensures ∙ c.in_default.is))
+
+pub returns-in_err-create-in-Create-clause-others : goal.returns-in_err-create-in-Create-clause-others
+returns-in_err-create-in-Create-clause-others g c =
+    let v = desk_view c.args.desk.now in
+    let w = desk_view c.create.new.desk in
+    subst (λ x. LeavesOthers x v w) (sym c.in-Create.is) (create-leaves v w c.in-Create.id _ c.in_err-create-in-Create.ensures.called)
+
+pub returns-in_err-start-in-Start-clause-others : goal.returns-in_err-start-in-Start-clause-others
+returns-in_err-start-in-Start-clause-others g c =
+    let v = desk_view c.args.desk.now in
+    let w = desk_view c.start.new.desk in
+    subst (λ x. LeavesOthers x v w) (sym c.in-Start.is) (start-leaves v w c.in-Start.id c.in-Start.node _ _ c.in_err-start-in-Start.ensures.called)
+
+pub returns-in_err-end-in-End-clause-others : goal.returns-in_err-end-in-End-clause-others
+returns-in_err-end-in-End-clause-others g c =
+    let v = desk_view c.args.desk.now in
+    let w = desk_view c.end.new.desk in
+    subst (λ x. LeavesOthers x v w) (sym c.in-End.is) (end-leaves v w c.in-End.id c.in-End.node c.in-End.writes c.in-End.choice _ _ c.in_err-end-in-End.ensures.called)
+
+pub returns-in_err-change-in-Change-clause-others : goal.returns-in_err-change-in-Change-clause-others
+returns-in_err-change-in-Change-clause-others g c =
+    let v = desk_view c.args.desk.now in
+    let w = desk_view c.change.new.desk in
+    subst (λ x. LeavesOthers x v w) (sym c.in-Change.is) (change-leaves v w c.in-Change.id c.in-Change.ops _ _ c.in_err-change-in-Change.ensures.called)
+
+pub returns-in_err-install-in-Install-clause-others : goal.returns-in_err-install-in-Install-clause-others
+returns-in_err-install-in-Install-clause-others g c =
+    let v = desk_view c.args.desk.now in
+    let w = desk_view c.install.new.desk in
+    subst (λ x. LeavesOthers x v w) (sym c.in-Install.is) (install-leaves v w c.in-Install.type_no c.in-Install.ops _ _ c.in_err-install-in-Install.ensures.called)
+
+pub returns-in_ok-create-in-Create-clause-others : goal.returns-in_ok-create-in-Create-clause-others
+returns-in_ok-create-in-Create-clause-others g c =
+    let v = desk_view c.args.desk.now in
+    let w = desk_view c.create.new.desk in
+    subst (λ x. LeavesOthers x v w) (sym c.in-Create.is) (create-leaves v w c.in-Create.id _ c.in_ok-create-in-Create.ensures.called)
+
+pub returns-in_ok-start-in-Start-clause-others : goal.returns-in_ok-start-in-Start-clause-others
+returns-in_ok-start-in-Start-clause-others g c =
+    let v = desk_view c.args.desk.now in
+    let w = desk_view c.start.new.desk in
+    subst (λ x. LeavesOthers x v w) (sym c.in-Start.is) (start-leaves v w c.in-Start.id c.in-Start.node _ _ c.in_ok-start-in-Start.ensures.called)
+
+pub returns-in_ok-end-in-End-clause-others : goal.returns-in_ok-end-in-End-clause-others
+returns-in_ok-end-in-End-clause-others g c =
+    let v = desk_view c.args.desk.now in
+    let w = desk_view c.end.new.desk in
+    subst (λ x. LeavesOthers x v w) (sym c.in-End.is) (end-leaves v w c.in-End.id c.in-End.node c.in-End.writes c.in-End.choice _ _ c.in_ok-end-in-End.ensures.called)
+
+pub returns-in_ok-change-in-Change-clause-others : goal.returns-in_ok-change-in-Change-clause-others
+returns-in_ok-change-in-Change-clause-others g c =
+    let v = desk_view c.args.desk.now in
+    let w = desk_view c.change.new.desk in
+    subst (λ x. LeavesOthers x v w) (sym c.in-Change.is) (change-leaves v w c.in-Change.id c.in-Change.ops _ _ c.in_ok-change-in-Change.ensures.called)
+
+pub returns-in_ok-install-in-Install-clause-others : goal.returns-in_ok-install-in-Install-clause-others
+returns-in_ok-install-in-Install-clause-others g c =
+    let v = desk_view c.args.desk.now in
+    let w = desk_view c.install.new.desk in
+    subst (λ x. LeavesOthers x v w) (sym c.in-Install.is) (install-leaves v w c.in-Install.type_no c.in-Install.ops _ _ c.in_ok-install-in-Install.ensures.called)
+
+pub returns-in_err-answers-in-Migrate-clause-others : goal.returns-in_err-answers-in-Migrate-clause-others
+returns-in_err-answers-in-Migrate-clause-others g c =
+    let v = desk_view c.args.desk.now in
+    let w = desk_view c.migrate_all.new.desk in
+    subst (λ x. LeavesOthers x v w) (sym c.in-Migrate.is) (migrate-leaves v w c.in-Migrate.type_no _ c.in_err-answers-in-Migrate.ensures.called)
+
+pub returns-in-Some-clause-others : goal.returns-in-Some-clause-others
+returns-in-Some-clause-others g c =
+    let v = desk_view c.args.desk.now in
+    let w = desk_view c.migrate_all.new.desk in
+    subst (λ x. LeavesOthers x v w) (sym c.in-Migrate.is) (migrate-leaves v w c.in-Migrate.type_no _ c.in_ok-answers-in-Migrate.ensures.called)
+
+pub returns-in_default-clause-others : goal.returns-in_default-clause-others
+returns-in_default-clause-others g c =
+    let v = desk_view c.args.desk.now in
+    let w = desk_view c.migrate_all.new.desk in
+    subst (λ x. LeavesOthers x v w) (sym c.in-Migrate.is) (migrate-leaves v w c.in-Migrate.type_no _ c.in_ok-answers-in-Migrate.ensures.called)

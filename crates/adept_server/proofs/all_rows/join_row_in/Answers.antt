@@ -1,8 +1,19 @@
-use Rattle.std.proofs.Common.{◌∙◌, subst, sym}
+use Rattle.std.proofs.Common.{◌∙◌, All, sym, subst}
 use Rattle.std.proofs.lemmas.List.{with_items_is}
 use Rattle.adept_server.specs.Vecs.{RowJoined}
+use Rattle.turn_batch.specs.Batch.{AreOf}
+use Rattle.turn_rows.specs.Rows.{CanJoin, views}
 use Rattle.adept_server.proofs.RowsJoined.{joined_in_vecs}
 use Rattle.adept_server.proofs.all_rows.join_row_in.Goals as goal
+
+pub join_row-requires-clause-cells : goal.join_row-requires-clause-cells
+join_row-requires-clause-cells g c κs within = subst (AreOf c.args.cells.now) (sym c.deref_mut.ensures.value) c.requires.into
+
+pub join_row-requires-clause-done : goal.join_row-requires-clause-done
+join_row-requires-clause-done g c κs within = c.requires.done
+
+pub join_row-requires-clause-can : goal.join_row-requires-clause-can
+join_row-requires-clause-can g c κs within = subst (λ ps. All CanJoin (views ps)) (sym c.deref_mut.ensures.value) c.requires.can
 
 pub returns : goal.returns
 returns g c =

@@ -1,8 +1,19 @@
-use Rattle.std.proofs.Common.{◌≡◌, [], ◌++◌, ◌∙◌, ap, subst, sym, arith}
+use Rattle.std.proofs.Common.{◌≡◌, [], ◌++◌, ◌∙◌, All, length, sym, subst, ap, arith}
 use Rattle.std.proofs.lemmas.List.{with_items_is, nil_from_length}
 use Rattle.adept_server.specs.Vecs.{RowSplit}
+use Rattle.turn_batch.specs.Batch.{AreOf}
+use Rattle.turn_rows.specs.Rows.{CanSplit, views}
 use Rattle.adept_server.proofs.RowsSplit.{split_in_vecs}
 use Rattle.adept_server.proofs.all_rows.split_row.Goals as goal
+
+pub split_into-requires-clause-cells : goal.split_into-requires-clause-cells
+split_into-requires-clause-cells g c κs within = subst (AreOf c.args.cells.now) (sym c.deref_mut.ensures.value) c.requires.cells
+
+pub split_into-requires-clause-can : goal.split_into-requires-clause-can
+split_into-requires-clause-can g c κs within = subst (λ ps. All CanSplit (views ps)) (sym c.deref_mut.ensures.value) c.requires.can
+
+pub split_into-requires-clause-room : goal.split_into-requires-clause-room
+split_into-requires-clause-room g c κs within = omega (arith, c.requires.empty, c.requires.room, ap length c.deref_mut.ensures.value, c.args.firsts.now.ok.0)
 
 pub returns : goal.returns
 returns g c =

@@ -1,4 +1,4 @@
-use Rattle.std.proofs.Common.{◌≡◌, map, ap, arith, rules}
+use Rattle.std.proofs.Common.{map, ap, arith, rules}
 use Rattle.adept_server.proofs.Called.{of_rest}
 use Rattle.adept_server.proofs.Looks.{first_looked, opened_rest}
 use Rattle.turn_cell.specs.Passes.{view_of}

@@ -1,7 +1,7 @@
-use Rattle.std.proofs.Common.{◌≡◌, ◌<◌, length, slice_index_or, Some, slice_get, arith, rules, refl, sym, subst}
+use Rattle.std.proofs.Common.{◌≡◌, ◌<◌, length, slice_index_or, Some, slice_get, arith, rules, refl}
 use Rattle.std.proofs.lemmas.Option.{slice_get_read, slice_get-get_or}
 use Rattle.turn_batch.proofs.Calls.{length-passes, pass_at}
-use Rattle.turn_cell.specs.Passes.{view_of, IsPassOf}
+use Rattle.turn_cell.specs.Passes.{view_of}
 use Rattle.adept_server.proofs.Called.{passes-of_set, called_once, calls_one}
 use Rattle.adept_server.proofs.one_call.call_at.Goals as goal
 

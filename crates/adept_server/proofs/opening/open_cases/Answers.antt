@@ -1,4 +1,4 @@
-use Rattle.std.proofs.Common.{◌≡◌, ◌+◌, ◌≤◌, length, ap, ◌∙◌, refl, sym, arith}
+use Rattle.std.proofs.Common.{◌≡◌, ◌+◌, ◌≤◌, length, ap, ◌∙◌, arith}
 use Rattle.std.proofs.lemmas.List.{length_push}
 use Rattle.std.proofs.lemmas.Result.{IfOk-weaker}
 use Rattle.case_core.specs.CaseModel.{not_created}
@@ -7,7 +7,7 @@ use Rattle.case_core.specs.Ages.{age}
 use Rattle.turn_cell.specs.declared.limits.TheConstants.{MAX_OPENING_AGE}
 use Rattle.adept_server.specs.Firsts.{AreFirstCases}
 use Rattle.adept_server.proofs.Founding.{cases_opened, made_all, none_made, one_made}
-use Rattle.adept_server.proofs.Sent.{case-send, case-sync, event-send, event-sync, version-send, version-sync}
+use Rattle.adept_server.proofs.Sent.{case-send, case-sync, event-send, event-sync}
 use Rattle.std.proofs.Crossing.{crosses}
 use denote.Param.Send.{sendable}
 use Rattle.adept_server.proofs.opening.open_cases.Goals as goal

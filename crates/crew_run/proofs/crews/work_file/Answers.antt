@@ -4,12 +4,16 @@ use Rattle.adept_server.specs.Desks.{desk_view}
 use Rattle.crew_run.proofs.CrewMet.{crew-of, crew-ready, started-of, together-begun, together-of, tried-none}
 use Rattle.crew_run.proofs.DesksMeet.{heard-is-more}
 use Rattle.crew_run.proofs.FullSeen.{many-seen}
+use Rattle.crew_run.proofs.LevelDesks.{all-level}
 use Rattle.crew_run.proofs.Outcomes.{err-and, if_err-same}
 use Rattle.crew_run.specs.Defining.{DefinesAll, DefinesSome, KnowsTypes}
 use Rattle.crew_run.specs.Phases.{IsOverfull}
 use Rattle.crew_run.specs.Workers.{desks_of}
 use Rattle.turn_cell.specs.declared.faults.CallFault.TheVariants as fault
 use Rattle.crew_run.proofs.crews.work_file.Goals as goal
+
+pub meet_all-requires-clause-level : goal.meet_all-requires-clause-level
+meet_all-requires-clause-level g c = all-level c.args.called.now c.requires.called.1 (desk_view c.define_types-defined.new.desk) (desks_of c.args.crew.now)
 
 pub work_phases-requires-clause-crew : goal.work_phases-requires-clause-crew
 work_phases-requires-clause-crew g c κs within =

@@ -1,11 +1,13 @@
 use Rattle.std.proofs.Common.{◌∙◌, arith}
 use Rattle.std.proofs.lemmas.Result.{IfErr-weaker, on_ok_weaker}
 use Rattle.std.specs.List.{AllZip}
+use Rattle.adept_actor.specs.Others.{LeavesUnnamed}
 use Rattle.adept_actor.specs.Work.{CanWork}
 use Rattle.adept_server.specs.Desks.{desk_view}
 use Rattle.crew_run.proofs.DesksCanWork.{all-can}
 use Rattle.crew_run.proofs.EachWorker.{all-desks, desk-at, desks-are, holds-at, number-at}
 use Rattle.crew_run.proofs.FullSeen.{full-among}
+use Rattle.crew_run.proofs.LevelDesks.{worked-level}
 use Rattle.crew_run.proofs.PhaseWorked.{crew-then, phase-done, phase-tried, well-of}
 use Rattle.crew_run.proofs.SideBySide.{all-zip}
 use Rattle.crew_run.specs.Phases.{HasWorked, Tries}
@@ -20,6 +22,14 @@ work_lines-requires-clause-ready g c κs within = λ i d low.
 
 pub meet_all-requires-clause-crew : goal.meet_all-requires-clause-crew
 meet_all-requires-clause-crew g c = all-desks c.args.server.now c.work_lines.new.crew (λ i d low. (c.work_lines.ensures i d (omega (arith, low, c.work_lines.auto.crew))).0)
+
+pub meet_all-requires-clause-level : goal.meet_all-requires-clause-level
+meet_all-requires-clause-level g c =
+    let lines = c.args.lines.now in
+    let old = c.args.crew.now in
+    let mid = c.work_lines.new.crew in
+    let left = all-zip (λ w x. LeavesUnnamed lines (desk_view w.desk) (desk_view x.desk)) old mid c.work_lines.auto.crew (λ i d low. (c.work_lines.ensures i d low).2) in
+    worked-level c.note_lines.new.called lines c.note_lines.ensures.kinds c.note_lines.ensures.cases (desk_view c.args.first.now) old mid c.requires.crew.same left
 
 pub returns-clause-crew : goal.returns-clause-crew
 returns-clause-crew g c =

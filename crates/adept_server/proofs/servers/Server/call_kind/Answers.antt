@@ -1,4 +1,4 @@
-use Rattle.std.proofs.Common.{◌≡◌, map, true, false, refl, sym, ◌∙◌, subst}
+use Rattle.std.proofs.Common.{map, true, false, refl, sym, ◌∙◌, subst}
 use Rattle.adept_server.proofs.Made.{kind_made}
 use Rattle.adept_server.proofs.Sent.{version-send, version-sync}
 use Rattle.std.proofs.Crossing.{crosses}

@@ -1,4 +1,4 @@
-use Rattle.std.proofs.Common.{◌≡◌, Ok, ap, ◌∙◌, subst}
+use Rattle.std.proofs.Common.{Ok, ap, ◌∙◌, subst}
 use Rattle.adept_server.proofs.Asked.{create_unasked, newest_answered}
 use Rattle.adept_server.specs.Calling.{CallsKind}
 use Rattle.adept_server.specs.Calling.Creates.{asked}

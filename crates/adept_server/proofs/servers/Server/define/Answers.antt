@@ -1,4 +1,4 @@
-use Rattle.std.proofs.Common.{◌≡◌, ap, ◌∙◌}
+use Rattle.std.proofs.Common.{ap, ◌∙◌}
 use Rattle.adept_server.proofs.Asked.{kind_failed, now_defined}
 use Rattle.adept_server.specs.Desks.{desk_view}
 use Rattle.type_core.specs.declared.events.KindEvent.TheVariants.{Define}

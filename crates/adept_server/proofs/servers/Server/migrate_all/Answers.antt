@@ -1,4 +1,4 @@
-use Rattle.std.proofs.Common.{◌≡◌, Ok, refl, ap, ◌∙◌, subst}
+use Rattle.std.proofs.Common.{Ok, refl, ap, ◌∙◌, subst}
 use Rattle.adept_server.proofs.Asked.{newest_answered, none_asked, migrate_unasked, migrate_untold}
 use Rattle.adept_server.specs.Calling.{CallsKind}
 use Rattle.adept_server.specs.Calling.Migrates.{told}

@@ -1,4 +1,3 @@
-use Rattle.std.proofs.Common.{◌≡◌}
 use Rattle.adept_server.proofs.Asked.{case_failed}
 use Rattle.adept_server.specs.Desks.{desk_view}
 use Rattle.case_core.specs.declared.events.Event.TheVariants.{Start}

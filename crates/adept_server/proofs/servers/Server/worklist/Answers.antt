@@ -1,16 +1,23 @@
-use Rattle.std.proofs.Common.{◌≡◌, map, refl, sym, ◌∙◌, subst}
+use Rattle.std.proofs.Common.{length, map, refl, sym, ap, ◌∙◌, subst, arith}
+use Rattle.std.proofs.Math.ListN.{length-map}
 use Rattle.std.proofs.lemmas.List.{with_items_is}
 use Rattle.std.specs.Vec.{with_items}
 use Rattle.adept_server.proofs.Looks.{desk_opened}
 use Rattle.adept_server.proofs.Made.{looks_made}
 use Rattle.adept_server.proofs.Rows.{AreVecsOf}
-use Rattle.adept_server.specs.Desks.{desk_view}
+use Rattle.adept_server.specs.Desks.{AreShort, desk_view}
 use Rattle.adept_server.specs.Offering.{AllLooked, AllOpened}
 use Rattle.turn_cell.specs.Passes.{view_of}
 use Rattle.adept_server.proofs.servers.Server.worklist.Goals as goal
 
 pub look_rows-requires-clause-opening : goal.look_rows-requires-clause-opening
 look_rows-requires-clause-opening g c = subst (λ (qs : _). AllOpened 0 (map (λ row. map view_of row.items) qs)) (sym c.deref_mut.ensures.value) (desk_opened (desk_view c.args.desk.now) c.requires.desk.desk)
+
+pub look_rows-requires-clause-few : goal.look_rows-requires-clause-few
+look_rows-requires-clause-few g c = omega (arith, c.requires.desk.desk.few, length-map c.args.desk.now.cases.items (λ (row : _). map view_of row.items), ap length c.deref_mut.ensures.value)
+
+pub look_rows-requires-clause-short : goal.look_rows-requires-clause-short
+look_rows-requires-clause-short g c = subst (λ (qs : _). AreShort (map (λ row. map view_of row.items) qs)) (sym c.deref_mut.ensures.value) c.requires.desk.desk.short
 
 pub returns-in_err-look_rows-clause-desk : goal.returns-in_err-look_rows-clause-desk
 returns-in_err-look_rows-clause-desk g c =

@@ -11,4 +11,4 @@ returns g c =
     let v = desk_view c.args.worker.now.desk in
     let w = desk_view c.work.new.desk in
     let roles = roles-at c.captures.file.now c.as_slice.result.now v.number c.args.index c.index-as_slice-index.result c.as_slice.ensures c.requires.3.0 c.requires.2 in
-    (c.work.ensures.desk, subst (λ rs. Works rs c.captures.lines.now (ended c.err-worker.result) v w) roles (leaves-ended _ _ c.work.result c.err-worker.result v w c.err-worker.ensures.value c.work.ensures.worked))
+    (c.work.ensures.desk, subst (λ rs. Works rs c.captures.lines.now (ended c.err-worker.result) v w) roles (leaves-ended _ _ c.work.result c.err-worker.result v w c.err-worker.ensures.value c.work.ensures.worked), c.work.ensures.others)
