@@ -1,5 +1,5 @@
 // A replay, and one entry more.
-use crate::trees::{act, schema_of};
+use crate::versions::row_of;
 use std::alloc::Global;
 use std::test::Fail;
 use wsm_replay::{Replayed, advance, extend, replay, spot_in};
@@ -9,15 +9,33 @@ use wsm_trail::Trail;
 
 // The activity 2 alone.
 fn one_activity(alloc: Global) -> Option<Checked> {
-    let schema = schema_of(alloc, act(alloc, 2).ok()?);
-    check(alloc, schema).ok()
+    check(alloc, row_of(alloc, &[2]).ok()?).ok()
 }
 
-// The marking, where the replay is whole.
-fn whole(replayed: Replayed) -> Option<Marking> {
+// The state of a node, where the replay is whole.
+fn state(replayed: &Replayed, node: u32) -> Option<State> {
     match replayed {
-        Replayed::Whole(marking) => Some(marking),
+        Replayed::Whole(marking) => Some(spot_in(marking, node).state),
         Replayed::Fails { .. } => None,
+    }
+}
+
+fn started(alloc: Global) -> Result<Trail, NoMemory> {
+    let mut trail = Trail::new(alloc);
+    trail.reserve(1)?;
+    trail.push(Entry::Start {
+        node: 2,
+        user: 7,
+        reads: ReadValues::new(alloc),
+    });
+    Ok(trail)
+}
+
+fn end(alloc: Global) -> Entry {
+    Entry::End {
+        node: 2,
+        writes: Writes::new(alloc),
+        choice: None,
     }
 }
 
@@ -34,37 +52,60 @@ fn replayed(
     Ok((before, behind))
 }
 
+// The state of node 2 behind one entry more.
 fn advanced(
     alloc: Global,
     checked: &Checked,
     now: &Marking,
     entry: &Entry,
-) -> Result<Marking, NoMemory> {
-    advance(alloc, checked.flat(), checked.rank(), now, entry)
+) -> Result<State, NoMemory> {
+    let marking = advance(alloc, checked.flat(), checked.rank(), now, entry)?;
+    Ok(spot_in(&marking, 2).state)
 }
+
+fn state_advanced(
+    alloc: Global,
+    checked: &Checked,
+    before: &Replayed,
+    entry: &Entry,
+) -> Option<State> {
+    match before {
+        Replayed::Whole(now) => advanced(alloc, checked, now, entry).ok(),
+        Replayed::Fails { .. } => None,
+    }
+}
+
+// The state of node 2 at its start, that of the finish node behind the end of node 2, and that of node 2 there.
+fn states(
+    alloc: Global,
+    checked: &Checked,
+    trail: &Trail,
+    end: &Entry,
+) -> Result<[Option<State>; 3], NoMemory> {
+    let (before, behind) = replayed(alloc, checked, trail, end)?;
+    Ok([
+        state(&before, 2),
+        state(&behind, 1),
+        state_advanced(alloc, checked, &before, end),
+    ])
+}
+
+fn states_of_trail(alloc: Global, checked: &Checked) -> Result<[Option<State>; 3], NoMemory> {
+    states(alloc, checked, &started(alloc)?, &end(alloc))
+}
+
+fn states_of_activity(alloc: Global) -> Option<[Option<State>; 3]> {
+    states_of_trail(alloc, &one_activity(alloc)?).ok()
+}
+
+const EXPECTED: [Option<State>; 3] = [
+    Some(State::Running),
+    Some(State::Completed),
+    Some(State::Completed),
+];
 
 #[test]
 fn a_start_and_then_an_end(rt: HostRuntime) -> Result<(), Fail> {
-    let alloc = rt.alloc();
-    let checked = one_activity(alloc).ok_or("a sound schema")?;
-    let mut trail = Trail::new(alloc);
-    trail.reserve(1)?;
-    trail.push(Entry::Start {
-        node: 2,
-        user: 7,
-        reads: ReadValues::new(alloc),
-    });
-    let end = Entry::End {
-        node: 2,
-        writes: Writes::new(alloc),
-        choice: None,
-    };
-    let (started, ended) = replayed(alloc, &checked, &trail, &end)?;
-    let started = whole(started).ok_or("the start is not applicable")?;
-    assert_eq!(rt; spot_in(&started, 2).state, State::Running);
-    let ended = whole(ended).ok_or("the end is not applicable")?;
-    assert_eq!(rt; spot_in(&ended, 1).state, State::Completed);
-    let advanced = advanced(alloc, &checked, &started, &end)?;
-    assert_eq!(rt; spot_in(&advanced, 2).state, State::Completed);
+    assert!(rt; states_of_activity(rt.alloc()) == Some(EXPECTED));
     Ok(())
 }

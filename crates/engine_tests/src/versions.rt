@@ -1,8 +1,26 @@
-// The versions of the tests.
+// The schemas, operations and versions of the tests.
 use std::alloc::Global;
 use wsm_ops::{Gap, Op, Ops};
-use wsm_schema::{NoMemory, Schema};
+use wsm_schema::{Block, Items, NoMemory, Schema};
 use wsm_sound::{Version, evolve, first};
+
+/// A list of operations.
+pub fn ops_of(alloc: Global, ops: &[Op]) -> Result<Ops, NoMemory> {
+    let mut list = Ops::new(alloc);
+    for op in ops {
+        list.push(*op)?;
+    }
+    Ok(list)
+}
+
+/// Activities, one behind the other, between the nodes 0 and 1.
+pub fn row_of(alloc: Global, nodes: &[u32]) -> Result<Schema, NoMemory> {
+    let mut items = Items::new(alloc);
+    for node in nodes {
+        items.push(Block::Act(*node))?;
+    }
+    Ok(Schema::new(alloc, 0, 1, items))
+}
 
 /// A new activity without a role directly behind a node.
 pub fn insert(node: u32, behind: u32) -> Op {

@@ -4,37 +4,60 @@ use std::alloc::Global;
 use std::test::Fail;
 use wsm_schema::{ElementKind, Flat, Items, NoMemory, Nodes, Schema, Value, Writes};
 
+fn put_elements(schema: &mut Schema) -> Result<(), NoMemory> {
+    schema.put_element(3, ElementKind::Int)?;
+    schema.put_element(4, ElementKind::Text)?;
+    Ok(())
+}
+
 // A flat form with the elements 3 and 4.
 fn two_elements(alloc: Global) -> Result<Flat, NoMemory> {
     let mut schema = Schema::new(alloc, 0, 1, Items::new(alloc));
-    schema.put_element(3, ElementKind::Int)?;
-    schema.put_element(4, ElementKind::Text)?;
+    put_elements(&mut schema)?;
     Flat::of(alloc, &schema)
 }
 
-// The wrong elements of an end that is to write the elements 3 and 4, and writes two integers.
-fn wrong(alloc: Global, flat: &Flat, first: u32, second: u32) -> Result<Nodes, NoMemory> {
+// Two integers.
+fn numbers(alloc: Global, first: u32, second: u32) -> Result<Writes, NoMemory> {
     let writes = vec![in alloc; (first, Value::Int(7)), (second, Value::Int(8))]?;
-    wrong_elements(alloc, flat, &[3, 4], &writes)
+    Ok(Writes::from_vec(writes))
+}
+
+fn wrong_on(alloc: Global, flat: &Flat, writes: &Writes) -> Result<Nodes, NoMemory> {
+    wrong_elements(alloc, flat, &[3, 4], writes.as_slice())
+}
+
+// The wrong elements of an end that is to write the elements 3 and 4, and writes two integers.
+fn wrong(alloc: Global, first: u32, second: u32) -> Result<Nodes, NoMemory> {
+    let flat = two_elements(alloc)?;
+    wrong_on(alloc, &flat, &numbers(alloc, first, second)?)
 }
 
 // 3 is not named, 4 is a text, and 5 is no write edge.
 #[test]
 fn wrong_elements_ascend(rt: HostRuntime) -> Result<(), Fail> {
     let alloc = rt.alloc();
-    let flat = two_elements(alloc)?;
-    assert_eq!(rt; wrong(alloc, &flat, 5, 4)?.as_slice(), [3, 4, 5].as_slice());
-    assert_eq!(rt; wrong(alloc, &flat, 4, 3)?.as_slice(), [4].as_slice());
+    assert_eq!(rt; wrong(alloc, 5, 4)?.as_slice(), [3, 4, 5].as_slice());
+    assert_eq!(rt; wrong(alloc, 4, 3)?.as_slice(), [4].as_slice());
     Ok(())
+}
+
+fn is_write(write: Option<&(u32, Value)>, element: u32, number: i64) -> bool {
+    match write {
+        Some((written, Value::Int(value))) => *written == element && *value == number,
+        _ => false,
+    }
+}
+
+fn sorted(alloc: Global) -> Result<Writes, NoMemory> {
+    by_element(alloc, &numbers(alloc, 4, 3)?)
 }
 
 #[test]
 fn writes_are_recorded_by_element(rt: HostRuntime) -> Result<(), Fail> {
-    let alloc = rt.alloc();
-    let writes = vec![in alloc; (4, Value::Int(7)), (3, Value::Int(8))]?;
-    let sorted = by_element(alloc, &Writes::from_vec(writes))?;
+    let sorted = sorted(rt.alloc())?;
     assert_eq!(rt; sorted.len(), 2);
-    assert!(rt; matches!(sorted.get(0), Some((3, Value::Int(8)))));
-    assert!(rt; matches!(sorted.get(1), Some((4, Value::Int(7)))));
+    assert!(rt; is_write(sorted.get(0), 3, 8));
+    assert!(rt; is_write(sorted.get(1), 4, 7));
     Ok(())
 }

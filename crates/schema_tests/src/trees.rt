@@ -51,12 +51,6 @@ pub fn xor(
     })
 }
 
-/// The activities 2 and 3, one behind the other.
-pub fn in_a_row(alloc: Global) -> Result<Schema, NoMemory> {
-    let body = vec![in alloc; Block::Act(2), Block::Act(3)]?;
-    Ok(schema_of(alloc, body))
-}
-
 /// An AND block with the activities 4 and 5 in its branches.
 pub fn side_by_side(alloc: Global) -> Result<Schema, NoMemory> {
     let block = and(alloc, 2, 3, act(alloc, 4)?, act(alloc, 5)?)?;
