@@ -5,7 +5,7 @@ use Rattle.std.proofs.lemmas.Option.{get_or_from_slice_get}
 use Rattle.adept_actor.proofs.Desks.{case-there, done-defined, nothing-done, then-done, kind-done, case-done, cases-done, each_calls, reply_in}
 use Rattle.adept_actor.proofs.Doing.{each-length}
 use Rattle.adept_actor.specs.Growth.{DeskHasDone}
-use Rattle.adept_actor.specs.Work.{Acts, CanAct, CanWork, Works, Does, SeesFull, case_count, first_fault}
+use Rattle.adept_actor.specs.Work.{Acts, CanAct, CanWork, WorksLines, Does, SeesFull, case_count, first_fault}
 use Rattle.adept_actor.specs.Work.SeesFull.{of_kind as kind_is_full, of_case as case_is_full}
 use Rattle.adept_server.proofs.Keeping.{kind_beside, kind_keeps}
 use Rattle.adept_server.specs.Calling.{CallEach, CallsKind, CallsCase, CallsCases, Creates, Migrates}
@@ -244,9 +244,9 @@ same-begun many others same roles a (l ∷ ls) calls (inl part) = inl (same-part
 same-begun many others same roles a (l ∷ ls) calls (inr (first, rest, is, fit, k)) = inr (first, rest, is, same-act many others same roles a l.act first fit, same-begun many others same roles a ls rest k)
 
 -- how lines ended that met a fault
-pub works-fault : {B : Type 0} (roles : List ℕ) (lines : List Line) (v w : DeskView) (f : CallFault) (b : Result B CallFault) → IsErrAnd b (λ g. g ≡ f) → Works {A = Unit {0}} roles lines (Err f) v w → Works {A = B} roles lines b v w
+pub works-fault : {B : Type 0} (roles : List ℕ) (lines : List Line) (v w : DeskView) (f : CallFault) (b : Result B CallFault) → IsErrAnd b (λ g. g ≡ f) → WorksLines {A = Unit {0}} roles lines (Err f) v w → WorksLines {A = B} roles lines b v w
 works-fault roles lines v w f (Ok r) same k = absurd same
-works-fault {B} roles lines v w f (Err g) same k = subst (λ h. Works {A = B} roles lines (Err h) v w) (sym same) k
+works-fault {B} roles lines v w f (Err g) same k = subst (λ h. WorksLines {A = B} roles lines (Err h) v w) (sym same) k
 
 -- a desk that can make the calls of an act can still do so behind other calls
 module _ (calls : List Call) (v w : DeskView) (d : DeskHasDone calls v w) where

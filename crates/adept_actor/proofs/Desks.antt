@@ -14,10 +14,10 @@ use Rattle.adept_server.specs.Desks.{KindPass, CasePass, DeskView, in_row, at_ca
 use Rattle.case_core.specs.Machine.{case_after, case_reply}
 use Rattle.case_core.specs.declared.events.Event.{Event}
 use Rattle.case_core.specs.declared.replies.Reply.{Reply}
-use Rattle.legal_run.proofs.OnMachines.{on_kind-append, on_case-append}
+use Rattle.legal_run.proofs.OnMachines.{calls_of_kind-append, calls_of_case-append}
 use Rattle.legal_run.proofs.Places.{set-here, set-other, some_one, there-as}
 use Rattle.legal_run.proofs.Told.{entry_if, some-at, some-kind, some-other}
-use Rattle.legal_run.specs.LineCalls.{Call, of_kind, on_kind, on_case, is_case, told, told_some}
+use Rattle.legal_run.specs.LineCalls.{Call, of_kind, calls_of_kind, calls_of_case, is_case, told, told_some}
 use Rattle.turn_cell.specs.History.{entry}
 use Rattle.turn_cell.specs.declared.faults.CallFault.{CallFault}
 use Rattle.type_core.specs.Machine.{kind_after, kind_reply}
@@ -57,10 +57,10 @@ then-done calls more v m w h k = record {
   rows = k.rows ∙ h.rows;
   kinds = λ t p r there there_then.
       let q = there-as v.kinds m.kinds t p h.types there in
-      subst (λ es. HasDone es p r) (sym (on_kind-append t calls more)) (more-done (on_kind t calls) (on_kind t more) p q.0 r (h.kinds t p q.0 there q.1) (k.kinds t q.0 r q.1 there_then));
+      subst (λ es. HasDone es p r) (sym (calls_of_kind-append t calls more)) (more-done (calls_of_kind t calls) (calls_of_kind t more) p q.0 r (h.kinds t p q.0 there q.1) (k.kinds t q.0 r q.1 there_then));
   cases = λ c p r there there_then.
       let q = case-there v.cases m.cases c p h.rows there in
-      subst (λ es. HasDone es p r) (sym (on_case-append c calls more)) (more-done (on_case c calls) (on_case c more) p q.0 r (h.cases c p q.0 there q.1) (k.cases c q.0 r q.1 there_then));
+      subst (λ es. HasDone es p r) (sym (calls_of_case-append c calls more)) (more-done (calls_of_case c calls) (calls_of_case c more) p q.0 r (h.cases c p q.0 there q.1) (k.cases c q.0 r q.1 there_then));
 }
 
 -- a type that the desk knows to be defined is known so still
@@ -78,11 +78,11 @@ abbrev pub kind_calls : ℕ → KindEvent → ℕ → Result KindReply CallFault
 kind_calls n e t (Ok r) = of_kind t (entry n e r) ∷ []
 kind_calls n e t (Err f) = []
 
-on-kind_one : (n : ℕ) (e : KindEvent) (t : ℕ) (answer : Result KindReply CallFault) (u : ℕ) → on_kind u (kind_calls n e t answer) ≡ (if t == u then entries_of n e answer else [])
+on-kind_one : (n : ℕ) (e : KindEvent) (t : ℕ) (answer : Result KindReply CallFault) (u : ℕ) → calls_of_kind u (kind_calls n e t answer) ≡ (if t == u then entries_of n e answer else [])
 on-kind_one n e t (Ok r) u = refl
 on-kind_one n e t (Err f) u = sym (either_same (t == u) [])
 
-on-case_none : (n : ℕ) (e : KindEvent) (t : ℕ) (answer : Result KindReply CallFault) (c : CaseId) → on_case c (kind_calls n e t answer) ≡ []
+on-case_none : (n : ℕ) (e : KindEvent) (t : ℕ) (answer : Result KindReply CallFault) (c : CaseId) → calls_of_case c (kind_calls n e t answer) ≡ []
 on-case_none n e t (Ok r) c = refl
 on-case_none n e t (Err f) c = refl
 
@@ -117,11 +117,11 @@ abbrev pub case_calls : ℕ → Event → CaseId → Result Reply CallFault → 
 case_calls n e id (Ok r) = told n id e r ∷ []
 case_calls n e id (Err f) = []
 
-on-case_one : (n : ℕ) (e : Event) (id : CaseId) (answer : Result Reply CallFault) (c : CaseId) → on_case c (case_calls n e id answer) ≡ (if is_case c id then entries_of n e answer else [])
+on-case_one : (n : ℕ) (e : Event) (id : CaseId) (answer : Result Reply CallFault) (c : CaseId) → calls_of_case c (case_calls n e id answer) ≡ (if is_case c id then entries_of n e answer else [])
 on-case_one n e id (Ok r) c = refl
 on-case_one n e id (Err f) c = sym (either_same (is_case c id) [])
 
-on-kind_none : (n : ℕ) (e : Event) (id : CaseId) (answer : Result Reply CallFault) (u : ℕ) → on_kind u (case_calls n e id answer) ≡ []
+on-kind_none : (n : ℕ) (e : Event) (id : CaseId) (answer : Result Reply CallFault) (u : ℕ) → calls_of_kind u (case_calls n e id answer) ≡ []
 on-kind_none n e id (Ok r) u = refl
 on-kind_none n e id (Err f) u = refl
 
@@ -175,7 +175,7 @@ module _ (n t : ℕ) (e : Event) where
   entry-of (Some (Err f)) = refl
 
   -- a case of the type was told what stands at its place
-  on-case_each : (c : CaseId) (answers : List (Result Reply CallFault)) → t ≡ c.type_no → on_case c (each_calls 0 answers) ≡ entries_at n e (slice_get answers c.place)
+  on-case_each : (c : CaseId) (answers : List (Result Reply CallFault)) → t ≡ c.type_no → calls_of_case c (each_calls 0 answers) ≡ entries_at n e (slice_get answers c.place)
   on-case_each c answers same = some-at n t e c 0 c.place (map reply_in answers) same (omega arith) ∙ (ap (entry_if n e) (slice_get-map reply_in answers c.place) ∙ entry-of (slice_get answers c.place))
 
 pub cases-done : (e : Event) (t : ℕ) (answers : List (Result Reply CallFault)) (v w : DeskView) → IsDesk v → CallsCases e t answers v w → DeskHasDone (each_calls v.number t e 0 answers) v w
@@ -200,7 +200,7 @@ cases-done e t answers v w desk k =
     numbered : (j : ℕ) (p : CasePass) → slice_get k.row j ≡ Some p → p.number ≡ v.number
     numbered j p at = (desk.cases (record { type_no = t; place = j }) p (ap (in_row j) k.there ∙ at)).number
 
-    at_cell : (c : CaseId) (p q : CasePass) → case_pass v c ≡ Some p → at_case (set v.cases t k.row_behind) c ≡ Some q → HasDone (on_case c (each_calls v.number t e 0 answers)) p q
+    at_cell : (c : CaseId) (p q : CasePass) → case_pass v c ≡ Some p → at_case (set v.cases t k.row_behind) c ≡ Some q → HasDone (calls_of_case c (each_calls v.number t e 0 answers)) p q
     at_cell c p q there there_then =
         dite (ℕ_discrete t c.type_no)
         (λ (same : t ≡ c.type_no).

@@ -2,7 +2,7 @@
 use Rattle.std.specs.Prelude.{◌≡◌, ℕ, List, ◌++◌, length, map, Some, slice_get}
 use mathlib.Core.List.{IsPrefix}
 use Rattle.adept_server.specs.Desks.{KindPass, CasePass, DeskView, case_pass}
-use Rattle.legal_run.specs.LineCalls.{Call, on_kind, on_case}
+use Rattle.legal_run.specs.LineCalls.{Call, calls_of_kind, calls_of_case}
 use Rattle.turn_cell.specs.Passes.{PassView}
 use Rattle.turn_cell.specs.declared.journal.Entry.{Entry}
 use Rattle.wsm_sound.specs.declared.versions.CaseId.{CaseId}
@@ -24,5 +24,5 @@ pub record DeskHasDone (calls : List Call) (v w : DeskView) : Type 0 where
   pub taken : w.taken ≡ v.taken
   pub types : length w.kinds ≡ length v.kinds
   pub rows : map length w.cases ≡ map length v.cases
-  pub kinds : (t : ℕ) (p q : KindPass) → slice_get v.kinds t ≡ Some p → slice_get w.kinds t ≡ Some q → HasDone (on_kind t calls) p q
-  pub cases : (c : CaseId) (p q : CasePass) → case_pass v c ≡ Some p → case_pass w c ≡ Some q → HasDone (on_case c calls) p q
+  pub kinds : (t : ℕ) (p q : KindPass) → slice_get v.kinds t ≡ Some p → slice_get w.kinds t ≡ Some q → HasDone (calls_of_kind t calls) p q
+  pub cases : (c : CaseId) (p q : CasePass) → case_pass v c ≡ Some p → case_pass w c ≡ Some q → HasDone (calls_of_case c calls) p q

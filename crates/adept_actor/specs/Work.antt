@@ -52,5 +52,5 @@ Leaves Whole Begun answer v w = MatchResult answer (λ _. Does Whole v w) (λ f.
 abbrev pub Acts : {A : Type 0} → List ℕ → Act → Result A CallFault → DeskView → DeskView → Type 0
 Acts roles a answer v w = Leaves (AreCallsOf (case_count v) roles v.number a) (ArePartOf (case_count v) roles v.number a) answer v w
 
-abbrev pub Works : {A : Type 0} → List ℕ → List Line → Result A CallFault → DeskView → DeskView → Type 0
-Works roles lines answer v w = Leaves (AreCallsOfLines (case_count v) roles v.number (lines_of v.number lines)) (AreBegun (case_count v) roles v.number (lines_of v.number lines)) answer v w
+abbrev pub WorksLines : {A : Type 0} → List ℕ → List Line → Result A CallFault → DeskView → DeskView → Type 0
+WorksLines roles lines answer v w = Leaves (AreCallsOfLines (case_count v) roles v.number (lines_of v.number lines)) (AreBegun (case_count v) roles v.number (lines_of v.number lines)) answer v w

@@ -1,6 +1,6 @@
 // The lines of an actor.
 ghost use Rattle.adept_actor.specs.Others.{LeavesOthers, LeavesUnnamed};
-ghost use Rattle.adept_actor.specs.Work.{Acts, CanAct, CanWork, Works};
+ghost use Rattle.adept_actor.specs.Work.{Acts, CanAct, CanWork, WorksLines};
 ghost use Rattle.adept_server.specs.Desks.{IsDeskOf, desk_view};
 
 use crate::calls::act;
@@ -27,7 +27,7 @@ pub fn work<R: Threads + Wait + Sync, G: Gate + Sync>(
     requires desk { IsDeskOf server.now desk.old }
     requires able { CanWork (desk_view desk.old) lines.now }
     ensures desk { IsDeskOf server.now desk.new }
-    ensures worked { Works roles.now lines.now result (desk_view desk.old) (desk_view desk.new) }
+    ensures worked { WorksLines roles.now lines.now result (desk_view desk.old) (desk_view desk.new) }
     ensures others { LeavesUnnamed lines.now (desk_view desk.old) (desk_view desk.new) }
 {
     for line in lines.as_slice() {

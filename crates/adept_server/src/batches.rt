@@ -5,7 +5,7 @@ ghost use Rattle.adept_server.specs.Calling.{CallsCases, Migrates};
 ghost use Rattle.adept_server.specs.Desks.{IsDefinedFor, IsDeskOf, desk_view, has_kind};
 ghost use Rattle.case_core.specs.Ages.{weight};
 
-use crate::calls::version_in;
+use crate::calls::answered_version;
 use crate::desks::Desk;
 use crate::servers::Server;
 use case_core::{Case, Event};
@@ -57,7 +57,7 @@ impl Server {
         ensures called { Migrates type_no (result_map_both (λ a. a.items.items) (λ f. f) result) (desk_view desk.old) (desk_view desk.new) }
     {
         let reply = self.newest(rt, alloc, desk, type_no, gate, line)?;
-        let event = Event::Migrate(version_in(reply));
+        let event = Event::Migrate(answered_version(reply));
         Ok(self.call_cases(rt, alloc, desk, type_no, &event, gate, line)?)
     }
 }

@@ -31,7 +31,7 @@ fn tells_version(answer: &Result<KindReply, CallFault>) -> bool
 }
 
 // The version that a type which has one answers.
-pub(crate) fn version_in(reply: KindReply) -> Version
+pub(crate) fn answered_version(reply: KindReply) -> Version
     requires { tells_newest reply ≡ true }
     ensures { reply ≡ KindReply.Is result }
 {
@@ -186,7 +186,7 @@ impl Server {
         ensures called { Creates id result (desk_view desk.old) (desk_view desk.new) }
     {
         let reply = self.newest(rt, alloc, desk, id.type_no, gate, line)?;
-        let event = Event::Create(version_in(reply));
+        let event = Event::Create(answered_version(reply));
         self.call_case(rt, alloc, desk, id, &event, gate, line)
     }
 

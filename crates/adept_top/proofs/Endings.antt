@@ -1,7 +1,7 @@
 -- How a command ends follows from how its file was got and how that was worked.
 use Rattle.std.proofs.Common.{◌≡◌, ℕ, ◌≤◌, ◌⊎◌, inl, inr, List, length, Option, Some, None, Ok, IsTrue, IfSome, IfNone, sym, ◌∙◌, refl, arith}
 use Rattle.std.proofs.lemmas.Bool.{le-ltb}
-use Rattle.adept_top.specs.Commands.{cases_of, input}
+use Rattle.adept_top.specs.Commands.{load_size, input}
 use Rattle.adept_top.specs.Endings.{OfFile, IsInputOf, EndsUnworked, Ends}
 use Rattle.adept_top.specs.Statuses.{is_end_status, most_bytes, status_of}
 use Rattle.adept_top.specs.Works.{Works}
@@ -42,11 +42,11 @@ worked-exact (Some b) f n read s =
     ]
 
 pub worked_ends : {S K : Type 0} (left : S → Option (List ℕ)) (read_faults : S → ℕ) (written : K → Option (List ℕ)) (write_faults : K → ℕ) (c : Command) (from to : S) (f : File) (old new : K) (o : Outcome)
-    → IsInputOf left (cases_of c) from to f → Works written write_faults c f old new o → Ends left read_faults written write_faults c from to old new o
+    → IsInputOf left (load_size c) from to f → Works written write_faults c f old new o → Ends left read_faults written write_faults c from to old new o
 worked_ends left read_faults written write_faults c from to f old new o got work = record {
   statuses = worked-status o.status work.statuses;
-  done = λ zero. of-input (input (cases_of c) (left from)) f _ got.file (work.done zero);
-  begun = λ four. of-input (input (cases_of c) (left from)) f _ got.file (work.begun four);
+  done = λ zero. of-input (input (load_size c) (left from)) f _ got.file (work.done zero);
+  begun = λ four. of-input (input (load_size c) (left from)) f _ got.file (work.begun four);
   unwritten = work.unwritten;
   refused = λ one. absurd (not_worked o.status 1 work.statuses (inl refl) one);
   whole = λ _. got.whole;
@@ -56,7 +56,7 @@ worked_ends left read_faults written write_faults c from to f old new o got work
   untouched = work.untouched;
   no_run = work.no_run;
   no_place = λ _. work.no_place;
-  exact = λ _. worked-exact (input (cases_of c) (left from)) f o.status got.file work.statuses;
+  exact = λ _. worked-exact (input (load_size c) (left from)) f o.status got.file work.statuses;
 }
 
 -- a command without a file ends with one of its statuses
@@ -84,7 +84,7 @@ unworked-exact None n h = tt
 unworked-exact (Some b) n h = elim h as (λ _. (n ≡ status_of b) ⊎ (n ≡ 5) ⊎ ((status_of b ≡ 0) × (n ≡ 4))) [ inl same ↦ inl same | inr five ↦ inr (inl five) ]
 
 pub unworked_ends : {S K : Type 0} (left : S → Option (List ℕ)) (read_faults : S → ℕ) (written : K → Option (List ℕ)) (write_faults : K → ℕ) (c : Command) (from to : S) (sink : K) (o : Outcome)
-    → EndsUnworked left read_faults (cases_of c) from to o → Ends left read_faults written write_faults c from to sink sink o
+    → EndsUnworked left read_faults (load_size c) from to o → Ends left read_faults written write_faults c from to sink sink o
 unworked_ends left read_faults written write_faults c from to sink o end = record {
   statuses = unworked-status o.status end.statuses;
   done = λ zero. absurd (not_unworked o.status 0 end.statuses (inl refl) zero);
@@ -98,5 +98,5 @@ unworked_ends left read_faults written write_faults c from to sink o end = recor
   untouched = λ _ _. refl;
   no_run = λ _ _. end.no_run;
   no_place = end.no_place;
-  exact = λ sure. unworked-exact (input (cases_of c) (left from)) o.status (end.exact sure);
+  exact = λ sure. unworked-exact (input (load_size c) (left from)) o.status (end.exact sure);
 }

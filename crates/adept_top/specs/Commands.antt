@@ -37,9 +37,9 @@ command_of (w ∷ v ∷ []) = load_words w v
 command_of (w ∷ v ∷ u ∷ us) = None
 
 -- how many cases a command makes; all but `load` read their file
-abbrev pub cases_of : Command → Option ℕ
-cases_of (command.Load n) = Some n
-cases_of _ = None
+abbrev pub load_size : Command → Option ℕ
+load_size (command.Load n) = Some n
+load_size _ = None
 
 -- the bytes of the file that is worked: those that are made, or what the source tells
 abbrev pub input : Option ℕ → Option (List ℕ) → Option (List ℕ)

@@ -4,7 +4,7 @@ use Rattle.std.specs.Io.KnownBytes.{Appends, IsAtEnd}
 use Rattle.adept_io.specs.Counts.{Rose}
 use Rattle.adept_io.specs.Read.{ConsumesMany}
 use Rattle.adept_io.specs.Written.{AppendsPrefix}
-use Rattle.adept_top.specs.Commands.{IsRunOf, cases_of, input, output}
+use Rattle.adept_top.specs.Commands.{IsRunOf, load_size, input, output}
 use Rattle.adept_top.specs.Statuses.{is_end_status, most_bytes, status_of}
 use Rattle.adept_top.specs.declared.outcomes.Outcome.{Outcome}
 use Rattle.adept_top.specs.declared.words.Command.{Command}
@@ -43,21 +43,21 @@ pub record EndsUnworked {S : Type 0} (left : S → Option (List ℕ)) (faults : 
 pub record Ends {S K : Type 0} (left : S → Option (List ℕ)) (read_faults : S → ℕ) (written : K → Option (List ℕ)) (write_faults : K → ℕ) (c : Command) (from to : S) (old new : K) (o : Outcome) : Type 0 where
   pub statuses : IsTrue (is_end_status o.status)
   -- 0: the file was worked, and its output written
-  pub done : o.status ≡ 0 → OfFile (input (cases_of c) (left from)) (λ f. IsRunOf c f o.run × Appends (written old) (written new) (output c f o.run))
+  pub done : o.status ≡ 0 → OfFile (input (load_size c) (left from)) (λ f. IsRunOf c f o.run × Appends (written old) (written new) (output c f o.run))
   -- 4: it was worked, a write failed, and a beginning of its output was written
-  pub begun : o.status ≡ 4 → OfFile (input (cases_of c) (left from)) (λ f. IsRunOf c f o.run × AppendsPrefix (written old) (written new) (output c f o.run))
+  pub begun : o.status ≡ 4 → OfFile (input (load_size c) (left from)) (λ f. IsRunOf c f o.run × AppendsPrefix (written old) (written new) (output c f o.run))
   pub unwritten : o.status ≡ 4 → Rose (write_faults old) (write_faults new)
   -- 1: it is refused
-  pub refused : o.status ≡ 1 → IsRefused (input (cases_of c) (left from)) o.place
+  pub refused : o.status ≡ 1 → IsRefused (input (load_size c) (left from)) o.place
   -- at each of these the source was read to its end
-  pub whole : (o.status ≡ 0) ⊎ (o.status ≡ 1) ⊎ (o.status ≡ 4) → IfNone (cases_of c) (IsAtEnd (left to))
+  pub whole : (o.status ≡ 0) ⊎ (o.status ≡ 1) ⊎ (o.status ≡ 4) → IfNone (load_size c) (IsAtEnd (left to))
   -- 3: a read failed; 6: there was one byte too many
   pub unread : o.status ≡ 3 → Rose (read_faults from) (read_faults to)
   pub too_long : o.status ≡ 6 → ConsumesMany (left from) (left to) (most_bytes + 1)
   -- a command that makes its file leaves the source as it was; no other end than 0 and 4 touches the sink or has a run
-  pub made : OnSome (cases_of c) (to ≡ from)
+  pub made : OnSome (load_size c) (to ≡ from)
   pub untouched : o.status ≢ 0 → o.status ≢ 4 → new ≡ old
   pub no_run : o.status ≢ 0 → o.status ≢ 4 → o.run ≡ None
   pub no_place : o.status ≢ 1 → o.place ≡ None
   -- where no read fails the bytes alone decide, or memory wants, or a write of what they ask for fails
-  pub exact : IfNone (cases_of c) (¬ Rose (read_faults from) (read_faults to)) → IfSome (input (cases_of c) (left from)) (λ b. (o.status ≡ status_of b) ⊎ (o.status ≡ 5) ⊎ ((status_of b ≡ 0) × (o.status ≡ 4)))
+  pub exact : IfNone (load_size c) (¬ Rose (read_faults from) (read_faults to)) → IfSome (input (load_size c) (left from)) (λ b. (o.status ≡ status_of b) ⊎ (o.status ≡ 5) ⊎ ((status_of b ≡ 0) × (o.status ≡ 4)))

@@ -1,6 +1,6 @@
 // The words of the command line.
 ghost use Rattle.std.specs.Prelude.{◌≡◌, ◌≤◌, map, string_bytes, IfSome};
-ghost use Rattle.adept_top.specs.Commands.{case_count, cases_of, command_of, command_word, load_words};
+ghost use Rattle.adept_top.specs.Commands.{case_count, load_size, command_of, command_word, load_words};
 
 use file_words::code;
 
@@ -21,7 +21,7 @@ impl Command {
     /// The command that the words stand for. None where they stand for none.
     pub fn of(words: &[String]) -> Option<Command>
         ensures command { result ≡ command_of (map string_bytes words.now) }
-        ensures cases { IfSome result (λ c. IfSome (cases_of c) (λ n. (1 ≤ n) × (n ≤ 4096))) }
+        ensures cases { IfSome result (λ c. IfSome (load_size c) (λ n. (1 ≤ n) × (n ≤ 4096))) }
     {
         match words {
             [word] => Command::of_word(word.as_str()),
@@ -56,7 +56,7 @@ impl Command {
 
     /// How many cases the command makes. None where it reads its file.
     pub fn cases(self) -> Option<u32>
-        ensures { result ≡ cases_of self }
+        ensures { result ≡ load_size self }
     {
         match self {
             Command::Load(cases) => Some(cases),

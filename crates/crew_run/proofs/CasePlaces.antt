@@ -8,7 +8,7 @@ use Rattle.adept_server.specs.Desks.{at_case, in_row}
 use Rattle.crew_run.specs.CaseCounts.{AreCounts}
 use Rattle.file_facts.proofs.Cases.{declared-typed, declared-placed}
 use Rattle.file_facts.specs.Facts.{IsDeclared, IsWorkable, has_id}
-use Rattle.file_model.specs.CaseCounts.{cases_of}
+use Rattle.file_model.specs.CaseCounts.{cases_of_type}
 use Rattle.file_model.specs.declared.files.CaseDecl.{CaseDecl}
 use Rattle.file_model.specs.declared.files.File.{File}
 use Rattle.wsm_sound.specs.declared.versions.CaseId.{CaseId}
@@ -35,7 +35,7 @@ module _ {X : Type 0} where
   there-for_declared f rows c workable counts declared =
       let typed = declared-typed (length f.types) f.cases c workable.typed declared in
       let placed = declared-placed f.cases c workable.placed declared in
-      let row = row_counted rows c.type_no (cases_of c.type_no f.cases) (counts.each c.type_no typed) in
+      let row = row_counted rows c.type_no (cases_of_type c.type_no f.cases) (counts.each c.type_no typed) in
       let at = there_at row.0 c.place (omega (arith, placed, row.2)) in
       (at.0, ap (in_row c.place) row.1 ∙ at.1)
 

@@ -14,9 +14,9 @@ use Rattle.crew_run.proofs.PhaseByCell.{phases-at, traces_of}
 use Rattle.crew_run.specs.Cells.{HoldsByPhases, Joins}
 use Rattle.crew_run.specs.Crew.{PhasesDone, case_at, kind_at}
 use Rattle.crew_run.specs.Ready.{CaseReady, KindReady}
-use Rattle.legal_run.proofs.OnMachines.{on_case-append, on_kind-append}
+use Rattle.legal_run.proofs.OnMachines.{calls_of_case-append, calls_of_kind-append}
 use Rattle.legal_run.specs.Legal.{AreOfActors, IsByPhases, IsLegalCase, IsLegalKind, Trace}
-use Rattle.legal_run.specs.LineCalls.{Call, on_case, on_kind}
+use Rattle.legal_run.specs.LineCalls.{Call, calls_of_case, calls_of_kind}
 use Rattle.file_model.specs.declared.files.CaseDecl.{CaseDecl}
 use Rattle.file_model.specs.declared.files.File.{File}
 use Rattle.file_model.specs.declared.files.Line.{Line}
@@ -79,7 +79,7 @@ many-traces f (lines ∷ phases) v vs w ws (m, ms, p, ps) = ap suc (many-traces 
 kind-end : (f : File) (traces : List Trace) (t : ℕ) (d : TypeDecl) (p r : KindPass) (answer : KindReply) (machine : KindModel) (journal : List (Entry KindModel KindEvent KindReply ℕ KindModel))
     → length traces ≡ length f.phases → fault_of d.schema ≡ None → p.opening ≡ Some (not_defined t) → p.own_calls ≡ entry program (event.Define d.schema) answer ∷ []
     → calls_of 0 p.seen ≡ p.own_calls → ((a : ℕ) → 0 < a → a ≤ length f.actors → calls_of a p.seen ≡ [])
-    → IsHistory (length f.actors) p.seen p.own_calls (map (λ trace a. on_kind t (trace a)) traces) journal → r.opening ≡ p.opening → IsClosed kind_after kind_reply (λ k. k) r machine journal
+    → IsHistory (length f.actors) p.seen p.own_calls (map (λ trace a. calls_of_kind t (trace a)) traces) journal → r.opening ≡ p.opening → IsClosed kind_after kind_reply (λ k. k) r machine journal
     → IsLegalKind f traces t d (record { machine = machine; journal = journal })
 kind-end f traces t d p r answer machine journal phases sound opens own_is first none h opening closed =
     let start_is : p.seen ≡ entry program (event.Define d.schema) answer ∷ [] = start-own (length f.actors) p.seen p.own_calls journal h.callers h.begins none first ∙ own_is in
@@ -95,7 +95,7 @@ kind-end f traces t d p r answer machine journal phases sound opens own_is first
       others = rest;
       defined = whole ∙ ap (λ a. entry program (event.Define d.schema) a ∷ rest) answer_is;
       callers = crew-alone f rest (λ i x low. few_rest (suc i) x (omega arith)) none_rest;
-      calls = by-phases-of (on_kind t) refl (on_kind-append t) f (length f.actors) traces journal refl phases h.crew;
+      calls = by-phases-of (calls_of_kind t) refl (calls_of_kind-append t) f (length f.actors) traces journal refl phases h.crew;
     }
 
 -- a type at the end
@@ -104,8 +104,8 @@ pub kind-legal-end : (f : File) (v : DeskView) (vs : List DeskView) (w : DeskVie
     → length vs ≡ length f.actors → fault_of d.schema ≡ None → KindReady v vs t d → Joins (kind_at t) w ws last → kind_at t last ≡ Some r → IsClosed kind_after kind_reply (λ k. k) r machine journal
     → IsLegalKind f (traces_of f f.phases v vs w ws ps) t d (record { machine = machine; journal = journal })
 kind-legal-end f v vs w ws last ps t d r machine journal many sound k js at_last closed =
-    let phases = phases-at (kind_at t) (on_kind t) kind_after kind_reply (kind-heard t) (kind-same t) (kind-done t) (kind-legal t) f f.phases v vs w ws ps (λ _. []) k.pass k.there k.met in
-    let (history, opening) = cell-history (kind_at t) kind_after kind_reply (λ m. m) (length f.actors) (map (λ trace a. on_kind t (trace a)) (traces_of f f.phases v vs w ws ps)) v vs w ws last k.pass r machine journal k.there k.past (sym many) k.met phases js at_last closed in
+    let phases = phases-at (kind_at t) (calls_of_kind t) kind_after kind_reply (kind-heard t) (kind-same t) (kind-done t) (kind-legal t) f f.phases v vs w ws ps (λ _. []) k.pass k.there k.met in
+    let (history, opening) = cell-history (kind_at t) kind_after kind_reply (λ m. m) (length f.actors) (map (λ trace a. calls_of_kind t (trace a)) (traces_of f f.phases v vs w ws ps)) v vs w ws last k.pass r machine journal k.there k.past (sym many) k.met phases js at_last closed in
     kind-end f (traces_of f f.phases v vs w ws ps) t d k.pass r k.answer machine journal (many-traces f f.phases v vs w ws ps) sound k.opening k.own_calls
     (subst (λ n. calls_of n k.pass.seen ≡ k.pass.own_calls) k.number k.legal.own)
     (λ a low high. met-holds (kind_at t) kind_after kind_reply 1 (λ _. []) k.pass.seen vs k.met a low (omega (arith, high, many)))
@@ -114,13 +114,13 @@ kind-legal-end f v vs w ws last ps t d r machine journal many sound k js at_last
 -- the history of a case's cell is that of a legal case
 case-end : (f : File) (traces : List Trace) (d : CaseDecl) (p r : CasePass) (machine : CaseModel) (journal : List (Entry CaseModel Event Reply View CaseModel))
     → length traces ≡ length f.phases → p.opening ≡ Some (not_created d.id.type_no) → p.own_calls ≡ []
-    → IsHistory (length f.actors) p.seen p.own_calls (map (λ trace a. on_case d.id (trace a)) traces) journal → r.opening ≡ p.opening → IsClosed case_after case_reply (λ k. k) r machine journal
+    → IsHistory (length f.actors) p.seen p.own_calls (map (λ trace a. calls_of_case d.id (trace a)) traces) journal → r.opening ≡ p.opening → IsClosed case_after case_reply (λ k. k) r machine journal
     → IsLegalCase f traces d (record { machine = machine; journal = journal })
 case-end f traces d p r machine journal phases opens own_is h opening closed = record {
   legal = legal-from case_after case_reply r.opening (not_created d.id.type_no) journal (opening ∙ opens) closed.legal;
   machine = state-from case_after r.opening (not_created d.id.type_no) machine journal (opening ∙ opens) closed.machine_is;
   callers = crew-alone f journal h.callers (h.first ∙ own_is);
-  calls = by-phases-of (on_case d.id) refl (on_case-append d.id) f (length f.actors) traces journal refl phases h.crew;
+  calls = by-phases-of (calls_of_case d.id) refl (calls_of_case-append d.id) f (length f.actors) traces journal refl phases h.crew;
 }
 
 -- a case at the end
@@ -129,6 +129,6 @@ pub case-legal-end : (f : File) (v : DeskView) (vs : List DeskView) (w : DeskVie
     → length vs ≡ length f.actors → CaseReady v vs d.id → Joins (case_at d.id) w ws last → case_at d.id last ≡ Some r → IsClosed case_after case_reply (λ k. k) r machine journal
     → IsLegalCase f (traces_of f f.phases v vs w ws ps) d (record { machine = machine; journal = journal })
 case-legal-end f v vs w ws last ps d r machine journal many k js at_last closed =
-    let phases = phases-at (case_at d.id) (on_case d.id) case_after case_reply (case-heard d.id) (case-same d.id) (case-done d.id) (case-legal d.id) f f.phases v vs w ws ps (λ _. []) k.pass k.there k.met in
-    let (history, opening) = cell-history (case_at d.id) case_after case_reply (λ m. m) (length f.actors) (map (λ trace a. on_case d.id (trace a)) (traces_of f f.phases v vs w ws ps)) v vs w ws last k.pass r machine journal k.there k.past (sym many) k.met phases js at_last closed in
+    let phases = phases-at (case_at d.id) (calls_of_case d.id) case_after case_reply (case-heard d.id) (case-same d.id) (case-done d.id) (case-legal d.id) f f.phases v vs w ws ps (λ _. []) k.pass k.there k.met in
+    let (history, opening) = cell-history (case_at d.id) case_after case_reply (λ m. m) (length f.actors) (map (λ trace a. calls_of_case d.id (trace a)) (traces_of f f.phases v vs w ws ps)) v vs w ws last k.pass r machine journal k.there k.past (sym many) k.met phases js at_last closed in
     case-end f (traces_of f f.phases v vs w ws ps) d k.pass r machine journal (many-traces f f.phases v vs w ws ps) k.opening k.own_calls history opening closed

@@ -21,7 +21,7 @@ use Rattle.crew_run.specs.Phases.{IsAble}
 use Rattle.file_facts.proofs.Cases.{declared-typed}
 use Rattle.file_facts.specs.Facts.{HasType, IsKnown, IsKnownAct, IsWorkable}
 use Rattle.legal_run.specs.LineCalls.{Call}
-use Rattle.legal_run.specs.Legal.{cases_of}
+use Rattle.legal_run.specs.Legal.{declared_cases}
 use Rattle.file_model.specs.declared.files.Act.{Act}
 use Rattle.file_model.specs.declared.files.Act.TheVariants as act
 use Rattle.file_model.specs.declared.files.CaseDecl.{CaseDecl}
@@ -91,10 +91,10 @@ module _ (f : File) (workable : IsWorkable f) (v : DeskView) (able : IsAble f v)
   past-end (x ∷ xs) (suc i) is = let e = past-end xs i is in omega arith
 
   -- it has as many cases of each type as the file
-  pub many-cases : (t : ℕ) → case_count v t ≡ cases_of f t
+  pub many-cases : (t : ℕ) → case_count v t ≡ declared_cases f t
   many-cases t = go (slice_get v.cases t) refl
     where
-      go : (o : Option (List _)) → slice_get v.cases t ≡ o → case_count v t ≡ cases_of f t
+      go : (o : Option (List _)) → slice_get v.cases t ≡ o → case_count v t ≡ declared_cases f t
       go None is =
           let past = past-end v.cases t is in
           let many = length-map v.cases length in
@@ -103,7 +103,7 @@ module _ (f : File) (workable : IsWorkable f) (v : DeskView) (able : IsAble f v)
       go (Some row) is =
           let low = slice_get_within v.cases t row is in
           let many = length-map v.cases length in
-          let counted = row_counted v.cases t (cases_of f t) (able.counted.each t (let e = able.counted.types in omega arith)) in
+          let counted = row_counted v.cases t (declared_cases f t) (able.counted.each t (let e = able.counted.types in omega arith)) in
           let same : counted.0 ≡ row = cc (counted.1, is) in
           ap length (get_or_from_slice_get v.cases t row [] is) ∙ (sym (ap length same) ∙ counted.2)
 

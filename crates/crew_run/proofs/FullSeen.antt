@@ -1,7 +1,7 @@
 -- A full journal that one of the crew met was seen by the first desk once all have met.
 use Rattle.std.proofs.Common.{◌||◌, ◌∙◌, ◌≡◌, ℕ, List, [], ◌∷◌, length, Bool, Err, None, Option, Some, ap, arith, false, length-append, refl, slice_get, subst, sym, true}
 use Rattle.std.specs.List.{AllByRecursion, AllZip, list_any}
-use Rattle.adept_actor.specs.Work.{SeesFull, Works as WorksLines}
+use Rattle.adept_actor.specs.Work.{SeesFull, WorksLines}
 use Rattle.adept_actor.specs.Work.SeesFull.{of_case as case_is_full, of_kind as kind_is_full}
 use Rattle.adept_server.specs.Calling.{CallsKind}
 use Rattle.adept_server.specs.Desks.{DeskView, desk_view}

@@ -21,8 +21,8 @@ use Rattle.crew_run.specs.Phases.SeesMany.{of_case, of_kind}
 use Rattle.file_facts.specs.Facts.{IsWorkable, lines_in}
 use Rattle.legal_run.proofs.OncePerLine.{case_once_begun, case_once_per_line, kind_once_begun, kind_once_per_line}
 use Rattle.legal_run.proofs.Places.{there-as}
-use Rattle.legal_run.specs.LineCalls.{Call, lines_of, on_case, on_kind}
-use Rattle.legal_run.specs.Legal.{cases_of}
+use Rattle.legal_run.specs.LineCalls.{Call, lines_of, calls_of_case, calls_of_kind}
+use Rattle.legal_run.specs.Legal.{declared_cases}
 use Rattle.file_model.specs.declared.files.File.{File}
 use Rattle.file_model.specs.declared.files.Line.{Line}
 use Rattle.script_run.specs.Calls.{roles_of}
@@ -73,13 +73,13 @@ module _ {M E R W S : Type 0} {D : Type 0} (at : D → Option (PassView M E R W 
       omega (arith, short, own, ap length same)
 
 -- each line makes at most one call of a type, and of a case
-kind-once : (f : File) (t a : ℕ) (lines : List Line) (calls : List Call) → Tries f lines a calls → length (on_kind t calls) ≤ length (lines_of a lines)
-kind-once f t a lines calls (inl k) = kind_once_per_line (cases_of f) (roles_of f a) a t (lines_of a lines) calls k
-kind-once f t a lines calls (inr k) = kind_once_begun (cases_of f) (roles_of f a) a t (lines_of a lines) calls k
+kind-once : (f : File) (t a : ℕ) (lines : List Line) (calls : List Call) → Tries f lines a calls → length (calls_of_kind t calls) ≤ length (lines_of a lines)
+kind-once f t a lines calls (inl k) = kind_once_per_line (declared_cases f) (roles_of f a) a t (lines_of a lines) calls k
+kind-once f t a lines calls (inr k) = kind_once_begun (declared_cases f) (roles_of f a) a t (lines_of a lines) calls k
 
-case-once : (f : File) (c : CaseId) (a : ℕ) (lines : List Line) (calls : List Call) → Tries f lines a calls → length (on_case c calls) ≤ length (lines_of a lines)
-case-once f c a lines calls (inl k) = case_once_per_line (cases_of f) (roles_of f a) a c (lines_of a lines) calls k
-case-once f c a lines calls (inr k) = case_once_begun (cases_of f) (roles_of f a) a c (lines_of a lines) calls k
+case-once : (f : File) (c : CaseId) (a : ℕ) (lines : List Line) (calls : List Call) → Tries f lines a calls → length (calls_of_case c calls) ≤ length (lines_of a lines)
+case-once f c a lines calls (inl k) = case_once_per_line (declared_cases f) (roles_of f a) a c (lines_of a lines) calls k
+case-once f c a lines calls (inr k) = case_once_begun (declared_cases f) (roles_of f a) a c (lines_of a lines) calls k
 
 -- phases leave as many passes
 tried-shape : (f : File) (phases : List (List Line)) (v : DeskView) (vs : List DeskView) (w : DeskView) (ws : List DeskView) → PhasesTried f phases v vs w ws → (length v.kinds ≡ length w.kinds) × (map length v.cases ≡ map length w.cases)
@@ -104,7 +104,7 @@ never-overfull f w ws last s workable o joined closed = full o.many
         let (p, at_v) = there-as w.kinds v.kinds t q shape.0 at_w in
         let start = o.started.kinds t p at_v in
         let ps =
-        tried-at (kind_at t) (on_kind t) kind_after kind_reply (kind-heard t) (kind-same t) (kind-done t) (kind-legal t) f (kind-once f t) f.phases v vs w ws o.tried o.started.numbered o.started.actors (λ _. []) p at_v start.2 in
+        tried-at (kind_at t) (calls_of_kind t) kind_after kind_reply (kind-heard t) (kind-same t) (kind-done t) (kind-legal t) f (kind-once f t) f.phases v vs w ws o.tried o.started.numbered o.started.actors (λ _. []) p at_v start.2 in
         let (r, at_last, js) = cell-last (kind_at t) kind_after kind_reply (kind-joined t) (length f.actors) ps.0 v vs w ws last p at_v (sym o.started.actors) start.2 ps.2 joined in
         let (c, at_c, is) = closed.kinds t r at_last in
         let short =
@@ -117,7 +117,7 @@ never-overfull f w ws last s workable o joined closed = full o.many
         let (p, at_v) = case-there w.cases v.cases id q shape.1 at_w in
         let start = o.started.cases id p at_v in
         let ps =
-        tried-at (case_at id) (on_case id) case_after case_reply (case-heard id) (case-same id) (case-done id) (case-legal id) f (case-once f id) f.phases v vs w ws o.tried o.started.numbered o.started.actors (λ _. []) p at_v start.2 in
+        tried-at (case_at id) (calls_of_case id) case_after case_reply (case-heard id) (case-same id) (case-done id) (case-legal id) f (case-once f id) f.phases v vs w ws o.tried o.started.numbered o.started.actors (λ _. []) p at_v start.2 in
         let (r, at_last, js) = cell-last (case_at id) case_after case_reply (case-joined id) (length f.actors) ps.0 v vs w ws last p at_v (sym o.started.actors) start.2 ps.2 joined in
         let (c, at_c, is) = closed.cases id r at_last in
         let short =

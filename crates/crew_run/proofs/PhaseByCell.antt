@@ -8,7 +8,7 @@ use Rattle.adept_server.specs.Desks.{DeskView, IsDesk}
 use Rattle.crew_run.proofs.CellHistory.{worked-met}
 use Rattle.crew_run.proofs.SideBySide.{zip-many}
 use Rattle.crew_run.specs.Cells.{HasMet, Heard, Phase, Phases, SeenSame, Worked}
-use Rattle.crew_run.specs.Crew.{ActorDone, AreNumbered, DeskHeard, DeskSame, PhaseDone, PhasesDone, Works}
+use Rattle.crew_run.specs.Crew.{ActorDone, AreNumbered, DeskHeard, DeskSame, PhaseDone, PhasesDone, AreCallsOfActor}
 use Rattle.legal_run.specs.Legal.{AreTraces, Trace}
 use Rattle.legal_run.specs.LineCalls.{Call}
 use Rattle.file_model.specs.declared.files.File.{File}
@@ -53,14 +53,14 @@ numbered-then Fit first n (v ∷ vs) (w ∷ ws) (d, z) (number, k) = (d.heard.nu
 -- what each actor did in each phase
 abbrev pub traces_of : (f : File) (phases : List (List Line)) (v : DeskView) (vs : List DeskView) (w : DeskView) (ws : List DeskView) → PhasesDone f phases v vs w ws → List Trace
 traces_of f [] v vs w ws ps = []
-traces_of f (lines ∷ phases) v vs w ws (m, ms, p, ps) = trace_of (Works f lines) m 1 vs ms p.crew_done ∷ traces_of f phases m ms w ws ps
+traces_of f (lines ∷ phases) v vs w ws (m, ms, p, ps) = trace_of (AreCallsOfActor f lines) m 1 vs ms p.crew_done ∷ traces_of f phases m ms w ws ps
 
 pub traces-fit : (f : File) (phases : List (List Line)) (v : DeskView) (vs : List DeskView) (w : DeskView) (ws : List DeskView) (ps : PhasesDone f phases v vs w ws) → AreNumbered 1 vs → length vs ≡ length f.actors
     → AreTraces f phases (traces_of f phases v vs w ws ps)
 traces-fit f [] v vs w ws ps k many = tt
 traces-fit f (lines ∷ phases) v vs w ws (m, ms, p, ps) k many = (
-  (λ a is. trace-fits (Works f lines) m 1 vs ms p.crew_done k a is.0 (omega (arith, is.1, many))),
-  traces-fit f phases m ms w ws ps (numbered-then (Works f lines) m 1 vs ms p.crew_done k) (zip-many (ActorDone (Works f lines) m) vs ms p.crew_done ∙ many),
+  (λ a is. trace-fits (AreCallsOfActor f lines) m 1 vs ms p.crew_done k a is.0 (omega (arith, is.1, many))),
+  traces-fit f phases m ms w ws ps (numbered-then (AreCallsOfActor f lines) m 1 vs ms p.crew_done k) (zip-many (ActorDone (AreCallsOfActor f lines) m) vs ms p.crew_done ∙ many),
 )
 
 -- One cell: `at` finds its pass on a desk, and `on` the calls of it.
@@ -117,6 +117,6 @@ module _ {M E R W S : Type 0} (at : DeskView → Option (PassView M E R W S)) (o
       → at v ≡ Some p → HasMet at after reply 1 did p.seen vs → Phases at after reply (map (λ trace a. on (trace a)) (traces_of f phases v vs w ws ps)) v vs w ws
   phases-at f [] v vs w ws ps did p at_v m = ps
   phases-at f (lines ∷ phases) v vs w ws (b, bs, d, ps) did p at_v m =
-      let phase = phase-at (Works f lines) v vs b bs d did p at_v m in
-      let more = λ (a : ℕ). on (trace_of (Works f lines) b 1 vs bs d.crew_done a) in
+      let phase = phase-at (AreCallsOfActor f lines) v vs b bs d did p at_v m in
+      let more = λ (a : ℕ). on (trace_of (AreCallsOfActor f lines) b 1 vs bs d.crew_done a) in
       (b, bs, phase, phases-at f phases b bs w ws ps (λ a. did a ++ more a) phase.behind phase.there_then (worked-met at after reply 1 did more p.seen phase.behind vs bs m phase.worked))

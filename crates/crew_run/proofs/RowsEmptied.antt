@@ -13,21 +13,21 @@ use Rattle.crew_run.proofs.CasesCounted.{counted-other, counted-own, other_at}
 use Rattle.crew_run.specs.CaseCounts.{AreCounts}
 use Rattle.file_facts.proofs.Cases.{declared-placed, declared-typed}
 use Rattle.file_facts.specs.Facts.{IsWorkable}
-use Rattle.file_model.specs.CaseCounts.{cases_of}
+use Rattle.file_model.specs.CaseCounts.{cases_of_type}
 use Rattle.file_model.specs.declared.files.CaseDecl.{CaseDecl}
 use Rattle.file_model.specs.declared.files.File.{File}
 
 module _ {X : Type 0} where
   -- of each row the first ones are left, as many as there are cases of its type among these
   abbrev pub AreLeft : List CaseDecl → List (List X) → List (List X) → Type 0
-  AreLeft ds rows left = (t : ℕ) (row : List X) → slice_get rows t ≡ Some row → slice_get left t ≡ Some (take (cases_of t ds) row)
+  AreLeft ds rows left = (t : ℕ) (row : List X) → slice_get rows t ≡ Some row → slice_get left t ≡ Some (take (cases_of_type t ds) row)
 
   all_left : (f : File) (rows : List (List X)) → AreCounts f (map length rows) → AreLeft f.cases rows rows
   all_left f rows counts t row is =
       let within = slice_get_within rows t row is in
-      let counted = row_counted rows t (cases_of t f.cases) (counts.each t (omega (arith, within, counts.types, length-map rows length))) in
+      let counted = row_counted rows t (cases_of_type t f.cases) (counts.each t (omega (arith, within, counts.types, length-map rows length))) in
       let same : counted.0 ≡ row = cc (is, counted.1) in
-      is ∙ ap (λ (xs : List X). Some xs) (sym (take_all (cases_of t f.cases) row (omega (arith, ap length same, counted.2))))
+      is ∙ ap (λ (xs : List X). Some xs) (sym (take_all (cases_of_type t f.cases) row (omega (arith, ap length same, counted.2))))
 
 module _ {X K : Type 0} (g : X → K) (f : File) (rows : List (List X)) where
   -- what a declared case became
@@ -64,8 +64,8 @@ module _ {X K : Type 0} (g : X → K) (f : File) (rows : List (List X)) where
     typed = declared-typed (length f.types) f.cases d.id workable.typed (declared_at f.cases k d declared)
 
     -- the row of its type
-    own : (row : List X) × (slice_get rows d.id.type_no ≡ Some row) × (length row ≡ cases_of d.id.type_no f.cases)
-    own = row_counted rows d.id.type_no (cases_of d.id.type_no f.cases) (counts.each d.id.type_no typed)
+    own : (row : List X) × (slice_get rows d.id.type_no ≡ Some row) × (length row ≡ cases_of_type d.id.type_no f.cases)
+    own = row_counted rows d.id.type_no (cases_of_type d.id.type_no f.cases) (counts.each d.id.type_no typed)
 
     within : d.id.place < length own.0
     within = omega (arith, own.2, declared-placed f.cases d.id workable.placed (declared_at f.cases k d declared))
@@ -87,13 +87,13 @@ module _ {X K : Type 0} (g : X → K) (f : File) (rows : List (List X)) where
     left_then : AreLeft (take k f.cases) rows (set left d.id.type_no (take d.id.place own.0))
     left_then t row stands =
         let new = take d.id.place own.0 in
-        let on_own : t ≡ d.id.type_no → slice_get (set left d.id.type_no new) t ≡ Some (take (cases_of t (take k f.cases)) row) =
+        let on_own : t ≡ d.id.type_no → slice_get (set left d.id.type_no new) t ≡ Some (take (cases_of_type t (take k f.cases)) row) =
         λ same.
         let row_same : row ≡ own.0 = cc (stands, same, own.1) in
-        subst (λ (m : ℕ). slice_get (set left d.id.type_no new) m ≡ Some (take (cases_of m (take k f.cases)) row)) (sym same)
+        subst (λ (m : ℕ). slice_get (set left d.id.type_no new) m ≡ Some (take (cases_of_type m (take k f.cases)) row)) (sym same)
         (get-set_same left d.id.type_no new row_there ∙ ap (λ (xs : List X). Some xs) (rw (row_same, ← workable.placed k d declared) refl)) in
         dite (ℕ_discrete t d.id.type_no) on_own
-        (λ apart. other_at left d.id.type_no t (take (cases_of t (take k f.cases)) row) new apart
+        (λ apart. other_at left d.id.type_no t (take (cases_of_type t (take k f.cases)) row) new apart
         (rest t row stands ∙ ap (λ (n : ℕ). Some (take n row)) (counted-other f.cases k t d lt at apart)))
 
     pub one_more_emptied : (r rest : List X) (x : X) → r ≡ get_or left d.id.type_no r → x ≡ get_or r (length r - 1) x → rest ≡ take (length r - 1) r → EmptiedTo k (set left d.id.type_no rest) (made ++ g x ∷ [])

@@ -16,7 +16,7 @@ use Rattle.crew_run.specs.Ready.{CaseReady, IsReady, KindReady}
 use Rattle.file_facts.proofs.Cases.{row-at}
 use Rattle.file_facts.specs.Facts.{IsSound}
 use Rattle.legal_run.specs.Legal.{IsLegalCase, IsLegalKind, Legal}
-use Rattle.legal_run.specs.LineCalls.{on_case, on_kind}
+use Rattle.legal_run.specs.LineCalls.{calls_of_case, calls_of_kind}
 use Rattle.file_model.specs.declared.files.CaseDecl.{CaseDecl}
 use Rattle.file_model.specs.declared.files.File.{File}
 use Rattle.file_model.specs.declared.files.TypeDecl.{TypeDecl}
@@ -36,7 +36,7 @@ module _ (f : File) (v : DeskView) (vs : List DeskView) (w : DeskView) (ws : Lis
   kind-of : length vs ≡ length f.actors → AllRows IsSound f.types → last ≡ fold joined_desk w ws → IsClosedServer last s → r.kinds ≡ map closed_kind s.kinds.items
       → (t : ℕ) (d : TypeDecl) (k : ClosedKind) → slice_get f.types t ≡ Some d → slice_get r.kinds t ≡ Some k → KindReady v vs t d → IsLegalKind f (traces_of f f.phases v vs w ws ps) t d k
   kind-of many sound joined closed kinds t d k at_d at_k ready =
-      let phases = phases-at (kind_at t) (on_kind t) kind_after kind_reply (kind-heard t) (kind-same t) (kind-done t) (kind-legal t) f f.phases v vs w ws ps (λ _. []) ready.pass ready.there ready.met in
+      let phases = phases-at (kind_at t) (calls_of_kind t) kind_after kind_reply (kind-heard t) (kind-same t) (kind-done t) (kind-legal t) f f.phases v vs w ws ps (λ _. []) ready.pass ready.there ready.met in
       let (p, at_last, js) = cell-last (kind_at t) kind_after kind_reply (kind-joined t) (length f.actors) _ v vs w ws last ready.pass ready.there (sym many) ready.met phases joined in
       let (c, at_c, is) = closed.kinds t p at_last in
       let k_is : k ≡ closed_kind c = mapped-at closed_kind s.kinds.items t c k at_c (ap (λ xs. slice_get xs t) (sym kinds) ∙ at_k) in
@@ -46,7 +46,7 @@ module _ (f : File) (v : DeskView) (vs : List DeskView) (w : DeskView) (ws : Lis
   case-of : length vs ≡ length f.actors → last ≡ fold joined_desk w ws → IsClosedServer last s → IsRunOf f s r
       → (i : ℕ) (d : CaseDecl) (k : ClosedCase) → slice_get f.cases i ≡ Some d → slice_get r.cases i ≡ Some k → CaseReady v vs d.id → IsLegalCase f (traces_of f f.phases v vs w ws ps) d k
   case-of many joined closed run i d k at_d at_k ready =
-      let phases = phases-at (case_at d.id) (on_case d.id) case_after case_reply (case-heard d.id) (case-same d.id) (case-done d.id) (case-legal d.id) f f.phases v vs w ws ps (λ _. []) ready.pass ready.there ready.met in
+      let phases = phases-at (case_at d.id) (calls_of_case d.id) case_after case_reply (case-heard d.id) (case-same d.id) (case-done d.id) (case-legal d.id) f f.phases v vs w ws ps (λ _. []) ready.pass ready.there ready.met in
       let (p, at_last, js) = cell-last (case_at d.id) case_after case_reply (case-joined d.id) (length f.actors) _ v vs w ws last ready.pass ready.there (sym many) ready.met phases joined in
       let (c, at_c, is) = closed.cases d.id p at_last in
       let (c2, at_c2, k_is) = run.cases i d k at_d at_k in

@@ -4,7 +4,7 @@ use Rattle.std.specs.List.{AllZip}
 use Rattle.adept_server.specs.Desks.{KindPass, CasePass, DeskView, IsDesk, case_pass}
 use Rattle.crew_run.specs.Cells.{Heard, SeenSame}
 use Rattle.adept_actor.specs.Growth.{DeskHasDone}
-use Rattle.legal_run.specs.Legal.{cases_of}
+use Rattle.legal_run.specs.Legal.{declared_cases}
 use Rattle.legal_run.specs.LineCalls.{Call, AreCallsOfLines, lines_of}
 use Rattle.file_model.specs.declared.files.File.{File}
 use Rattle.file_model.specs.declared.files.Line.{Line}
@@ -56,11 +56,11 @@ pub record PhaseDone (Fit : ℕ → List Call → Type 0) (first : DeskView) (cr
   pub crew_done : AllZip (ActorDone Fit first_then) crew crew_then
 
 -- what an actor's calls are where it works its lines
-abbrev pub Works : File → List Line → ℕ → List Call → Type 0
-Works f lines a calls = AreCallsOfLines (cases_of f) (roles_of f a) a (lines_of a lines) calls
+abbrev pub AreCallsOfActor : File → List Line → ℕ → List Call → Type 0
+AreCallsOfActor f lines a calls = AreCallsOfLines (declared_cases f) (roles_of f a) a (lines_of a lines) calls
 
 -- phases one after another
 abbrev pub PhasesDone : File → List (List Line) → DeskView → List DeskView → DeskView → List DeskView → Type 0
 PhasesDone f [] first crew first_then crew_then = (first_then ≡ first) × (crew_then ≡ crew)
 PhasesDone f (lines ∷ phases) first crew first_then crew_then =
-    (middle : DeskView) × (between : List DeskView) × PhaseDone (Works f lines) first crew middle between × PhasesDone f phases middle between first_then crew_then
+    (middle : DeskView) × (between : List DeskView) × PhaseDone (AreCallsOfActor f lines) first crew middle between × PhasesDone f phases middle between first_then crew_then

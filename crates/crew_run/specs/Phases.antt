@@ -1,7 +1,7 @@
 -- The phases of a file, as a crew works them.
 use Rattle.std.specs.Prelude.{◌≡◌, ℕ, ◌+◌, ◌≤◌, ◌⊎◌, Bool, true, false, List, [], ◌∷◌, length, map, Option, Some, None, Result, Ok, Err}
 use Rattle.std.specs.List.{AllByRecursion}
-use Rattle.adept_actor.specs.Work.{CanWork, Works as WorksLines}
+use Rattle.adept_actor.specs.Work.{CanWork, WorksLines}
 use Rattle.adept_server.specs.Desks.{KindPass, CasePass, DeskView, IsDesk, IsDeskOf, desk_view}
 use Rattle.adept_server.specs.Opening.{IsFirstDesk}
 use Rattle.adept_server.specs.declared.desks.Desk.{Desk}
@@ -10,12 +10,12 @@ use Rattle.case_core.specs.Machine.{case_after, case_reply}
 use Rattle.crew_run.specs.Beginning.{AreHired}
 use Rattle.crew_run.specs.CaseCounts.{AreCounts}
 use Rattle.crew_run.specs.Cells.{HasMet}
-use Rattle.crew_run.specs.Crew.{AreNumbered, DeskSame, PhaseDone, PhasesDone, Works, kind_at, case_at}
+use Rattle.crew_run.specs.Crew.{AreNumbered, DeskSame, PhaseDone, PhasesDone, AreCallsOfActor, kind_at, case_at}
 use Rattle.crew_run.specs.Defining.{KnowsTypes}
 use Rattle.crew_run.specs.Ready.{IsReady}
 use Rattle.crew_run.specs.Workers.{AreDesksOf, desks_of}
 use Rattle.crew_run.specs.declared.workers.Worker.{Worker}
-use Rattle.legal_run.specs.Legal.{cases_of}
+use Rattle.legal_run.specs.Legal.{declared_cases}
 use Rattle.legal_run.specs.LineCalls.{Call, AreBegun, lines_of}
 use Rattle.file_model.specs.declared.files.File.{File}
 use Rattle.file_model.specs.declared.files.Line.{Line}
@@ -87,7 +87,7 @@ pub record HasWorkedAll (f : File) (first : DeskView) (crew : List DeskView) : T
 
 -- what an actor's calls are where it works its lines, perhaps up to a fault
 abbrev pub Tries : File → List Line → ℕ → List Call → Type 0
-Tries f lines a calls = Works f lines a calls ⊎ AreBegun (cases_of f) (roles_of f a) a (lines_of a lines) calls
+Tries f lines a calls = AreCallsOfActor f lines a calls ⊎ AreBegun (declared_cases f) (roles_of f a) a (lines_of a lines) calls
 
 -- so some of the phases were worked, one after another
 abbrev pub PhasesTried : File → List (List Line) → DeskView → List DeskView → DeskView → List DeskView → Type 0

@@ -5,7 +5,7 @@ ghost use Rattle.std.specs.Thread.{IsSync};
 ghost use Rattle.adept_actor.specs.Others.{LeavesUnnamed};
 ghost use Rattle.adept_server.specs.Desks.{IsDeskOf, desk_view};
 ghost use Rattle.adept_server.specs.Noting.{IsCalledOf, rows_of};
-ghost use Rattle.crew_run.specs.Crew.{PhaseDone, PhasesDone, Works};
+ghost use Rattle.crew_run.specs.Crew.{PhaseDone, PhasesDone, AreCallsOfActor};
 ghost use Rattle.crew_run.specs.Phases.{HasWorked, IsCrew, IsReadyAt, PhasesTried, SeesMany, Tries, is_full_fault};
 ghost use Rattle.crew_run.specs.Workers.{desks_of};
 ghost use Rattle.file_facts.specs.Facts.{IsKnown, IsWorkable};
@@ -25,7 +25,7 @@ use turn_cell::{CallFault, Gate};
 /// So many threads work a phase at most: one for each actor that a file may have.
 const THREADS: usize = 32;
 
-/// Works phases one after another, each in work of its own for each worker. Behind each of them all have met, at the cells that
+/// AreCallsOfActor phases one after another, each in work of its own for each worker. Behind each of them all have met, at the cells that
 /// its lines name.
 pub fn work_phases<R: Threads + Wait + Sync, G: Gate + Sync>(
     rt: &R,
@@ -70,7 +70,7 @@ fn work_phase<R: Threads + Wait + Sync, G: Gate + Sync>(
     ensures crew { IsCrew server.now file.now first.new crew.new }
     ensures tried { PhaseDone (Tries file.now lines.now) (desk_view first.old) (desks_of crew.old) (desk_view first.new) (desks_of crew.new) }
     ensures full { IfErr result (λ fault. fault ≡ CallFault.Full → SeesMany (desk_view first.new)) }
-    ensures done { OnOk result (PhaseDone (Works file.now lines.now) (desk_view first.old) (desks_of crew.old) (desk_view first.new) (desks_of crew.new)) }
+    ensures done { OnOk result (PhaseDone (AreCallsOfActor file.now lines.now) (desk_view first.old) (desks_of crew.old) (desk_view first.new) (desks_of crew.new)) }
 {
     work_lines(rt, alloc, server, file, crew, lines, gate);
     note_lines(called, lines);

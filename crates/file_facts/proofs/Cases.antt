@@ -7,7 +7,7 @@ use Rattle.std.specs.Prelude.{slice_get, ◌==◌}
 use Rattle.std.specs.List.{list_any}
 use Rattle.wsm_lists.specs.Rows.{AllRows}
 use Rattle.wsm_sound.specs.declared.versions.CaseId.{CaseId}
-use Rattle.file_model.specs.CaseCounts.{cases_of}
+use Rattle.file_model.specs.CaseCounts.{cases_of_type}
 use Rattle.file_model.specs.declared.files.CaseDecl.{CaseDecl}
 use Rattle.file_facts.specs.Facts.{HasType, ArePlaced, has_id, IsDeclared}
 
@@ -46,28 +46,28 @@ declared-typed types cases c typed declared =
     omega (arith, below, same.0)
 
 -- one case more of its type stands behind those before it
-counted-next : (cases : List CaseDecl) (k : ℕ) (d : CaseDecl) → slice_get cases k ≡ Some d → cases_of d.id.type_no (take (k + 1) cases) ≡ cases_of d.id.type_no (take k cases) + 1
+counted-next : (cases : List CaseDecl) (k : ℕ) (d : CaseDecl) → slice_get cases k ≡ Some d → cases_of_type d.id.type_no (take (k + 1) cases) ≡ cases_of_type d.id.type_no (take k cases) + 1
 counted-next cases k d at =
     let is : get_or cases k d ≡ d = get_or_from_slice_get cases k d d at in
     count_by_more_yes (λ e. e.id.type_no == d.id.type_no) cases k d (slice_get_within cases k d at) (rw is (eq-eqb d.id.type_no d.id.type_no refl))
 
-counted-upto : (t : ℕ) (cases : List CaseDecl) (j k : ℕ) → j ≤ k → cases_of t (take j cases) ≤ cases_of t (take k cases)
+counted-upto : (t : ℕ) (cases : List CaseDecl) (j k : ℕ) → j ≤ k → cases_of_type t (take j cases) ≤ cases_of_type t (take k cases)
 counted-upto t cases j k le =
     rw (← take-earlier cases j k le) (sum_by-take-le _ (take k cases) j)
 
-own-place : (cases : List CaseDecl) (k : ℕ) (d : CaseDecl) → ArePlaced cases → slice_get cases k ≡ Some d → d.id.place < cases_of d.id.type_no cases
+own-place : (cases : List CaseDecl) (k : ℕ) (d : CaseDecl) → ArePlaced cases → slice_get cases k ≡ Some d → d.id.place < cases_of_type d.id.type_no cases
 own-place cases k d placed at =
     let own = placed k d at in
     let next = counted-next cases k d at in
-    let all : cases_of d.id.type_no (take (k + 1) cases) ≤ cases_of d.id.type_no cases = sum_by-take-le _ cases (k + 1) in
+    let all : cases_of_type d.id.type_no (take (k + 1) cases) ≤ cases_of_type d.id.type_no cases = sum_by-take-le _ cases (k + 1) in
     omega (arith, own, next, all)
 
-has-place : (cases : List CaseDecl) (k : ℕ) (d : CaseDecl) (c : CaseId) → ArePlaced cases → slice_get cases k ≡ Some d → has_id c d ≡ true → c.place < cases_of c.type_no cases
+has-place : (cases : List CaseDecl) (k : ℕ) (d : CaseDecl) (c : CaseId) → ArePlaced cases → slice_get cases k ≡ Some d → has_id c d ≡ true → c.place < cases_of_type c.type_no cases
 has-place cases k d c placed at is =
     let same = same_id c d is in
     rw (← same.0, ← same.1) (own-place cases k d placed at)
 
-pub declared-placed : (cases : List CaseDecl) (c : CaseId) → ArePlaced cases → IsDeclared c cases → c.place < cases_of c.type_no cases
+pub declared-placed : (cases : List CaseDecl) (c : CaseId) → ArePlaced cases → IsDeclared c cases → c.place < cases_of_type c.type_no cases
 declared-placed cases c placed declared =
     let at = found-at (has_id c) cases declared in
     has-place cases at.0 at.1 c placed at.2 at.3
@@ -75,8 +75,8 @@ declared-placed cases c placed declared =
 -- ---- no two cases have one id
 not-before : (cases : List CaseDecl) (j k : ℕ) (d e : CaseDecl) → ArePlaced cases → slice_get cases j ≡ Some d → slice_get cases k ≡ Some e → d.id ≡ e.id → j < k → ⊥
 not-before cases j k d e placed at_j at_k same before =
-    let first : d.id.place ≡ cases_of d.id.type_no (take j cases) = placed j d at_j in
-    let later : d.id.place ≡ cases_of d.id.type_no (take k cases) = rw same (placed k e at_k) in
+    let first : d.id.place ≡ cases_of_type d.id.type_no (take j cases) = placed j d at_j in
+    let later : d.id.place ≡ cases_of_type d.id.type_no (take k cases) = rw same (placed k e at_k) in
     let next = counted-next cases j d at_j in
     let upto = counted-upto d.id.type_no cases (j + 1) k (omega (arith, before)) in
     omega (arith, first, later, next, upto)

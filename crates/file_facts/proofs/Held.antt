@@ -14,8 +14,8 @@ use Rattle.file_model.specs.declared.files.TypeDecl.{TypeDecl}
 use Rattle.file_model.specs.declared.refusals.FileLimit.{FileLimit}
 use Rattle.file_model.specs.declared.refusals.Why.{Why}
 use Rattle.file_model.specs.declared.states.Contents.{Contents}
-use Rattle.file_model.specs.declared.states.Place.{Place}
-use Rattle.file_model.specs.declared.states.Place.TheVariants as place
+use Rattle.file_model.specs.declared.states.Section.{Section}
+use Rattle.file_model.specs.declared.states.Section.TheVariants as section
 use Rattle.file_facts.specs.Facts.{lines_in, IsSound, HasType, ArePlaced, IsKnown}
 
 -- of declarations: nothing has more names than items, and what a file promises of them
@@ -60,12 +60,12 @@ abbrev pub Typing : Contents → Type 0
 Typing c = Before c × (length c.types.items < 64)
 
 -- an open group would be a known line if it ended here
-abbrev pub HeldIn : Place → Contents → Type 0
-HeldIn place.Head c = Before c
-HeldIn place.Outside c = Before c
-HeldIn (place.InType d) c = Typing c
-HeldIn (place.InPhase lines) c = Script c lines 0
-HeldIn (place.InGroup lines g) c = Script c lines 1 × KnownIn c (line_of_group g)
+abbrev pub HeldIn : Section → Contents → Type 0
+HeldIn section.Head c = Before c
+HeldIn section.Outside c = Before c
+HeldIn (section.InType d) c = Typing c
+HeldIn (section.InPhase lines) c = Script c lines 0
+HeldIn (section.InGroup lines g) c = Script c lines 1 × KnownIn c (line_of_group g)
 
 abbrev pub HeldState : State → Type 0
 HeldState s = HeldIn s.place s.contents

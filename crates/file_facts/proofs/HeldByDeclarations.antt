@@ -15,14 +15,14 @@ use Rattle.file_forms.specs.Forms.{Declaration, a_type, an_actor, a_case, first_
 use Rattle.file_drafts.specs.Drafts.{new_draft, whole}
 use Rattle.file_drafts.specs.declared.drafts.Draft.{Draft}
 use Rattle.file_model.specs.Steps.{at_place, with_node, with_element}
-use Rattle.file_model.specs.CaseCounts.{cases_of}
+use Rattle.file_model.specs.CaseCounts.{cases_of_type}
 use Rattle.file_model.specs.Declaring.{outside, with_type, with_actor, with_case, case_declared, declared}
 use Rattle.file_model.specs.Typing.{ended, typed}
 use Rattle.file_model.specs.declared.files.CaseDecl.{CaseDecl}
 use Rattle.file_model.specs.declared.files.TypeDecl.{TypeDecl}
 use Rattle.file_model.specs.declared.refusals.FileLimit.TheVariants as limit
 use Rattle.file_model.specs.declared.states.Contents.{Contents}
-use Rattle.file_model.specs.declared.states.Place.TheVariants as place
+use Rattle.file_model.specs.declared.states.Section.TheVariants as section
 use Rattle.file_facts.specs.Facts.{IsSound, HasType, ArePlaced}
 use Rattle.file_facts.proofs.Held.{Before, Typing, Script, HasDeclared, HeldStep, unless-held, same-held, not_over, neither}
 use Rattle.file_facts.proofs.Lists.{at-push, length-noted, place_within}
@@ -61,7 +61,7 @@ actor-declared n roles c room h =
     }
 
 -- the place of one more case counts those that are there
-placed-push : (cases : List CaseDecl) (d : CaseDecl) → d.id.place ≡ cases_of d.id.type_no cases → ArePlaced cases → ArePlaced (cases ++ d ∷ [])
+placed-push : (cases : List CaseDecl) (d : CaseDecl) → d.id.place ≡ cases_of_type d.id.type_no cases → ArePlaced cases → ArePlaced (cases ++ d ∷ [])
 placed-push cases d own h k e at =
     elim (at-push cases d k e at) [
       | inl old ↦
@@ -72,7 +72,7 @@ placed-push cases d own h k e at =
 
 case-declared : (n : Bytes) (t : ℕ) (c : Contents) → t < length c.types.items → length c.cases.items < 4096 → HasDeclared c → HasDeclared (with_case n t c)
 case-declared n t c there room h =
-    let d : CaseDecl = record { name = n; id = record { type_no = t; place = cases_of t c.cases.items } } in
+    let d : CaseDecl = record { name = n; id = record { type_no = t; place = cases_of_type t c.cases.items } } in
     let longer = length_push c.cases.items d in
     record {
       type_names = h.type_names;
@@ -104,7 +104,7 @@ case_declared-held n (Some t) c there h =
 
 pub declared-held : (d : Declaration) (c : Contents) → Before c → HeldStep (declared d c)
 declared-held (a_type n) c h =
-    unless-held _ c (at_place (place.InType (new_draft n)) c) (λ none. (h, leb-false 64 (length c.types.items) (not_over _ limit.Types (neither _ _ none).1)))
+    unless-held _ c (at_place (section.InType (new_draft n)) c) (λ none. (h, leb-false 64 (length c.types.items) (not_over _ limit.Types (neither _ _ none).1)))
 declared-held (an_actor n roles) c h =
     unless-held _ c (outside (with_actor n roles c)) (λ none.
     let below = leb-false 32 (length c.actors.items) (not_over _ limit.Actors (neither _ _ (neither _ _ none).1).0) in

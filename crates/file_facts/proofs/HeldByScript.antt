@@ -13,7 +13,7 @@ use Rattle.file_words.specs.Lines.{Bytes}
 use Rattle.file_names.specs.Names.{place_of}
 use Rattle.file_forms.specs.PieceForms.{◌>>=◌}
 use Rattle.file_forms.specs.Forms.{Deed, to_create, to_start, to_end, to_change, to_install, to_migrate, ScriptLine, next_phase, a_deed}
-use Rattle.file_forms.specs.Forms.{Place, behind, at_head, OperationLine, insert, parallel, conditional, delete, move, sync, unsync, element, read, unread, write, unwrite, set_role, group_end}
+use Rattle.file_forms.specs.Forms.{NamedGap, behind, at_head, OperationLine, insert, parallel, conditional, delete, move, sync, unsync, element, read, unread, write, unwrite, set_role, group_end}
 use Rattle.file_model.specs.Steps.{at_place, node_in, with_node, with_element}
 use Rattle.file_model.specs.Scripting.{case_in, actor_in, counted, line_of, with_line, with_group, changing, one_install, installing, migrating, with_elements, numbered, acted, with_phase, scripted}
 use Rattle.file_model.specs.Operating.{with_place, op_in, with_names, act_of, line_of_group, with_op, grouped, operated}
@@ -26,7 +26,7 @@ use Rattle.file_model.specs.declared.states.Contents.{Contents}
 use Rattle.file_model.specs.declared.states.Group.{Group}
 use Rattle.file_model.specs.declared.states.Target.{Target}
 use Rattle.file_model.specs.declared.states.Target.TheVariants as target
-use Rattle.file_model.specs.declared.states.Place.TheVariants as place
+use Rattle.file_model.specs.declared.states.Section.TheVariants as section
 use Rattle.file_facts.specs.Facts.{has_id, IsDeclared, IsKnownAct}
 use Rattle.file_facts.proofs.Held.{Script, KnownIn, HeldState, HeldStep, unless-held, same-held, found-held, not_over, neither}
 use Rattle.file_facts.proofs.Lists.{any-at, place_within}
@@ -170,7 +170,7 @@ scripted-held (a_deed a d) lines at c h = found-held (actor_in a c) _ c (λ acto
 abbrev InGroup : List Line → Group → Contents → Type 0
 InGroup lines g c = Script c lines 1 × KnownIn c (line_of_group g)
 
-place-held : (p : Place) (lines : List Line) (g : Group) (c : Contents) → InGroup lines g c → InGroup lines g (with_place p c)
+place-held : (p : NamedGap) (lines : List Line) (g : Group) (c : Contents) → InGroup lines g c → InGroup lines g (with_place p c)
 place-held (behind n) lines g c h = h
 place-held (at_head n code) lines g c h = h
 
@@ -201,7 +201,7 @@ op-known o g c few h = record {
 grouped-held : (o : Option Op) (g : Group) (lines : List Line) (c : Contents) → InGroup lines g c → HeldStep (grouped o g lines c)
 grouped-held None g lines c h = line-ended (line_of_group g) lines c h.1 h.0
 grouped-held (Some o) g lines c h =
-    unless-held _ c (at_place (place.InGroup lines (with_op o g)) c) (λ none. (h.0, op-known o g c (leb-false 256 (length g.ops) (not_over _ limit.Ops none)) h.1))
+    unless-held _ c (at_place (section.InGroup lines (with_op o g)) c) (λ none. (h.0, op-known o g c (leb-false 256 (length g.ops) (not_over _ limit.Ops none)) h.1))
 
 pub operated-held : (l : OperationLine) (g : Group) (lines : List Line) (c : Contents) → Script c lines 1 → KnownIn c (line_of_group g) → HeldStep (operated l g lines c)
 operated-held l g lines c h known = grouped-held (op_in l c) g lines (with_names l c) (names-held l lines g c (h, known))

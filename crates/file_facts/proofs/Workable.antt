@@ -26,8 +26,8 @@ use Rattle.file_model.specs.declared.refusals.Refused.{Refused}
 use Rattle.file_model.specs.declared.refusals.Why.{Why}
 use Rattle.file_model.specs.declared.refusals.Why.TheVariants as why
 use Rattle.file_model.specs.declared.states.Contents.{Contents}
-use Rattle.file_model.specs.declared.states.Place.{Place}
-use Rattle.file_model.specs.declared.states.Place.TheVariants as place
+use Rattle.file_model.specs.declared.states.Section.{Section}
+use Rattle.file_model.specs.declared.states.Section.TheVariants as section
 use Rattle.file_model.proofs.Bounds.{file-bounded}
 use Rattle.file_facts.specs.Facts.{IsWorkable}
 use Rattle.file_facts.proofs.Held.{Before, Script, HeldIn, HeldState, HeldStep}
@@ -51,15 +51,15 @@ text-held : (test : Bool) (c : Contents) (s : Step) → HeldStep s → HeldStep 
 text-held true c s h = h
 text-held false c s h = tt
 
-step_in-held : (p : Place) (at : ℕ) (line : Bytes) (ws : List Bytes) (c : Contents) → HeldIn p c → HeldStep (step_in p at line ws c)
-step_in-held place.Head at line ws c h = if-held (is_header ws) (Ok (outside c)) (refuse c why.Header) h tt
-step_in-held place.Outside at line ws c h =
+step_in-held : (p : Section) (at : ℕ) (line : Bytes) (ws : List Bytes) (c : Contents) → HeldIn p c → HeldStep (step_in p at line ws c)
+step_in-held section.Head at line ws c h = if-held (is_header ws) (Ok (outside c)) (refuse c why.Header) h tt
+step_in-held section.Outside at line ws c h =
     text-held (is_utf8 line) c _ (formed-held (declaration_line ws) ws (λ d. declared d c) c (λ d. declared-held d c h))
-step_in-held (place.InType d) at line ws c h =
+step_in-held (section.InType d) at line ws c h =
     text-held (is_utf8 line) c _ (formed-held (fitting d (type_line ws)) ws (λ l. typed l d c) c (λ l. typed-held l d c h))
-step_in-held (place.InPhase lines) at line ws c h =
+step_in-held (section.InPhase lines) at line ws c h =
     text-held (is_utf8 line) c _ (formed-held (script_line ws) ws (λ l. scripted l lines at c) c (λ l. scripted-held l lines at c h))
-step_in-held (place.InGroup lines g) at line ws c h =
+step_in-held (section.InGroup lines g) at line ws c h =
     text-held (is_utf8 line) c _ (formed-held (operation_line ws) ws (λ l. operated l g lines c) c (λ l. operated-held l g lines c h.0 h.1))
 
 step-held : (s : State) (at : ℕ) (line : Bytes) (ws : List Bytes) → HeldState s → HeldStep (step_words s at line ws)
@@ -96,12 +96,12 @@ with_last_phase lines c h b = record {
   known = rows-append _ c.phases (lines ∷ []) h.known_phases (h.known_lines, tt);
 }
 
-finished_in-ready : (p : Place) (c : Contents) → HeldIn p c → IfOk (finished_in p c) IsReady
-finished_in-ready place.Head c h = tt
-finished_in-ready place.Outside c h = without_phase c h
-finished_in-ready (place.InType d) c h = tt
-finished_in-ready (place.InPhase lines) c h = with_last_phase lines c h
-finished_in-ready (place.InGroup lines g) c h = tt
+finished_in-ready : (p : Section) (c : Contents) → HeldIn p c → IfOk (finished_in p c) IsReady
+finished_in-ready section.Head c h = tt
+finished_in-ready section.Outside c h = without_phase c h
+finished_in-ready (section.InType d) c h = tt
+finished_in-ready (section.InPhase lines) c h = with_last_phase lines c h
+finished_in-ready (section.InGroup lines g) c h = tt
 
 ended-ready : (test : Bool) (s : State) → HeldState s → IfOk (if test then finished_in s.place s.contents else Err (why.Unended, s.contents)) IsReady
 ended-ready true s h = finished_in-ready s.place s.contents h

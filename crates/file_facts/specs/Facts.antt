@@ -4,7 +4,7 @@ use Rattle.std.specs.List.{list_all, list_any, sum_by}
 use Rattle.wsm_lists.specs.Rows.{AllRows}
 use Rattle.wsm_sound.specs.Faults.{fault_of}
 use Rattle.wsm_sound.specs.declared.versions.CaseId.{CaseId}
-use Rattle.file_model.specs.CaseCounts.{cases_of}
+use Rattle.file_model.specs.CaseCounts.{cases_of_type}
 use Rattle.file_model.specs.Sizes.{is_small}
 use Rattle.file_model.specs.declared.files.Act.{Act}
 use Rattle.file_model.specs.declared.files.Act.TheVariants as act
@@ -26,7 +26,7 @@ HasType types d = d.id.type_no < types
 
 -- each case has the place that counts the cases of its type before it
 abbrev pub ArePlaced : List CaseDecl → Type 0
-ArePlaced cases = (k : ℕ) (d : CaseDecl) → slice_get cases k ≡ Some d → d.id.place ≡ cases_of d.id.type_no (take k cases)
+ArePlaced cases = (k : ℕ) (d : CaseDecl) → slice_get cases k ≡ Some d → d.id.place ≡ cases_of_type d.id.type_no (take k cases)
 
 -- whether a case was declared with an id
 abbrev pub has_id : CaseId → CaseDecl → Bool

@@ -40,17 +40,17 @@ pub data ScriptLine : Type 0 where
   a_deed : (actor : Bytes) → Deed → ScriptLine
 
 -- where an operation puts a node
-pub data Place : Type 0 where
-  behind : (node : Bytes) → Place
-  at_head : (split : Bytes) (code : ℕ) → Place
+pub data NamedGap : Type 0 where
+  behind : (node : Bytes) → NamedGap
+  at_head : (split : Bytes) (code : ℕ) → NamedGap
 
 -- a line of a group of operations
 pub data OperationLine : Type 0 where
-  insert : (node : Bytes) (role : ℕ) (place : Place) → OperationLine
+  insert : (node : Bytes) (role : ℕ) (place : NamedGap) → OperationLine
   parallel : (node : Bytes) (role : ℕ) (split join first last : Bytes) → OperationLine
-  conditional : (node : Bytes) (role : ℕ) (split join : Bytes) (place : Place) → OperationLine
+  conditional : (node : Bytes) (role : ℕ) (split join : Bytes) (place : NamedGap) → OperationLine
   delete : (node : Bytes) → OperationLine
-  move : (node : Bytes) (place : Place) → OperationLine
+  move : (node : Bytes) (place : NamedGap) → OperationLine
   sync unsync : (source target : Bytes) → OperationLine
   element : (element : Bytes) (kind : ElementKind) → OperationLine
   read : (node element : Bytes) (mandatory : Bool) → OperationLine

@@ -5,7 +5,7 @@ use Rattle.file_words.specs.Lines.{Bytes}
 use Rattle.file_words.specs.Words.{is}
 use Rattle.file_words.specs.Names.{name}
 use Rattle.file_words.specs.Numbers.{role, code}
-use Rattle.file_forms.specs.Forms.{Place, behind, at_head, OperationLine, insert, parallel, conditional, delete, move, sync, unsync, element, read, unread, write, unwrite, set_role, group_end}
+use Rattle.file_forms.specs.Forms.{NamedGap, behind, at_head, OperationLine, insert, parallel, conditional, delete, move, sync, unsync, element, read, unread, write, unwrite, set_role, group_end}
 use Rattle.file_forms.specs.PieceForms.{◌>>=◌, nothing_more, only, one_name, two_names, two_names_ahead, element_and_kind, read_edge}
 
 abbrev pub name_and_code : List Bytes → Option (Bytes × ℕ)
@@ -15,7 +15,7 @@ name_and_code (s ∷ ws) = do
   c ← only ws >>= code
   Some (x, c)
 
-abbrev pub place : List Bytes → Option Place
+abbrev pub place : List Bytes → Option NamedGap
 place [] = None
 place (k ∷ ws) =
     if is (codes "after") k then option_map behind (one_name ws)

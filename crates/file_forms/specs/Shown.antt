@@ -13,8 +13,8 @@ use Rattle.file_forms.specs.declared.script_lines.Deed.{Deed}
 use Rattle.file_forms.specs.declared.script_lines.Deed.TheVariants as deed
 use Rattle.file_forms.specs.declared.script_lines.ScriptLine.{ScriptLine}
 use Rattle.file_forms.specs.declared.script_lines.ScriptLine.TheVariants as script_line
-use Rattle.file_forms.specs.declared.operation_lines.Place.{Place}
-use Rattle.file_forms.specs.declared.operation_lines.Place.TheVariants as place
+use Rattle.file_forms.specs.declared.operation_lines.NamedGap.{NamedGap}
+use Rattle.file_forms.specs.declared.operation_lines.NamedGap.TheVariants as place
 use Rattle.file_forms.specs.declared.operation_lines.OperationLine.{OperationLine}
 use Rattle.file_forms.specs.declared.operation_lines.OperationLine.TheVariants as operation_line
 
@@ -75,7 +75,7 @@ abbrev pub shown_script_line : ScriptLine → form.ScriptLine
 shown_script_line script_line.Phase = form.next_phase
 shown_script_line (script_line.Deed actor d) = form.a_deed actor.bytes.now (shown_deed d)
 
-abbrev pub shown_place : Place → form.Place
+abbrev pub shown_place : NamedGap → form.NamedGap
 shown_place (place.After node) = form.behind node.bytes.now
 shown_place (place.Head split code) = form.at_head split.bytes.now code
 

@@ -11,6 +11,6 @@ mod script_lines;
 mod type_lines;
 
 pub use declarations::{Declaration, declaration_line, is_header};
-pub use operation_lines::{OperationLine, Place, operation_line};
+pub use operation_lines::{NamedGap, OperationLine, operation_line};
 pub use script_lines::{Deed, ScriptLine, WriteWords, script_line};
 pub use type_lines::{TypeLine, type_line};

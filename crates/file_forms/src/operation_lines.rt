@@ -10,7 +10,7 @@ use wsm_lists::ElementKind;
 
 /// Where an operation puts a node.
 #[derive(Clone, Copy)]
-pub enum Place<'a> {
+pub enum NamedGap<'a> {
     /// Directly behind this node.
     After(NameWord<'a>),
     /// At the head of the split's branch with this code.
@@ -23,7 +23,7 @@ pub enum OperationLine<'a> {
     Insert {
         node: NameWord<'a>,
         role: u32,
-        place: Place<'a>,
+        place: NamedGap<'a>,
     },
     /// The last item is the first where it is not written.
     Parallel {
@@ -39,12 +39,12 @@ pub enum OperationLine<'a> {
         role: u32,
         split: NameWord<'a>,
         join: NameWord<'a>,
-        place: Place<'a>,
+        place: NamedGap<'a>,
     },
     Delete(NameWord<'a>),
     Move {
         node: NameWord<'a>,
-        place: Place<'a>,
+        place: NamedGap<'a>,
     },
     Sync {
         source: NameWord<'a>,
@@ -95,17 +95,17 @@ fn name_and_code<'a>(words: &[&'a [u8]]) -> Option<(NameWord<'a>, u16)>
     }
 }
 
-fn place_of<'a>(words: &[&'a [u8]]) -> Option<Place<'a>>
+fn place_of<'a>(words: &[&'a [u8]]) -> Option<NamedGap<'a>>
     ensures { option_map shown_place result ≡ place (shown words.now) }
 {
     match words {
         [] => None,
         [keyword, rest @ ..] => {
             if *keyword == b"after".as_slice() {
-                Some(Place::After(one_name(rest)?))
+                Some(NamedGap::After(one_name(rest)?))
             } else if *keyword == b"head".as_slice() {
                 let (split, code) = name_and_code(rest)?;
-                Some(Place::Head { split, code })
+                Some(NamedGap::Head { split, code })
             } else {
                 None
             }

@@ -24,9 +24,9 @@ use Rattle.file_model.specs.declared.refusals.Refused.{Refused}
 use Rattle.file_model.specs.declared.refusals.Why.{Why}
 use Rattle.file_model.specs.declared.refusals.Why.TheVariants as why
 use Rattle.file_model.specs.declared.states.Contents.{Contents}
-use Rattle.file_model.specs.declared.states.Place.{Place}
-use Rattle.file_model.specs.declared.states.Place.TheVariants as place
-use Rattle.file_model.proofs.Kept.{Kept, KeptIn, KeptState, KeptStep}
+use Rattle.file_model.specs.declared.states.Section.{Section}
+use Rattle.file_model.specs.declared.states.Section.TheVariants as section
+use Rattle.file_model.proofs.Kept.{CountsKept, KeptIn, KeptState, KeptStep}
 use Rattle.file_model.proofs.KeptByLines.{declared-kept, typed-kept, scripted-kept, operated-kept}
 
 -- ---- a line
@@ -46,33 +46,33 @@ text-kept : (test : Bool) (c : Contents) (s : Step) → KeptStep s → KeptStep 
 text-kept true c s h = h
 text-kept false c s h = tt
 
-step_in-kept : (p : Place) (at : ℕ) (line : Bytes) (ws : List Bytes) (c : Contents) → KeptIn p c → KeptStep (step_in p at line ws c)
-step_in-kept place.Head at line ws c h = if-kept (is_header ws) (Ok (outside c)) (refuse c why.Header) h tt
-step_in-kept place.Outside at line ws c h =
+step_in-kept : (p : Section) (at : ℕ) (line : Bytes) (ws : List Bytes) (c : Contents) → KeptIn p c → KeptStep (step_in p at line ws c)
+step_in-kept section.Head at line ws c h = if-kept (is_header ws) (Ok (outside c)) (refuse c why.Header) h tt
+step_in-kept section.Outside at line ws c h =
     text-kept (is_utf8 line) c _ (formed-kept (declaration_line ws) ws (λ d. declared d c) c (λ d. declared-kept d c h))
-step_in-kept (place.InType d) at line ws c h =
+step_in-kept (section.InType d) at line ws c h =
     text-kept (is_utf8 line) c _ (formed-kept (fitting d (type_line ws)) ws (λ l. typed l d c) c (λ l. typed-kept l d c h))
-step_in-kept (place.InPhase lines) at line ws c h =
+step_in-kept (section.InPhase lines) at line ws c h =
     text-kept (is_utf8 line) c _ (formed-kept (script_line ws) ws (λ l. scripted l lines at c) c (λ l. scripted-kept l lines at c h))
-step_in-kept (place.InGroup lines g) at line ws c h =
+step_in-kept (section.InGroup lines g) at line ws c h =
     text-kept (is_utf8 line) c _ (formed-kept (operation_line ws) ws (λ l. operated l g lines c) c (λ l. operated-kept l g lines c h.0 h.1))
 
 step-kept : (s : State) (at : ℕ) (line : Bytes) (ws : List Bytes) → KeptState s → KeptStep (step_words s at line ws)
 step-kept s at line ws h = if-kept (is_skipped ws) (Ok s) (step_in s.place at line ws s.contents) h (step_in-kept s.place at line ws s.contents h)
 
 -- ---- the end of a file
-bounded : (c : Contents) → Kept c 0 → IsBounded (file_of c c.phases)
+bounded : (c : Contents) → CountsKept c 0 → IsBounded (file_of c c.phases)
 bounded c h = record { small = h.small; effort = omega (arith, h.within, h.effort) }
 
-last-bounded : (lines : List Line) (c : Contents) → Kept c (phase_effort lines) → IsBounded (file_of c (c.phases ++ lines ∷ []))
+last-bounded : (lines : List Line) (c : Contents) → CountsKept c (phase_effort lines) → IsBounded (file_of c (c.phases ++ lines ∷ []))
 last-bounded lines c h = record { small = h.small; effort = omega (arith, h.within, h.effort, sum_by_push phase_effort c.phases lines) }
 
-finished_in-bounded : (p : Place) (c : Contents) → KeptIn p c → IfOk (finished_in p c) IsBounded
-finished_in-bounded place.Head c h = tt
-finished_in-bounded place.Outside c h = bounded c h
-finished_in-bounded (place.InType d) c h = tt
-finished_in-bounded (place.InPhase lines) c h = last-bounded lines c h
-finished_in-bounded (place.InGroup lines g) c h = tt
+finished_in-bounded : (p : Section) (c : Contents) → KeptIn p c → IfOk (finished_in p c) IsBounded
+finished_in-bounded section.Head c h = tt
+finished_in-bounded section.Outside c h = bounded c h
+finished_in-bounded (section.InType d) c h = tt
+finished_in-bounded (section.InPhase lines) c h = last-bounded lines c h
+finished_in-bounded (section.InGroup lines g) c h = tt
 
 ended-bounded : (test : Bool) (s : State) → KeptState s → IfOk (if test then finished_in s.place s.contents else Err (why.Unended, s.contents)) IsBounded
 ended-bounded true s h = finished_in-bounded s.place s.contents h

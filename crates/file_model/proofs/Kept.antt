@@ -23,8 +23,8 @@ use Rattle.file_model.specs.declared.files.TypeDecl.{TypeDecl}
 use Rattle.file_model.specs.declared.refusals.FileLimit.{FileLimit}
 use Rattle.file_model.specs.declared.refusals.Why.{Why}
 use Rattle.file_model.specs.declared.states.Contents.{Contents}
-use Rattle.file_model.specs.declared.states.Place.{Place}
-use Rattle.file_model.specs.declared.states.Place.TheVariants as place
+use Rattle.file_model.specs.declared.states.Section.{Section}
+use Rattle.file_model.specs.declared.states.Section.TheVariants as section
 
 -- a line asks for 769 at most: one, and three for each of 256 operations
 pub record IsKept (types : List TypeDecl) (phases : List (List Line)) (lines begun : ℕ) : Type 0 where
@@ -32,16 +32,16 @@ pub record IsKept (types : List TypeDecl) (phases : List (List Line)) (lines beg
   pub within : lines ≤ 60000
   pub effort : begun + sum_by phase_effort phases ≤ 769 * lines
 
-abbrev pub Kept : Contents → ℕ → Type 0
-Kept c begun = IsKept c.types.items c.phases c.counts.lines begun
+abbrev pub CountsKept : Contents → ℕ → Type 0
+CountsKept c begun = IsKept c.types.items c.phases c.counts.lines begun
 
 -- the open phase asks for what its lines do, and for an open group at most
-abbrev pub KeptIn : Place → Contents → Type 0
-KeptIn place.Head c = Kept c 0
-KeptIn place.Outside c = Kept c 0
-KeptIn (place.InType d) c = Kept c 0
-KeptIn (place.InPhase lines) c = Kept c (phase_effort lines)
-KeptIn (place.InGroup lines g) c = Kept c (phase_effort lines + 769) × (length g.ops ≤ 256)
+abbrev pub KeptIn : Section → Contents → Type 0
+KeptIn section.Head c = CountsKept c 0
+KeptIn section.Outside c = CountsKept c 0
+KeptIn (section.InType d) c = CountsKept c 0
+KeptIn (section.InPhase lines) c = CountsKept c (phase_effort lines)
+KeptIn (section.InGroup lines g) c = CountsKept c (phase_effort lines + 769) × (length g.ops ≤ 256)
 
 abbrev pub KeptState : State → Type 0
 KeptState s = KeptIn s.place s.contents
@@ -85,7 +85,7 @@ small_type n s h = le-leb (length (cards_of s)) 1024 (ltb-false 1024 (length (ca
 all_small : (ts : List TypeDecl) (t : TypeDecl) → list_all is_small ts ≡ true → is_small t ≡ true → list_all is_small (ts ++ t ∷ []) ≡ true
 all_small ts t all one = rw (list_all-append, all, one) refl
 
-pub type-kept : (n : Bytes) (s : SchemaModel) (c : Contents) → fault_of s ≡ None → Kept c 0 → Kept (with_type n s c) 0
+pub type-kept : (n : Bytes) (s : SchemaModel) (c : Contents) → fault_of s ≡ None → CountsKept c 0 → CountsKept (with_type n s c) 0
 type-kept n s c none h = record {
   small = all_small c.types.items (record { name = n; schema = s }) h.small (small_type n s none);
   within = h.within;
@@ -93,7 +93,7 @@ type-kept n s c none h = record {
 }
 
 -- ---- the effort of one more phase, and of one more line
-pub phase-kept : (lines : List Line) (c : Contents) → Kept c (phase_effort lines) → Kept (with_phase lines c) 0
+pub phase-kept : (lines : List Line) (c : Contents) → CountsKept c (phase_effort lines) → CountsKept (with_phase lines c) 0
 phase-kept lines c h = record {
   small = h.small;
   within = h.within;
@@ -101,7 +101,7 @@ phase-kept lines c h = record {
 }
 
 -- a line more is counted, while it asks for so much
-pub counted-kept : (begun more : ℕ) (c : Contents) → more ≤ 769 → nat_le 60000 c.counts.lines ≡ false → Kept c begun → Kept (counted c) (begun + more)
+pub counted-kept : (begun more : ℕ) (c : Contents) → more ≤ 769 → nat_le 60000 c.counts.lines ≡ false → CountsKept c begun → CountsKept (counted c) (begun + more)
 counted-kept begun more c less below h = record {
   small = h.small;
   within = omega (arith, leb-false 60000 c.counts.lines below);

@@ -12,7 +12,7 @@ use Rattle.file_words.specs.Lines.{Bytes}
 use Rattle.file_names.specs.Names.{place_of}
 use Rattle.file_forms.specs.Forms.{Declaration, a_type, an_actor, a_case, first_phase, TypeLine, activity, opens_and, opens_xor, opens_branch, opens_loop, closes_block, a_sync, an_element, a_read, a_write, type_end}
 use Rattle.file_forms.specs.Forms.{Deed, to_create, to_start, to_end, to_change, to_install, to_migrate, ScriptLine, next_phase, a_deed}
-use Rattle.file_forms.specs.Forms.{Place, behind, at_head, OperationLine, insert, parallel, conditional, delete, move, sync, unsync, element, read, unread, write, unwrite, set_role, group_end}
+use Rattle.file_forms.specs.Forms.{NamedGap, behind, at_head, OperationLine, insert, parallel, conditional, delete, move, sync, unsync, element, read, unread, write, unwrite, set_role, group_end}
 use Rattle.file_drafts.specs.Drafts.{whole}
 use Rattle.file_drafts.specs.declared.drafts.Draft.{Draft}
 use Rattle.file_model.specs.Steps.{at_place, over, node_in, with_node, with_element}
@@ -29,26 +29,26 @@ use Rattle.file_model.specs.declared.states.Contents.{Contents}
 use Rattle.file_model.specs.declared.states.Group.{Group}
 use Rattle.file_model.specs.declared.states.Target.{Target}
 use Rattle.file_model.specs.declared.states.Target.TheVariants as target
-use Rattle.file_model.specs.declared.states.Place.TheVariants as place
-use Rattle.file_model.proofs.Kept.{Kept, KeptState, KeptStep, unless-kept, within-kept, within_both-kept, known-kept, type-kept, phase-kept, counted-kept, more_effort}
+use Rattle.file_model.specs.declared.states.Section.TheVariants as section
+use Rattle.file_model.proofs.Kept.{CountsKept, KeptState, KeptStep, unless-kept, within-kept, within_both-kept, known-kept, type-kept, phase-kept, counted-kept, more_effort}
 
 -- ---- declarations
-case_declared-kept : (n : Bytes) (t : Option ℕ) (c : Contents) → Kept c 0 → KeptStep (case_declared n t c)
+case_declared-kept : (n : Bytes) (t : Option ℕ) (c : Contents) → CountsKept c 0 → KeptStep (case_declared n t c)
 case_declared-kept n None c h = tt
 case_declared-kept n (Some t) c h = unless-kept _ c _ h
 
-pub declared-kept : (d : Declaration) (c : Contents) → Kept c 0 → KeptStep (declared d c)
+pub declared-kept : (d : Declaration) (c : Contents) → CountsKept c 0 → KeptStep (declared d c)
 declared-kept (a_type n) c h = unless-kept _ c _ h
 declared-kept (an_actor n roles) c h = unless-kept _ c _ h
 declared-kept (a_case n kind) c h = case_declared-kept n (place_of c.types.names kind) c h
 declared-kept first_phase c h = h
 
 -- ---- lines of a type
-ended-kept : (n : Bytes) (s : SchemaModel) (f : Option Fault) (c : Contents) → fault_of s ≡ f → Kept c 0 → KeptStep (ended n s f c)
+ended-kept : (n : Bytes) (s : SchemaModel) (f : Option Fault) (c : Contents) → fault_of s ≡ f → CountsKept c 0 → KeptStep (ended n s f c)
 ended-kept n s None c e h = type-kept n s c e h
 ended-kept n s (Some f) c e h = tt
 
-pub typed-kept : (l : TypeLine) (d : Draft) (c : Contents) → Kept c 0 → KeptStep (typed l d c)
+pub typed-kept : (l : TypeLine) (d : Draft) (c : Contents) → CountsKept c 0 → KeptStep (typed l d c)
 typed-kept (activity n role) d c h = h
 typed-kept (opens_and a b) d c h = unless-kept _ c _ h
 typed-kept (opens_xor a b role) d c h = unless-kept _ c _ h
@@ -63,38 +63,38 @@ typed-kept type_end d c h = ended-kept d.name (whole d) (fault_of (whole d)) c r
 
 -- ---- lines of a phase
 one_line : (lines : List Line) (at actor : ℕ) (a : Act) (c : Contents) → act_effort a ≡ 0 → nat_le 60000 c.counts.lines ≡ false →
-    Kept c (phase_effort lines) → Kept (counted c) (phase_effort (lines ++ line_of at actor a c ∷ []))
+    CountsKept c (phase_effort lines) → CountsKept (counted c) (phase_effort (lines ++ line_of at actor a c ∷ []))
 one_line lines at actor a c none below h =
     let e : phase_effort (lines ++ line_of at actor a c ∷ []) ≡ phase_effort lines + 1 = omega (arith, more_effort lines (line_of at actor a c), none) in
     rw e (counted-kept (phase_effort lines) 1 c (omega arith) below h)
 
-with_line-kept : (lines : List Line) (at actor : ℕ) (a : Act) (c : Contents) → act_effort a ≡ 0 → Kept c (phase_effort lines) → KeptStep (with_line lines at actor a c)
+with_line-kept : (lines : List Line) (at actor : ℕ) (a : Act) (c : Contents) → act_effort a ≡ 0 → CountsKept c (phase_effort lines) → KeptStep (with_line lines at actor a c)
 with_line-kept lines at actor a c none h =
-    within-kept (nat_le 60000 c.counts.lines) limit.Lines c (at_place (place.InPhase (lines ++ line_of at actor a c ∷ [])) (counted c)) (λ below. one_line lines at actor a c none below h)
+    within-kept (nat_le 60000 c.counts.lines) limit.Lines c (at_place (section.InPhase (lines ++ line_of at actor a c ∷ [])) (counted c)) (λ below. one_line lines at actor a c none below h)
 
-with_group-kept : (lines : List Line) (at actor : ℕ) (t : Target) (c : Contents) → nat_le 60000 c.counts.lines ≡ false → Kept c (phase_effort lines) → KeptState (with_group lines at actor t c)
+with_group-kept : (lines : List Line) (at actor : ℕ) (t : Target) (c : Contents) → nat_le 60000 c.counts.lines ≡ false → CountsKept c (phase_effort lines) → KeptState (with_group lines at actor t c)
 with_group-kept lines at actor t c below h = (counted-kept (phase_effort lines) 769 c (omega arith) below h, omega arith)
 
-changing-kept : (lines : List Line) (at actor : ℕ) (id : CaseId) (c : Contents) → Kept c (phase_effort lines) → KeptStep (changing lines at actor id c)
+changing-kept : (lines : List Line) (at actor : ℕ) (id : CaseId) (c : Contents) → CountsKept c (phase_effort lines) → KeptStep (changing lines at actor id c)
 changing-kept lines at actor id c h =
     within-kept (nat_le 60000 c.counts.lines) limit.Lines c (with_group lines at actor (target.Case id) c) (λ below. with_group-kept lines at actor (target.Case id) c below h)
 
-installing-kept : (lines : List Line) (at actor t : ℕ) (c : Contents) → Kept c (phase_effort lines) → KeptStep (installing lines at actor t c)
+installing-kept : (lines : List Line) (at actor t : ℕ) (c : Contents) → CountsKept c (phase_effort lines) → KeptStep (installing lines at actor t c)
 installing-kept lines at actor t c h =
     within_both-kept (nat_le 60000 c.counts.lines) limit.Lines (over (nat_le 1024 c.counts.installs) limit.Installs) c (with_group lines at actor (target.«Type» t) (one_install c))
     (λ below. with_group-kept lines at actor (target.«Type» t) (one_install c) below h)
 
-migrating-kept : (lines : List Line) (at actor t : ℕ) (c : Contents) → Kept c (phase_effort lines) → KeptStep (migrating lines at actor t c)
+migrating-kept : (lines : List Line) (at actor t : ℕ) (c : Contents) → CountsKept c (phase_effort lines) → KeptStep (migrating lines at actor t c)
 migrating-kept lines at actor t c h =
     within_both-kept (nat_le 60000 c.counts.lines) limit.Lines (over (nat_lt 65536 (migrations_with t c)) limit.Migrations) c
-    (at_place (place.InPhase (lines ++ line_of at actor (act.Migrate t) c ∷ [])) (counted (record c { counts = record c.counts { migrations = migrations_with t c } })))
+    (at_place (section.InPhase (lines ++ line_of at actor (act.Migrate t) c ∷ [])) (counted (record c { counts = record c.counts { migrations = migrations_with t c } })))
     (λ below. one_line lines at actor (act.Migrate t) c refl below h)
 
-elements-kept : (ws : List (Bytes × Value)) (c : Contents) (begun : ℕ) → Kept c begun → Kept (with_elements ws c) begun
+elements-kept : (ws : List (Bytes × Value)) (c : Contents) (begun : ℕ) → CountsKept c begun → CountsKept (with_elements ws c) begun
 elements-kept [] c begun h = h
 elements-kept (w ∷ ws) c begun h = elements-kept ws (with_element w.0 c) begun h
 
-acted-kept : (d : Deed) (actor : ℕ) (lines : List Line) (at : ℕ) (c : Contents) → Kept c (phase_effort lines) → KeptStep (acted d actor lines at c)
+acted-kept : (d : Deed) (actor : ℕ) (lines : List Line) (at : ℕ) (c : Contents) → CountsKept c (phase_effort lines) → KeptStep (acted d actor lines at c)
 acted-kept (to_create n) actor lines at c h = known-kept (case_in n c) _ c (λ id. with_line-kept lines at actor (act.Create id) c refl h)
 acted-kept (to_start n node) actor lines at c h =
     known-kept (case_in n c) _ c (λ id. with_line-kept lines at actor (act.Start id (node_in node c)) (with_node node c) refl h)
@@ -106,16 +106,16 @@ acted-kept (to_change n) actor lines at c h = known-kept (case_in n c) _ c (λ i
 acted-kept (to_install n) actor lines at c h = known-kept (place_of c.types.names n) _ c (λ t. installing-kept lines at actor t c h)
 acted-kept (to_migrate n) actor lines at c h = known-kept (place_of c.types.names n) _ c (λ t. migrating-kept lines at actor t c h)
 
-pub scripted-kept : (l : ScriptLine) (lines : List Line) (at : ℕ) (c : Contents) → Kept c (phase_effort lines) → KeptStep (scripted l lines at c)
+pub scripted-kept : (l : ScriptLine) (lines : List Line) (at : ℕ) (c : Contents) → CountsKept c (phase_effort lines) → KeptStep (scripted l lines at c)
 scripted-kept next_phase lines at c h = unless-kept _ c _ (phase-kept lines c h)
 scripted-kept (a_deed a d) lines at c h = known-kept (actor_in a c) _ c (λ actor. acted-kept d actor lines at c h)
 
 -- ---- lines of a group
-place-kept : (p : Place) (c : Contents) (begun : ℕ) → Kept c begun → Kept (with_place p c) begun
+place-kept : (p : NamedGap) (c : Contents) (begun : ℕ) → CountsKept c begun → CountsKept (with_place p c) begun
 place-kept (behind n) c begun h = h
 place-kept (at_head n code) c begun h = h
 
-names-kept : (l : OperationLine) (c : Contents) (begun : ℕ) → Kept c begun → Kept (with_names l c) begun
+names-kept : (l : OperationLine) (c : Contents) (begun : ℕ) → CountsKept c begun → CountsKept (with_names l c) begun
 names-kept (insert n r p) c begun h = place-kept p (with_node n c) begun h
 names-kept (parallel n r s j a b) c begun h = h
 names-kept (conditional n r s j p) c begun h = place-kept p (with_node j (with_node s (with_node n c))) begun h
@@ -136,18 +136,18 @@ group_effort (target.Case id) ops = refl
 group_effort (target.«Type» t) ops = refl
 
 -- an open group was counted with all the operations that it may have
-closed-kept : (g : Group) (lines : List Line) (c : Contents) → Kept c (phase_effort lines + 769) → length g.ops ≤ 256 → Kept c (phase_effort (lines ++ line_of_group g ∷ []))
+closed-kept : (g : Group) (lines : List Line) (c : Contents) → CountsKept c (phase_effort lines + 769) → length g.ops ≤ 256 → CountsKept c (phase_effort (lines ++ line_of_group g ∷ []))
 closed-kept g lines c h fits = record {
   small = h.small;
   within = h.within;
   effort = omega (arith, h.effort, more_effort lines (line_of_group g), group_effort g.target g.ops);
 }
 
-grouped-kept : (o : Option Op) (g : Group) (lines : List Line) (c : Contents) → Kept c (phase_effort lines + 769) → length g.ops ≤ 256 → KeptStep (grouped o g lines c)
+grouped-kept : (o : Option Op) (g : Group) (lines : List Line) (c : Contents) → CountsKept c (phase_effort lines + 769) → length g.ops ≤ 256 → KeptStep (grouped o g lines c)
 grouped-kept None g lines c h fits = closed-kept g lines c h fits
 grouped-kept (Some o) g lines c h fits =
-    within-kept (nat_le 256 (length g.ops)) limit.Ops c (at_place (place.InGroup lines (with_op o g)) c)
+    within-kept (nat_le 256 (length g.ops)) limit.Ops c (at_place (section.InGroup lines (with_op o g)) c)
     (λ below. (h, omega (arith, leb-false 256 (length g.ops) below, length-append g.ops (o ∷ []))))
 
-pub operated-kept : (l : OperationLine) (g : Group) (lines : List Line) (c : Contents) → Kept c (phase_effort lines + 769) → length g.ops ≤ 256 → KeptStep (operated l g lines c)
+pub operated-kept : (l : OperationLine) (g : Group) (lines : List Line) (c : Contents) → CountsKept c (phase_effort lines + 769) → length g.ops ≤ 256 → KeptStep (operated l g lines c)
 operated-kept l g lines c h fits = grouped-kept (op_in l c) g lines (with_names l c) (names-kept l c (phase_effort lines + 769) h) fits

@@ -7,19 +7,19 @@ use Rattle.file_names.specs.Names.{is_listed, noted, place_of}
 use Rattle.file_names.specs.declared.declared.DeclaredList.{DeclaredList}
 use Rattle.file_forms.specs.Forms.{Declaration, a_type, an_actor, a_case, first_phase}
 use Rattle.file_drafts.specs.Drafts.{new_draft}
-use Rattle.file_model.specs.CaseCounts.{cases_of}
+use Rattle.file_model.specs.CaseCounts.{cases_of_type}
 use Rattle.file_model.specs.Steps.{State, Step, at_place, refuse, unless, over, twice}
 use Rattle.file_model.specs.declared.refusals.FileLimit.TheVariants as limit
 use Rattle.file_model.specs.declared.refusals.Why.TheVariants as why
 use Rattle.file_model.specs.declared.states.Contents.{Contents}
-use Rattle.file_model.specs.declared.states.Place.TheVariants as place
+use Rattle.file_model.specs.declared.states.Section.TheVariants as section
 
 -- one more declaration
 abbrev pub listed : {A : Type 0} → Bytes → A → DeclaredList A → DeclaredList A
 listed n x ds = record { names = noted ds.names n; items = ds.items ++ x ∷ [] }
 
 abbrev pub outside : Contents → State
-outside c = at_place place.Outside c
+outside c = at_place section.Outside c
 
 abbrev pub with_type : Bytes → SchemaModel → Contents → Contents
 with_type n schema c = record c { types = listed n (record { name = n; schema = schema }) c.types }
@@ -29,7 +29,7 @@ with_actor n roles c = record c { actors = listed n (record { name = n; roles = 
 
 abbrev pub with_case : Bytes → ℕ → Contents → Contents
 with_case n t c = record c {
-  cases = listed n (record { name = n; id = record { type_no = t; place = cases_of t c.cases.items } }) c.cases;
+  cases = listed n (record { name = n; id = record { type_no = t; place = cases_of_type t c.cases.items } }) c.cases;
 }
 
 abbrev pub case_declared : Bytes → Option ℕ → Contents → Step
@@ -40,10 +40,10 @@ case_declared n (Some t) c =
 abbrev pub declared : Declaration → Contents → Step
 declared (a_type n) c =
     unless (option_or (twice (is_listed n c.types.names)) (over (nat_le 64 (length c.types.items)) limit.Types)) c
-    (at_place (place.InType (new_draft n)) c)
+    (at_place (section.InType (new_draft n)) c)
 declared (an_actor n roles) c =
     unless (option_or (twice (is_listed n c.actors.names))
     (option_or (over (nat_le 32 (length c.actors.items)) limit.Actors) (over (nat_lt 32 (length roles)) limit.Roles))) c
     (outside (with_actor n roles c))
 declared (a_case n kind) c = case_declared n (place_of c.types.names kind) c
-declared first_phase c = Ok (at_place (place.InPhase []) c)
+declared first_phase c = Ok (at_place (section.InPhase []) c)

@@ -4,7 +4,7 @@ use Rattle.wsm_ops.specs.declared.operations.Op.{Op}
 use Rattle.wsm_ops.specs.declared.operations.Op.TheVariants as op
 use Rattle.wsm_ops.specs.declared.operations.Gap.{Gap}
 use Rattle.wsm_ops.specs.declared.operations.Gap.TheVariants as gap
-use Rattle.file_forms.specs.Forms.{Place, behind, at_head, OperationLine, insert, parallel, conditional, delete, move, sync, unsync, element, read, unread, write, unwrite, set_role, group_end}
+use Rattle.file_forms.specs.Forms.{NamedGap, behind, at_head, OperationLine, insert, parallel, conditional, delete, move, sync, unsync, element, read, unread, write, unwrite, set_role, group_end}
 use Rattle.file_model.specs.Steps.{Step, at_place, unless, over, node_in, with_node, element_in, with_element}
 use Rattle.file_model.specs.declared.files.Line.{Line}
 use Rattle.file_model.specs.declared.files.Act.{Act}
@@ -14,13 +14,13 @@ use Rattle.file_model.specs.declared.states.Contents.{Contents}
 use Rattle.file_model.specs.declared.states.Group.{Group}
 use Rattle.file_model.specs.declared.states.Target.{Target}
 use Rattle.file_model.specs.declared.states.Target.TheVariants as target
-use Rattle.file_model.specs.declared.states.Place.TheVariants as place
+use Rattle.file_model.specs.declared.states.Section.TheVariants as section
 
-abbrev pub gap_in : Place → Contents → Gap
+abbrev pub gap_in : NamedGap → Contents → Gap
 gap_in (behind n) c = gap.After (node_in n c)
 gap_in (at_head n code) c = gap.Head (node_in n c) code
 
-abbrev pub with_place : Place → Contents → Contents
+abbrev pub with_place : NamedGap → Contents → Contents
 with_place (behind n) c = with_node n c
 with_place (at_head n code) c = with_node n c
 
@@ -78,8 +78,8 @@ abbrev pub with_op : Op → Group → Group
 with_op o g = record g { ops = g.ops ++ o ∷ [] }
 
 abbrev pub grouped : Option Op → Group → List Line → Contents → Step
-grouped None g lines c = Ok (at_place (place.InPhase (lines ++ line_of_group g ∷ [])) c)
-grouped (Some o) g lines c = unless (over (nat_le 256 (length g.ops)) limit.Ops) c (at_place (place.InGroup lines (with_op o g)) c)
+grouped None g lines c = Ok (at_place (section.InPhase (lines ++ line_of_group g ∷ [])) c)
+grouped (Some o) g lines c = unless (over (nat_le 256 (length g.ops)) limit.Ops) c (at_place (section.InGroup lines (with_op o g)) c)
 
 abbrev pub operated : OperationLine → Group → List Line → Contents → Step
 operated l g lines c = grouped (op_in l c) g lines (with_names l c)

@@ -26,8 +26,8 @@ use Rattle.file_model.specs.declared.refusals.Refused.{Refused}
 use Rattle.file_model.specs.declared.refusals.Why.{Why}
 use Rattle.file_model.specs.declared.refusals.Why.TheVariants as why
 use Rattle.file_model.specs.declared.states.Contents.{Contents}
-use Rattle.file_model.specs.declared.states.Place.{Place}
-use Rattle.file_model.specs.declared.states.Place.TheVariants as place
+use Rattle.file_model.specs.declared.states.Section.{Section}
+use Rattle.file_model.specs.declared.states.Section.TheVariants as section
 
 -- a name or a text of the line is too long
 abbrev pub why_long : TooLong → Why
@@ -56,15 +56,15 @@ unless_not_text true c s = s
 unless_not_text false c s = refuse c why.NotText
 
 -- a line that is not skipped, by where it stands
-abbrev pub step_in : Place → ℕ → Bytes → List Bytes → Contents → Step
-step_in place.Head at line ws c = headed ws c
-step_in place.Outside at line ws c =
+abbrev pub step_in : Section → ℕ → Bytes → List Bytes → Contents → Step
+step_in section.Head at line ws c = headed ws c
+step_in section.Outside at line ws c =
     unless_not_text (is_utf8 line) c (formed (declaration_line ws) ws (λ d. declared d c) c)
-step_in (place.InType d) at line ws c =
+step_in (section.InType d) at line ws c =
     unless_not_text (is_utf8 line) c (formed (fitting d (type_line ws)) ws (λ l. typed l d c) c)
-step_in (place.InPhase lines) at line ws c =
+step_in (section.InPhase lines) at line ws c =
     unless_not_text (is_utf8 line) c (formed (script_line ws) ws (λ l. scripted l lines at c) c)
-step_in (place.InGroup lines g) at line ws c =
+step_in (section.InGroup lines g) at line ws c =
     unless_not_text (is_utf8 line) c (formed (operation_line ws) ws (λ l. operated l g lines c) c)
 
 abbrev pub step_words : State → ℕ → Bytes → List Bytes → Step
@@ -84,12 +84,12 @@ file_of c phases = record {
 }
 
 -- a file may end outside of types and groups
-abbrev pub finished_in : Place → Contents → Result File (Why × Contents)
-finished_in place.Head c = Err (why.Header, c)
-finished_in place.Outside c = Ok (file_of c c.phases)
-finished_in (place.InType d) c = Err (why.Unended, c)
-finished_in (place.InPhase lines) c = Ok (file_of c (c.phases ++ lines ∷ []))
-finished_in (place.InGroup lines g) c = Err (why.Unended, c)
+abbrev pub finished_in : Section → Contents → Result File (Why × Contents)
+finished_in section.Head c = Err (why.Header, c)
+finished_in section.Outside c = Ok (file_of c c.phases)
+finished_in (section.InType d) c = Err (why.Unended, c)
+finished_in (section.InPhase lines) c = Ok (file_of c (c.phases ++ lines ∷ []))
+finished_in (section.InGroup lines g) c = Err (why.Unended, c)
 
 -- nothing stands behind the last line feed
 abbrev pub finished : State → Bytes → Result File (Why × Contents)

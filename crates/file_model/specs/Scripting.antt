@@ -8,7 +8,7 @@ use Rattle.file_names.specs.Names.{place_of}
 use Rattle.file_forms.specs.PieceForms.{◌>>=◌}
 use Rattle.file_forms.specs.Forms.{Deed, to_create, to_start, to_end, to_change, to_install, to_migrate, ScriptLine, next_phase, a_deed}
 use Rattle.file_model.specs.Steps.{State, Step, at_place, refuse, unless, over, node_in, with_node, element_in, with_element}
-use Rattle.file_model.specs.CaseCounts.{cases_of}
+use Rattle.file_model.specs.CaseCounts.{cases_of_type}
 use Rattle.file_model.specs.declared.files.Line.{Line}
 use Rattle.file_model.specs.declared.files.Act.{Act}
 use Rattle.file_model.specs.declared.files.Act.TheVariants as act
@@ -17,7 +17,7 @@ use Rattle.file_model.specs.declared.refusals.Why.TheVariants as why
 use Rattle.file_model.specs.declared.states.Contents.{Contents}
 use Rattle.file_model.specs.declared.states.Target.{Target}
 use Rattle.file_model.specs.declared.states.Target.TheVariants as target
-use Rattle.file_model.specs.declared.states.Place.TheVariants as place
+use Rattle.file_model.specs.declared.states.Section.TheVariants as section
 
 -- the case with a name
 abbrev pub case_in : Bytes → Contents → Option CaseId
@@ -34,12 +34,12 @@ line_of at actor a c = record { at = at; order = c.counts.lines + 1; actor = act
 abbrev pub with_line : List Line → ℕ → ℕ → Act → Contents → Step
 with_line lines at actor a c =
     unless (over (nat_le 60000 c.counts.lines) limit.Lines) c
-    (at_place (place.InPhase (lines ++ line_of at actor a c ∷ [])) (counted c))
+    (at_place (section.InPhase (lines ++ line_of at actor a c ∷ [])) (counted c))
 
 -- the state in which the operations of a group are read
 abbrev pub with_group : List Line → ℕ → ℕ → Target → Contents → State
 with_group lines at actor t c =
-    at_place (place.InGroup lines (record { at = at; order = c.counts.lines + 1; actor = actor; target = t; ops = [] })) (counted c)
+    at_place (section.InGroup lines (record { at = at; order = c.counts.lines + 1; actor = actor; target = t; ops = [] })) (counted c)
 
 abbrev pub changing : List Line → ℕ → ℕ → CaseId → Contents → Step
 changing lines at actor id c =
@@ -55,12 +55,12 @@ installing lines at actor t c =
 
 -- the migrations so far with those of a type
 abbrev pub migrations_with : ℕ → Contents → ℕ
-migrations_with t c = c.counts.migrations + cases_of t c.cases.items
+migrations_with t c = c.counts.migrations + cases_of_type t c.cases.items
 
 abbrev pub migrating : List Line → ℕ → ℕ → ℕ → Contents → Step
 migrating lines at actor t c =
     unless (option_or (over (nat_le 60000 c.counts.lines) limit.Lines) (over (nat_lt 65536 (migrations_with t c)) limit.Migrations)) c
-    (at_place (place.InPhase (lines ++ line_of at actor (act.Migrate t) c ∷ []))
+    (at_place (section.InPhase (lines ++ line_of at actor (act.Migrate t) c ∷ []))
     (counted (record c { counts = record c.counts { migrations = migrations_with t c } })))
 
 -- writes with the numbers of their elements, and the contents with their names
@@ -97,5 +97,5 @@ with_phase lines c = record c { phases = c.phases ++ lines ∷ [] }
 
 abbrev pub scripted : ScriptLine → List Line → ℕ → Contents → Step
 scripted next_phase lines at c =
-    unless (over (nat_le 255 (length c.phases)) limit.Phases) c (at_place (place.InPhase []) (with_phase lines c))
+    unless (over (nat_le 255 (length c.phases)) limit.Phases) c (at_place (section.InPhase []) (with_phase lines c))
 scripted (a_deed a d) lines at c = if_known (actor_in a c) (λ actor. acted d actor lines at c) c

@@ -6,8 +6,8 @@ use Rattle.file_model.specs.declared.refusals.FileLimit.{FileLimit}
 use Rattle.file_model.specs.declared.refusals.Why.{Why}
 use Rattle.file_model.specs.declared.refusals.Why.TheVariants as why
 use Rattle.file_model.specs.declared.states.Contents.{Contents}
-use Rattle.file_model.specs.declared.states.Place.{Place}
-use Rattle.file_model.specs.declared.states.Place.TheVariants as place
+use Rattle.file_model.specs.declared.states.Section.{Section}
+use Rattle.file_model.specs.declared.states.Section.TheVariants as section
 
 -- before the first line, `start` is node 0 and `finish` is node 1
 abbrev pub no_contents : Contents
@@ -23,14 +23,14 @@ no_contents = record {
 
 -- what was read so far, and where the next line stands
 pub record State : Type 0 where
-  pub place : Place
+  pub place : Section
   pub contents : Contents
 
-abbrev pub at_place : Place → Contents → State
+abbrev pub at_place : Section → Contents → State
 at_place p c = record { place = p; contents = c }
 
 abbrev pub opening : State
-opening = at_place place.Head no_contents
+opening = at_place section.Head no_contents
 
 -- the state behind a line, or why there is none, with what was read so far
 abbrev pub Step : Type 0

@@ -19,7 +19,7 @@ use Rattle.file_model.specs.Declaring.{outside, with_type}
 use Rattle.file_model.specs.declared.refusals.FileLimit.TheVariants as limit
 use Rattle.file_model.specs.declared.refusals.Why.TheVariants as why
 use Rattle.file_model.specs.declared.states.Contents.{Contents}
-use Rattle.file_model.specs.declared.states.Place.TheVariants as place
+use Rattle.file_model.specs.declared.states.Section.TheVariants as section
 
 -- whether blocks and branches may stand there
 abbrev pub takes_blocks : Around → Bool
@@ -51,14 +51,14 @@ fits_in a (a_write node element) = is_outside a
 fits_in a type_end = is_outside a
 
 abbrev pub drafted : Draft → Contents → Step
-drafted d c = Ok (at_place (place.InType d) c)
+drafted d c = Ok (at_place (section.InType d) c)
 
 -- one block more is open; on a refusal no name of the line is noted
 abbrev pub opened : Draft → Contents → State → Step
 opened d c s = unless (over (nat_le 64 (length d.frames)) limit.Depth) c s
 
 abbrev pub unless_there : Bool → Draft → Contents → Step
-unless_there there d c = unless (twice there) c (at_place (place.InType d) c)
+unless_there there d c = unless (twice there) c (at_place (section.InType d) c)
 
 abbrev pub ended : Bytes → SchemaModel → Option Fault → Contents → Step
 ended n schema None c = Ok (outside (with_type n schema c))
@@ -68,16 +68,16 @@ abbrev pub typed : TypeLine → Draft → Contents → Step
 typed (activity n role) d c = let node = node_in n c in drafted (with_role node role (with_activity node d)) (with_node n c)
 typed (opens_and a b) d c =
     let c1 = with_node a c in
-    opened d c (at_place (place.InType (gate_opened kind.And (node_in a c) (node_in b c1) d)) (with_node b c1))
+    opened d c (at_place (section.InType (gate_opened kind.And (node_in a c) (node_in b c1) d)) (with_node b c1))
 typed (opens_xor a b role) d c =
     let c1 = with_node a c in
     let split = node_in a c in
-    opened d c (at_place (place.InType (with_role split role (gate_opened kind.Xor split (node_in b c1) d))) (with_node b c1))
+    opened d c (at_place (section.InType (with_role split role (gate_opened kind.Xor split (node_in b c1) d))) (with_node b c1))
 typed (opens_branch code) d c = drafted (branched code d) c
 typed (opens_loop a b role) d c =
     let c1 = with_node a c in
     let end = node_in b c1 in
-    opened d c (at_place (place.InType (with_role end role (loop_opened (node_in a c) end d))) (with_node b c1))
+    opened d c (at_place (section.InType (with_role end role (loop_opened (node_in a c) end d))) (with_node b c1))
 typed closes_block d c = drafted (closed d) c
 typed (a_sync a b) d c =
     let c1 = with_node a c in

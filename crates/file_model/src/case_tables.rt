@@ -1,7 +1,7 @@
 // Cases while they are declared.
 ghost use Rattle.std.specs.Prelude.{◌≡◌, [], ◌∷◌, ◌++◌, ◌+◌, replicate, IfOk, OnOk};
 ghost use Rattle.file_names.specs.Names.{noted};
-ghost use Rattle.file_model.specs.CaseCounts.{cases_of};
+ghost use Rattle.file_model.specs.CaseCounts.{cases_of_type};
 
 use crate::files::{CaseDecl, CaseDecls};
 use file_names::{DeclaredList, NameTable};
@@ -79,7 +79,7 @@ impl CaseTable {
 
     /// How many cases of a type were declared.
     pub fn count(&self, type_no: u32) -> u32
-        ensures { result ≡ cases_of type_no self.now.items }
+        ensures { result ≡ cases_of_type type_no self.now.items }
     {
         match self.counts.get(type_no as usize) {
             None => 0,

@@ -27,7 +27,7 @@ pub struct Group {
 
 /// Where the next line stands.
 #[derive(Drop)]
-pub enum Place {
+pub enum Section {
     /// Before the header.
     Head,
     /// Outside of types and phases.

@@ -11,7 +11,7 @@ ghost use Rattle.file_model.specs.Reading.{headed};
 use crate::contents::place_in;
 use file_drafts::Draft;
 use file_forms::{Declaration, is_header};
-use file_model::{ActorDecl, CaseDecl, Contents, FileLimit, Lines, Place, Stop, Why};
+use file_model::{ActorDecl, CaseDecl, Contents, FileLimit, Lines, Section, Stop, Why};
 use file_names::Name64;
 use file_words::NameWord;
 use std::alloc::Global;
@@ -28,12 +28,12 @@ const MAX_CASES: usize = 4096;
 const MAX_ROLES: usize = 32;
 
 /// A file's first line.
-pub fn headed(contents: &mut Contents, words: &[&[u8]]) -> Result<Place, Stop>
+pub fn headed(contents: &mut Contents, words: &[&[u8]]) -> Result<Section, Stop>
     ensures ok { IfOk result (λ place. headed (shown words.now) contents.old ≡ Ok (at_place place contents.new)) }
     ensures refused { IfErr result (λ stop. Stops (headed (shown words.now) contents.old) contents.new stop) }
 {
     if is_header(words) {
-        Ok(Place::Outside)
+        Ok(Section::Outside)
     } else {
         Err(Stop::Refused(Why::Header))
     }
@@ -44,7 +44,7 @@ pub fn declared(
     contents: &mut Contents,
     alloc: Global,
     line: Declaration<'_>,
-) -> Result<Place, Stop>
+) -> Result<Section, Stop>
     ensures ok { IfOk result (λ place. declared (shown_declaration line.entry) contents.old ≡ Ok (at_place place contents.new)) }
     ensures refused { IfErr result (λ stop. Stops (declared (shown_declaration line.entry) contents.old) contents.new stop) }
 {
@@ -52,11 +52,11 @@ pub fn declared(
         Declaration::Type(name) => with_type(contents, alloc, name),
         Declaration::Actor { name, roles } => with_actor(contents, alloc, name, roles),
         Declaration::Case { name, kind } => with_case(contents, alloc, name, kind),
-        Declaration::Phase => Ok(Place::InPhase(Lines::new(alloc))),
+        Declaration::Phase => Ok(Section::InPhase(Lines::new(alloc))),
     }
 }
 
-fn with_type(contents: &mut Contents, alloc: Global, name: NameWord<'_>) -> Result<Place, Stop>
+fn with_type(contents: &mut Contents, alloc: Global, name: NameWord<'_>) -> Result<Section, Stop>
     ensures ok { IfOk result (λ place. declared (a_type name.entry.bytes.now) contents.old ≡ Ok (at_place place contents.new)) }
     ensures refused { IfErr result (λ stop. Stops (declared (a_type name.entry.bytes.now) contents.old) contents.new stop) }
 {
@@ -67,7 +67,7 @@ fn with_type(contents: &mut Contents, alloc: Global, name: NameWord<'_>) -> Resu
         return Err(Stop::Refused(Why::Limit(FileLimit::Types)));
     }
     let draft = Draft::new(alloc, Name64::of_word(alloc, name)?);
-    Ok(Place::InType(draft))
+    Ok(Section::InType(draft))
 }
 
 fn with_actor(
@@ -75,7 +75,7 @@ fn with_actor(
     alloc: Global,
     name: NameWord<'_>,
     roles: RoleList,
-) -> Result<Place, Stop>
+) -> Result<Section, Stop>
     ensures ok { IfOk result (λ place. declared (an_actor name.entry.bytes.now roles) contents.old ≡ Ok (at_place place contents.new)) }
     ensures refused { IfErr result (λ stop. Stops (declared (an_actor name.entry.bytes.now roles) contents.old) contents.new stop) }
 {
@@ -89,7 +89,7 @@ fn with_actor(
         return Err(Stop::Refused(Why::Limit(FileLimit::Roles)));
     }
     add_actor(contents, alloc, name, roles)?;
-    Ok(Place::Outside)
+    Ok(Section::Outside)
 }
 
 fn add_actor(
@@ -112,7 +112,7 @@ fn with_case(
     alloc: Global,
     name: NameWord<'_>,
     kind: NameWord<'_>,
-) -> Result<Place, Stop>
+) -> Result<Section, Stop>
     ensures ok { IfOk result (λ place. declared (a_case name.entry.bytes.now kind.entry.bytes.now) contents.old ≡ Ok (at_place place contents.new)) }
     ensures refused { IfErr result (λ stop. Stops (declared (a_case name.entry.bytes.now kind.entry.bytes.now) contents.old) contents.new stop) }
 {
@@ -125,7 +125,7 @@ fn with_case_of(
     alloc: Global,
     name: NameWord<'_>,
     found: Option<u32>,
-) -> Result<Place, Stop>
+) -> Result<Section, Stop>
     ensures ok { IfOk result (λ place. case_declared name.entry.bytes.now found contents.old ≡ Ok (at_place place contents.new)) }
     ensures refused { IfErr result (λ stop. Stops (case_declared name.entry.bytes.now found contents.old) contents.new stop) }
 {
@@ -140,7 +140,7 @@ fn with_known_type(
     alloc: Global,
     name: NameWord<'_>,
     type_no: u32,
-) -> Result<Place, Stop>
+) -> Result<Section, Stop>
     ensures ok { IfOk result (λ place. case_declared name.entry.bytes.now (Some type_no) contents.old ≡ Ok (at_place place contents.new)) }
     ensures refused { IfErr result (λ stop. Stops (case_declared name.entry.bytes.now (Some type_no) contents.old) contents.new stop) }
 {
@@ -151,7 +151,7 @@ fn with_known_type(
         return Err(Stop::Refused(Why::Limit(FileLimit::Cases)));
     }
     add_case(contents, alloc, name, type_no)?;
-    Ok(Place::Outside)
+    Ok(Section::Outside)
 }
 
 fn add_case(

@@ -11,7 +11,7 @@ mod typing;
 
 pub use contents::{no_contents, refusal};
 pub use declaring::{declared, headed};
-pub use file_model::{Contents, FileRefusal, Group, Lines, Phases, Place, Stop, Why};
+pub use file_model::{Contents, FileRefusal, Group, Lines, Phases, Section, Stop, Why};
 pub use operating::operated;
 pub use scripting::scripted;
 pub use typing::{fits_in, typed};

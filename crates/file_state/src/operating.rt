@@ -7,10 +7,8 @@ ghost use Rattle.file_model.specs.Steps.{at_place, node_in, with_node};
 ghost use Rattle.file_model.specs.Operating.{gap_in, with_place, op_in, with_names, line_of_group, grouped, operated};
 
 use crate::contents::{element_number, node_and_element_numbers, node_number, node_numbers};
-use file_forms::{OperationLine, Place};
-use file_model::{
-    Act, Contents, FileLimit, Group, Line, Lines, Place as LinePlace, Stop, Target, Why,
-};
+use file_forms::{NamedGap, OperationLine};
+use file_model::{Act, Contents, FileLimit, Group, Line, Lines, Section, Stop, Target, Why};
 use file_words::NameWord;
 use std::alloc::Global;
 use wsm_lists::{ElementKind, NoMemory};
@@ -51,7 +49,7 @@ pub fn operated(
     lines: Lines,
     group: Group,
     line: OperationLine<'_>,
-) -> Result<LinePlace, Stop>
+) -> Result<Section, Stop>
     ensures ok { IfOk result (λ next. operated (shown_operation line.entry) group lines contents.old ≡ Ok (at_place next contents.new)) }
     ensures refused { IfErr result (λ stop. Stops (operated (shown_operation line.entry) group lines contents.old) contents.new stop) }
 {
@@ -64,12 +62,12 @@ fn grouped(
     lines: Lines,
     group: Group,
     found: Option<Op>,
-) -> Result<LinePlace, Stop>
+) -> Result<Section, Stop>
     ensures ok { IfOk result (λ next. grouped found group lines contents.old ≡ Ok (at_place next contents.new)) }
     ensures refused { IfErr result (λ stop. Stops (grouped found group lines contents.old) contents.new stop) }
 {
     match found {
-        None => Ok(LinePlace::InPhase(ended(lines, group)?)),
+        None => Ok(Section::InPhase(ended(lines, group)?)),
         Some(op) => with_operation(contents, lines, group, op),
     }
 }
@@ -79,7 +77,7 @@ fn with_operation(
     lines: Lines,
     group: Group,
     op: Op,
-) -> Result<LinePlace, Stop>
+) -> Result<Section, Stop>
     ensures ok { IfOk result (λ next. grouped (Some op) group lines contents.old ≡ Ok (at_place next contents.new)) }
     ensures refused { IfErr result (λ stop. Stops (grouped (Some op) group lines contents.old) contents.new stop) }
 {
@@ -88,7 +86,7 @@ fn with_operation(
     }
     let mut longer = group;
     longer.ops.push(op)?;
-    Ok(LinePlace::InGroup(lines, longer))
+    Ok(Section::InGroup(lines, longer))
 }
 
 // The operation of a line. None where the group ends.
@@ -137,13 +135,13 @@ fn operation(
     }
 }
 
-fn gap(contents: &mut Contents, alloc: Global, place: Place<'_>) -> Result<Gap, NoMemory>
+fn gap(contents: &mut Contents, alloc: Global, place: NamedGap<'_>) -> Result<Gap, NoMemory>
     ensures noted { OnOk result (contents.new ≡ with_place (shown_place place.entry) contents.old) }
     ensures gap { IfOk result (λ gap. gap ≡ gap_in (shown_place place.entry) contents.old) }
 {
     match place {
-        Place::After(node) => Ok(Gap::After(node_number(contents, alloc, node)?)),
-        Place::Head { split, code } => Ok(Gap::Head(node_number(contents, alloc, split)?, code)),
+        NamedGap::After(node) => Ok(Gap::After(node_number(contents, alloc, node)?)),
+        NamedGap::Head { split, code } => Ok(Gap::Head(node_number(contents, alloc, split)?, code)),
     }
 }
 
@@ -152,7 +150,7 @@ fn insertion(
     alloc: Global,
     node: NameWord<'_>,
     role: u32,
-    place: Place<'_>,
+    place: NamedGap<'_>,
 ) -> Result<Option<Op>, NoMemory>
     ensures noted { OnOk result (contents.new ≡ with_names (insert node.entry.bytes.now role (shown_place place.entry)) contents.old) }
     ensures op { IfOk result (λ found. found ≡ op_in (insert node.entry.bytes.now role (shown_place place.entry)) contents.old) }
@@ -195,7 +193,7 @@ fn conditional_insertion(
     role: u32,
     split: NameWord<'_>,
     join: NameWord<'_>,
-    place: Place<'_>,
+    place: NamedGap<'_>,
 ) -> Result<Option<Op>, NoMemory>
     ensures noted { OnOk result (contents.new ≡ with_names (conditional node.entry.bytes.now role split.entry.bytes.now join.entry.bytes.now (shown_place place.entry)) contents.old) }
     ensures op { IfOk result (λ found. found ≡ op_in (conditional node.entry.bytes.now role split.entry.bytes.now join.entry.bytes.now (shown_place place.entry)) contents.old) }
@@ -228,7 +226,7 @@ fn movement(
     contents: &mut Contents,
     alloc: Global,
     node: NameWord<'_>,
-    place: Place<'_>,
+    place: NamedGap<'_>,
 ) -> Result<Option<Op>, NoMemory>
     ensures noted { OnOk result (contents.new ≡ with_names (move node.entry.bytes.now (shown_place place.entry)) contents.old) }
     ensures op { IfOk result (λ found. found ≡ op_in (move node.entry.bytes.now (shown_place place.entry)) contents.old) }

@@ -9,7 +9,7 @@ ghost use Rattle.file_model.specs.Scripting.{actor_in, if_known, case_in, with_l
 
 use crate::contents::{element_number, node_number, place_in};
 use file_forms::{Deed, ScriptLine, WriteWords};
-use file_model::{Act, Contents, FileLimit, Group, Line, Lines, Place, Stop, Target, Why};
+use file_model::{Act, Contents, FileLimit, Group, Line, Lines, Section, Stop, Target, Why};
 use file_words::{Literal, NameWord};
 use std::alloc::{AllocError, Global};
 use wsm_lists::{NoMemory, ShortText, Value, Writes};
@@ -81,7 +81,7 @@ pub fn scripted(
     at: u32,
     lines: Lines,
     line: ScriptLine<'_>,
-) -> Result<Place, Stop>
+) -> Result<Section, Stop>
     ensures ok { IfOk result (λ place. scripted (shown_script_line line.entry) lines at contents.old ≡ Ok (at_place place contents.new)) }
     ensures refused { IfErr result (λ stop. Stops (scripted (shown_script_line line.entry) lines at contents.old) contents.new stop) }
 {
@@ -91,7 +91,7 @@ pub fn scripted(
     }
 }
 
-fn phase_line(contents: &mut Contents, alloc: Global, lines: Lines) -> Result<Place, Stop>
+fn phase_line(contents: &mut Contents, alloc: Global, lines: Lines) -> Result<Section, Stop>
     ensures ok { IfOk result (λ place. scripted next_phase lines 0 contents.old ≡ Ok (at_place place contents.new)) }
     ensures refused { IfErr result (λ stop. Stops (scripted next_phase lines 0 contents.old) contents.new stop) }
 {
@@ -99,7 +99,7 @@ fn phase_line(contents: &mut Contents, alloc: Global, lines: Lines) -> Result<Pl
         return Err(Stop::Refused(Why::Limit(FileLimit::Phases)));
     }
     contents.phases.push(lines)?;
-    Ok(Place::InPhase(Lines::new(alloc)))
+    Ok(Section::InPhase(Lines::new(alloc)))
 }
 
 // The number of an actor, from 1.
@@ -119,7 +119,7 @@ fn deed_line(
     lines: Lines,
     actor: NameWord<'_>,
     deed: Deed<'_>,
-) -> Result<Place, Stop>
+) -> Result<Section, Stop>
     ensures ok { IfOk result (λ place. scripted (a_deed actor.entry.bytes.now (shown_deed deed.entry)) lines at contents.old ≡ Ok (at_place place contents.new)) }
     ensures refused { IfErr result (λ stop. Stops (scripted (a_deed actor.entry.bytes.now (shown_deed deed.entry)) lines at contents.old) contents.new stop) }
 {
@@ -134,7 +134,7 @@ fn acted_by(
     lines: Lines,
     found: Option<u32>,
     deed: Deed<'_>,
-) -> Result<Place, Stop>
+) -> Result<Section, Stop>
     ensures ok { IfOk result (λ place. if_known found (λ actor. acted (shown_deed deed.entry) actor lines at contents.old) contents.old ≡ Ok (at_place place contents.new)) }
     ensures refused { IfErr result (λ stop. Stops (if_known found (λ actor. acted (shown_deed deed.entry) actor lines at contents.old) contents.old) contents.new stop) }
 {
@@ -151,7 +151,7 @@ fn acted(
     lines: Lines,
     actor: u32,
     deed: Deed<'_>,
-) -> Result<Place, Stop>
+) -> Result<Section, Stop>
     ensures ok { IfOk result (λ place. acted (shown_deed deed.entry) actor lines at contents.old ≡ Ok (at_place place contents.new)) }
     ensures refused { IfErr result (λ stop. Stops (acted (shown_deed deed.entry) actor lines at contents.old) contents.new stop) }
 {
@@ -178,7 +178,7 @@ fn create_line(
     lines: Lines,
     actor: u32,
     case: NameWord<'_>,
-) -> Result<Place, Stop>
+) -> Result<Section, Stop>
     ensures ok { IfOk result (λ place. acted (to_create case.entry.bytes.now) actor lines at contents.old ≡ Ok (at_place place contents.new)) }
     ensures refused { IfErr result (λ stop. Stops (acted (to_create case.entry.bytes.now) actor lines at contents.old) contents.new stop) }
 {
@@ -196,7 +196,7 @@ fn start_line(
     actor: u32,
     case: NameWord<'_>,
     node: NameWord<'_>,
-) -> Result<Place, Stop>
+) -> Result<Section, Stop>
     ensures ok { IfOk result (λ place. acted (to_start case.entry.bytes.now node.entry.bytes.now) actor lines at contents.old ≡ Ok (at_place place contents.new)) }
     ensures refused { IfErr result (λ stop. Stops (acted (to_start case.entry.bytes.now node.entry.bytes.now) actor lines at contents.old) contents.new stop) }
 {
@@ -214,7 +214,7 @@ fn start_node(
     actor: u32,
     id: CaseId,
     node: NameWord<'_>,
-) -> Result<Place, Stop>
+) -> Result<Section, Stop>
     ensures ok { IfOk result (λ place. with_line lines at actor (Act.Start id (node_in node.entry.bytes.now contents.old)) (with_node node.entry.bytes.now contents.old) ≡ Ok (at_place place contents.new)) }
     ensures refused { IfErr result (λ stop. Stops (with_line lines at actor (Act.Start id (node_in node.entry.bytes.now contents.old)) (with_node node.entry.bytes.now contents.old)) contents.new stop) }
 {
@@ -232,7 +232,7 @@ fn end_of_node(
     node: NameWord<'_>,
     choice: Option<u16>,
     writes: WriteWords<'_>,
-) -> Result<Place, Stop>
+) -> Result<Section, Stop>
     ensures ok { IfOk result (λ place. acted (to_end case.entry.bytes.now node.entry.bytes.now choice (map shown_pair writes.entry.items)) actor lines at contents.old ≡ Ok (at_place place contents.new)) }
     ensures refused { IfErr result (λ stop. Stops (acted (to_end case.entry.bytes.now node.entry.bytes.now choice (map shown_pair writes.entry.items)) actor lines at contents.old) contents.new stop) }
 {
@@ -252,7 +252,7 @@ fn end_node(
     node: NameWord<'_>,
     choice: Option<u16>,
     words: WriteWords<'_>,
-) -> Result<Place, Stop>
+) -> Result<Section, Stop>
     ensures ok { IfOk result (λ place. with_line lines at actor (Act.End id (node_in node.entry.bytes.now contents.old) (numbered (map shown_pair words.entry.items) (with_node node.entry.bytes.now contents.old)) choice) (with_elements (map shown_pair words.entry.items) (with_node node.entry.bytes.now contents.old)) ≡ Ok (at_place place contents.new)) }
     ensures refused { IfErr result (λ stop. Stops (with_line lines at actor (Act.End id (node_in node.entry.bytes.now contents.old) (numbered (map shown_pair words.entry.items) (with_node node.entry.bytes.now contents.old)) choice) (with_elements (map shown_pair words.entry.items) (with_node node.entry.bytes.now contents.old))) contents.new stop) }
 {
@@ -274,7 +274,7 @@ fn change_line(
     lines: Lines,
     actor: u32,
     case: NameWord<'_>,
-) -> Result<Place, Stop>
+) -> Result<Section, Stop>
     ensures ok { IfOk result (λ place. acted (to_change case.entry.bytes.now) actor lines at contents.old ≡ Ok (at_place place contents.new)) }
     ensures refused { IfErr result (λ stop. Stops (acted (to_change case.entry.bytes.now) actor lines at contents.old) contents.new stop) }
 {
@@ -291,7 +291,7 @@ fn changing(
     lines: Lines,
     actor: u32,
     id: CaseId,
-) -> Result<Place, Stop>
+) -> Result<Section, Stop>
     ensures ok { IfOk result (λ place. changing lines at actor id contents.old ≡ Ok (at_place place contents.new)) }
     ensures refused { IfErr result (λ stop. Stops (changing lines at actor id contents.old) contents.new stop) }
 {
@@ -308,7 +308,7 @@ fn install_line(
     lines: Lines,
     actor: u32,
     kind: NameWord<'_>,
-) -> Result<Place, Stop>
+) -> Result<Section, Stop>
     ensures ok { IfOk result (λ place. acted (to_install kind.entry.bytes.now) actor lines at contents.old ≡ Ok (at_place place contents.new)) }
     ensures refused { IfErr result (λ stop. Stops (acted (to_install kind.entry.bytes.now) actor lines at contents.old) contents.new stop) }
 {
@@ -323,7 +323,7 @@ fn install_known(
     lines: Lines,
     actor: u32,
     found: Option<u32>,
-) -> Result<Place, Stop>
+) -> Result<Section, Stop>
     ensures ok { IfOk result (λ place. if_known found (λ t. installing lines at actor t contents.old) contents.old ≡ Ok (at_place place contents.new)) }
     ensures refused { IfErr result (λ stop. Stops (if_known found (λ t. installing lines at actor t contents.old) contents.old) contents.new stop) }
 {
@@ -340,7 +340,7 @@ fn installing(
     lines: Lines,
     actor: u32,
     type_no: u32,
-) -> Result<Place, Stop>
+) -> Result<Section, Stop>
     ensures ok { IfOk result (λ place. installing lines at actor type_no contents.old ≡ Ok (at_place place contents.new)) }
     ensures refused { IfErr result (λ stop. Stops (installing lines at actor type_no contents.old) contents.new stop) }
 {
@@ -360,7 +360,7 @@ fn migrate_line(
     lines: Lines,
     actor: u32,
     kind: NameWord<'_>,
-) -> Result<Place, Stop>
+) -> Result<Section, Stop>
     ensures ok { IfOk result (λ place. acted (to_migrate kind.entry.bytes.now) actor lines at contents.old ≡ Ok (at_place place contents.new)) }
     ensures refused { IfErr result (λ stop. Stops (acted (to_migrate kind.entry.bytes.now) actor lines at contents.old) contents.new stop) }
 {
@@ -374,7 +374,7 @@ fn migrate_known(
     lines: Lines,
     actor: u32,
     found: Option<u32>,
-) -> Result<Place, Stop>
+) -> Result<Section, Stop>
     ensures ok { IfOk result (λ place. if_known found (λ t. migrating lines at actor t contents.old) contents.old ≡ Ok (at_place place contents.new)) }
     ensures refused { IfErr result (λ stop. Stops (if_known found (λ t. migrating lines at actor t contents.old) contents.old) contents.new stop) }
 {
@@ -390,7 +390,7 @@ fn migrating(
     lines: Lines,
     actor: u32,
     type_no: u32,
-) -> Result<Place, Stop>
+) -> Result<Section, Stop>
     ensures ok { IfOk result (λ place. migrating lines at actor type_no contents.old ≡ Ok (at_place place contents.new)) }
     ensures refused { IfErr result (λ stop. Stops (migrating lines at actor type_no contents.old) contents.new stop) }
 {
@@ -402,7 +402,7 @@ fn migrating(
         return Err(Stop::Refused(Why::Limit(FileLimit::Migrations)));
     }
     contents.counts.migrations = migrations as u32;
-    Ok(Place::InPhase(push_line(contents, at, lines, actor, Act::Migrate(type_no))?))
+    Ok(Section::InPhase(push_line(contents, at, lines, actor, Act::Migrate(type_no))?))
 }
 
 fn with_line(
@@ -411,14 +411,14 @@ fn with_line(
     lines: Lines,
     actor: u32,
     act: Act,
-) -> Result<Place, Stop>
+) -> Result<Section, Stop>
     ensures ok { IfOk result (λ place. with_line lines at actor act contents.old ≡ Ok (at_place place contents.new)) }
     ensures refused { IfErr result (λ stop. Stops (with_line lines at actor act contents.old) contents.new stop) }
 {
     if contents.counts.lines >= MAX_LINES {
         return Err(Stop::Refused(Why::Limit(FileLimit::Lines)));
     }
-    Ok(Place::InPhase(push_line(contents, at, lines, actor, act)?))
+    Ok(Section::InPhase(push_line(contents, at, lines, actor, act)?))
 }
 
 fn push_line(
@@ -451,7 +451,7 @@ fn with_group(
     lines: Lines,
     actor: u32,
     target: Target,
-) -> Place
+) -> Section
     requires { contents.old.counts.lines < 60000 }
     ensures { at_place result contents.new ≡ with_group lines at actor target contents.old }
 {
@@ -463,5 +463,5 @@ fn with_group(
         target,
         ops: Ops::new(alloc),
     };
-    Place::InGroup(lines, group)
+    Section::InGroup(lines, group)
 }

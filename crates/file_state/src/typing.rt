@@ -15,7 +15,7 @@ ghost use Rattle.file_model.specs.Typing.{takes_blocks, takes_branch, is_outside
 use crate::contents::{element_number, node_and_element_numbers, node_number, node_numbers};
 use file_drafts::{Around, Draft, GateKind};
 use file_forms::TypeLine;
-use file_model::{Contents, FileLimit, Place, Stop, TypeDecl, Why};
+use file_model::{Contents, FileLimit, Section, Stop, TypeDecl, Why};
 use file_names::Name64;
 use file_words::NameWord;
 use std::alloc::Global;
@@ -77,7 +77,7 @@ pub fn typed(
     alloc: Global,
     draft: Draft,
     line: TypeLine<'_>,
-) -> Result<Place, Stop>
+) -> Result<Section, Stop>
     ensures ok { IfOk result (λ place. typed (shown_type_line line.entry) draft contents.old ≡ Ok (at_place place contents.new)) }
     ensures refused { IfErr result (λ stop. Stops (typed (shown_type_line line.entry) draft contents.old) contents.new stop) }
 {
@@ -106,13 +106,13 @@ fn activity_line(
     draft: Draft,
     node: NameWord<'_>,
     role: u32,
-) -> Result<Place, Stop>
+) -> Result<Section, Stop>
     ensures ok { IfOk result (λ place. typed (activity node.entry.bytes.now role) draft contents.old ≡ Ok (at_place place contents.new)) }
     ensures refused { IfErr result (λ stop. Stops (typed (activity node.entry.bytes.now role) draft contents.old) contents.new stop) }
 {
     let mut draft = draft;
     add_activity(contents, alloc, &mut draft, node, role)?;
-    Ok(Place::InType(draft))
+    Ok(Section::InType(draft))
 }
 
 fn and_line(
@@ -121,7 +121,7 @@ fn and_line(
     draft: Draft,
     split: NameWord<'_>,
     join: NameWord<'_>,
-) -> Result<Place, Stop>
+) -> Result<Section, Stop>
     ensures ok { IfOk result (λ place. typed (opens_and split.entry.bytes.now join.entry.bytes.now) draft contents.old ≡ Ok (at_place place contents.new)) }
     ensures refused { IfErr result (λ stop. Stops (typed (opens_and split.entry.bytes.now join.entry.bytes.now) draft contents.old) contents.new stop) }
 {
@@ -130,7 +130,7 @@ fn and_line(
     }
     let mut draft = draft;
     open_and(contents, alloc, &mut draft, split, join)?;
-    Ok(Place::InType(draft))
+    Ok(Section::InType(draft))
 }
 
 fn xor_line(
@@ -140,7 +140,7 @@ fn xor_line(
     split: NameWord<'_>,
     join: NameWord<'_>,
     role: u32,
-) -> Result<Place, Stop>
+) -> Result<Section, Stop>
     ensures ok { IfOk result (λ place. typed (opens_xor split.entry.bytes.now join.entry.bytes.now role) draft contents.old ≡ Ok (at_place place contents.new)) }
     ensures refused { IfErr result (λ stop. Stops (typed (opens_xor split.entry.bytes.now join.entry.bytes.now role) draft contents.old) contents.new stop) }
 {
@@ -149,7 +149,7 @@ fn xor_line(
     }
     let mut draft = draft;
     open_xor(contents, alloc, &mut draft, split, join, role)?;
-    Ok(Place::InType(draft))
+    Ok(Section::InType(draft))
 }
 
 fn loop_line(
@@ -159,7 +159,7 @@ fn loop_line(
     start: NameWord<'_>,
     end: NameWord<'_>,
     role: u32,
-) -> Result<Place, Stop>
+) -> Result<Section, Stop>
     ensures ok { IfOk result (λ place. typed (opens_loop start.entry.bytes.now end.entry.bytes.now role) draft contents.old ≡ Ok (at_place place contents.new)) }
     ensures refused { IfErr result (λ stop. Stops (typed (opens_loop start.entry.bytes.now end.entry.bytes.now role) draft contents.old) contents.new stop) }
 {
@@ -168,7 +168,7 @@ fn loop_line(
     }
     let mut draft = draft;
     open_loop(contents, alloc, &mut draft, start, end, role)?;
-    Ok(Place::InType(draft))
+    Ok(Section::InType(draft))
 }
 
 fn branch_line(
@@ -176,22 +176,22 @@ fn branch_line(
     alloc: Global,
     draft: Draft,
     code: u16,
-) -> Result<Place, Stop>
+) -> Result<Section, Stop>
     ensures ok { IfOk result (λ place. typed (opens_branch code) draft contents.old ≡ Ok (at_place place contents.new)) }
     ensures refused { IfErr result (λ stop. Stops (typed (opens_branch code) draft contents.old) contents.new stop) }
 {
     let mut draft = draft;
     draft.open_branch(alloc, code)?;
-    Ok(Place::InType(draft))
+    Ok(Section::InType(draft))
 }
 
-fn done_line(contents: &mut Contents, alloc: Global, draft: Draft) -> Result<Place, Stop>
+fn done_line(contents: &mut Contents, alloc: Global, draft: Draft) -> Result<Section, Stop>
     ensures ok { IfOk result (λ place. typed (closes_block) draft contents.old ≡ Ok (at_place place contents.new)) }
     ensures refused { IfErr result (λ stop. Stops (typed (closes_block) draft contents.old) contents.new stop) }
 {
     let mut draft = draft;
     draft.close_block(alloc)?;
-    Ok(Place::InType(draft))
+    Ok(Section::InType(draft))
 }
 
 fn sync_line(
@@ -200,13 +200,13 @@ fn sync_line(
     draft: Draft,
     source: NameWord<'_>,
     target: NameWord<'_>,
-) -> Result<Place, Stop>
+) -> Result<Section, Stop>
     ensures ok { IfOk result (λ place. typed (a_sync source.entry.bytes.now target.entry.bytes.now) draft contents.old ≡ Ok (at_place place contents.new)) }
     ensures refused { IfErr result (λ stop. Stops (typed (a_sync source.entry.bytes.now target.entry.bytes.now) draft contents.old) contents.new stop) }
 {
     let mut draft = draft;
     if put_sync(contents, alloc, &mut draft, source, target)? {
-        Ok(Place::InType(draft))
+        Ok(Section::InType(draft))
     } else {
         Err(Stop::Refused(Why::Twice))
     }
@@ -218,13 +218,13 @@ fn element_line(
     draft: Draft,
     element: NameWord<'_>,
     kind: ElementKind,
-) -> Result<Place, Stop>
+) -> Result<Section, Stop>
     ensures ok { IfOk result (λ place. typed (an_element element.entry.bytes.now kind) draft contents.old ≡ Ok (at_place place contents.new)) }
     ensures refused { IfErr result (λ stop. Stops (typed (an_element element.entry.bytes.now kind) draft contents.old) contents.new stop) }
 {
     let mut draft = draft;
     if put_element(contents, alloc, &mut draft, element, kind)? {
-        Ok(Place::InType(draft))
+        Ok(Section::InType(draft))
     } else {
         Err(Stop::Refused(Why::Twice))
     }
@@ -237,13 +237,13 @@ fn read_line(
     node: NameWord<'_>,
     element: NameWord<'_>,
     mandatory: bool,
-) -> Result<Place, Stop>
+) -> Result<Section, Stop>
     ensures ok { IfOk result (λ place. typed (a_read node.entry.bytes.now element.entry.bytes.now mandatory) draft contents.old ≡ Ok (at_place place contents.new)) }
     ensures refused { IfErr result (λ stop. Stops (typed (a_read node.entry.bytes.now element.entry.bytes.now mandatory) draft contents.old) contents.new stop) }
 {
     let mut draft = draft;
     if put_read(contents, alloc, &mut draft, node, element, mandatory)? {
-        Ok(Place::InType(draft))
+        Ok(Section::InType(draft))
     } else {
         Err(Stop::Refused(Why::Twice))
     }
@@ -255,19 +255,19 @@ fn write_line(
     draft: Draft,
     node: NameWord<'_>,
     element: NameWord<'_>,
-) -> Result<Place, Stop>
+) -> Result<Section, Stop>
     ensures ok { IfOk result (λ place. typed (a_write node.entry.bytes.now element.entry.bytes.now) draft contents.old ≡ Ok (at_place place contents.new)) }
     ensures refused { IfErr result (λ stop. Stops (typed (a_write node.entry.bytes.now element.entry.bytes.now) draft contents.old) contents.new stop) }
 {
     let mut draft = draft;
     if put_write(contents, alloc, &mut draft, node, element)? {
-        Ok(Place::InType(draft))
+        Ok(Section::InType(draft))
     } else {
         Err(Stop::Refused(Why::Twice))
     }
 }
 
-fn end_line(contents: &mut Contents, alloc: Global, draft: Draft) -> Result<Place, Stop>
+fn end_line(contents: &mut Contents, alloc: Global, draft: Draft) -> Result<Section, Stop>
     ensures ok { IfOk result (λ place. typed (type_end) draft contents.old ≡ Ok (at_place place contents.new)) }
     ensures refused { IfErr result (λ stop. Stops (typed (type_end) draft contents.old) contents.new stop) }
 {
@@ -275,7 +275,7 @@ fn end_line(contents: &mut Contents, alloc: Global, draft: Draft) -> Result<Plac
     match check(alloc, schema) {
         Ok(checked) => {
             add_type(contents, alloc, name, &checked)?;
-            Ok(Place::Outside)
+            Ok(Section::Outside)
         }
         Err(SoundRefusal::Fault(fault)) => Err(Stop::Refused(Why::Unsound(fault))),
         Err(SoundRefusal::NoMemory) => Err(Stop::NoMemory),

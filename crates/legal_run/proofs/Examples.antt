@@ -7,8 +7,8 @@ use Rattle.case_core.specs.Machine.{case_after}
 use Rattle.case_core.specs.declared.events.Event.TheVariants as event
 use Rattle.case_core.specs.declared.replies.Reply.TheVariants as reply
 use Rattle.case_core.specs.CaseModel.{not_created}
-use Rattle.legal_run.specs.Legal.{Trace, IsActor, IsTrace, AreTraces, HasCalls, IsLegalCase, IsLegalKind, Legal, cases_of, done_by}
-use Rattle.legal_run.specs.LineCalls.{Call, AreCallsOfLines, asked, lines_of, on_case, on_kind, told}
+use Rattle.legal_run.specs.Legal.{Trace, IsActor, IsTrace, AreTraces, HasCalls, IsLegalCase, IsLegalKind, Legal, declared_cases, done_by}
+use Rattle.legal_run.specs.LineCalls.{Call, AreCallsOfLines, asked, lines_of, calls_of_case, calls_of_kind, told}
 use Rattle.file_model.specs.declared.files.Act.TheVariants as act
 use Rattle.file_model.specs.declared.files.File.{File}
 use Rattle.file_model.specs.declared.files.Line.{Line}
@@ -101,7 +101,7 @@ abbrev run_with : List CaseEntry → Run
 run_with journal = record { kinds = closed_kind ∷ []; cases = case_with journal ∷ [] }
 
 abbrev does : List Line → Trace → ℕ → Type 0
-does lines trace a = AreCallsOfLines (cases_of a_file) (roles_of a_file a) a (lines_of a lines) (trace a)
+does lines trace a = AreCallsOfLines (declared_cases a_file) (roles_of a_file a) a (lines_of a lines) (trace a)
 
 in_first : IsTrace a_file (creation ∷ []) created
 in_first = by_actor (does (creation ∷ []) created) (created 1, [], refl, (version, reply.Created, refl), refl) refl
@@ -118,9 +118,9 @@ kind_is_legal = record {
   defined = refl;
   callers = All-cons (λ e. IsActor a_file e.caller) (entry 1 kind_event.Newest (kind_reply.Is version)) [] (omega arith, omega arith) (All-nil (λ e. IsActor a_file e.caller));
   calls = record {
-    whole = by_actor (λ a. calls_of a kind_journal ≡ on_kind 0 (done_by a traces)) refl refl;
+    whole = by_actor (λ a. calls_of a kind_journal ≡ calls_of_kind 0 (done_by a traces)) refl refl;
     behind =
-        by_phase (λ k. (start : List KindEntry) × IsPrefix start kind_journal × HasCalls a_file (on_kind 0) (take k traces) start)
+        by_phase (λ k. (start : List KindEntry) × IsPrefix start kind_journal × HasCalls a_file (calls_of_kind 0) (take k traces) start)
         (entry 0 (kind_event.Define schema) kind_reply.Defined ∷ [], (entry 1 kind_event.Newest (kind_reply.Is version) ∷ [], refl), by_actor _ refl refl)
         (kind_journal, ([], refl), by_actor _ refl refl)
         (kind_journal, ([], refl), by_actor _ refl refl);
@@ -135,9 +135,9 @@ case_is_legal = record {
       All-cons (λ e. IsActor a_file e.caller) (entry 1 (event.Create version) reply.Created) (entry 2 (event.Start 2 2 []) (reply.Started []) ∷ []) (omega arith, omega arith)
       (All-cons (λ e. IsActor a_file e.caller) (entry 2 (event.Start 2 2 []) (reply.Started [])) [] (omega arith, omega arith) (All-nil (λ e. IsActor a_file e.caller)));
   calls = record {
-    whole = by_actor (λ a. calls_of a case_journal ≡ on_case the_case (done_by a traces)) refl refl;
+    whole = by_actor (λ a. calls_of a case_journal ≡ calls_of_case the_case (done_by a traces)) refl refl;
     behind =
-        by_phase (λ k. (start : List CaseEntry) × IsPrefix start case_journal × HasCalls a_file (on_case the_case) (take k traces) start)
+        by_phase (λ k. (start : List CaseEntry) × IsPrefix start case_journal × HasCalls a_file (calls_of_case the_case) (take k traces) start)
         ([], (case_journal, refl), by_actor _ refl refl)
         (entry 1 (event.Create version) reply.Created ∷ [], (entry 2 (event.Start 2 2 []) (reply.Started []) ∷ [], refl), by_actor _ refl refl)
         (case_journal, ([], refl), by_actor _ refl refl);
@@ -173,26 +173,26 @@ bob = (omega arith, omega arith)
 one_more : (xs ys zs ws : List Call) (c : Call) → xs ≡ [] → ys ≡ zs ++ ws → zs ≡ c ∷ [] → ws ≡ [] → xs ++ (ys ++ []) ≡ c ∷ []
 one_more xs ys zs ws c a b d e = rw (a, b, d, e) refl
 
-bob_starts : (ts : List Trace) → AreTraces a_file a_file.phases ts → length (on_case the_case (done_by 2 ts)) ≡ 1
+bob_starts : (ts : List Trace) → AreTraces a_file a_file.phases ts → length (calls_of_case the_case (done_by 2 ts)) ≡ 1
 bob_starts [] k = absurd k
 bob_starts (u ∷ []) k = absurd k.1
 bob_starts (u ∷ w ∷ x ∷ ts) k = absurd k.1.1
 bob_starts (u ∷ w ∷ []) k =
     let first : u 2 ≡ [] = k.0 2 bob in
     let second = k.1.0 2 bob in
-    ap (λ cs. length (on_case the_case cs)) (one_more (u 2) (w 2) second.0 second.1 (told 2 the_case (event.Start 2 2 []) second.3.0) first second.2 second.3.1 second.4)
+    ap (λ cs. length (calls_of_case the_case cs)) (one_more (u 2) (w 2) second.0 second.1 (told 2 the_case (event.Start 2 2 []) second.3.0) first second.2 second.3.1 second.4)
 
 bob_waits : (ts : List Trace) → AreTraces a_file a_file.phases ts → done_by 2 (take 1 ts) ≡ []
 bob_waits [] k = absurd k
 bob_waits (u ∷ []) k = absurd k.1
 bob_waits (u ∷ w ∷ ts) k = let first : u 2 ≡ [] = k.0 2 bob in rw first refl
 
-ann_creates : (ts : List Trace) → AreTraces a_file a_file.phases ts → length (on_case the_case (done_by 1 (take 1 ts))) ≡ 1
+ann_creates : (ts : List Trace) → AreTraces a_file a_file.phases ts → length (calls_of_case the_case (done_by 1 (take 1 ts))) ≡ 1
 ann_creates [] k = absurd k
 ann_creates (u ∷ []) k = absurd k.1
 ann_creates (u ∷ w ∷ ts) k =
     let first = k.0 1 ann in
-    ap (λ cs. length (on_case the_case cs)) (only (u 1) first.0 first.1 (asked 1 0 first.3.0) (told 1 the_case (event.Create first.3.0) first.3.1) first.2 first.3.2 first.4)
+    ap (λ cs. length (calls_of_case the_case cs)) (only (u 1) first.0 first.1 (asked 1 0 first.3.0) (told 1 the_case (event.Create first.3.0) first.3.1) first.2 first.3.2 first.4)
   where
     only : (ys zs ws : List Call) (c d : Call) → ys ≡ zs ++ ws → zs ≡ c ∷ d ∷ [] → ws ≡ [] → ys ++ [] ≡ c ∷ d ∷ []
     only ys zs ws c d b e g = rw (b, e, g) refl
@@ -201,7 +201,7 @@ ann_creates (u ∷ w ∷ ts) k =
 pub start_dropped : Legal a_file (run_with (creation_entry ∷ [])) → ⊥
 start_dropped k =
     let c = k.cases 0 (record { name = codes "c"; id = the_case }) (case_with (creation_entry ∷ [])) refl refl in
-    let none : 0 ≡ length (on_case the_case (done_by 2 k.traces)) = ap length (c.calls.whole 2 bob) in
+    let none : 0 ≡ length (calls_of_case the_case (done_by 2 k.traces)) = ap length (c.calls.whole 2 bob) in
     let one = bob_starts k.traces k.of_lines in
     omega arith
 
@@ -215,10 +215,10 @@ phases_turned k =
     let b = c.calls.behind 1 (omega arith) in
     begins b.0 b.1.0 b.1.1 (b.2 1 ann) (b.2 2 bob)
   where
-    begins : (start rest : List CaseEntry) → start ++ rest ≡ turned → calls_of 1 start ≡ on_case the_case (done_by 1 (take 1 k.traces)) → calls_of 2 start ≡ on_case the_case (done_by 2 (take 1 k.traces)) → ⊥
-    begins [] rest e one two = let some = ann_creates k.traces k.of_lines in let none : 0 ≡ length (on_case the_case (done_by 1 (take 1 k.traces))) = ap length one in omega arith
+    begins : (start rest : List CaseEntry) → start ++ rest ≡ turned → calls_of 1 start ≡ calls_of_case the_case (done_by 1 (take 1 k.traces)) → calls_of 2 start ≡ calls_of_case the_case (done_by 2 (take 1 k.traces)) → ⊥
+    begins [] rest e one two = let some = ann_creates k.traces k.of_lines in let none : 0 ≡ length (calls_of_case the_case (done_by 1 (take 1 k.traces))) = ap length one in omega arith
     begins (x ∷ start) rest e one two =
         let is : x ≡ entry 2 (event.Start 2 2 []) reply.NoCase = cc (e) in
-        let none : on_case the_case (done_by 2 (take 1 k.traces)) ≡ [] = ap (on_case the_case) (bob_waits k.traces k.of_lines) in
+        let none : calls_of_case the_case (done_by 2 (take 1 k.traces)) ≡ [] = ap (calls_of_case the_case) (bob_waits k.traces k.of_lines) in
         let some : calls_of 2 (entry 2 (event.Start 2 2 []) reply.NoCase ∷ start) ≡ [] = subst (λ y. calls_of 2 (y ∷ start) ≡ []) is (two ∙ none) in
         cc (some)

@@ -19,15 +19,15 @@ use Rattle.legal_run.proofs.Made.{CaseMade, HasGone, KindMade, case_made-none, g
 use Rattle.legal_run.proofs.OnMachines.{caller_of}
 use Rattle.legal_run.proofs.Places.{one-becomes, some_one, there-as}
 use Rattle.legal_run.proofs.Told.{each-all, each-kind, entry_if, some-at, some-other}
-use Rattle.legal_run.specs.Legal.{cases_of}
-use Rattle.legal_run.specs.LineCalls.{AreCallsOf, Call, asked, is_case, of_kind, on_case, on_kind, told, told_each}
-use Rattle.file_model.specs.CaseCounts.{cases_of as counted}
+use Rattle.legal_run.specs.Legal.{declared_cases}
+use Rattle.legal_run.specs.LineCalls.{AreCallsOf, Call, asked, is_case, of_kind, calls_of_case, calls_of_kind, told, told_each}
+use Rattle.file_model.specs.CaseCounts.{cases_of_type as counted}
 use Rattle.file_model.specs.declared.files.Act.{Act}
 use Rattle.file_model.specs.declared.files.Act.TheVariants as act
 use Rattle.file_model.specs.declared.files.CaseDecl.{CaseDecl}
 use Rattle.file_model.specs.declared.files.File.{File}
 use Rattle.script_run.proofs.Places.{position-from_0}
-use Rattle.script_run.specs.Calls.{acted, call_case, call_kind, changed_where, created, each_of, if_of_type, is_of, migrated, newest, newest_in, on_case as case_called, on_each as each_called, on_kind as kind_called, place_of, put_back, roles_of, version_in}
+use Rattle.script_run.specs.Calls.{acted, call_case, call_kind, changed_where, created, each_of, if_of_type, is_of, migrated, newest, newest_in, on_case as case_called, on_each as each_called, on_kind as kind_called, place_of, put_back, roles_of, answered_version}
 use Rattle.script_run.specs.declared.runs.ClosedCase.{ClosedCase}
 use Rattle.script_run.specs.declared.runs.ClosedKind.{ClosedKind}
 use Rattle.script_run.specs.declared.runs.Run.{Run}
@@ -53,9 +53,9 @@ running-still f calls r s gone running = record {
   versions = λ t l at_then.
       let (k, at) = there-as s.kinds r.kinds t l (sym gone.types) at_then in
       let made = gone.kinds t k l at at_then in
-      let is = takes-state kind_after kind_reply k.machine l.machine (on_kind t calls) made.takes in
+      let is = takes-state kind_after kind_reply k.machine l.machine (calls_of_kind t calls) made.takes in
       let some = running.versions t k at in
-      let kept = versions-kept k.machine (on_kind t calls) in
+      let kept = versions-kept k.machine (calls_of_kind t calls) in
       subst (λ m. 0 < length m.versions) (sym is) (omega arith);
 }
 
@@ -81,7 +81,7 @@ call-newest : (f : File) (a t : ℕ) (r : Run) → IsRunning f r → t < length 
 call-newest f a t r running low =
     let (k, at) = kind-there f r t running low in
     let (v, tells) = newest-told k.machine (running.versions t k at) in
-    (v, ap newest_in at ∙ ap version_in tells, subst (λ x. HasGone f (of_kind t (entry a kind_event.Newest x) ∷ []) r (kind_called a t kind_event.Newest r)) tells (call-kind f a t kind_event.Newest r k at))
+    (v, ap newest_in at ∙ ap answered_version tells, subst (λ x. HasGone f (of_kind t (entry a kind_event.Newest x) ∷ []) r (kind_called a t kind_event.Newest r)) tells (call-kind f a t kind_event.Newest r k at))
 
 -- ---- a call of a case
 same_id : (c d : CaseId) → c.type_no ≡ d.type_no → c.place ≡ d.place → c ≡ d
@@ -191,7 +191,7 @@ length-each t g [] cs = refl
 length-each t g (d ∷ ds) [] = refl
 length-each t g (d ∷ ds) (c ∷ cs) = ap suc (length-each t g ds cs)
 
-call-each : (f : File) → IsWorkable f → (a t : ℕ) (e : Event) (r : Run) → IsRunning f r → (rs : List Reply) × (length rs ≡ cases_of f t) × HasGone f (told_each a t e 0 rs) r (each_called f a t e r)
+call-each : (f : File) → IsWorkable f → (a t : ℕ) (e : Event) (r : Run) → IsRunning f r → (rs : List Reply) × (length rs ≡ declared_cases f t) × HasGone f (told_each a t e 0 rs) r (each_called f a t e r)
 call-each f workable a t e r running = (
   answers,
   length-replies t e f.cases r.cases running.cases,
@@ -208,20 +208,20 @@ call-each f workable a t e r running = (
     answers : List Reply
     answers = replies t e f.cases r.cases
 
-    called : (i : ℕ) (d : CaseDecl) (p q : ClosedCase) → slice_get f.cases i ≡ Some d → slice_get r.cases i ≡ Some p → if_of_type t (call_case a e) d p ≡ q → t ≡ d.id.type_no → CaseMade (on_case d.id (told_each a t e 0 answers)) p q
+    called : (i : ℕ) (d : CaseDecl) (p q : ClosedCase) → slice_get f.cases i ≡ Some d → slice_get r.cases i ≡ Some p → if_of_type t (call_case a e) d p ≡ q → t ≡ d.id.type_no → CaseMade (calls_of_case d.id (told_each a t e 0 answers)) p q
     called i d p q at_d at now same =
         let place : d.id.place ≡ counted t (take i f.cases) = workable.placed i d at_d ∙ ap (λ n. counted n (take i f.cases)) (sym same) in
         let answer : slice_get answers d.id.place ≡ Some (case_reply p.machine e) = ap (slice_get answers) place ∙ reply-at t e f.cases r.cases i d p at_d at (sym same) in
-        let one : on_case d.id (told_each a t e 0 answers) ≡ entry a e (case_reply p.machine e) ∷ [] =
-        ap (on_case d.id) (each-all a t e 0 answers)
+        let one : calls_of_case d.id (told_each a t e 0 answers) ≡ entry a e (case_reply p.machine e) ∷ [] =
+        ap (calls_of_case d.id) (each-all a t e 0 answers)
         ∙ (some-at a t e d.id 0 d.id.place (map (λ x. Some x) answers) same (omega arith)
         ∙ ap (entry_if a e) (slice_get-map (λ x. Some x) answers d.id.place ∙ ap (option_map (λ (x : Reply). Some x)) answer)) in
         let is_q : call_case a e p ≡ q = sym (ap (λ (b : Bool). if b then call_case a e p else p) (eq-eqb d.id.type_no t (sym same))) ∙ now in
         subst (λ es. CaseMade es p q) (sym one) (subst (CaseMade (entry a e (case_reply p.machine e) ∷ []) p) is_q (record { takes = (refl, refl); grown = refl }))
 
-    passed_over : (d : CaseDecl) (p q : ClosedCase) → if_of_type t (call_case a e) d p ≡ q → t ≢ d.id.type_no → CaseMade (on_case d.id (told_each a t e 0 answers)) p q
+    passed_over : (d : CaseDecl) (p q : ClosedCase) → if_of_type t (call_case a e) d p ≡ q → t ≢ d.id.type_no → CaseMade (calls_of_case d.id (told_each a t e 0 answers)) p q
     passed_over d p q now not =
-        let none : on_case d.id (told_each a t e 0 answers) ≡ [] = ap (on_case d.id) (each-all a t e 0 answers) ∙ some-other a t e d.id 0 (map (λ x. Some x) answers) (inl not) in
+        let none : calls_of_case d.id (told_each a t e 0 answers) ≡ [] = ap (calls_of_case d.id) (each-all a t e 0 answers) ∙ some-other a t e d.id 0 (map (λ x. Some x) answers) (inl not) in
         let is_q : p ≡ q = sym (ap (λ (b : Bool). if b then call_case a e p else p) (ne_eqb d.id.type_no t (λ is. not (sym is)))) ∙ now in
         subst (λ es. CaseMade es p q) (sym none) (subst (CaseMade [] p) is_q (case_made-none p))
 
@@ -233,12 +233,12 @@ own-each a t e place (r ∷ rs) = (refl, own-each a t e (place + 1) rs)
 -- the line of an actor has made its calls, and no others
 pub record HasActed (f : File) (a : ℕ) (x : Act) (r s : Run) : Type 0 where
   pub calls : List Call
-  pub fit : AreCallsOf (cases_of f) (roles_of f a) a x calls
+  pub fit : AreCallsOf (declared_cases f) (roles_of f a) a x calls
   pub own : AllRows (λ c. caller_of c ≡ a) calls
   pub gone : HasGone f calls r s
 
 -- that of one call of a case
-one-case : (f : File) → IsWorkable f → (a : ℕ) (x : Act) (c : CaseId) (e : Event) (r : Run) → IsRunning f r → IsDeclared c f.cases → ((answer : Reply) → AreCallsOf (cases_of f) (roles_of f a) a x (told a c e answer ∷ [])) → HasActed f a x r (case_called f a c e r)
+one-case : (f : File) → IsWorkable f → (a : ℕ) (x : Act) (c : CaseId) (e : Event) (r : Run) → IsRunning f r → IsDeclared c f.cases → ((answer : Reply) → AreCallsOf (declared_cases f) (roles_of f a) a x (told a c e answer ∷ [])) → HasActed f a x r (case_called f a c e r)
 one-case f workable a x c e r running declared fit = let (answer, gone) = call-case f workable a c e r running declared in record { calls = told a c e answer ∷ []; fit = fit answer; own = (refl, tt); gone = gone }
 
 pub has-acted : (f : File) → IsWorkable f → (a : ℕ) (x : Act) (r : Run) → IsRunning f r → IsKnownAct (length f.types) f.cases x → HasActed f a x r (acted f a x r)

@@ -2,9 +2,9 @@
 use Rattle.std.proofs.Common.{◌≡◌, ℕ, List, [], ◌∷◌, ◌++◌, length, Some, slice_get, refl, sym, ap, ◌∙◌, subst, append_assoc}
 use Rattle.std.proofs.lemmas.List.{append-nil}
 use Rattle.case_core.specs.Machine.{case_after, case_reply}
-use Rattle.legal_run.proofs.OnMachines.{on_case-append, on_kind-append}
+use Rattle.legal_run.proofs.OnMachines.{calls_of_case-append, calls_of_kind-append}
 use Rattle.legal_run.proofs.Places.{some_one, there-as}
-use Rattle.legal_run.specs.LineCalls.{Call, on_case, on_kind}
+use Rattle.legal_run.specs.LineCalls.{Call, calls_of_case, calls_of_kind}
 use Rattle.file_model.specs.declared.files.CaseDecl.{CaseDecl}
 use Rattle.file_model.specs.declared.files.File.{File}
 use Rattle.script_run.specs.Entries.{CaseEntry, KindEntry}
@@ -64,8 +64,8 @@ case_made-none c = made-none case_after case_reply c.machine c.journal
 pub record HasGone (f : File) (calls : List Call) (r s : Run) : Type 0 where
   pub types : length s.kinds ≡ length r.kinds
   pub many : length s.cases ≡ length r.cases
-  pub kinds : (t : ℕ) (k l : ClosedKind) → slice_get r.kinds t ≡ Some k → slice_get s.kinds t ≡ Some l → KindMade (on_kind t calls) k l
-  pub cases : (i : ℕ) (d : CaseDecl) (c e : ClosedCase) → slice_get f.cases i ≡ Some d → slice_get r.cases i ≡ Some c → slice_get s.cases i ≡ Some e → CaseMade (on_case d.id calls) c e
+  pub kinds : (t : ℕ) (k l : ClosedKind) → slice_get r.kinds t ≡ Some k → slice_get s.kinds t ≡ Some l → KindMade (calls_of_kind t calls) k l
+  pub cases : (i : ℕ) (d : CaseDecl) (c e : ClosedCase) → slice_get f.cases i ≡ Some d → slice_get r.cases i ≡ Some c → slice_get s.cases i ≡ Some e → CaseMade (calls_of_case d.id calls) c e
 
 pub gone-none : (f : File) (r : Run) → HasGone f [] r r
 gone-none f r = record {
@@ -81,10 +81,10 @@ gone-then f xs ys r m s h k = record {
   many = k.many ∙ h.many;
   kinds = λ t x z at at_then.
       let (y, at_m) = there-as r.kinds m.kinds t x h.types at in
-      subst (λ es. KindMade es x z) (sym (on_kind-append t xs ys))
-      (made-then kind_after kind_reply (on_kind t xs) (on_kind t ys) x.machine y.machine z.machine x.journal y.journal z.journal (h.kinds t x y at at_m) (k.kinds t y z at_m at_then));
+      subst (λ es. KindMade es x z) (sym (calls_of_kind-append t xs ys))
+      (made-then kind_after kind_reply (calls_of_kind t xs) (calls_of_kind t ys) x.machine y.machine z.machine x.journal y.journal z.journal (h.kinds t x y at at_m) (k.kinds t y z at_m at_then));
   cases = λ i d x z declared at at_then.
       let (y, at_m) = there-as r.cases m.cases i x h.many at in
-      subst (λ es. CaseMade es x z) (sym (on_case-append d.id xs ys))
-      (made-then case_after case_reply (on_case d.id xs) (on_case d.id ys) x.machine y.machine z.machine x.journal y.journal z.journal (h.cases i d x y declared at at_m) (k.cases i d y z declared at_m at_then));
+      subst (λ es. CaseMade es x z) (sym (calls_of_case-append d.id xs ys))
+      (made-then case_after case_reply (calls_of_case d.id xs) (calls_of_case d.id ys) x.machine y.machine z.machine x.journal y.journal z.journal (h.cases i d x y declared at at_m) (k.cases i d y z declared at_m at_then));
 }

@@ -1,7 +1,7 @@
 -- The calls of one type, and of one case, among calls one after another.
 use Rattle.std.proofs.Common.{◌≡◌, ℕ, eqb, Bool, true, false, ◌==◌, List, [], ◌∷◌, ◌++◌, filter, All, refl, sym, ap, ◌∙◌, if◌then◌else◌}
 use Rattle.std.proofs.lemmas.List.Elements.{All-cons, All-nil, filter-append}
-use Rattle.legal_run.specs.LineCalls.{Call, of_kind, of_case, on_kind, on_case, is_case}
+use Rattle.legal_run.specs.LineCalls.{Call, of_kind, of_case, calls_of_kind, calls_of_case, is_case}
 use Rattle.turn_cell.specs.History.{calls_of}
 use Rattle.turn_cell.specs.declared.journal.Entry.{Entry}
 use Rattle.wsm_lists.specs.Rows.{AllRows}
@@ -11,15 +11,15 @@ split_if : {A : Type 0} (b : Bool) (x : A) (xs ys zs : List A) → xs ≡ ys ++ 
 split_if true x xs ys zs e = ap (λ ws. x ∷ ws) e
 split_if false x xs ys zs e = e
 
-pub on_kind-append : (t : ℕ) (xs ys : List Call) → on_kind t (xs ++ ys) ≡ on_kind t xs ++ on_kind t ys
-on_kind-append t [] ys = refl
-on_kind-append t (of_kind u e ∷ xs) ys = split_if (eqb u t) e (on_kind t (xs ++ ys)) (on_kind t xs) (on_kind t ys) (on_kind-append t xs ys)
-on_kind-append t (of_case c e ∷ xs) ys = on_kind-append t xs ys
+pub calls_of_kind-append : (t : ℕ) (xs ys : List Call) → calls_of_kind t (xs ++ ys) ≡ calls_of_kind t xs ++ calls_of_kind t ys
+calls_of_kind-append t [] ys = refl
+calls_of_kind-append t (of_kind u e ∷ xs) ys = split_if (eqb u t) e (calls_of_kind t (xs ++ ys)) (calls_of_kind t xs) (calls_of_kind t ys) (calls_of_kind-append t xs ys)
+calls_of_kind-append t (of_case c e ∷ xs) ys = calls_of_kind-append t xs ys
 
-pub on_case-append : (c : CaseId) (xs ys : List Call) → on_case c (xs ++ ys) ≡ on_case c xs ++ on_case c ys
-on_case-append c [] ys = refl
-on_case-append c (of_kind u e ∷ xs) ys = on_case-append c xs ys
-on_case-append c (of_case d e ∷ xs) ys = split_if (is_case c d) e (on_case c (xs ++ ys)) (on_case c xs) (on_case c ys) (on_case-append c xs ys)
+pub calls_of_case-append : (c : CaseId) (xs ys : List Call) → calls_of_case c (xs ++ ys) ≡ calls_of_case c xs ++ calls_of_case c ys
+calls_of_case-append c [] ys = refl
+calls_of_case-append c (of_kind u e ∷ xs) ys = calls_of_case-append c xs ys
+calls_of_case-append c (of_case d e ∷ xs) ys = split_if (is_case c d) e (calls_of_case c (xs ++ ys)) (calls_of_case c xs) (calls_of_case c ys) (calls_of_case-append c xs ys)
 
 -- ---- by callers
 abbrev pub caller_of : Call → ℕ
@@ -57,21 +57,21 @@ module _ {M E R W S : Type 0} (on : List Call → List (Entry M E R W S)) (a : �
       ∙ (ap (λ (n : ℕ). if n == a then on (call ∷ calls_by a calls) else own) (sym same)
       ∙ sym (of_if on (caller_of call == a) call (calls_by a calls))))))
 
-pub kind_calls-by : (t a : ℕ) (calls : List Call) → calls_of a (on_kind t calls) ≡ on_kind t (calls_by a calls)
+pub kind_calls-by : (t a : ℕ) (calls : List Call) → calls_of a (calls_of_kind t calls) ≡ calls_of_kind t (calls_by a calls)
 kind_calls-by t a [] = refl
-kind_calls-by t a (of_kind u e ∷ calls) = one-call (on_kind t) a (eqb u t) (of_kind u e) e calls refl refl (kind_calls-by t a calls)
-kind_calls-by t a (of_case c e ∷ calls) = kind_calls-by t a calls ∙ sym (of_if (on_kind t) (e.caller == a) (of_case c e) (calls_by a calls) ∙ both (e.caller == a))
+kind_calls-by t a (of_kind u e ∷ calls) = one-call (calls_of_kind t) a (eqb u t) (of_kind u e) e calls refl refl (kind_calls-by t a calls)
+kind_calls-by t a (of_case c e ∷ calls) = kind_calls-by t a calls ∙ sym (of_if (calls_of_kind t) (e.caller == a) (of_case c e) (calls_by a calls) ∙ both (e.caller == a))
   where
-    both : (b : Bool) → (if b then on_kind t (calls_by a calls) else on_kind t (calls_by a calls)) ≡ on_kind t (calls_by a calls)
+    both : (b : Bool) → (if b then calls_of_kind t (calls_by a calls) else calls_of_kind t (calls_by a calls)) ≡ calls_of_kind t (calls_by a calls)
     both true = refl
     both false = refl
 
-pub case_calls-by : (c : CaseId) (a : ℕ) (calls : List Call) → calls_of a (on_case c calls) ≡ on_case c (calls_by a calls)
+pub case_calls-by : (c : CaseId) (a : ℕ) (calls : List Call) → calls_of a (calls_of_case c calls) ≡ calls_of_case c (calls_by a calls)
 case_calls-by c a [] = refl
-case_calls-by c a (of_case d e ∷ calls) = one-call (on_case c) a (is_case c d) (of_case d e) e calls refl refl (case_calls-by c a calls)
-case_calls-by c a (of_kind u e ∷ calls) = case_calls-by c a calls ∙ sym (of_if (on_case c) (e.caller == a) (of_kind u e) (calls_by a calls) ∙ both (e.caller == a))
+case_calls-by c a (of_case d e ∷ calls) = one-call (calls_of_case c) a (is_case c d) (of_case d e) e calls refl refl (case_calls-by c a calls)
+case_calls-by c a (of_kind u e ∷ calls) = case_calls-by c a calls ∙ sym (of_if (calls_of_case c) (e.caller == a) (of_kind u e) (calls_by a calls) ∙ both (e.caller == a))
   where
-    both : (b : Bool) → (if b then on_case c (calls_by a calls) else on_case c (calls_by a calls)) ≡ on_case c (calls_by a calls)
+    both : (b : Bool) → (if b then calls_of_case c (calls_by a calls) else calls_of_case c (calls_by a calls)) ≡ calls_of_case c (calls_by a calls)
     both true = refl
     both false = refl
 
@@ -81,12 +81,12 @@ module _ (P : ℕ → Type 0) where
   all_if true e es p all = All-cons (λ x. P x.caller) e es p all
   all_if false e es p all = all
 
-  pub kind_callers : (t : ℕ) (calls : List Call) → AllRows (λ c. P (caller_of c)) calls → All (λ e. P e.caller) (on_kind t calls)
+  pub kind_callers : (t : ℕ) (calls : List Call) → AllRows (λ c. P (caller_of c)) calls → All (λ e. P e.caller) (calls_of_kind t calls)
   kind_callers t [] all = All-nil (λ e. P e.caller)
-  kind_callers t (of_kind u e ∷ calls) (p, all) = all_if (eqb u t) e (on_kind t calls) p (kind_callers t calls all)
+  kind_callers t (of_kind u e ∷ calls) (p, all) = all_if (eqb u t) e (calls_of_kind t calls) p (kind_callers t calls all)
   kind_callers t (of_case c e ∷ calls) (p, all) = kind_callers t calls all
 
-  pub case_callers : (c : CaseId) (calls : List Call) → AllRows (λ c. P (caller_of c)) calls → All (λ e. P e.caller) (on_case c calls)
+  pub case_callers : (c : CaseId) (calls : List Call) → AllRows (λ c. P (caller_of c)) calls → All (λ e. P e.caller) (calls_of_case c calls)
   case_callers c [] all = All-nil (λ e. P e.caller)
   case_callers c (of_kind u e ∷ calls) (p, all) = case_callers c calls all
-  case_callers c (of_case d e ∷ calls) (p, all) = all_if (is_case c d) e (on_case c calls) p (case_callers c calls all)
+  case_callers c (of_case d e ∷ calls) (p, all) = all_if (is_case c d) e (calls_of_case c calls) p (case_callers c calls all)

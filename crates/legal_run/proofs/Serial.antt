@@ -13,9 +13,9 @@ use Rattle.file_facts.proofs.Cases.{row-at}
 use Rattle.file_facts.specs.Facts.{IsKnown, IsSound, IsWorkable}
 use Rattle.legal_run.proofs.LineByLine.{HasActed, IsRunning, has-acted, running-still}
 use Rattle.legal_run.proofs.Made.{HasGone, Takes, gone-none, gone-then, takes-legal, takes-state}
-use Rattle.legal_run.proofs.OnMachines.{caller_of, calls_by, calls_by-append, case_callers, case_calls-by, kind_callers, kind_calls-by, on_case-append, on_kind-append}
-use Rattle.legal_run.specs.Legal.{AreOfActors, AreTraces, HasCalls, IsActor, IsByPhases, IsLegalCase, IsLegalKind, Legal, Trace, cases_of, done_by}
-use Rattle.legal_run.specs.LineCalls.{AreCallsOf, AreCallsOfLines, Call, lines_of, on_case, on_kind}
+use Rattle.legal_run.proofs.OnMachines.{caller_of, calls_by, calls_by-append, case_callers, case_calls-by, kind_callers, kind_calls-by, calls_of_case-append, calls_of_kind-append}
+use Rattle.legal_run.specs.Legal.{AreOfActors, AreTraces, HasCalls, IsActor, IsByPhases, IsLegalCase, IsLegalKind, Legal, Trace, declared_cases, done_by}
+use Rattle.legal_run.specs.LineCalls.{AreCallsOf, AreCallsOfLines, Call, lines_of, calls_of_case, calls_of_kind}
 use Rattle.file_model.specs.declared.files.CaseDecl.{CaseDecl}
 use Rattle.file_model.specs.declared.files.File.{File}
 use Rattle.file_model.specs.declared.files.Line.{Line}
@@ -50,27 +50,27 @@ calls-none a b (c ∷ calls) (is, own) not =
     ap (λ (x : Bool). if x then c ∷ calls_by b calls else calls_by b calls) (ne_eqb (caller_of c) b (λ same. not (sym is ∙ same))) ∙ calls-none a b calls own not
 
 -- the calls of an actor's line come first among the actor's own, and are no other actor's
-with-line : (f : File) (l : Line) (lines : List Line) (rest : List Call) (r s : Run) (acted : HasActed f l.actor l.act r s) (a : ℕ) → AreCallsOfLines (cases_of f) (roles_of f a) a (lines_of a lines) (calls_by a rest)
-    → AreCallsOfLines (cases_of f) (roles_of f a) a (lines_of a (l ∷ lines)) (calls_by a (acted.calls ++ rest))
+with-line : (f : File) (l : Line) (lines : List Line) (rest : List Call) (r s : Run) (acted : HasActed f l.actor l.act r s) (a : ℕ) → AreCallsOfLines (declared_cases f) (roles_of f a) a (lines_of a lines) (calls_by a rest)
+    → AreCallsOfLines (declared_cases f) (roles_of f a) a (lines_of a (l ∷ lines)) (calls_by a (acted.calls ++ rest))
 with-line f l lines rest r s acted a fit =
     dite (ℕ_discrete l.actor a)
     (λ (same : l.actor ≡ a).
     let own : lines_of a (l ∷ lines) ≡ l ∷ lines_of a lines = ap (λ (b : Bool). if b then l ∷ lines_of a lines else lines_of a lines) (eq-eqb l.actor a same) in
     let calls : calls_by a (acted.calls ++ rest) ≡ acted.calls ++ calls_by a rest =
     calls_by-append a acted.calls rest ∙ ap (λ cs. cs ++ calls_by a rest) (calls-own a acted.calls (subst (λ n. AllRows (λ c. caller_of c ≡ n) acted.calls) same acted.own)) in
-    subst (λ ls. AreCallsOfLines (cases_of f) (roles_of f a) a ls (calls_by a (acted.calls ++ rest))) (sym own)
-    (acted.calls, calls_by a rest, calls, subst (λ n. AreCallsOf (cases_of f) (roles_of f n) n l.act acted.calls) same acted.fit, fit))
+    subst (λ ls. AreCallsOfLines (declared_cases f) (roles_of f a) a ls (calls_by a (acted.calls ++ rest))) (sym own)
+    (acted.calls, calls_by a rest, calls, subst (λ n. AreCallsOf (declared_cases f) (roles_of f n) n l.act acted.calls) same acted.fit, fit))
     (λ (not : l.actor ≢ a).
     let others : lines_of a (l ∷ lines) ≡ lines_of a lines = ap (λ (b : Bool). if b then l ∷ lines_of a lines else lines_of a lines) (ne_eqb l.actor a not) in
     let calls : calls_by a (acted.calls ++ rest) ≡ calls_by a rest = calls_by-append a acted.calls rest ∙ ap (λ cs. cs ++ calls_by a rest) (calls-none l.actor a acted.calls acted.own not) in
-    subst (λ ls. AreCallsOfLines (cases_of f) (roles_of f a) a ls (calls_by a (acted.calls ++ rest))) (sym others)
-    (subst (AreCallsOfLines (cases_of f) (roles_of f a) a (lines_of a lines)) (sym calls) fit))
+    subst (λ ls. AreCallsOfLines (declared_cases f) (roles_of f a) a ls (calls_by a (acted.calls ++ rest))) (sym others)
+    (subst (AreCallsOfLines (declared_cases f) (roles_of f a) a (lines_of a lines)) (sym calls) fit))
 
 -- ---- a phase, and all phases
 -- the lines of a phase have made these calls: each actor those of its own lines, in order
 record HasWorkedPhase (f : File) (lines : List Line) (r s : Run) : Type 0 where
   calls : List Call
-  fit : (a : ℕ) → AreCallsOfLines (cases_of f) (roles_of f a) a (lines_of a lines) (calls_by a calls)
+  fit : (a : ℕ) → AreCallsOfLines (declared_cases f) (roles_of f a) a (lines_of a lines) (calls_by a calls)
   actors : AllRows (λ c. IsActor f (caller_of c)) calls
   gone : HasGone f calls r s
 
@@ -179,7 +179,7 @@ module _ (f : File) (logs : List (List Call)) (actors : AllRows (λ c. IsActor f
 
   serial-kind : (t : ℕ) (d : TypeDecl) (k : ClosedKind) → IsSound d → slice_get f.types t ≡ Some d → slice_get (serial f).kinds t ≡ Some k → IsLegalKind f (map trace_in logs) t d k
   serial-kind t d k sound at_d at_k =
-      let calls = on_kind t (all_calls logs) in
+      let calls = calls_of_kind t (all_calls logs) in
       let numbered : 0 + t ≡ t = omega arith in
       let at : slice_get (opening f).kinds t ≡ Some (defined t d) = kinds-at 0 f.types t d at_d ∙ ap (λ n. Some (defined n d)) numbered in
       let made = gone.kinds t (defined t d) k at at_k in
@@ -193,12 +193,12 @@ module _ (f : File) (logs : List (List Call)) (actors : AllRows (λ c. IsActor f
         others = calls;
         defined = whole;
         callers = kind_callers (IsActor f) t (all_calls logs) actors;
-        calls = journal-by_phases f (on_kind t) (on_kind-append t) (kind_calls-by t) (definition ∷ []) (not_program definition refl) logs k.journal whole;
+        calls = journal-by_phases f (calls_of_kind t) (calls_of_kind-append t) (kind_calls-by t) (definition ∷ []) (not_program definition refl) logs k.journal whole;
       }
 
   serial-case : (i : ℕ) (d : CaseDecl) (c : ClosedCase) → slice_get f.cases i ≡ Some d → slice_get (serial f).cases i ≡ Some c → IsLegalCase f (map trace_in logs) d c
   serial-case i d c at_d at_c =
-      let calls = on_case d.id (all_calls logs) in
+      let calls = calls_of_case d.id (all_calls logs) in
       let at : slice_get (opening f).cases i ≡ Some (uncalled d) = slice_get-map uncalled f.cases i ∙ ap (option_map uncalled) at_d in
       let made = gone.cases i d (uncalled d) c at_d at at_c in
       let whole : c.journal ≡ calls = made.grown in
@@ -206,7 +206,7 @@ module _ (f : File) (logs : List (List Call)) (actors : AllRows (λ c. IsActor f
         legal = subst (IsLegal case_after case_reply (not_created d.id.type_no)) (sym whole) (takes-legal case_after case_reply (not_created d.id.type_no) c.machine calls made.takes);
         machine = takes-state case_after case_reply (not_created d.id.type_no) c.machine calls made.takes ∙ ap (state_after case_after (not_created d.id.type_no)) (sym whole);
         callers = subst (AreOfActors f) (sym whole) (case_callers (IsActor f) d.id (all_calls logs) actors);
-        calls = journal-by_phases f (on_case d.id) (on_case-append d.id) (case_calls-by d.id) [] (λ a actor. refl) logs c.journal whole;
+        calls = journal-by_phases f (calls_of_case d.id) (calls_of_case-append d.id) (case_calls-by d.id) [] (λ a actor. refl) logs c.journal whole;
       }
 
 pub serial-legal : (f : File) → IsWorkable f → Legal f (serial f)

@@ -5,7 +5,7 @@ use mathlib.Core.Logic.{dite}
 use native.Mathlib.Decide.{ℕ_discrete}
 use Rattle.case_core.specs.declared.events.Event.{Event}
 use Rattle.case_core.specs.declared.replies.Reply.{Reply}
-use Rattle.legal_run.specs.LineCalls.{on_case, on_kind, told, told_each, told_some}
+use Rattle.legal_run.specs.LineCalls.{calls_of_case, calls_of_kind, told, told_each, told_some}
 use Rattle.script_run.specs.Entries.{CaseEntry}
 use Rattle.turn_cell.specs.History.{entry}
 use Rattle.wsm_sound.specs.declared.versions.CaseId.{CaseId}
@@ -23,7 +23,7 @@ module _ (a t : ℕ) (e : Event) where
   each-all place (r ∷ rs) = ap (λ calls. told a (record { type_no = t; place = place }) e r ∷ calls) (each-all (place + 1) rs)
 
   -- no type is told anything
-  pub some-kind : (u place : ℕ) (answers : List (Option Reply)) → on_kind u (told_some a t e place answers) ≡ []
+  pub some-kind : (u place : ℕ) (answers : List (Option Reply)) → calls_of_kind u (told_some a t e place answers) ≡ []
   some-kind u place [] = refl
   some-kind u place (None ∷ answers) = some-kind u (place + 1) answers
   some-kind u place (Some r ∷ answers) = some-kind u (place + 1) answers
@@ -44,24 +44,24 @@ module _ (a t : ℕ) (e : Event) where
   differs c place (inl not) = ap (λ b. b && place == c.place) (ne_eqb t c.type_no not)
   differs c place (inr past) = ap (λ b. t == c.type_no && b) (ne_eqb place c.place (λ is. omega arith)) ∙ no_place (t == c.type_no)
 
-  pub some-other : (c : CaseId) (place : ℕ) (answers : List (Option Reply)) → (t ≢ c.type_no) ⊎ (c.place < place) → on_case c (told_some a t e place answers) ≡ []
+  pub some-other : (c : CaseId) (place : ℕ) (answers : List (Option Reply)) → (t ≢ c.type_no) ⊎ (c.place < place) → calls_of_case c (told_some a t e place answers) ≡ []
   some-other c place [] other = refl
   some-other c place (None ∷ answers) other = some-other c (place + 1) answers (further c place other)
   some-other c place (Some r ∷ answers) other =
-      let rest = on_case c (told_some a t e (place + 1) answers) in
+      let rest = calls_of_case c (told_some a t e (place + 1) answers) in
       ap (λ (b : Bool). if b then entry a e r ∷ rest else rest) (differs c place other) ∙ some-other c (place + 1) answers (further c place other)
 
   -- a case of the type is told once, where there is an answer at its place
-  pub some-at : (c : CaseId) (place j : ℕ) (answers : List (Option Reply)) → t ≡ c.type_no → c.place ≡ place + j → on_case c (told_some a t e place answers) ≡ entry_if a e (slice_get answers j)
+  pub some-at : (c : CaseId) (place j : ℕ) (answers : List (Option Reply)) → t ≡ c.type_no → c.place ≡ place + j → calls_of_case c (told_some a t e place answers) ≡ entry_if a e (slice_get answers j)
   some-at c place j [] same is = refl
   some-at c place zero (None ∷ answers) same is = some-other c (place + 1) answers (inr (omega arith))
   some-at c place zero (Some r ∷ answers) same is =
-      let rest = on_case c (told_some a t e (place + 1) answers) in
+      let rest = calls_of_case c (told_some a t e (place + 1) answers) in
       ap (λ (b : Bool). if b then entry a e r ∷ rest else rest) (ap (λ b. b && place == c.place) (eq-eqb t c.type_no same) ∙ eq-eqb place c.place (omega arith))
       ∙ ap (λ xs. entry a e r ∷ xs) (some-other c (place + 1) answers (inr (omega arith)))
   some-at c place (suc j) (None ∷ answers) same is = some-at c (place + 1) j answers same (omega arith)
   some-at c place (suc j) (Some r ∷ answers) same is =
-      let rest = on_case c (told_some a t e (place + 1) answers) in
+      let rest = calls_of_case c (told_some a t e (place + 1) answers) in
       ap (λ (b : Bool). if b then entry a e r ∷ rest else rest) (ap (λ b. b && place == c.place) (eq-eqb t c.type_no same) ∙ ne_eqb place c.place (λ k. omega arith))
       ∙ some-at c (place + 1) j answers same (omega arith)
 
@@ -70,7 +70,7 @@ module _ (a t : ℕ) (e : Event) where
   one-at_most (Some None) = omega arith
   one-at_most None = omega arith
 
-  pub some-once : (c : CaseId) (place : ℕ) (answers : List (Option Reply)) → length (on_case c (told_some a t e place answers)) ≤ 1
+  pub some-once : (c : CaseId) (place : ℕ) (answers : List (Option Reply)) → length (calls_of_case c (told_some a t e place answers)) ≤ 1
   some-once c place answers =
       dite (ℕ_discrete t c.type_no)
       (λ (same : t ≡ c.type_no). elim (cases_lt c.place place) [
@@ -83,8 +83,8 @@ module _ (a t : ℕ) (e : Event) where
       (λ (not : t ≢ c.type_no). let none = ap length (some-other c place answers (inl not)) in omega arith)
 
   -- so it is with replies of all
-  pub each-kind : (u place : ℕ) (rs : List Reply) → on_kind u (told_each a t e place rs) ≡ []
-  each-kind u place rs = ap (on_kind u) (each-all place rs) ∙ some-kind u place (map (λ r. Some r) rs)
+  pub each-kind : (u place : ℕ) (rs : List Reply) → calls_of_kind u (told_each a t e place rs) ≡ []
+  each-kind u place rs = ap (calls_of_kind u) (each-all place rs) ∙ some-kind u place (map (λ r. Some r) rs)
 
-  pub each-once : (c : CaseId) (place : ℕ) (rs : List Reply) → length (on_case c (told_each a t e place rs)) ≤ 1
-  each-once c place rs = subst (λ calls. length (on_case c calls) ≤ 1) (sym (each-all place rs)) (some-once c place (map (λ r. Some r) rs))
+  pub each-once : (c : CaseId) (place : ℕ) (rs : List Reply) → length (calls_of_case c (told_each a t e place rs)) ≤ 1
+  each-once c place rs = subst (λ calls. length (calls_of_case c calls) ≤ 1) (sym (each-all place rs)) (some-once c place (map (λ r. Some r) rs))

@@ -3,7 +3,7 @@ use Rattle.std.specs.Prelude.{◌≡◌, ℕ, ◌≤◌, ◌==◌, List, [], ◌
 use mathlib.Core.List.{IsPrefix}
 use Rattle.case_core.specs.CaseModel.{not_created}
 use Rattle.case_core.specs.Machine.{case_after, case_reply}
-use Rattle.legal_run.specs.LineCalls.{Call, on_kind, on_case, AreCallsOfLines, lines_of}
+use Rattle.legal_run.specs.LineCalls.{Call, calls_of_kind, calls_of_case, AreCallsOfLines, lines_of}
 use Rattle.file_model.specs.declared.files.CaseDecl.{CaseDecl}
 use Rattle.file_model.specs.declared.files.File.{File}
 use Rattle.file_model.specs.declared.files.Line.{Line}
@@ -26,8 +26,8 @@ abbrev pub IsActor : File → ℕ → Type 0
 IsActor f a = (1 ≤ a) × (a ≤ length f.actors)
 
 -- how many cases a type has
-abbrev pub cases_of : File → ℕ → ℕ
-cases_of f t = count_by (λ d. d.id.type_no == t) f.cases
+abbrev pub declared_cases : File → ℕ → ℕ
+declared_cases f t = count_by (λ d. d.id.type_no == t) f.cases
 
 -- what each actor did in a phase
 abbrev pub Trace : Type 0
@@ -35,7 +35,7 @@ Trace = ℕ → List Call
 
 -- in a phase each actor did what its lines stand for, in file order
 abbrev pub IsTrace : File → List Line → Trace → Type 0
-IsTrace f lines trace = (a : ℕ) → IsActor f a → AreCallsOfLines (cases_of f) (roles_of f a) a (lines_of a lines) (trace a)
+IsTrace f lines trace = (a : ℕ) → IsActor f a → AreCallsOfLines (declared_cases f) (roles_of f a) a (lines_of a lines) (trace a)
 
 -- one trace for each phase
 abbrev pub AreTraces : File → List (List Line) → List Trace → Type 0
@@ -68,14 +68,14 @@ pub record IsLegalKind (f : File) (traces : List Trace) (t : ℕ) (d : TypeDecl)
   pub others : List KindEntry
   pub defined : k.journal ≡ entry program (event.Define d.schema) reply.Defined ∷ others
   pub callers : AreOfActors f others
-  pub calls : IsByPhases f (on_kind t) traces k.journal
+  pub calls : IsByPhases f (calls_of_kind t) traces k.journal
 
 -- a case at the end: each call is an actor's
 pub record IsLegalCase (f : File) (traces : List Trace) (d : CaseDecl) (c : ClosedCase) : Type 0 where
   pub legal : IsLegal case_after case_reply (not_created d.id.type_no) c.journal
   pub machine : c.machine ≡ state_after case_after (not_created d.id.type_no) c.journal
   pub callers : AreOfActors f c.journal
-  pub calls : IsByPhases f (on_case d.id) traces c.journal
+  pub calls : IsByPhases f (calls_of_case d.id) traces c.journal
 
 -- A legal run of a file: each type and each case of the file is legal by the same traces of its lines.
 pub record Legal (f : File) (r : Run) : Type 0 where

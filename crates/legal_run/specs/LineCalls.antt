@@ -20,20 +20,20 @@ pub data Call : Type 0 where
   of_case : (id : CaseId) → CaseEntry → Call
 
 -- the calls of one type, in order
-abbrev pub on_kind : ℕ → List Call → List KindEntry
-on_kind t [] = []
-on_kind t (of_kind u e ∷ calls) = if u == t then e ∷ on_kind t calls else on_kind t calls
-on_kind t (of_case c e ∷ calls) = on_kind t calls
+abbrev pub calls_of_kind : ℕ → List Call → List KindEntry
+calls_of_kind t [] = []
+calls_of_kind t (of_kind u e ∷ calls) = if u == t then e ∷ calls_of_kind t calls else calls_of_kind t calls
+calls_of_kind t (of_case c e ∷ calls) = calls_of_kind t calls
 
 -- the same case: of one type, and at one place there
 abbrev pub is_case : CaseId → CaseId → Bool
 is_case c d = d.type_no == c.type_no && d.place == c.place
 
 -- the calls of one case, in order
-abbrev pub on_case : CaseId → List Call → List CaseEntry
-on_case c [] = []
-on_case c (of_kind u e ∷ calls) = on_case c calls
-on_case c (of_case d e ∷ calls) = if is_case c d then e ∷ on_case c calls else on_case c calls
+abbrev pub calls_of_case : CaseId → List Call → List CaseEntry
+calls_of_case c [] = []
+calls_of_case c (of_kind u e ∷ calls) = calls_of_case c calls
+calls_of_case c (of_case d e ∷ calls) = if is_case c d then e ∷ calls_of_case c calls else calls_of_case c calls
 
 -- an actor asked a type for its newest version, and was told this one
 abbrev pub asked : ℕ → ℕ → VersionModel → Call

@@ -6,7 +6,7 @@ ghost use Rattle.file_model.specs.Reading.{file_of, finished_in, finished, at_li
 ghost use Rattle.file_model.specs.Sizes.{IsBounded};
 
 use crate::stepping::step_in;
-use file_model::{Contents, File, FileRefusal, Lines, Place, Stop, Why};
+use file_model::{Contents, File, FileRefusal, Lines, Section, Stop, Why};
 use file_state::{no_contents, refusal};
 use file_words::{first_line, is_skipped, without_return, words_of};
 use std::alloc::Global;
@@ -38,17 +38,17 @@ fn finished_in(
     contents: Contents,
     alloc: Global,
     at: u32,
-    place: Place,
+    place: Section,
 ) -> Result<File, FileRefusal>
     ensures ok { IfOk result (λ read. at_line at (finished_in place contents) ≡ Ok read) }
     ensures refused { IfErr result (λ refusal. Tells (at_line at (finished_in place contents)) refusal) }
 {
     match place {
-        Place::Head => Err(refusal(&contents, alloc, at, Why::Header)),
-        Place::Outside => Ok(into_file(contents, alloc)?),
-        Place::InType(_) => Err(refusal(&contents, alloc, at, Why::Unended)),
-        Place::InGroup(_, _) => Err(refusal(&contents, alloc, at, Why::Unended)),
-        Place::InPhase(lines) => Ok(into_file_with(contents, alloc, lines)?),
+        Section::Head => Err(refusal(&contents, alloc, at, Why::Header)),
+        Section::Outside => Ok(into_file(contents, alloc)?),
+        Section::InType(_) => Err(refusal(&contents, alloc, at, Why::Unended)),
+        Section::InGroup(_, _) => Err(refusal(&contents, alloc, at, Why::Unended)),
+        Section::InPhase(lines) => Ok(into_file_with(contents, alloc, lines)?),
     }
 }
 
@@ -63,7 +63,7 @@ fn finished(
     contents: Contents,
     alloc: Global,
     at: u32,
-    place: Place,
+    place: Section,
     left: &[u8],
 ) -> Result<File, FileRefusal>
     ensures ok { IfOk result (λ read. at_line at (finished (at_place place contents) left.now) ≡ Ok read) }
@@ -84,7 +84,7 @@ pub fn read_file(alloc: Global, bytes: &[u8]) -> Result<File, FileRefusal>
     ensures refused { IfErr result (λ refusal. Tells (file bytes.now) refusal) }
 {
     let mut contents = no_contents(alloc)?;
-    let mut place = Place::Head;
+    let mut place = Section::Head;
     let mut at = 1;
     let mut rest = bytes;
     while let Some((line, more)) = first_line(rest) {

@@ -10,7 +10,7 @@ ghost use Rattle.file_model.specs.Reading.{why_long, fitting, step_in};
 
 use file_drafts::Draft;
 use file_forms::{TypeLine, declaration_line, operation_line, script_line, type_line};
-use file_model::{Contents, FileLimit, Group, Lines, Place, Stop, Why};
+use file_model::{Contents, FileLimit, Group, Lines, Section, Stop, Why};
 use file_state::{declared, fits_in, headed, operated, scripted, typed};
 use file_words::{TooLong, first_long, is_text};
 use std::alloc::Global;
@@ -43,17 +43,17 @@ pub fn step_in(
     at: u32,
     line: &[u8],
     words: &[&[u8]],
-    place: Place,
-) -> Result<Place, Stop>
+    place: Section,
+) -> Result<Section, Stop>
     ensures ok { IfOk result (λ next. step_in place at line.now (shown words.now) contents.old ≡ Ok (at_place next contents.new)) }
     ensures refused { IfErr result (λ stop. Stops (step_in place at line.now (shown words.now) contents.old) contents.new stop) }
 {
     match place {
-        Place::Head => headed(contents, words),
-        Place::Outside => declaration_step(contents, alloc, at, line, words),
-        Place::InType(draft) => type_step(contents, alloc, at, line, words, draft),
-        Place::InPhase(lines) => script_step(contents, alloc, at, line, words, lines),
-        Place::InGroup(lines, group) => operation_step(
+        Section::Head => headed(contents, words),
+        Section::Outside => declaration_step(contents, alloc, at, line, words),
+        Section::InType(draft) => type_step(contents, alloc, at, line, words, draft),
+        Section::InPhase(lines) => script_step(contents, alloc, at, line, words, lines),
+        Section::InGroup(lines, group) => operation_step(
             contents, alloc, at, line, words, lines, group,
         ),
     }
@@ -65,9 +65,9 @@ fn declaration_step(
     at: u32,
     line: &[u8],
     words: &[&[u8]],
-) -> Result<Place, Stop>
-    ensures ok { IfOk result (λ place. step_in Place.Outside at line.now (shown words.now) contents.old ≡ Ok (at_place place contents.new)) }
-    ensures refused { IfErr result (λ stop. Stops (step_in Place.Outside at line.now (shown words.now) contents.old) contents.new stop) }
+) -> Result<Section, Stop>
+    ensures ok { IfOk result (λ place. step_in Section.Outside at line.now (shown words.now) contents.old ≡ Ok (at_place place contents.new)) }
+    ensures refused { IfErr result (λ stop. Stops (step_in Section.Outside at line.now (shown words.now) contents.old) contents.new stop) }
 {
     if !is_text(line) {
         return Err(Stop::Refused(Why::NotText));
@@ -88,9 +88,9 @@ fn type_step(
     line: &[u8],
     words: &[&[u8]],
     draft: Draft,
-) -> Result<Place, Stop>
-    ensures ok { IfOk result (λ place. step_in (Place.InType draft) at line.now (shown words.now) contents.old ≡ Ok (at_place place contents.new)) }
-    ensures refused { IfErr result (λ stop. Stops (step_in (Place.InType draft) at line.now (shown words.now) contents.old) contents.new stop) }
+) -> Result<Section, Stop>
+    ensures ok { IfOk result (λ place. step_in (Section.InType draft) at line.now (shown words.now) contents.old ≡ Ok (at_place place contents.new)) }
+    ensures refused { IfErr result (λ stop. Stops (step_in (Section.InType draft) at line.now (shown words.now) contents.old) contents.new stop) }
 {
     if !is_text(line) {
         return Err(Stop::Refused(Why::NotText));
@@ -111,9 +111,9 @@ fn script_step(
     line: &[u8],
     words: &[&[u8]],
     lines: Lines,
-) -> Result<Place, Stop>
-    ensures ok { IfOk result (λ place. step_in (Place.InPhase lines) at line.now (shown words.now) contents.old ≡ Ok (at_place place contents.new)) }
-    ensures refused { IfErr result (λ stop. Stops (step_in (Place.InPhase lines) at line.now (shown words.now) contents.old) contents.new stop) }
+) -> Result<Section, Stop>
+    ensures ok { IfOk result (λ place. step_in (Section.InPhase lines) at line.now (shown words.now) contents.old ≡ Ok (at_place place contents.new)) }
+    ensures refused { IfErr result (λ stop. Stops (step_in (Section.InPhase lines) at line.now (shown words.now) contents.old) contents.new stop) }
 {
     if !is_text(line) {
         return Err(Stop::Refused(Why::NotText));
@@ -135,9 +135,9 @@ fn operation_step(
     words: &[&[u8]],
     lines: Lines,
     group: Group,
-) -> Result<Place, Stop>
-    ensures ok { IfOk result (λ place. step_in (Place.InGroup lines group) at line.now (shown words.now) contents.old ≡ Ok (at_place place contents.new)) }
-    ensures refused { IfErr result (λ stop. Stops (step_in (Place.InGroup lines group) at line.now (shown words.now) contents.old) contents.new stop) }
+) -> Result<Section, Stop>
+    ensures ok { IfOk result (λ place. step_in (Section.InGroup lines group) at line.now (shown words.now) contents.old ≡ Ok (at_place place contents.new)) }
+    ensures refused { IfErr result (λ stop. Stops (step_in (Section.InGroup lines group) at line.now (shown words.now) contents.old) contents.new stop) }
 {
     if !is_text(line) {
         return Err(Stop::Refused(Why::NotText));

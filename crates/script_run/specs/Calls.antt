@@ -78,13 +78,13 @@ abbrev pub on_each : File → ℕ → ℕ → Event → Run → Run
 on_each f caller t e r = record { kinds = r.kinds; cases = each_of t (call_case caller e) f.cases r.cases }
 
 -- the version that a type answers where it is asked for the newest
-abbrev pub version_in : KindReply → Option VersionModel
-version_in (kind_reply.Is v) = Some v
-version_in _ = None
+abbrev pub answered_version : KindReply → Option VersionModel
+answered_version (kind_reply.Is v) = Some v
+answered_version _ = None
 
 abbrev pub newest_in : Option ClosedKind → Option VersionModel
 newest_in None = None
-newest_in (Some k) = version_in (next_kind k.machine kind_event.Newest).1
+newest_in (Some k) = answered_version (next_kind k.machine kind_event.Newest).1
 
 abbrev pub newest : ℕ → Run → Option VersionModel
 newest t r = newest_in (slice_get r.kinds t)

@@ -1,7 +1,7 @@
 // Calls of types and cases.
 ghost use Rattle.std.specs.Prelude.{◌≡◌, ◌+◌, ◌≤◌, slice_get, IfOk, IfSome, OnOk};
 ghost use Rattle.case_core.specs.Ages.{age, weight};
-ghost use Rattle.script_run.specs.Calls.{call_case, call_kind, changed_at, newest, on_case, on_each, on_kind, version_in};
+ghost use Rattle.script_run.specs.Calls.{call_case, call_kind, changed_at, newest, on_case, on_each, on_kind, answered_version};
 ghost use Rattle.script_run.specs.Oldest.{oldest};
 ghost use Rattle.script_run.specs.Parts.{run_of};
 ghost use Rattle.type_core.specs.Machine.{next_kind, weight as kind_weight};
@@ -69,7 +69,7 @@ impl Working {
             None => Ok(None),
             Some(kind) => {
                 let reply = call_kind(alloc, kind, caller, KindEvent::Newest)?;
-                Ok(version_in(reply))
+                Ok(answered_version(reply))
             }
         }
     }
@@ -134,8 +134,8 @@ impl Working {
 }
 
 // The version that a type answers where it is asked for the newest.
-fn version_in(reply: KindReply) -> Option<Version>
-    ensures { result ≡ version_in reply }
+fn answered_version(reply: KindReply) -> Option<Version>
+    ensures { result ≡ answered_version reply }
 {
     match reply {
         KindReply::Is(version) => Some(version),

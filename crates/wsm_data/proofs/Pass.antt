@@ -12,10 +12,11 @@ use Rattle.wsm_lists.proofs.Rows.{eq_means, lt_not_eq}
 use Rattle.wsm_schema.specs.SchemaModel.{SchemaModel}
 use Rattle.wsm_schema.specs.Flat.{card_of, cards_of}
 use Rattle.wsm_schema.specs.Places.{places}
-use Rattle.wsm_schema.specs.Sound.{Sure, sure_by, sure_of, first_some, missing_at, nodes_of, has_number, writes_of}
+use Rattle.wsm_schema.specs.Sound.{Sure, sure_by, sure_of, first_some, missing_at, nodes_of, writes_of}
 use Rattle.wsm_schema.specs.declared.cards.Card.{Card}
 use Rattle.wsm_schema.specs.declared.faults.DataFault.TheVariants.{Missing}
 use Rattle.wsm_schema.specs.declared.places.Place.{Place}
+use Rattle.wsm_schema.specs.Trail.{is_one_of}
 use Rattle.wsm_marks.proofs.Lists.{one_of-last}
 use Rattle.wsm_data.specs.Passes.{IsNext, Passes}
 use Rattle.wsm_data.specs.Sets.{Holds}
@@ -26,14 +27,14 @@ use Rattle.wsm_data.proofs.Firsts.{first-some, first-none}
 
 -- what a table gives for a card is sure there
 pub sure-there : (s : SchemaModel) (rows : List Behind) (seen : List ℕ) (c : Card) (set : List ℕ) → Tells s rows seen → IsNext s seen c →
-    Holds set (λ d. sure_by c.kind (map (λ e. has_number d (set_behind rows e.node)) c.ins)) → Holds set (sure_of s c.node)
+    Holds set (λ d. sure_by c.kind (map (λ e. is_one_of d (set_behind rows e.node)) c.ins)) → Holds set (sure_of s c.node)
 sure-there s rows seen c set tells next holds d =
     holds d
-    ∙ ap (sure_by c.kind) (map-same (λ e. has_number d (set_behind rows e.node)) (λ e. sure_behind s e.node d) c.ins (all-rows-map _ _ (λ e there. tells e.node d there) c.ins next.behind))
+    ∙ ap (sure_by c.kind) (map-same (λ e. is_one_of d (set_behind rows e.node)) (λ e. sure_behind s e.node d) c.ins (all-rows-map _ _ (λ e there. tells e.node d there) c.ins next.behind))
     ∙ sym (next.solved d)
 
 -- the reads that are missing are those of that set
-pub missing-there : (s : SchemaModel) (c : Card) (set : List ℕ) → Holds set (sure_of s c.node) → missing_at (λ n d. has_number d set) c ≡ missing_at (sure_of s) c
+pub missing-there : (s : SchemaModel) (c : Card) (set : List ℕ) → Holds set (sure_of s c.node) → missing_at (λ n d. is_one_of d set) c ≡ missing_at (sure_of s) c
 missing-there s c set holds = ap (option_map (λ r. _)) (λ j. find (λ r. r.1 && not (holds r.0 j)) c.reads)
 
 -- the elements of a node's writes
@@ -78,7 +79,7 @@ row-others b (x ∷ xs) n away =
 -- what a put makes of a table
 pub put-is : (test : ℕ → Bool) (b : Behind) (old new : List Behind) → Holds b.elements.value test → new ≡ put_row by_node b old → IsPut test b.node old new
 put-is test b old new holds put = record {
-  here = λ d. ap (λ rows. has_number d (set_behind rows b.node)) put ∙ ap (λ o. has_number d (set_of o)) (row-here b old) ∙ holds d;
+  here = λ d. ap (λ rows. is_one_of d (set_behind rows b.node)) put ∙ ap (λ o. is_one_of d (set_of o)) (row-here b old) ∙ holds d;
   others = λ n away. ap (λ rows. set_behind rows n) put ∙ ap set_of (row-others b old n away);
 }
 
@@ -86,8 +87,8 @@ put-is test b old new holds put = record {
 pub tells-next : (s : SchemaModel) (old new : List Behind) (seen : List ℕ) (node : ℕ) → Tells s old seen → IsPut (sure_behind s node) node old new → Tells s new (seen ++ node ∷ [])
 tells-next s old new seen node tells put n d there =
     elim (cases_Bool (eqb node n)) [
-      | inl same ↦ let here : node ≡ n = eqb-true node n same in subst (λ k. has_number d (set_behind new k) ≡ sure_behind s k d) here (put.here d)
-      | inr other ↦ ap (has_number d) (put.others n other) ∙ elim (one_of-last n seen node there) [
+      | inl same ↦ let here : node ≡ n = eqb-true node n same in subst (λ k. is_one_of d (set_behind new k) ≡ sure_behind s k d) here (put.here d)
+      | inr other ↦ ap (is_one_of d) (put.others n other) ∙ elim (one_of-last n seen node there) [
         | inl before ↦ tells n d before
         | inr here ↦ absurd (both_ways _ other (eq-eqb node n here))
       ]
@@ -112,7 +113,7 @@ first-left f xs i x found all lt is here none rest =
     rw add-one (first-none found (f x) (first_some f (drop (suc i) xs)) here none ∙ ap (first_some f) (sym (drop-cons xs i x lt ∙ ap (λ y. y ∷ drop (suc i) xs) (sym is))) ∙ rest)
 
 -- a put by what is sure
-pub put-sure : (s : SchemaModel) (node : ℕ) (set : List ℕ) (old new : List Behind) → Holds set (sure_of s node) → IsPut (λ d. has_number d set || writes_of s node d) node old new → IsPut (sure_behind s node) node old new
+pub put-sure : (s : SchemaModel) (node : ℕ) (set : List ℕ) (old new : List Behind) → Holds set (sure_of s node) → IsPut (λ d. is_one_of d set || writes_of s node d) node old new → IsPut (sure_behind s node) node old new
 put-sure s node set old new holds put = record { here = λ d. put.here d ∙ ap (λ b. b || writes_of s node d) (holds d); others = put.others }
 
 -- where nothing is read, no read misses its value
@@ -127,12 +128,12 @@ nothing-read s sure none = go (places s.start s.body s.finish)
         (sym (ap (λ rs. option_map (λ (r : ℕ × Bool). Missing p.node r.0) (find (λ (r : ℕ × Bool). r.1 && not (sure p.node r.0)) (map (λ (r : ℕ × ℕ × Bool). (r.1, r.2)) (filter (λ r. eqb r.0 p.node) rs)))) none))
 
 -- where all that is written is in a set, it adds nothing
-pub written-there : (d : ℕ) (set : List ℕ) (ws : List (ℕ × ℕ)) → list_all (λ w. has_number w.1 set) ws ≡ true → has_number d set ≡ (has_number d set || list_any (λ w. eqb w.1 d) ws)
-written-there d set [] all = or_swap false (has_number d set)
+pub written-there : (d : ℕ) (set : List ℕ) (ws : List (ℕ × ℕ)) → list_all (λ w. is_one_of w.1 set) ws ≡ true → is_one_of d set ≡ (is_one_of d set || list_any (λ w. eqb w.1 d) ws)
+written-there d set [] all = or_swap false (is_one_of d set)
 written-there d set (w ∷ ws) all =
-    let parts = and_parts (has_number w.1 set) _ all in
+    let parts = and_parts (is_one_of w.1 set) _ all in
     has-there d w.1 set parts.0 ∙ ap (λ b. b || eqb w.1 d) (written-there d set ws parts.1)
-    ∙ or_last (has_number d set) (list_any (λ v. eqb v.1 d) ws) (eqb w.1 d)
+    ∙ or_last (is_one_of d set) (list_any (λ v. eqb v.1 d) ws) (eqb w.1 d)
   where
     or_last : (a b c : Bool) → ((a || b) || c) ≡ (a || (c || b))
     or_last true b c = refl

@@ -10,16 +10,17 @@ use Rattle.wsm_lists.proofs.Lists.{all_rows, rows-map}
 use Rattle.wsm_schema.specs.SchemaModel.{SchemaModel}
 use Rattle.wsm_schema.specs.Flat.{card_of, cards_of}
 use Rattle.wsm_schema.specs.Places.{places}
-use Rattle.wsm_schema.specs.Sound.{first_some, has_number, parts_apart, synced, parallel_write, parallel_writes}
+use Rattle.wsm_schema.specs.Sound.{first_some, parts_apart, synced, parallel_write, parallel_writes}
 use Rattle.wsm_schema.specs.declared.cards.Card.{Card}
 use Rattle.wsm_schema.specs.declared.faults.DataFault.TheVariants.{ParallelWrite}
 use Rattle.wsm_schema.specs.declared.places.Place.{Place}
+use Rattle.wsm_schema.specs.Trail.{is_one_of}
 use Rattle.wsm_data.specs.Sets.{number, InOrder, WritesInOrder}
 
 no-write : (s : SchemaModel) (a b : Card) → a.writes ≡ [] → parallel_write s a b ≡ None
 no-write s a b none =
     elim (cases_Bool (parts_apart s.body a.node b.node && not (synced s a.node b.node))) [
-      | inl test ↦ rw test (ap (λ ws. option_map (ParallelWrite a.node b.node) (find (λ d. has_number d b.writes) ws)) none)
+      | inl test ↦ rw test (ap (λ ws. option_map (ParallelWrite a.node b.node) (find (λ d. is_one_of d b.writes) ws)) none)
       | inr test ↦ rw test refl
     ]
 

@@ -1,8 +1,8 @@
 -- Sets of numbers: lists that ascend.
 use Rattle.std.specs.Prelude.{◌≡◌, ◌<◌, ℕ, Bool, List}
 use Rattle.wsm_lists.specs.Rows.{AllRows, Ascends}
-use Rattle.wsm_schema.specs.Sound.{has_number}
 use Rattle.wsm_schema.specs.declared.cards.Card.{Card}
+use Rattle.wsm_schema.specs.Trail.{is_one_of}
 
 -- the key of a number
 abbrev pub number : ℕ → ℕ × ℕ
@@ -10,7 +10,7 @@ number n = (n, 0)
 
 -- a set has the numbers that pass a test
 abbrev pub Holds : List ℕ → (ℕ → Bool) → Type 0
-Holds set test = (d : ℕ) → has_number d set ≡ test d
+Holds set test = (d : ℕ) → is_one_of d set ≡ test d
 
 -- numbers that ascend
 abbrev pub InOrder : List ℕ → Type 0

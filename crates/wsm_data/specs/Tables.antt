@@ -2,7 +2,7 @@
 use Rattle.std.specs.Prelude.{◌≡◌, ℕ, Bool, true, false, ◌||◌, ◌==◌, List, [], Option, Some, None}
 use Rattle.wsm_lists.specs.Rows.{row_at}
 use Rattle.wsm_schema.specs.SchemaModel.{SchemaModel}
-use Rattle.wsm_schema.specs.Sound.{sure_of, writes_of, has_number}
+use Rattle.wsm_schema.specs.Sound.{sure_of, writes_of}
 use Rattle.wsm_schema.specs.Trail.{is_one_of}
 use Rattle.wsm_data.specs.declared.tables.Behind.{Behind}
 
@@ -25,9 +25,9 @@ sure_behind s n d = sure_of s n d || writes_of s n d
 
 -- a table says so of these nodes
 abbrev pub Tells : SchemaModel → List Behind → List ℕ → Type 0
-Tells s rows nodes = (n d : ℕ) → is_one_of n nodes ≡ true → has_number d (set_behind rows n) ≡ sure_behind s n d
+Tells s rows nodes = (n d : ℕ) → is_one_of n nodes ≡ true → is_one_of d (set_behind rows n) ≡ sure_behind s n d
 
 -- one row more, or in place of another: the node's set has what passes a test, and those of other nodes are as before
 pub record IsPut (test : ℕ → Bool) (node : ℕ) (old new : List Behind) : Type 0 where
-  pub here : (d : ℕ) → has_number d (set_behind new node) ≡ test d
+  pub here : (d : ℕ) → is_one_of d (set_behind new node) ≡ test d
   pub others : (n : ℕ) → (node == n) ≡ false → set_behind new n ≡ set_behind old n

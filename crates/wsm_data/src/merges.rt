@@ -1,7 +1,7 @@
 // What two ascending lists of elements share, and both together.
 ghost use Rattle.std.specs.Prelude.{◌≡◌, find, IsTrue, IfOk, ◌&&◌};
-ghost use Rattle.wsm_schema.specs.Sound.{has_number};
 ghost use Rattle.wsm_data.specs.Sets.{InOrder, AllBelow, Holds};
+ghost use Rattle.wsm_schema.specs.Trail.{is_one_of};
 
 use std::alloc::Global;
 use wsm_lists::NoMemory;
@@ -10,7 +10,7 @@ use wsm_lists::NoMemory;
 pub fn shared_element(elements: &[u32], others: &[u32]) -> Option<u32>
     requires first { InOrder elements.now }
     requires second { InOrder others.now }
-    ensures { result ≡ find (λ d. has_number d others.now) elements.now }
+    ensures { result ≡ find (λ d. is_one_of d others.now) elements.now }
 {
     if are_below(elements, others) || are_below(others, elements) {
         return None;
@@ -34,7 +34,7 @@ fn are_below(lower: &[u32], upper: &[u32]) -> bool
 fn first_shared(elements: &[u32], others: &[u32]) -> Option<u32>
     requires first { InOrder elements.now }
     requires second { InOrder others.now }
-    ensures { result ≡ find (λ d. has_number d others.now) elements.now }
+    ensures { result ≡ find (λ d. is_one_of d others.now) elements.now }
 {
     let mut i = 0;
     let mut j = 0;
@@ -60,7 +60,7 @@ pub fn shared_elements(
     requires first { InOrder elements.now }
     requires second { InOrder others.now }
     ensures order { IfOk result (λ new. InOrder new.items) }
-    ensures members { IfOk result (λ new. Holds new.items (λ d. has_number d elements.now && has_number d others.now)) }
+    ensures members { IfOk result (λ new. Holds new.items (λ d. is_one_of d elements.now && is_one_of d others.now)) }
 {
     let mut shared = Vec::new(alloc);
     let mut i = 0;

@@ -2,7 +2,8 @@
 ghost use Rattle.std.specs.Prelude.{◌≡◌, ◌||◌, ◌==◌, None, IfOk, OnOk};
 ghost use Rattle.std.specs.List.{list_all, list_any};
 ghost use Rattle.wsm_schema.specs.Flat.{flat_of, cards_of};
-ghost use Rattle.wsm_schema.specs.Sound.{block_fault, first_some, has_number, missing_at, sure_of, writes_of};
+ghost use Rattle.wsm_schema.specs.Sound.{block_fault, first_some, missing_at, sure_of, writes_of};
+ghost use Rattle.wsm_schema.specs.Trail.{is_one_of};
 ghost use Rattle.wsm_data.specs.Tables.{IsPut};
 ghost use Rattle.wsm_data.specs.Sets.{Holds};
 
@@ -14,7 +15,7 @@ use wsm_schema::{Card, DataFault, Flat, NoMemory, Schema};
 
 // The first mandatory read of a card whose element is not one of those that are sure there.
 fn missing_at(sure: &ElementSet, card: &Card) -> Option<DataFault>
-    ensures { result ≡ missing_at (λ n d. has_number d sure.now) card.now }
+    ensures { result ≡ missing_at (λ n d. is_one_of d sure.now) card.now }
 {
     for read in card.reads.as_slice() {
         if read.1 && !sure.contains(read.0) {
@@ -57,7 +58,7 @@ fn put_behind(
     node: u32,
     sure: Arc<ElementSet>,
 ) -> Result<(), NoMemory>
-    ensures { OnOk result (IsPut (λ d. has_number d sure.value || writes_of schema.now node d) node table.old table.new) }
+    ensures { OnOk result (IsPut (λ d. is_one_of d sure.value || writes_of schema.now node d) node table.old table.new) }
 {
     let elements = with_written(alloc, sure, schema.writes.rows_of(node))?;
     table.set(Behind { node, elements })
@@ -69,7 +70,7 @@ fn with_written(
     set: Arc<ElementSet>,
     writes: &[(u32, u32)],
 ) -> Result<Arc<ElementSet>, NoMemory>
-    ensures { IfOk result (λ new. Holds new.value (λ d. has_number d set.value || list_any (λ w. w.1 == d) writes.now)) }
+    ensures { IfOk result (λ new. Holds new.value (λ d. is_one_of d set.value || list_any (λ w. w.1 == d) writes.now)) }
 {
     if has_written(&set, writes) {
         return Ok(set);
@@ -81,7 +82,7 @@ fn with_written(
 
 // Whether all elements that are written are in the set.
 fn has_written(set: &ElementSet, writes: &[(u32, u32)]) -> bool
-    ensures { result ≡ list_all (λ w. has_number w.1 set.now) writes.now }
+    ensures { result ≡ list_all (λ w. is_one_of w.1 set.now) writes.now }
 {
     for write in writes {
         if !set.contains(write.1) {
@@ -93,7 +94,7 @@ fn has_written(set: &ElementSet, writes: &[(u32, u32)]) -> bool
 
 // The set with the elements that are written too.
 fn add_written(set: &mut ElementSet, writes: &[(u32, u32)]) -> Result<(), NoMemory>
-    ensures { OnOk result (Holds set.new (λ d. has_number d set.old || list_any (λ w. w.1 == d) writes.now)) }
+    ensures { OnOk result (Holds set.new (λ d. is_one_of d set.old || list_any (λ w. w.1 == d) writes.now)) }
 {
     for write in writes {
         set.add(write.1)?;

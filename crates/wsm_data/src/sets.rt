@@ -1,7 +1,7 @@
 // Sets of elements.
 ghost use Rattle.std.specs.Prelude.{◌≡◌, ◌==◌, ◌||◌, ◌&&◌, ◌≤◌, [], length, IfOk, OnOk};
 ghost use Rattle.wsm_lists.specs.Rows.{rows_below, key_lt};
-ghost use Rattle.wsm_schema.specs.Sound.{has_number};
+ghost use Rattle.wsm_schema.specs.Trail.{is_one_of};
 ghost use Rattle.wsm_data.specs.Sets.{number, Holds, InOrder};
 
 use crate::merges::shared_elements;
@@ -55,7 +55,7 @@ impl ElementSet {
 
     /// Whether the element is one of the set, by a binary search.
     pub fn contains(&self, element: u32) -> bool
-        ensures { result ≡ has_number element self.now }
+        ensures { result ≡ is_one_of element self.now }
     {
         let at = place_of(&self.numbers, element);
         stands_at(&self.numbers, at, element)
@@ -63,7 +63,7 @@ impl ElementSet {
 
     /// The set with one element more.
     pub fn add(&mut self, element: u32) -> Result<(), NoMemory>
-        ensures { OnOk result (Holds self.new (λ d. has_number d self.old || element == d)) }
+        ensures { OnOk result (Holds self.new (λ d. is_one_of d self.old || element == d)) }
     {
         let at = place_of(&self.numbers, element);
         if stands_at(&self.numbers, at, element) {
@@ -75,7 +75,7 @@ impl ElementSet {
 
     /// The set with these elements too.
     pub fn add_all(&mut self, elements: &[u32]) -> Result<(), NoMemory>
-        ensures { OnOk result (Holds self.new (λ d. has_number d self.old || has_number d elements.now)) }
+        ensures { OnOk result (Holds self.new (λ d. is_one_of d self.old || is_one_of d elements.now)) }
     {
         for element in elements {
             self.add(*element)?;
@@ -86,7 +86,7 @@ impl ElementSet {
     /// What the set and a list in order share.
     pub fn common(&self, alloc: Global, elements: &[u32]) -> Result<ElementSet, NoMemory>
         requires { InOrder elements.now }
-        ensures { IfOk result (λ new. Holds new (λ d. has_number d self.now && has_number d elements.now)) }
+        ensures { IfOk result (λ new. Holds new (λ d. is_one_of d self.now && is_one_of d elements.now)) }
     {
         Ok(ElementSet {
             numbers: shared_elements(alloc, &self.numbers, elements)?,
@@ -113,7 +113,7 @@ fn is_below(a: u32, b: u32) -> bool
 fn stands_at(numbers: &[u32], at: usize, element: u32) -> bool
     requires order { InOrder numbers.now }
     requires place { at ≡ rows_below number (element, 0) numbers.now }
-    ensures { result ≡ has_number element numbers.now }
+    ensures { result ≡ is_one_of element numbers.now }
 {
     at < numbers.len() && numbers[at] == element
 }

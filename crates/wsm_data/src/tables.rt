@@ -1,7 +1,8 @@
 // Tables of the elements that have a value behind nodes, and the set of a node from those of its sources.
 ghost use Rattle.std.specs.Prelude.{◌≡◌, ◌<◌, map, length, IfOk};
 ghost use Rattle.std.specs.List.{list_all, list_any};
-ghost use Rattle.wsm_schema.specs.Sound.{has_number, sure_by};
+ghost use Rattle.wsm_schema.specs.Sound.{sure_by};
+ghost use Rattle.wsm_schema.specs.Trail.{is_one_of};
 ghost use Rattle.wsm_marks.specs.Loops.{HasEdge};
 ghost use Rattle.wsm_data.specs.Sets.{Holds, InOrder};
 ghost use Rattle.wsm_data.specs.Tables.{by_node, set_behind};
@@ -39,7 +40,7 @@ pub type BehindTable = Table<ByBehind>;
 /// source, elsewhere those behind all.
 pub fn sure_at(alloc: Global, table: &BehindTable, card: &Card) -> Result<Arc<ElementSet>, NoMemory>
     requires { HasEdge card.now.kind card.now.ins }
-    ensures { IfOk result (λ set. Holds set.value (λ d. sure_by card.now.kind (map (λ e. has_number d (set_behind table.now e.node)) card.now.ins))) }
+    ensures { IfOk result (λ set. Holds set.value (λ d. sure_by card.now.kind (map (λ e. is_one_of d (set_behind table.now e.node)) card.now.ins))) }
 {
     match card.kind {
         NodeKind::Start => shared(alloc, ElementSet::new(alloc)),
@@ -89,7 +90,7 @@ fn behind_some(
     ends: &[End],
 ) -> Result<Arc<ElementSet>, NoMemory>
     requires { 0 < length ends.now }
-    ensures { IfOk result (λ set. Holds set.value (λ d. list_any (λ b. b) (map (λ e. has_number d (set_behind table.now e.node)) ends.now))) }
+    ensures { IfOk result (λ set. Holds set.value (λ d. list_any (λ b. b) (map (λ e. is_one_of d (set_behind table.now e.node)) ends.now))) }
 {
     let first = share_behind(alloc, table, ends[0].node)?;
     let mut set = first.copy(alloc)?;
@@ -102,7 +103,7 @@ fn behind_some(
 // The elements that are sure behind all sources.
 fn behind_all(alloc: Global, table: &BehindTable, ends: &[End]) -> Result<Arc<ElementSet>, NoMemory>
     requires { 0 < length ends.now }
-    ensures { IfOk result (λ set. Holds set.value (λ d. list_all (λ b. b) (map (λ e. has_number d (set_behind table.now e.node)) ends.now))) }
+    ensures { IfOk result (λ set. Holds set.value (λ d. list_all (λ b. b) (map (λ e. is_one_of d (set_behind table.now e.node)) ends.now))) }
 {
     let mut set = share_behind(alloc, table, ends[0].node)?;
     for i in 1..ends.len() {

@@ -19,7 +19,7 @@ use Rattle.wsm_schema.specs.Marks.{Facts}
 use Rattle.wsm_lists.proofs.Lists.{all_rows, map-same}
 use Rattle.wsm_schema.proofs.Rounds.{card_at-node}
 use Rattle.wsm_marks.specs.Solving.{solution}
-use Rattle.wsm_marks.specs.Timed.{InTime, IsBelow, Kept, Marking, Solves, Timed, before, begun_or, below, early, ended_signal, sig_at, sig_by, sig_of, spot_before, time, verdict_of}
+use Rattle.wsm_marks.specs.Timed.{InTime, IsBelow, KeptSpots, Marking, Solves, Timed, before, begun_or, below, early, ended_signal, sig_at, sig_by, sig_of, spot_before, time, verdict_of}
 use Rattle.wsm_marks.proofs.Cards.{same_card}
 use Rattle.wsm_marks.proofs.Lists.{map-map}
 use Rattle.wsm_marks.proofs.RankInduction.{in_rank}
@@ -131,7 +131,7 @@ module _ (cards : List Card) (rank : List ℕ) (f : Facts) (m : Marking) (net : 
       ∙ threshold q pos c.kind (map sig c.ins) (map (sig_at cards f m None) c.syncs_in)
       ∙ ap (λ x. verdict_of (before q x)) (sym (net.solves.meets n c e))
 
-  below-meets : (q : ℕ) → nat_lt 0 q ≡ true → InTime cards q f m → (old : Spots) → Kept cards q f old → Meets cards old (below cards q f m)
+  below-meets : (q : ℕ) → nat_lt 0 q ≡ true → InTime cards q f m → (old : Spots) → KeptSpots cards q f old → Meets cards old (below cards q f m)
   below-meets q pos in_time old kept n c e =
       let named : c.node ≡ n = card_at-node n cards c e in
       let s : Spot = spot n (state_by c.kind (verdict_of (before q (m n)))) None in
@@ -147,13 +147,13 @@ module _ (cards : List Card) (rank : List ℕ) (f : Facts) (m : Marking) (net : 
       settled cards old rank net.ranked h meets (length cards) s.0 s.1 n c s.2 e (omega (arith, net.ranked.size, ap length s.2, length-append s.0 (n ∷ s.1)))
 
   -- where only ready nodes were started and only started ones ended, the settled net of what was begun before q is the marking before q
-  pub causality : (q : ℕ) → nat_lt 0 q ≡ true → InTime cards q f m → (old : Spots) → Kept cards q f old → IsBelow cards q f m (settle cards old)
+  pub causality : (q : ℕ) → nat_lt 0 q ≡ true → InTime cards q f m → (old : Spots) → KeptSpots cards q f old → IsBelow cards q f m (settle cards old)
   causality q pos in_time old kept = record {
     at = λ n c e. settle-is old (below cards q f m) (below-meets q pos in_time old kept) n c e ∙ spot_in-below cards q f m n c e;
   }
 
   -- ---- between two numbers with the same facts before them nothing changes
-  pub kept-below : (q : ℕ) → InTime cards q f m → (t : Spots) → IsBelow cards q f m t → Kept cards q f t
+  pub kept-below : (q : ℕ) → InTime cards q f m → (t : Spots) → IsBelow cards q f m t → KeptSpots cards q f t
   kept-below q in_time t is_below = record { is = λ n c e s. rw (is_below.at n c e) (go n c e s) }
     where
       go : (n : ℕ) (c : Card) → card_at n cards ≡ Some c → (s : Spot) → (if is_begun c.kind (spot_before q f m c.kind n).state then spot_before q f m c.kind n else s) ≡ begun_or q f n s

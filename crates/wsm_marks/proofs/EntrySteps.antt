@@ -18,7 +18,7 @@ use Rattle.wsm_schema.specs.declared.states.State.TheVariants as state
 use Rattle.wsm_lists.specs.declared.values.Value.{Value}
 use Rattle.std.proofs.Math.Bool.{or-false}
 use Rattle.wsm_marks.specs.Fits.{InOrder, Quiet, Tells, fits, partner_done}
-use Rattle.wsm_marks.specs.Timed.{InTime, IsBelow, Kept, Marking, before, begun_or, early, verdict_of}
+use Rattle.wsm_marks.specs.Timed.{InTime, IsBelow, KeptSpots, Marking, before, begun_or, early, verdict_of}
 use Rattle.wsm_marks.proofs.Cards.{on_card-same, on_card-true}
 use Rattle.wsm_marks.proofs.Causality.{TimedNet, causality, kept-below, works_before}
 use Rattle.wsm_marks.proofs.Lists.{lt-suc_self, not_before_itself}
@@ -67,7 +67,7 @@ ended-by f p (entry.Wrote writes) n order same = absurd (both_ways _ refl same)
 
 module _ (g : FlatModel) (rank : List ℕ) (f : Facts) (m : Marking) (net : TimedNet g.cards rank f m) where
   -- where nothing is told between, what was begun stays
-  pub kept-later : (a b : ℕ) → Quiet f a b → (t : Spots) → Kept g.cards a f t → Kept g.cards b f t
+  pub kept-later : (a b : ℕ) → Quiet f a b → (t : Spots) → KeptSpots g.cards a f t → KeptSpots g.cards b f t
   kept-later a b quiet t kept = record { is = λ n c e s. kept.is n c e s ∙ sym (begun_or-quiet f a b quiet n s) }
 
   -- between two numbers with the same facts before them the marking is one
@@ -144,7 +144,7 @@ module _ (g : FlatModel) (rank : List ℕ) (f : Facts) (m : Marking) (net : Time
           let kept = kept-below g.cards rank f m net p in_time t is_below in
           rw (en, st) (kept.is k c e s)
 
-      start-kept : (node user : ℕ) (reads : List (ℕ × Option Value)) → Tells f last p (entry.Start node user reads) → Kept g.cards (suc p) f (spot node state.Running None ∷ t)
+      start-kept : (node user : ℕ) (reads : List (ℕ × Option Value)) → Tells f last p (entry.Start node user reads) → KeptSpots g.cards (suc p) f (spot node state.Running None ∷ t)
       start-kept node user reads tells = record {
         is = λ k c e s. elim (cases_Bool (eqb node k)) [
           | inl same ↦
@@ -157,7 +157,7 @@ module _ (g : FlatModel) (rank : List ℕ) (f : Facts) (m : Marking) (net : Time
         ];
       }
 
-      end-kept : (node : ℕ) (writes : List (ℕ × Value)) (choice : Option ℕ) → Tells f last p (entry.End node writes choice) → Kept g.cards (suc p) f (spot node state.Completed choice ∷ t)
+      end-kept : (node : ℕ) (writes : List (ℕ × Value)) (choice : Option ℕ) → Tells f last p (entry.End node writes choice) → KeptSpots g.cards (suc p) f (spot node state.Completed choice ∷ t)
       end-kept node writes choice tells = record {
         is = λ k c e s. elim (cases_Bool (eqb node k)) [
           | inl same ↦

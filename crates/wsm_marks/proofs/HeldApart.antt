@@ -11,13 +11,14 @@ use Rattle.wsm_schema.specs.Flat.{flat_of, card_at, card_of, cards_of}
 use Rattle.wsm_schema.specs.Rank.{IsRank}
 use Rattle.wsm_schema.specs.Rules.{Spots, spot_in, is_yes, is_ready, is_skipped}
 use Rattle.wsm_schema.specs.Replay.{is_in_state, replay_of, whole}
-use Rattle.wsm_schema.specs.Sound.{block_fault, data_fault, first_some, has_number, is_worked_on_in, missing_at, parallel_write, parallel_writes, parts_apart, sure_of, synced, unknown, writes_of}
+use Rattle.wsm_schema.specs.Sound.{block_fault, data_fault, first_some, is_worked_on_in, missing_at, parallel_write, parallel_writes, parts_apart, sure_of, synced, unknown, writes_of}
 use Rattle.wsm_schema.specs.Marks.{Facts, facts_of}
 use Rattle.wsm_schema.specs.declared.cards.Card.{Card}
 use Rattle.wsm_schema.specs.declared.states.Flow.TheVariants.{Yes}
 use Rattle.wsm_schema.specs.declared.states.State.TheVariants as state
 use Rattle.wsm_schema.specs.declared.states.Verdict.TheVariants as verdict
 use Rattle.wsm_schema.proofs.Rounds.{all-rows-card_at, card_at-node}
+use Rattle.wsm_schema.specs.Trail.{is_one_of}
 use Rattle.wsm_lists.proofs.Lists.{all-rows-map, all_rows, rows-map}
 use Rattle.wsm_marks.specs.Fits.{RisesAfter}
 use Rattle.wsm_marks.specs.Schemas.{HasCard, Regular}
@@ -131,19 +132,19 @@ pair-checked s (x ∷ xs) a b c d none at_a at_b other =
           ]
     ]
 
-no_common : (e : ℕ) (xs ys : List ℕ) → AllRows (λ x. has_number x ys ≡ false) xs → has_number e xs ≡ true → has_number e ys ≡ true → ⊥
+no_common : (e : ℕ) (xs ys : List ℕ) → AllRows (λ x. is_one_of x ys ≡ false) xs → is_one_of e xs ≡ true → is_one_of e ys ≡ true → ⊥
 no_common e [] ys rows in_x in_y = both_ways _ refl in_x
 no_common e (x ∷ xs) ys rows in_x in_y =
     elim (or_cases (eqb x e) _ in_x) [
-      | inl it ↦ both_ways _ (ap (λ k. has_number k ys) (sym (eqb-true x e it)) ∙ rows.0) in_y
+      | inl it ↦ both_ways _ (ap (λ k. is_one_of k ys) (sym (eqb-true x e it)) ∙ rows.0) in_y
       | inr later ↦ no_common e xs ys rows.1 later in_y
     ]
 
 -- two nodes in different branches, with no sync edge between them, write no common element
 write-apart : (s : SchemaModel) (c d : Card) (e : ℕ) → parallel_write s c d ≡ None → parts_apart s.body c.node d.node ≡ true → synced s c.node d.node ≡ false →
-    has_number e c.writes ≡ true → has_number e d.writes ≡ true → ⊥
+    is_one_of e c.writes ≡ true → is_one_of e d.writes ≡ true → ⊥
 write-apart s c d e none apart free in_c in_d =
-    no_common e c.writes d.writes (none-found (λ x. has_number x d.writes) c.writes (no_map _ _ (rw (apart, free) at none))) in_c in_d
+    no_common e c.writes d.writes (none-found (λ x. is_one_of x d.writes) c.writes (no_map _ _ (rw (apart, free) at none))) in_c in_d
 
 -- the last clause on data
 parallel-clause : (s : SchemaModel) → data_fault s ≡ None → parallel_writes s (cards_of s) ≡ None

@@ -13,8 +13,8 @@ use Rattle.wsm_schema.specs.Rank.{IsRank}
 use Rattle.wsm_schema.specs.Rules.{Spots, is_yes, is_ready, is_skipped}
 use Rattle.wsm_schema.specs.Replay.{fits_edges, fits_choice, replay_of, whole}
 use Rattle.wsm_schema.specs.Marks.{Facts, facts_of, is_end_of}
-use Rattle.wsm_schema.specs.Trail.{value_below, written_by}
-use Rattle.wsm_schema.specs.Sound.{Sure, none_sure, sure_by, sure_at, sure_of, missing_at, has_number, writes_of, data_fault}
+use Rattle.wsm_schema.specs.Trail.{is_one_of, value_below, written_by}
+use Rattle.wsm_schema.specs.Sound.{Sure, none_sure, sure_by, sure_at, sure_of, missing_at, writes_of, data_fault}
 use Rattle.wsm_schema.specs.declared.cards.Card.{Card}
 use Rattle.wsm_schema.specs.declared.cards.End.{End}
 use Rattle.wsm_schema.specs.declared.cards.NodeKind.{NodeKind}
@@ -130,7 +130,7 @@ yes-sourced k None (Some u) choice label h =
 module _ (s : SchemaModel) (regular : Regular s) (writers : WritersWork s) (es : Entries) (m : Marking) (solves : Solves (cards_of s) (facts_of es) m) (orderly : Orderly es)
     (fit : AllRows (λ e. fits (flat_of s) (facts_of es) m (λ d. value_below d e.0 es) e.0 e.1 ≡ true) es) where
   -- what a node that was ended writes is there behind its End
-  written-by_end : (n u d : ℕ) (c : Card) → card_at n (cards_of s) ≡ Some c → (facts_of es).ended n ≡ Some u → has_number d c.writes ≡ true → is_some (value_below d (suc u) es) ≡ true
+  written-by_end : (n u d : ℕ) (c : Card) → card_at n (cards_of s) ≡ Some c → (facts_of es).ended n ≡ Some u → is_one_of d c.writes ≡ true → is_some (value_below d (suc u) es) ≡ true
   written-by_end n u d c at h listed =
       let x = position-found (is_end_of n) es u h in
       let q = found-row (λ e. fits (flat_of s) (facts_of es) m (λ d. value_below d e.0 es) e.0 e.1 ≡ true) (is_end_of n) es (u, x.0) fit x.1 in

@@ -12,8 +12,8 @@ use Rattle.wsm_schema.specs.Places.{places}
 use Rattle.wsm_schema.specs.Flat.{card_at, card_of, cards_of}
 use Rattle.wsm_schema.specs.Kinds.{worked_on}
 use Rattle.wsm_schema.specs.Replay.{fits_edges}
-use Rattle.wsm_schema.specs.Trail.{value_below, later_or, written_by}
-use Rattle.wsm_schema.specs.Sound.{has_number, writes_of, is_worked_on_in, unknown, data_fault}
+use Rattle.wsm_schema.specs.Trail.{is_one_of, later_or, value_below, written_by}
+use Rattle.wsm_schema.specs.Sound.{writes_of, is_worked_on_in, unknown, data_fault}
 use Rattle.wsm_schema.specs.declared.cards.Card.{Card}
 use Rattle.wsm_schema.specs.declared.entries.Entry.{Entry}
 use Rattle.wsm_schema.specs.declared.places.Place.{Place}
@@ -69,7 +69,7 @@ value-of_entry d p q x test (e ∷ es) found soon h =
     ]
 
 -- writes that fit the write edges give each of their elements a value
-pub edges-write : (elements : List (ℕ × ElementKind)) (d : ℕ) (ws : Written) (ds : List ℕ) → fits_edges elements ws ds ≡ true → has_number d ds ≡ true → is_some (value_in d ws) ≡ true
+pub edges-write : (elements : List (ℕ × ElementKind)) (d : ℕ) (ws : Written) (ds : List ℕ) → fits_edges elements ws ds ≡ true → is_one_of d ds ≡ true → is_some (value_in d ws) ≡ true
 edges-write elements d [] [] fit h = absurd (both_ways _ refl h)
 edges-write elements d [] (x ∷ ds) fit h = absurd (both_ways _ refl fit)
 edges-write elements d (w ∷ ws) [] fit h = absurd (both_ways _ refl fit)
@@ -83,7 +83,7 @@ edges-write elements d (w ∷ ws) (x ∷ ds) fit h =
 
 -- ---- what a schema's data owes
 -- the writes of a node are listed there
-writes-listed : (n d : ℕ) (ws : List (ℕ × ℕ)) → list_any (λ w. eqb w.0 n && eqb w.1 d) ws ≡ true → has_number d (map (λ w. w.1) (filter (λ w. eqb w.0 n) ws)) ≡ true
+writes-listed : (n d : ℕ) (ws : List (ℕ × ℕ)) → list_any (λ w. eqb w.0 n && eqb w.1 d) ws ≡ true → is_one_of d (map (λ w. w.1) (filter (λ w. eqb w.0 n) ws)) ≡ true
 writes-listed n d [] h = h
 writes-listed n d (w ∷ ws) h =
     elim (cases_Bool (eqb w.0 n)) [
@@ -95,9 +95,9 @@ writes-listed n d (w ∷ ws) h =
 
 module _ (s : SchemaModel) (regular : Regular s) where
   -- the card of a node has the writes of the node
-  pub card-writes : (n d : ℕ) (c : Card) → card_at n (cards_of s) ≡ Some c → writes_of s n d ≡ true → has_number d c.writes ≡ true
+  pub card-writes : (n d : ℕ) (c : Card) → card_at n (cards_of s) ≡ Some c → writes_of s n d ≡ true → is_one_of d c.writes ≡ true
   card-writes n d c at h =
-      all-rows-card_at (λ x. writes_of s x.node d ≡ true → has_number d x.writes ≡ true) n (cards_of s) c
+      all-rows-card_at (λ x. writes_of s x.node d ≡ true → is_one_of d x.writes ≡ true) n (cards_of s) c
       (rows-map _ (card_of s) (places s.start s.body s.finish) (all_rows _ (λ p. writes-listed p.node d s.writes) (places s.start s.body s.finish))) at
       (ap (λ k. writes_of s k d) (card_at-node n (cards_of s) c at) ∙ h)
 

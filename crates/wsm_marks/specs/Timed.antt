@@ -128,7 +128,7 @@ pub record InTime (cards : List Card) (q : ℕ) (f : Facts) (m : Marking) : Type
   pub end : (n : ℕ) → early q (f.ended n) ≡ true → early q (f.started n) ≡ true
 
 -- what was begun in a table are the facts before q
-pub record Kept (cards : List Card) (q : ℕ) (f : Facts) (old : Spots) : Type 0 where
+pub record KeptSpots (cards : List Card) (q : ℕ) (f : Facts) (old : Spots) : Type 0 where
   pub is : (n : ℕ) (c : Card) → card_at n cards ≡ Some c → (s : Spot) →
       (if is_begun c.kind (spot_in n old).state then spot_in n old else s) ≡ begun_or q f n s
 

@@ -185,10 +185,6 @@ Sure = ℕ → ℕ → Bool
 abbrev pub none_sure : Sure
 none_sure n d = false
 
--- whether a number is listed
-abbrev pub has_number : ℕ → List ℕ → Bool
-has_number d ds = list_any (λ x. x == d) ds
-
 -- whether a node writes an element
 abbrev pub writes_of : SchemaModel → ℕ → ℕ → Bool
 writes_of s n d = list_any (λ w. w.0 == n && w.1 == d) s.writes
@@ -220,7 +216,7 @@ synced s a b = list_any (λ e. (e.0 == a && e.1 == b) || (e.0 == b && e.1 == a))
 abbrev pub parallel_write : SchemaModel → Card → Card → Option DataFault
 parallel_write s a b =
     if parts_apart s.body a.node b.node && not (synced s a.node b.node)
-    then option_map (ParallelWrite a.node b.node) (find (λ d. has_number d b.writes) a.writes)
+    then option_map (ParallelWrite a.node b.node) (find (λ d. is_one_of d b.writes) a.writes)
     else None
 
 -- the first two nodes of which that is so

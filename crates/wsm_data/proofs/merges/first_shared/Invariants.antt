@@ -1,12 +1,12 @@
 use Rattle.std.proofs.Common.{◌≡◌, ◌+◌, ◌-◌, drop, length}
 use Rattle.std.specs.Prelude.{find}
-use Rattle.wsm_schema.specs.Sound.{has_number}
 use Rattle.wsm_data.specs.Sets.{InOrder}
+use Rattle.wsm_schema.specs.Trail.{is_one_of}
 use Rattle.wsm_data.proofs.merges.first_shared.Given as goal
 
 abbrev pub invariant-both : goal.invariant-both
 invariant-both l = record {
-  rest : find (λ d. has_number d (drop l.j l.others)) (drop l.i l.elements) ≡ find (λ d. has_number d l.others) l.elements;
+  rest : find (λ d. is_one_of d (drop l.j l.others)) (drop l.i l.elements) ≡ find (λ d. is_one_of d l.others) l.elements;
   first : InOrder (drop l.i l.elements);
   second : InOrder (drop l.j l.others);
 }

@@ -1,8 +1,8 @@
 use Rattle.std.proofs.Common.{◌≡◌, ◌||◌, eqb, ℕ, drop}
 use Rattle.std.specs.List.{list_any}
-use Rattle.wsm_schema.specs.Sound.{has_number}
+use Rattle.wsm_schema.specs.Trail.{is_one_of}
 use Rattle.wsm_data.proofs.missing.add_written.Given as goal
 
 abbrev pub invariant-loop-write : goal.invariant-loop-write
 invariant-loop-write l = (d : ℕ) →
-    (has_number d l.set || list_any (λ w. eqb w.1 d) (drop l.write-index l.writes)) ≡ (has_number d l.initial.set || list_any (λ w. eqb w.1 d) l.writes)
+    (is_one_of d l.set || list_any (λ w. eqb w.1 d) (drop l.write-index l.writes)) ≡ (is_one_of d l.initial.set || list_any (λ w. eqb w.1 d) l.writes)

@@ -1,7 +1,7 @@
 use Rattle.std.proofs.Common.{◌≡◌, ◌&&◌, not, drop}
 use Rattle.std.specs.Prelude.{find}
-use Rattle.wsm_schema.specs.Sound.{has_number}
+use Rattle.wsm_schema.specs.Trail.{is_one_of}
 use Rattle.wsm_data.proofs.missing.missing_at.Given as goal
 
 abbrev pub invariant-loop-read : goal.invariant-loop-read
-invariant-loop-read l = find (λ r. r.1 && not (has_number r.0 l.sure)) (drop l.read-index l.read-items) ≡ find (λ r. r.1 && not (has_number r.0 l.sure)) l.card.reads
+invariant-loop-read l = find (λ r. r.1 && not (is_one_of r.0 l.sure)) (drop l.read-index l.read-items) ≡ find (λ r. r.1 && not (is_one_of r.0 l.sure)) l.card.reads

@@ -2,7 +2,8 @@ use Rattle.std.proofs.Common.{arith, ◌≡◌, ◌+◌, [], ◌++◌, ◌∷◌
 use Rattle.std.proofs.lemmas.Bool.{both_ways}
 use Rattle.wsm_schema.specs.SchemaModel.{SchemaModel}
 use Rattle.wsm_schema.specs.Flat.{cards_of}
-use Rattle.wsm_schema.specs.Sound.{first_some, missing_at, sure_of, has_number, nodes_of}
+use Rattle.wsm_schema.specs.Sound.{first_some, missing_at, sure_of, nodes_of}
+use Rattle.wsm_schema.specs.Trail.{is_one_of}
 use Rattle.wsm_data.specs.Passes.{Passes}
 use Rattle.wsm_data.specs.Sets.{Holds}
 use Rattle.wsm_data.specs.Tables.{Tells}
@@ -32,7 +33,7 @@ returns-then-is_some c =
     let sure = c.in_ok-sure.sure.value in
     let next = (passes-step s cards i card (omega arith) c.card-item.is c.loop-card.invariant.left).0 in
     let holds : Holds sure (sure_of s card.node) = sure-there s c.loop-card.table (nodes_of (take i cards)) card sure c.loop-card.invariant.told next c.in_ok-sure.ensures in
-    let found = c.missing_at-found.ensures ∙ ap (λ set. missing_at (λ n d. has_number d set) card) c.deref.ensures ∙ missing-there s card sure holds in
+    let found = c.missing_at-found.ensures ∙ ap (λ set. missing_at (λ n d. is_one_of d set) card) c.deref.ensures ∙ missing-there s card sure holds in
     first-found (missing_at (sure_of s)) cards i card c.missing_at-found.result _ (omega arith) c.card-item.is found (sym c.is_some.ensures ∙ c.if-is_some.true) c.loop-card.invariant.rest
 
 pub loop-card-preserved : goal.loop-card-preserved
@@ -45,7 +46,7 @@ loop-card-preserved c =
     let seen = nodes_of (take i cards) in
     let step = passes-step s cards i card (omega arith) c.card-item.is c.loop-card.invariant.left in
     let holds : Holds sure (sure_of s card.node) = sure-there s c.loop-card.table seen card sure c.loop-card.invariant.told step.0 c.in_ok-sure.ensures in
-    let found = c.missing_at-found.ensures ∙ ap (λ set. missing_at (λ n d. has_number d set) card) c.deref.ensures ∙ missing-there s card sure holds in
+    let found = c.missing_at-found.ensures ∙ ap (λ set. missing_at (λ n d. is_one_of d set) card) c.deref.ensures ∙ missing-there s card sure holds in
     let put = put-sure s card.node sure c.loop-card.table c.put_behind.new.table holds c.in_ok-put_behind.ensures in
     let nodes : seen ++ card.node ∷ [] ≡ nodes_of (take (i + 1) cards) = nodes-step cards i card (omega arith) c.card-item.is in
     record {

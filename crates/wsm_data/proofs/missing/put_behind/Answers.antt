@@ -2,7 +2,8 @@ use Rattle.std.proofs.Common.{◌||◌, eqb, ap, ◌∙◌}
 use Rattle.std.proofs.lemmas.Result.{on_ok_weaker}
 use Rattle.std.specs.List.{list_any}
 use Rattle.wsm_schema.specs.SchemaModel.{SchemaModel}
-use Rattle.wsm_schema.specs.Sound.{has_number, writes_of}
+use Rattle.wsm_schema.specs.Sound.{writes_of}
+use Rattle.wsm_schema.specs.Trail.{is_one_of}
 use Rattle.wsm_data.specs.Sets.{Holds}
 use Rattle.wsm_data.specs.declared.tables.Behind.{Behind}
 use Rattle.wsm_data.proofs.Pass.{put-is, written-is}
@@ -13,9 +14,9 @@ returns c =
     let s = c.args.schema.now in
     let node = c.args.node in
     let row : Behind = record { node = node; elements = c.in_ok-elements.elements } in
-    let holds : Holds row.elements.value (λ d. has_number d c.args.sure.value || writes_of s node d) =
+    let holds : Holds row.elements.value (λ d. is_one_of d c.args.sure.value || writes_of s node d) =
     λ d.
     c.in_ok-elements.ensures d
-    ∙ ap (λ b. has_number d c.args.sure.value || b) (ap (list_any (λ w. eqb w.1 d)) c.rows_of.ensures ∙ written-is node d c.schema.inside.writes ∙ ap (λ (m : SchemaModel). writes_of m node d) c.schema.view_is)
+    ∙ ap (λ b. is_one_of d c.args.sure.value || b) (ap (list_any (λ w. eqb w.1 d)) c.rows_of.ensures ∙ written-is node d c.schema.inside.writes ∙ ap (λ (m : SchemaModel). writes_of m node d) c.schema.view_is)
     in
-    on_ok_weaker c.set.result (put-is (λ d. has_number d c.args.sure.value || writes_of s node d) row c.args.table.now c.set.new.self holds) c.set.ensures.ok
+    on_ok_weaker c.set.result (put-is (λ d. is_one_of d c.args.sure.value || writes_of s node d) row c.args.table.now c.set.new.self holds) c.set.ensures.ok

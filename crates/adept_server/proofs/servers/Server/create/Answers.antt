@@ -9,13 +9,13 @@ use Rattle.adept_server.proofs.servers.Server.create.Goals as goal
 pub returns-in_err-reply-clause-called : goal.returns-in_err-reply-clause-called
 returns-in_err-reply-clause-called g c = create_unasked c.args.id (desk_view c.args.desk.now) (desk_view c.newest.new.desk) c.newest.result c.from_residual.result c.in_err-reply.field-0.0 c.in_err-reply.was c.from_residual.ensures.1 c.newest.ensures.called
 
-pub version_in-requires : goal.version_in-requires
-version_in-requires g c =
+pub answered_version-requires : goal.answered_version-requires
+answered_version-requires g c =
     newest_answered c.args.id.type_no (desk_view c.args.desk.now) (desk_view c.newest.new.desk) c.requires.desk.desk c.in_ok-reply.reply
     (subst (λ a. CallsKind Newest c.args.id.type_no a (desk_view c.args.desk.now) (desk_view c.newest.new.desk)) c.in_ok-reply.was c.newest.ensures.called) c.requires.defined
 
 pub returns-clause-called : goal.returns-clause-called
 returns-clause-called g c =
-    asked c.version_in.result (desk_view c.newest.new.desk)
-    (subst (λ a. CallsKind Newest c.args.id.type_no a (desk_view c.args.desk.now) (desk_view c.newest.new.desk)) (c.in_ok-reply.was ∙ ap Ok c.version_in.ensures) c.newest.ensures.called)
+    asked c.answered_version.result (desk_view c.newest.new.desk)
+    (subst (λ a. CallsKind Newest c.args.id.type_no a (desk_view c.args.desk.now) (desk_view c.newest.new.desk)) (c.in_ok-reply.was ∙ ap Ok c.answered_version.ensures) c.newest.ensures.called)
     c.call_case.ensures.called

@@ -1,5 +1,5 @@
 use Rattle.std.proofs.Common.{subst}
-use Rattle.adept_actor.specs.Work.{Works}
+use Rattle.adept_actor.specs.Work.{WorksLines}
 use Rattle.adept_server.specs.Desks.{desk_view}
 use Rattle.crew_run.proofs.EachWorker.{roles-at}
 use Rattle.crew_run.proofs.PhaseWorked.{leaves-ended}
@@ -11,4 +11,4 @@ returns g c =
     let v = desk_view c.args.worker.now.desk in
     let w = desk_view c.work.new.desk in
     let roles = roles-at c.captures.file.now c.as_slice.result.now v.number c.args.index c.index-as_slice-index.result c.as_slice.ensures c.requires.3.0 c.requires.2 in
-    (c.work.ensures.desk, subst (λ rs. Works rs c.captures.lines.now (ended c.err-worker.result) v w) roles (leaves-ended _ _ c.work.result c.err-worker.result v w c.err-worker.ensures.value c.work.ensures.worked), c.work.ensures.others)
+    (c.work.ensures.desk, subst (λ rs. WorksLines rs c.captures.lines.now (ended c.err-worker.result) v w) roles (leaves-ended _ _ c.work.result c.err-worker.result v w c.err-worker.ensures.value c.work.ensures.worked), c.work.ensures.others)
