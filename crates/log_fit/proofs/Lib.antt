@@ -1,0 +1,5 @@
+mod Going
+mod NamedRows
+mod Takings
+mod Telling
+mod Examples

@@ -1,0 +1,135 @@
+-- A table of cases while records are taken.
+use Rattle.std.proofs.Common.{◌≡◌, ℕ, ◌<◌, get_or, Bool, true, false, List, [], ◌∷◌, ◌++◌, length, map, filter, fold, Some, refl, sym, ap, ◌∙◌, arith, inl, inr, if◌then◌else◌, nat_lt, nat_lt}
+use Rattle.std.specs.Prelude.{slice_get, slice_set}
+use Rattle.std.specs.Str.{bytes_eq}
+use Rattle.std.proofs.lemmas.Bool.{cases_Bool, le-ltb, lt-ltb}
+use Rattle.std.proofs.lemmas.List.{length-append, length-map}
+use Rattle.std.proofs.lemmas.List.Sums.{fold_push}
+use Rattle.file_names.specs.Names.{is_listed, noted, number_of}
+use Rattle.file_words.specs.Lines.{Bytes}
+use Rattle.log_fit.specs.Fit.{case_fit, fits_of, of_case}
+use Rattle.log_fit.specs.Progress.{fit_of, opened_row, reach}
+use Rattle.log_fit.specs.Rows.{IsTable, row_of, rows_with}
+use Rattle.log_fit.specs.ProgressModel.{ProgressModel}
+use Rattle.log_fit.proofs.Going.{as_told}
+use Rattle.log_fit.proofs.NamedRows.{apart_noted, get_last, get_named, get_or_of, itself, map_last, number_last, one_changes, others_noted, others_stay, set_last, within}
+use Rattle.log_records.specs.declared.records.LogRecord.{LogRecord}
+use Rattle.wsm_sound.specs.VersionModel.{VersionModel}
+
+-- a record more is an event of its own case, and of no other
+own : (n : Bytes) (records : List LogRecord) (r : LogRecord) → bytes_eq r.case n ≡ true → of_case n (records ++ r ∷ []) ≡ of_case n records ++ r.event ∷ []
+own n [] r is = rw is refl
+own n (q ∷ qs) r is = by (bytes_eq q.case n) (own n qs r is)
+  where
+    by : (b : Bool) → of_case n (qs ++ r ∷ []) ≡ of_case n qs ++ r.event ∷ []
+        → map (λ x. x.event) (if b then q ∷ filter (λ x. bytes_eq x.case n) (qs ++ r ∷ []) else filter (λ x. bytes_eq x.case n) (qs ++ r ∷ []))
+        ≡ map (λ x. x.event) (if b then q ∷ filter (λ x. bytes_eq x.case n) qs else filter (λ x. bytes_eq x.case n) qs) ++ r.event ∷ []
+    by true rest = ap (λ es. q.event ∷ es) rest
+    by false rest = rest
+
+other : (n : Bytes) (records : List LogRecord) (r : LogRecord) → bytes_eq r.case n ≡ false → of_case n (records ++ r ∷ []) ≡ of_case n records
+other n [] r is = rw is refl
+other n (q ∷ qs) r is = by (bytes_eq q.case n) (other n qs r is)
+  where
+    by : (b : Bool) → of_case n (qs ++ r ∷ []) ≡ of_case n qs
+        → map (λ x. x.event) (if b then q ∷ filter (λ x. bytes_eq x.case n) (qs ++ r ∷ []) else filter (λ x. bytes_eq x.case n) (qs ++ r ∷ []))
+        ≡ map (λ x. x.event) (if b then q ∷ filter (λ x. bytes_eq x.case n) qs else filter (λ x. bytes_eq x.case n) qs)
+    by true rest = ap (λ es. q.event ∷ es) rest
+    by false rest = rest
+
+-- no records, and so no cases
+pub empty : (v : VersionModel) → IsTable v [] [] []
+empty v = record { named = refl; apart = tt; others = λ n none. refl; come = refl }
+
+module _ (v : VersionModel) (done : List LogRecord) (r : LogRecord) where
+  own_row : row_of v (done ++ r ∷ []) r.case ≡ reach v (row_of v done r.case) r.event
+  own_row = ap (fold (reach v) (opened_row v r.case)) (own r.case done r (itself r.case)) ∙ fold_push (reach v) (opened_row v r.case) (of_case r.case done) r.event
+
+  other_row : (n : Bytes) → bytes_eq r.case n ≡ false → row_of v (done ++ r ∷ []) n ≡ row_of v done n
+  other_row n is = ap (fold (reach v) (opened_row v n)) (other n done r is)
+
+  module _ (names : List Bytes) (rows : List ProgressModel) (t : IsTable v done names rows) where
+    as_many : length rows ≡ length names
+    as_many = ap length t.come ∙ length-map names (row_of v done)
+
+    -- where the case is there
+    module _ (there : is_listed r.case names ≡ true) where
+      rows_there : rows_with v rows (number_of names r.case) r.case ≡ rows
+      rows_there = let less = within r.case names there in let many = as_many in rw (lt-ltb (number_of names r.case) (length rows) (omega arith)) refl
+
+      row_there : slice_get (rows_with v rows (number_of names r.case) r.case) (number_of names r.case) ≡ Some (row_of v done r.case)
+      row_there = ap (λ rs. slice_get rs (number_of names r.case)) (rows_there ∙ t.come) ∙ get_named (row_of v done) r.case names there
+
+      set_there : slice_set (rows_with v rows (number_of names r.case) r.case) (number_of names r.case) (reach v (row_of v done r.case) r.event) ≡ map (row_of v (done ++ r ∷ [])) names
+      set_there =
+          ap (λ rs. slice_set rs (number_of names r.case) (reach v (row_of v done r.case) r.event)) (rows_there ∙ t.come)
+          ∙ ap (slice_set (map (row_of v done) names) (number_of names r.case)) (sym own_row)
+          ∙ sym (one_changes (row_of v done) (row_of v (done ++ r ∷ [])) r.case other_row names t.apart there)
+
+    -- where it is not
+    module _ (absent : is_listed r.case names ≡ false) where
+      rows_last : rows_with v rows (length names) r.case ≡ rows ++ opened_row v r.case ∷ []
+      rows_last = let many = as_many in rw (le-ltb (length names) (length rows) (omega arith)) refl
+
+      fresh : row_of v done r.case ≡ opened_row v r.case
+      fresh = ap (fold (reach v) (opened_row v r.case)) (t.others r.case absent)
+
+      row_last : slice_get (rows_with v rows (length names) r.case) (length names) ≡ Some (row_of v done r.case)
+      row_last = ap (λ rs. slice_get rs (length names)) rows_last ∙ rw (← as_many) (get_last rows (opened_row v r.case)) ∙ ap Some (sym fresh)
+
+      set_last_one : slice_set (rows_with v rows (length names) r.case) (length names) (reach v (row_of v done r.case) r.event) ≡ map (row_of v (done ++ r ∷ [])) (names ++ r.case ∷ [])
+      set_last_one =
+          ap (λ rs. slice_set rs (length names) (reach v (row_of v done r.case) r.event)) rows_last
+          ∙ rw (← as_many) (set_last rows (opened_row v r.case) (reach v (row_of v done r.case) r.event))
+          ∙ ap (λ rs. rs ++ reach v (row_of v done r.case) r.event ∷ []) (t.come ∙ sym (others_stay (row_of v done) (row_of v (done ++ r ∷ [])) r.case other_row names absent))
+          ∙ ap (λ p. map (row_of v (done ++ r ∷ [])) names ++ p ∷ []) (sym own_row)
+          ∙ sym (map_last (row_of v (done ++ r ∷ [])) r.case names)
+
+    -- either way
+    abbrev place : ℕ
+    place = number_of (noted names r.case) r.case
+
+    at_place : slice_get (rows_with v rows place r.case) place ≡ Some (row_of v done r.case)
+    at_place =
+        elim (cases_Bool (is_listed r.case names)) [
+          | inl there ↦ rw there (row_there there)
+          | inr absent ↦ rw (absent, number_last r.case names absent) (row_last absent)
+        ]
+
+    set_place : slice_set (rows_with v rows place r.case) place (reach v (row_of v done r.case) r.event) ≡ map (row_of v (done ++ r ∷ [])) (noted names r.case)
+    set_place =
+        elim (cases_Bool (is_listed r.case names)) [
+          | inl there ↦ rw there (set_there there)
+          | inr absent ↦ rw (absent, number_last r.case names absent) (set_last_one absent)
+        ]
+
+    pub taken : (new : List ProgressModel) (row : ProgressModel) → row ≡ get_or (rows_with v rows place r.case) place row → new ≡ slice_set (rows_with v rows place r.case) place (reach v row r.event)
+        → IsTable v (done ++ r ∷ []) (noted names r.case) new
+    taken new row at is = record {
+      named = ap (λ ns. noted ns r.case) t.named ∙ sym (fold_push (λ ns q. noted ns q.case) [] done r);
+      apart = apart_noted r.case names t.apart;
+      others = λ n none. (let both = others_noted n r.case names none in other n done r both.1 ∙ t.others n both.0);
+      come = (let same : row ≡ row_of v done r.case = at ∙ get_or_of (rows_with v rows place r.case) place row (row_of v done r.case) at_place in is ∙ ap (λ p. slice_set (rows_with v rows place r.case) place (reach v p r.event)) same ∙ set_place);
+    }
+
+-- the place of a case is one of the rows with it
+pub in_rows : (v : VersionModel) (names : List Bytes) (rows : List ProgressModel) (c : Bytes) → length rows ≡ length names → number_of (noted names c) c < length (rows_with v rows (number_of (noted names c) c) c)
+in_rows v names rows c many =
+    elim (cases_Bool (is_listed c names)) [
+      | inl there ↦
+          let less = within c names there in
+          let inside : nat_lt (number_of names c) (length rows) ≡ true = lt-ltb (number_of names c) (length rows) (omega arith) in
+          rw (there, inside) (omega arith)
+      | inr absent ↦
+          let beyond : nat_lt (length names) (length rows) ≡ false = le-ltb (length names) (length rows) (omega arith) in
+          let more = length-append rows (opened_row v c ∷ []) in
+          rw (absent, number_last c names absent, beyond) (omega arith)
+    ]
+
+-- what a table of all records tells
+pub all_fits : (v : VersionModel) (records : List LogRecord) (names : List Bytes) (rows : List ProgressModel) → IsTable v records names rows → map fit_of rows ≡ fits_of v records
+all_fits v records names rows t = ap (map fit_of) t.come ∙ each names ∙ ap (map (λ n. case_fit v n (of_case n records))) t.named
+  where
+    each : (ns : List Bytes) → map fit_of (map (row_of v records) ns) ≡ map (λ n. case_fit v n (of_case n records)) ns
+    each [] = refl
+    each (n ∷ ns) = rw (as_told v n (of_case n records), each ns) refl

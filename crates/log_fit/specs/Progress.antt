@@ -1,0 +1,30 @@
+-- A case of a log while its records are taken.
+use Rattle.std.specs.Prelude.{◌+◌, Option, Some, None, if◌then◌else◌}
+use Rattle.case_core.specs.CaseModel.{CaseModel}
+use Rattle.case_core.specs.declared.replies.Reply.{Reply}
+use Rattle.file_words.specs.Lines.{Bytes}
+use Rattle.log_fit.specs.Fit.{answered, goes_on, opened}
+use Rattle.log_fit.specs.declared.fits.CaseFit.{CaseFit}
+use Rattle.log_fit.specs.ProgressModel.{ProgressModel}
+use Rattle.log_records.specs.declared.records.LogEvent.{LogEvent}
+use Rattle.wsm_sound.specs.VersionModel.{VersionModel}
+
+abbrev pub opened_row : VersionModel → Bytes → ProgressModel
+opened_row v name = record { name = name; machine = opened v; events = 0; fits = 0; next = None }
+
+-- a record more, with what was answered to it
+abbrev pub tried : ProgressModel → CaseModel × Reply → ProgressModel
+tried p step =
+    if goes_on step.1 then record p { machine = step.0; events = p.events + 1; fits = p.fits + 1 }
+    else record p { machine = step.0; events = p.events + 1; next = Some step.1 }
+
+-- behind a refusal none is tried
+abbrev pub reach_from : VersionModel → ProgressModel → LogEvent → Option Reply → ProgressModel
+reach_from v p e None = tried p (answered v p.machine e)
+reach_from v p e (Some r) = record p { events = p.events + 1 }
+
+abbrev pub reach : VersionModel → ProgressModel → LogEvent → ProgressModel
+reach v p e = reach_from v p e p.next
+
+abbrev pub fit_of : ProgressModel → CaseFit
+fit_of p = record { case = p.name; events = p.events; fits = p.fits; next = p.next }

@@ -1,0 +1,68 @@
+// How far the cases of a log go.
+ghost use Rattle.std.specs.Prelude.{◌≡◌, ◌+◌, ◌≤◌, [], Ok, length, IfOk, IfErr};
+ghost use Rattle.log_fit.specs.Fit.{fit, fits_told};
+ghost use Rattle.log_fit.specs.Outcomes.{Tells};
+ghost use Rattle.log_records.specs.Told.{told_from};
+
+use crate::fits::{FitRefusal, Fits};
+use crate::tables::CaseTable;
+use csv::ByteRecord;
+use file_model::File;
+use log_records::{LogReader, NamePlaces, is_head, record_of};
+use std::alloc::{AllocError, Global};
+use wsm_lists::NoMemory;
+use wsm_sound::Version;
+
+// The place of the record behind. A log has fewer than 2^32; here that counts as want of memory.
+fn next_place(place: u32) -> Result<u32, NoMemory>
+    ensures { IfOk result (λ next. next ≡ place + 1) }
+{
+    place.checked_add(1).ok_or(AllocError)
+}
+
+// How far the cases go that the records behind the first name.
+fn fit_behind(
+    alloc: Global,
+    version: &Version,
+    nodes: &NamePlaces<'_>,
+    elements: &NamePlaces<'_>,
+    mut reader: LogReader<'_>,
+) -> Result<Fits, FitRefusal>
+    ensures ok { IfOk result (λ fits. fits_told version.now (told_from nodes.now elements.now 2 [] reader.entry) ≡ Ok fits) }
+    ensures bad { IfErr result (λ refusal. Tells (fits_told version.now (told_from nodes.now elements.now 2 [] reader.entry)) refusal) }
+{
+    let mut table = CaseTable::new(alloc);
+    let mut row = ByteRecord::new(alloc);
+    let mut index = 2;
+    while reader.next(&mut row)? {
+        let Some(record) = record_of(alloc, nodes, elements, &row)? else {
+            return Err(FitRefusal::Bad { index });
+        };
+        if !table.take(alloc, version, record)? {
+            return Err(FitRefusal::Bad { index });
+        }
+        index = next_place(index)?;
+    }
+    Ok(table.into_fits(alloc)?)
+}
+
+/// How far the cases of a log go on a version, where nodes and elements have the names of the file. A log is CSV; its first
+/// record names the fields, and each other is an event of a case. The first record that is not of the form, or that is of
+/// the 4,097th case, is told; so is 1 where the log has none.
+pub fn fit(alloc: Global, version: &Version, file: &File, log: &[u8]) -> Result<Fits, FitRefusal>
+    requires { length log.now ≤ 33554432 }
+    ensures ok { IfOk result (λ fits. fit version.now file.now log.now ≡ Ok fits) }
+    ensures bad { IfErr result (λ refusal. Tells (fit version.now file.now log.now) refusal) }
+{
+    let nodes = NamePlaces::new(alloc, &file.nodes)?;
+    let elements = NamePlaces::new(alloc, &file.elements)?;
+    let mut reader = LogReader::new(alloc, log);
+    let mut row = ByteRecord::new(alloc);
+    if !reader.next(&mut row)? {
+        return Err(FitRefusal::Bad { index: 1 });
+    }
+    if !is_head(&row) {
+        return Err(FitRefusal::Bad { index: 1 });
+    }
+    fit_behind(alloc, version, &nodes, &elements, reader)
+}

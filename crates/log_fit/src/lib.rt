@@ -1,0 +1,15 @@
+//! How far each case of a logged history goes on a version of its type.
+//!
+//! The records of a case are taken as events, in their order, from the state of a case that was just created. The first
+//! event that is refused ends what fits of it.
+#![tactic(auto)]
+
+mod answers;
+mod fits;
+mod fitting;
+mod progress;
+mod tables;
+mod taking;
+
+pub use fits::{CaseFit, FitRefusal, Fits};
+pub use fitting::fit;

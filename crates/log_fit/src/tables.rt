@@ -1,0 +1,90 @@
+// The cases of a log while its records are taken.
+ghost use Rattle.std.specs.Prelude.{◌≡◌, ◌++◌, ◌∷◌, [], ◌<◌, ◌≤◌, List, true, not, nat_lt, length, map, slice_set, slice_get, if◌then◌else◌, IfOk, OnOk, ℕ};
+ghost use Rattle.file_names.specs.Names.{noted};
+ghost use Rattle.log_fit.specs.Progress.{fit_of, opened_row, reach};
+ghost use Rattle.log_fit.specs.Rows.{IsTable, rows_with};
+ghost use Rattle.log_records.specs.Told.{are_too_many};
+ghost use Rattle.log_records.specs.declared.records.LogRecord.{LogRecord};
+
+use crate::fits::{CaseFit, Fits};
+use crate::progress::Progress;
+use file_model::Name64;
+use file_names::NameTable;
+use log_records::LogRecord;
+use std::alloc::Global;
+use wsm_lists::NoMemory;
+use wsm_sound::Version;
+
+/// So many cases a log may have.
+const MOST_CASES: usize = 4096;
+
+/// The cases in the order of their first records, found by their names.
+#[derive(Drop)]
+pub(crate) struct CaseTable {
+    names: NameTable,
+    rows: Vec<Progress>,
+}
+
+// The rows with one for the case at this place, which is there or comes last.
+fn add_row(
+    rows: &mut Vec<Progress>,
+    alloc: Global,
+    version: &Version,
+    place: usize,
+    name: Name64,
+) -> Result<(), NoMemory>
+    ensures { OnOk result (rows.new.items ≡ rows_with version.now rows.old.items place name) }
+{
+    if place < rows.len() {
+        return Ok(());
+    }
+    rows.push(Progress::new(alloc, version, name)?)?;
+    Ok(())
+}
+
+impl CaseTable {
+    /// No cases.
+    pub(crate) fn new(alloc: Global) -> CaseTable
+        ensures names { result.names ≡ [] }
+        ensures rows { result.rows.items ≡ [] }
+    {
+        CaseTable {
+            names: NameTable::new(alloc),
+            rows: Vec::new(alloc),
+        }
+    }
+
+    /// One record more, and whether it is not of one case too many.
+    pub(crate) fn take(
+        &mut self,
+        alloc: Global,
+        version: &Version,
+        logged: LogRecord,
+    ) -> Result<bool, NoMemory>
+        requires { length self.old.rows.items ≡ length self.old.names }
+        ensures room { IfOk result (λ ok. ok ≡ not (are_too_many (noted self.old.names logged.case))) }
+        ensures names { IfOk result (λ ok. ok ≡ true → self.new.names ≡ noted self.old.names logged.case) }
+        ensures rows { IfOk result (λ ok. ok ≡ true → (done : List LogRecord) → IsTable version.now done self.old.names self.old.rows.items → IsTable version.now (done ++ logged ∷ []) self.new.names self.new.rows.items) }
+    {
+        let place = self.names.note(alloc, logged.case.word())? as usize;
+        if self.names.len() > MOST_CASES {
+            return Ok(false);
+        }
+        let LogRecord { case, event } = logged;
+        add_row(&mut self.rows, alloc, version, place, case)?;
+        self.rows[place].take(alloc, version, event)?;
+        Ok(true)
+    }
+
+    /// How far each case went.
+    pub(crate) fn into_fits(self, alloc: Global) -> Result<Fits, NoMemory>
+        ensures { IfOk result (λ fits. fits ≡ map fit_of self.rows.items) }
+    {
+        let fits: Vec<CaseFit> = self
+            .rows
+            .into_iter()
+            .map(Progress::into_fit)
+            .collect(alloc)?;
+        Ok(Fits::from_vec(fits))
+    }
+}
