@@ -1,0 +1,5 @@
+//! Tests of kept marks.
+#![tactic(auto)]
+
+#[cfg(test)]
+mod settling;
