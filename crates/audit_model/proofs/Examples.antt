@@ -1,0 +1,115 @@
+-- Reports that are right and wrong.
+use Rattle.std.proofs.Common.{◌≡◌, ℕ, List, [], ◌∷◌, None, Some, ◌++◌, refl}
+use Rattle.std.specs.Prelude.{codes}
+use Rattle.std.specs.Fmt.{digits}
+use Rattle.file_model.specs.declared.files.Act.{Act}
+use Rattle.file_model.specs.declared.files.Act.TheVariants as act
+use Rattle.file_model.specs.declared.files.CaseDecl.{CaseDecl}
+use Rattle.file_model.specs.declared.files.File.{File}
+use Rattle.file_model.specs.declared.files.Line.{Line}
+use Rattle.file_model.specs.declared.files.TypeDecl.{TypeDecl}
+use Rattle.file_words.specs.Lines.{Bytes}
+use Rattle.line_readers.specs.FirstWrong.{first_wrong}
+use Rattle.report_words.specs.Migrations.{has_fate}
+use Rattle.wsm_schema.specs.SchemaModel.{SchemaModel, plain}
+use Rattle.wsm_schema.specs.Tree.{act as activity, nothing, part}
+use Rattle.wsm_sound.specs.Faults.{fault_of}
+use Rattle.wsm_sound.specs.declared.versions.CaseId.{CaseId}
+use Rattle.audit_model.specs.ReportReader.{report_reader}
+
+-- ann creates the case, and works its two nodes
+abbrev schema : SchemaModel
+schema = plain 0 1 (part (activity 2) (part (activity 3) nothing))
+
+abbrev the_case : CaseId
+the_case = record { type_no = 0; place = 0 }
+
+abbrev case_decl : CaseDecl
+case_decl = record { name = codes "c"; id = the_case }
+
+abbrev type_decl : TypeDecl
+type_decl = record { name = codes "t"; schema = schema }
+
+abbrev file_of : List (List Line) → File
+file_of phases = record {
+  nodes = codes "start" ∷ codes "finish" ∷ codes "A" ∷ codes "B" ∷ [];
+  elements = [];
+  types = type_decl ∷ [];
+  actors = record { name = codes "ann"; roles = [] } ∷ record { name = codes "bob"; roles = [] } ∷ [];
+  cases = case_decl ∷ [];
+  phases = phases;
+}
+
+abbrev line : ℕ → ℕ → Act → Line
+line order actor a = record { at = order; order = order; actor = actor; act = a }
+
+abbrev two_nodes : File
+two_nodes = file_of ((line 1 1 (act.Create the_case) ∷ line 2 1 (act.Start the_case 2) ∷ line 3 1 (act.End the_case 2 [] None)
+    ∷ line 4 1 (act.Start the_case 3) ∷ line 5 1 (act.End the_case 3 [] None) ∷ []) ∷ [])
+
+abbrev begun : Bytes
+begun = codes "adept report 1\ntype t\n1 - define -> defined\n2 ann newest -> is 1\ncase c t\n1 ann create 1 -> created\n2 ann start A -> started\n3 ann end A -> ended\n"
+
+abbrev before_end : Bytes
+before_end = begun ++ codes "4 ann start B -> started\n5 ann end B -> ended\nstate 1 finished own=0\nmarking start=C A=C B=C finish=C\nvalues\nitems\n"
+
+abbrev last_line : Bytes
+last_line = codes "summary cases=1 finished=1 entries=5 migrated=0 blocked=0 overlap=0"
+
+right_report : first_wrong (report_reader two_nodes) (before_end ++ (last_line ++ codes "\n")) ≡ None
+unfolding digits fault_of has_fate
+right_report = refl
+
+line_9_changed : first_wrong (report_reader two_nodes) (begun ++ codes "4 ann start B -> not-ready N\n5 ann end B -> ended\n") ≡ Some 9
+unfolding digits fault_of has_fate
+line_9_changed = refl
+
+without_last_line : first_wrong (report_reader two_nodes) before_end ≡ Some 15
+unfolding digits fault_of has_fate
+without_last_line = refl
+
+without_report : first_wrong (report_reader two_nodes) [] ≡ Some 1
+unfolding digits fault_of has_fate
+without_report = refl
+
+bytes_behind : first_wrong (report_reader two_nodes) (before_end ++ (last_line ++ codes "\nx")) ≡ Some 16
+unfolding digits fault_of has_fate
+bytes_behind = refl
+
+line_behind : first_wrong (report_reader two_nodes) (before_end ++ (last_line ++ codes "\n\n")) ≡ Some 16
+unfolding digits fault_of has_fate
+line_behind = refl
+
+last_line_feed_missing : first_wrong (report_reader two_nodes) (before_end ++ last_line) ≡ Some 15
+unfolding digits fault_of has_fate
+last_line_feed_missing = refl
+
+-- Two actors in the second of two phases: either may be first there.
+abbrev two_phases : File
+two_phases = file_of ((line 1 1 (act.Create the_case) ∷ []) ∷ (line 2 2 (act.Start the_case 2) ∷ line 3 1 (act.Start the_case 2) ∷ []) ∷ [])
+
+abbrev created : Bytes
+created = codes "adept report 1\ntype t\n1 - define -> defined\n2 ann newest -> is 1\ncase c t\n1 ann create 1 -> created\n"
+
+abbrev held_by : Bytes → Bytes
+held_by name = codes "state 1 running own=0\nmarking start=C A=R B=N finish=N\nvalues\nitems A:" ++ (name ++ codes "\nsummary cases=1 finished=0 entries=3 migrated=0 blocked=0 overlap=0\n")
+
+ann_first : first_wrong (report_reader two_phases) (created ++ (codes "2 ann start A -> started\n3 bob start A -> not-ready R\n" ++ held_by (codes "ann"))) ≡ None
+unfolding digits fault_of has_fate
+ann_first = refl
+
+bob_first : first_wrong (report_reader two_phases) (created ++ (codes "2 bob start A -> started\n3 ann start A -> not-ready R\n" ++ held_by (codes "bob"))) ≡ None
+unfolding digits fault_of has_fate
+bob_first = refl
+
+replies_exchanged : first_wrong (report_reader two_phases) (created ++ codes "2 ann start A -> not-ready R\n3 bob start A -> started\n") ≡ Some 7
+unfolding digits fault_of has_fate
+replies_exchanged = refl
+
+too_early : first_wrong (report_reader two_phases) (codes "adept report 1\ntype t\n1 - define -> defined\n2 ann newest -> is 1\ncase c t\n1 bob start A -> no-case\n2 ann create 1 -> created\n") ≡ Some 6
+unfolding digits fault_of has_fate
+too_early = refl
+
+nobody : first_wrong (report_reader two_phases) (created ++ codes "2 eve start A -> started\n") ≡ Some 7
+unfolding digits fault_of has_fate
+nobody = refl

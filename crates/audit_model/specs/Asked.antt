@@ -1,0 +1,97 @@
+-- The lines of the script with the versions that their actors were told.
+use Rattle.std.specs.Prelude.{ℕ, ◌==◌, ◌&&◌, List, [], ◌∷◌, filter, map, filter_map, Option, Some, None, if◌then◌else◌}
+use Rattle.case_core.specs.declared.events.Event.{Event}
+use Rattle.case_core.specs.declared.events.Event.TheVariants as event
+use Rattle.file_model.specs.declared.files.Act.{Act}
+use Rattle.file_model.specs.declared.files.Act.TheVariants as act
+use Rattle.file_model.specs.declared.files.File.{File}
+use Rattle.file_model.specs.declared.files.Line.{Line}
+use Rattle.script_run.specs.Calls.{roles_of, answered_version}
+use Rattle.script_run.specs.Entries.{KindEntry}
+use Rattle.turn_cell.specs.History.{calls_of}
+use Rattle.type_core.specs.declared.events.KindEvent.{KindEvent}
+use Rattle.type_core.specs.declared.events.KindEvent.TheVariants as kind_event
+use Rattle.wsm_sound.specs.VersionModel.{VersionModel}
+use Rattle.wsm_sound.specs.declared.versions.CaseId.{CaseId}
+use Rattle.audit_model.specs.Owed.{calls_case}
+
+-- the event of a type that a line is
+abbrev pub kind_event_in : Act → Option KindEvent
+kind_event_in (act.Create c) = Some kind_event.Newest
+kind_event_in (act.Install t ops) = Some (kind_event.Install ops)
+kind_event_in (act.Migrate t) = Some kind_event.Newest
+kind_event_in _ = None
+
+abbrev pub kind_event_of : Line → Option KindEvent
+kind_event_of l = kind_event_in l.act
+
+-- the versions that an actor was told, in order
+abbrev pub told_to : ℕ → List KindEntry → List VersionModel
+told_to a journal = filter_map (λ e. answered_version e.reply) (calls_of a journal)
+
+-- which versions each actor has yet to be told, by each type
+abbrev pub Telling : Type 0
+Telling = ℕ → ℕ → List VersionModel
+
+-- the type that a line asks for its newest version
+abbrev pub asks : Act → Option ℕ
+asks (act.Create c) = Some c.type_no
+asks (act.Migrate t) = Some t
+asks _ = None
+
+abbrev pub rest_of : {X : Type 0} → List X → List X
+rest_of [] = []
+rest_of (x ∷ xs) = xs
+
+abbrev pub first_of : {X : Type 0} → List X → Option X
+first_of [] = None
+first_of (x ∷ xs) = Some x
+
+-- what is left to tell behind a line
+abbrev pub told_at : Telling → ℕ → Option ℕ → Telling
+told_at q a None = q
+told_at q a (Some t) = λ b u. if b == a && u == t then rest_of (q b u) else q b u
+
+abbrev pub version_for : Telling → ℕ → Option ℕ → Option VersionModel
+version_for q a None = None
+version_for q a (Some t) = first_of (q a t)
+
+-- a line with the version that it was told, where it asked
+abbrev pub Asked : Type 0
+Asked = Line × Option VersionModel
+
+abbrev pub asked_lines : Telling → List Line → List Asked
+asked_lines q [] = []
+asked_lines q (l ∷ ls) = (l, version_for q l.actor (asks l.act)) ∷ asked_lines (told_at q l.actor (asks l.act)) ls
+
+abbrev pub left_to_tell : Telling → List Line → Telling
+left_to_tell q [] = q
+left_to_tell q (l ∷ ls) = left_to_tell (told_at q l.actor (asks l.act)) ls
+
+abbrev pub asked_phases : Telling → List (List Line) → List (List Asked)
+asked_phases q [] = []
+asked_phases q (lines ∷ phases) = asked_lines q lines ∷ asked_phases (left_to_tell q lines) phases
+
+-- what is owed to a case
+abbrev pub owed_case : CaseId → List (List Asked) → List (List Asked)
+owed_case c phases = map (λ lines. filter (λ l. calls_case c l.0.act) lines) phases
+
+-- the event of a case that a line is, with the version that it was told
+abbrev pub created_by : Option VersionModel → Option Event
+created_by None = None
+created_by (Some v) = Some (event.Create v)
+
+abbrev pub migrated_by : Option VersionModel → Option Event
+migrated_by None = None
+migrated_by (Some v) = Some (event.Migrate v)
+
+abbrev pub case_event_in : List ℕ → ℕ → Option VersionModel → Act → Option Event
+case_event_in roles a v (act.Create c) = created_by v
+case_event_in roles a v (act.Start c node) = Some (event.Start node a roles)
+case_event_in roles a v (act.End c node writes choice) = Some (event.End node a writes choice)
+case_event_in roles a v (act.Change c ops) = Some (event.Change ops)
+case_event_in roles a v (act.Install t ops) = None
+case_event_in roles a v (act.Migrate t) = migrated_by v
+
+abbrev pub case_event_of : File → Asked → Option Event
+case_event_of f l = case_event_in (roles_of f l.0.actor) l.0.actor l.1 l.0.act
