@@ -1,0 +1,59 @@
+-- Texts as the lines that they are.
+use Rattle.std.proofs.Common.{◌≡◌, ℕ, ◌+◌, ◌==◌, Bool, true, false, List, [], ◌∷◌, ◌++◌, append-nil, Option, refl, sym, ap, ◌∙◌, append_assoc}
+use Rattle.std.specs.Prelude.{codes}
+use Rattle.file_model.specs.declared.files.File.{File}
+use Rattle.file_words.specs.Lines.{Bytes, CutLines, lines_of, onto_lines}
+use Rattle.line_readers.proofs.Journals.{lines_from}
+use Rattle.line_readers.proofs.Lines.{cut-together}
+use Rattle.line_readers.specs.FirstWrong.{ended}
+use Rattle.line_readers.specs.Readers.{ending}
+use Rattle.report_text.specs.Journals.{journal_line, line_start, numbered, kind_line, case_line, event_text, reply_text, kind_event_text, kind_reply_text}
+use Rattle.script_run.specs.Entries.{CaseEntry, KindEntry}
+use Rattle.turn_cell.specs.declared.journal.Entry.{Entry}
+use Rattle.audit_model.specs.Printed.{shown_line, kind_shown, case_shown}
+
+pub ending-append : (xs ys : List Bytes) → ending (xs ++ ys) ≡ ending xs ++ ending ys
+ending-append [] ys = refl
+ending-append (x ∷ xs) ys = ap (λ zs. x ++ 10 ∷ zs) (ending-append xs ys) ∙ sym (append_assoc x (10 ∷ ending xs) (ending ys))
+
+-- ---- a text that a line feed ends is its lines
+-- there is a line, and nothing behind the last
+record IsLines (cut : CutLines) : Type 0 where
+  first : Bytes
+  others : List Bytes
+  lines : cut.ended ≡ first ∷ others
+  nothing : cut.left ≡ []
+
+onto-is_lines : (b : ℕ) (cut : CutLines) → IsLines cut → (test : Bool) → (b == 10) ≡ test → IsLines (onto_lines b cut)
+onto-is_lines b cut h true is = rw is (record { first = []; others = cut.ended; lines = refl; nothing = h.nothing })
+onto-is_lines b cut h false is = rw is (rw h.lines (record { first = b ∷ h.first; others = h.others; lines = refl; nothing = h.nothing }))
+
+is-lines : (bs : Bytes) → IsLines (lines_of (bs ++ 10 ∷ []))
+is-lines [] = record { first = []; others = []; lines = refl; nothing = refl }
+is-lines (b ∷ bs) = onto-is_lines b (lines_of (bs ++ 10 ∷ [])) (is-lines bs) (b == 10) refl
+
+pub ending-ended : (bs : Bytes) → ending (ended (bs ++ 10 ∷ [])) ≡ bs ++ 10 ∷ []
+ending-ended bs = sym (append-nil (ending (ended (bs ++ 10 ∷ [])))) ∙ (ap (λ left. ending (ended (bs ++ 10 ∷ [])) ++ left) (sym (is-lines bs).nothing) ∙ cut-together (bs ++ 10 ∷ []))
+
+-- ---- the lines of journals
+line-shown : (f : File) (k caller : ℕ) (event reply : Bytes) → journal_line f k caller event reply ≡ shown_line f k caller event reply ++ 10 ∷ []
+line-shown f k caller event reply =
+    let start = line_start f k caller in
+    ap (λ xs. start ++ (event ++ xs)) (sym (append_assoc (codes " -> ") reply (10 ∷ [])))
+    ∙ (ap (λ xs. start ++ xs) (sym (append_assoc event (codes " -> " ++ reply) (10 ∷ []))) ∙ sym (append_assoc start (event ++ (codes " -> " ++ reply)) (10 ∷ [])))
+
+pub kind-line : (f : File) (k : ℕ) (e : KindEntry) → kind_line f k e ≡ kind_shown f k e ++ 10 ∷ []
+kind-line f k e = line-shown f k e.caller (kind_event_text e.event) (kind_reply_text f e.reply)
+
+pub case-line : (f : File) (k : ℕ) (e : CaseEntry) → case_line f k e ≡ case_shown f k e ++ 10 ∷ []
+case-line f k e = line-shown f k e.caller (event_text f e.event) (reply_text f e.reply)
+
+-- numbered lines of entries are those that a reader of a journal takes
+module _ {M E R W S L : Type 0} (after : S → E → S) (reply : S → E → R) (actor_of : L → ℕ) (event_of : L → Option E) (caller_in : ℕ → Bytes → Option ℕ) (line shown : ℕ → Entry M E R W S → Bytes)
+    (same : (k : ℕ) (e : Entry M E R W S) → line k e ≡ shown k e ++ 10 ∷ []) where
+  pub numbered-lines : (k : ℕ) (es : List (Entry M E R W S)) → numbered line k es ≡ ending (lines_from after reply actor_of event_of caller_in shown k es)
+  numbered-lines k [] = refl
+  numbered-lines k (e ∷ es) = ap (λ bs. bs ++ numbered line (k + 1) es) (same k e) ∙ (append_assoc (shown k e) (10 ∷ []) (numbered line (k + 1) es) ∙ ap (λ bs. shown k e ++ 10 ∷ bs) (numbered-lines (k + 1) es))
+
+pub whole-lines : (text bs : Bytes) → text ≡ bs ++ 10 ∷ [] → ending (ended text) ≡ text
+whole-lines text bs is = ap (λ xs. ending (ended xs)) is ∙ (ending-ended bs ∙ sym is)
