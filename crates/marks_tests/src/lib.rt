@@ -1,5 +1,7 @@
-//! Tests of kept marks.
+//! Tests of kept marks and of kept work items.
 #![tactic(auto)]
 
 #[cfg(test)]
 mod settling;
+#[cfg(test)]
+mod work;
