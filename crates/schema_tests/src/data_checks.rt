@@ -54,8 +54,8 @@ fn checked(alloc: Global, schema: Result<Schema, NoMemory>) -> Option<Result<(),
 
 fn flat_checked(alloc: Global, schema: &Schema) -> Option<Result<(), DataRefusal>> {
     let flat = Flat::of(alloc, schema).ok()?;
-    let _ = check_block(alloc, schema, &flat).ok()?;
-    Some(check_data(alloc, schema, &flat))
+    let rank = check_block(alloc, schema, &flat).ok()?;
+    Some(check_data(alloc, schema, &flat, &rank))
 }
 
 #[test]

@@ -1,36 +1,39 @@
--- The steps of the pass: what is sure at the next card, and the table with a row for it.
+-- The steps of the passes: what is sure at the next card, and the table with a row for it.
 use Rattle.std.proofs.Common.{◌≡◌, ℕ, suc, ◌+◌, ◌<◌, Bool, true, false, not, ◌||◌, ◌&&◌, eqb, List, [], ◌∷◌, ◌++◌, map, length, take, drop, get_or, refl, ap, sym, ◌∙◌, subst, inl, inr, Option, Some, None, add-one, drop-cons}
 use Rattle.std.proofs.Math.Seq.{take-suc}
-use Rattle.std.proofs.lemmas.List.{map-append}
+use Rattle.std.proofs.lemmas.List.{take-append-drop}
 use Rattle.std.specs.List.{list_any, list_all, filter}
 use Rattle.std.specs.Prelude.{find, option_map, is_some}
 use Rattle.std.specs.Option.{option_or}
 use Rattle.std.proofs.lemmas.Bool.{cases_Bool, both_ways, and_parts, eqb-true, eq-eqb}
-use Rattle.wsm_lists.specs.Rows.{key_eq, key_lt, row_at, put_row}
+use Rattle.wsm_lists.specs.Rows.{AllRows, key_eq, key_lt, row_at, put_row}
 use Rattle.wsm_lists.proofs.Lists.{map-same, all-rows-map}
 use Rattle.wsm_lists.proofs.Rows.{eq_means, lt_not_eq}
 use Rattle.wsm_schema.specs.SchemaModel.{SchemaModel}
-use Rattle.wsm_schema.specs.Flat.{card_of, cards_of}
+use Rattle.wsm_schema.specs.Flat.{card_at, card_of, cards_of}
 use Rattle.wsm_schema.specs.Places.{places}
-use Rattle.wsm_schema.specs.Sound.{Sure, sure_by, sure_of, first_some, missing_at, nodes_of, writes_of}
+use Rattle.wsm_schema.specs.Sound.{Sure, sure_behind, sure_by, sure_of, has_one_edge, parts_bound, first_some, missing_at, writes_of}
 use Rattle.wsm_schema.specs.declared.cards.Card.{Card}
 use Rattle.wsm_schema.specs.declared.faults.DataFault.TheVariants.{Missing}
 use Rattle.wsm_schema.specs.declared.places.Place.{Place}
 use Rattle.wsm_schema.specs.Trail.{is_one_of}
 use Rattle.wsm_marks.proofs.Lists.{one_of-last}
-use Rattle.wsm_data.specs.Passes.{IsNext, Passes}
+use Rattle.wsm_data.specs.Passes.{IsNext}
 use Rattle.wsm_data.specs.Sets.{Holds}
-use Rattle.wsm_data.specs.Tables.{by_node, set_of, set_behind, sure_behind, Tells, IsPut}
+use Rattle.wsm_data.specs.Tables.{by_node, set_of, set_behind, told_by_syncs, Tells, TellsAt, IsPut}
 use Rattle.wsm_data.specs.declared.tables.Behind.{Behind}
 use Rattle.wsm_data.proofs.Elements.{eq_number, or_swap, has-there}
 use Rattle.wsm_data.proofs.Firsts.{first-some, first-none}
+use Rattle.wsm_data.proofs.Sure.{any-same}
 
--- what a table gives for a card is sure there
-pub sure-there : (s : SchemaModel) (rows : List Behind) (seen : List ℕ) (c : Card) (set : List ℕ) → Tells s rows seen → IsNext s seen c →
-    Holds set (λ d. sure_by c.kind (map (λ e. is_one_of d (set_behind rows e.node)) c.ins)) → Holds set (sure_of s c.node)
-sure-there s rows seen c set tells next holds d =
-    holds d
-    ∙ ap (sure_by c.kind) (map-same (λ e. is_one_of d (set_behind rows e.node)) (λ e. sure_behind s e.node d) c.ins (all-rows-map _ _ (λ e there. tells e.node d there) c.ins next.behind))
+-- what a table tells of a card's sources is what is sure there
+pub told-sure : (s : SchemaModel) (rows : List Behind) (seen : List ℕ) (c : Card) → Tells s rows seen → IsNext s seen c → TellsAt s rows c
+told-sure s rows seen c tells next d =
+    ap (λ bs. sure_by c.kind bs || (has_one_edge c.kind && told_by_syncs s rows c d))
+    (map-same (λ e. is_one_of d (set_behind rows e.node)) (λ e. sure_behind s (sure_of s) e.node d) c.ins (all-rows-map _ _ (λ e there. tells e.node d there.0 there.1) c.ins next.behind))
+    ∙ ap (λ b. sure_by c.kind (map (λ e. sure_behind s (sure_of s) e.node d) c.ins) || (has_one_edge c.kind && b))
+    (any-same (λ m. parts_bound s.body m c.node && is_one_of d (set_behind rows m)) (λ m. parts_bound s.body m c.node && sure_behind s (sure_of s) m d) c.syncs_in
+    (all-rows-map _ _ (λ m there. ap (λ b. parts_bound s.body m c.node && b) (tells m d there.0 there.1)) c.syncs_in next.synced))
     ∙ sym (next.solved d)
 
 -- the reads that are missing are those of that set
@@ -84,25 +87,36 @@ put-is test b old new holds put = record {
 }
 
 -- the table with the next row tells of one node more
-pub tells-next : (s : SchemaModel) (old new : List Behind) (seen : List ℕ) (node : ℕ) → Tells s old seen → IsPut (sure_behind s node) node old new → Tells s new (seen ++ node ∷ [])
-tells-next s old new seen node tells put n d there =
+pub tells-next : (s : SchemaModel) (old new : List Behind) (seen : List ℕ) (node : ℕ) → Tells s old seen → IsPut (sure_behind s (sure_of s) node) node old new → Tells s new (seen ++ node ∷ [])
+tells-next s old new seen node tells put n d there card =
     elim (cases_Bool (eqb node n)) [
-      | inl same ↦ let here : node ≡ n = eqb-true node n same in subst (λ k. is_one_of d (set_behind new k) ≡ sure_behind s k d) here (put.here d)
+      | inl same ↦ let here : node ≡ n = eqb-true node n same in subst (λ k. is_one_of d (set_behind new k) ≡ sure_behind s (sure_of s) k d) here (put.here d)
       | inr other ↦ ap (is_one_of d) (put.others n other) ∙ elim (one_of-last n seen node there) [
-        | inl before ↦ tells n d before
+        | inl before ↦ tells n d before card
         | inr here ↦ absurd (both_ways _ other (eq-eqb node n here))
       ]
     ]
 
--- the next card, and those that are left behind it
-pub passes-step : (s : SchemaModel) (cards : List Card) (i : ℕ) (c : Card) → i < length cards → c ≡ get_or cards i c → Passes s (nodes_of (take i cards)) (drop i cards) →
-    IsNext s (nodes_of (take i cards)) c × Passes s (nodes_of (take i cards) ++ c.node ∷ []) (drop (i + 1) cards)
-passes-step s cards i c lt is passes =
-    let split : drop i cards ≡ c ∷ drop (i + 1) cards = rw add-one (drop-cons cards i c lt ∙ ap (λ x. x ∷ drop (suc i) cards) (sym is)) in
-    subst (Passes s (nodes_of (take i cards))) split passes
+-- of a node that is none of the net it has nothing to tell
+pub tells-none : (s : SchemaModel) (rows : List Behind) (seen : List ℕ) (node : ℕ) → Tells s rows seen → None ≡ card_at node (cards_of s) → Tells s rows (seen ++ node ∷ [])
+tells-none s rows seen node tells none n d there card =
+    elim (one_of-last n seen node there) [
+      | inl before ↦ tells n d before card
+      | inr here ↦ let p : None ≡ Some card.0 = none ∙ ap (λ k. card_at k (cards_of s)) here ∙ card.1 in absurd (cc)
+    ]
 
-pub nodes-step : (cards : List Card) (i : ℕ) (c : Card) → i < length cards → c ≡ get_or cards i c → nodes_of (take i cards) ++ c.node ∷ [] ≡ nodes_of (take (i + 1) cards)
-nodes-step cards i c lt is = sym (ap nodes_of (rw add-one (take-suc cards i c lt ∙ ap (λ x. take i cards ++ x ∷ []) (sym is))) ∙ map-append (λ (k : Card). k.node) (take i cards) (c ∷ []))
+-- the nodes of a rank up to the next one
+pub seen-next : (rank : List ℕ) (i d : ℕ) → i < length rank → rank ≡ take i rank ++ get_or rank i d ∷ drop (suc i) rank
+seen-next rank i d lt = sym (take-append-drop i rank) ∙ ap (λ ns. take i rank ++ ns) (drop-cons rank i d lt)
+
+pub seen-one : (rank : List ℕ) (i d : ℕ) → i < length rank → take i rank ++ get_or rank i d ∷ [] ≡ take (i + 1) rank
+seen-one rank i d lt = rw add-one (sym (take-suc rank i d lt))
+
+-- the next row, and those that are left behind it
+pub rows-step : {X : Type 0} (P : X → Type 0) (xs : List X) (i : ℕ) (x : X) → i < length xs → x ≡ get_or xs i x → AllRows P (drop i xs) → P x × AllRows P (drop (i + 1) xs)
+rows-step P xs i x lt is rows =
+    let split : drop i xs ≡ x ∷ drop (i + 1) xs = rw add-one (drop-cons xs i x lt ∙ ap (λ y. y ∷ drop (suc i) xs) (sym is)) in
+    subst (AllRows P) split rows
 
 -- the first answer, where the next row has one, and where it has none
 pub first-found : {X Y : Type 0} (f : X → Option Y) (xs : List X) (i : ℕ) (x : X) (found all : Option Y) → i < length xs → x ≡ get_or xs i x → found ≡ f x → is_some found ≡ true → first_some f (drop i xs) ≡ all → found ≡ all
@@ -113,7 +127,7 @@ first-left f xs i x found all lt is here none rest =
     rw add-one (first-none found (f x) (first_some f (drop (suc i) xs)) here none ∙ ap (first_some f) (sym (drop-cons xs i x lt ∙ ap (λ y. y ∷ drop (suc i) xs) (sym is))) ∙ rest)
 
 -- a put by what is sure
-pub put-sure : (s : SchemaModel) (node : ℕ) (set : List ℕ) (old new : List Behind) → Holds set (sure_of s node) → IsPut (λ d. is_one_of d set || writes_of s node d) node old new → IsPut (sure_behind s node) node old new
+pub put-sure : (s : SchemaModel) (node : ℕ) (set : List ℕ) (old new : List Behind) → Holds set (sure_of s node) → IsPut (λ d. is_one_of d set || writes_of s node d) node old new → IsPut (sure_behind s (sure_of s) node) node old new
 put-sure s node set old new holds put = record { here = λ d. put.here d ∙ ap (λ b. b || writes_of s node d) (holds d); others = put.others }
 
 -- where nothing is read, no read misses its value

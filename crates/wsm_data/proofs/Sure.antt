@@ -1,49 +1,37 @@
--- What is sure solves its rule at each node, and comes from nodes that stand before it.
-use Rattle.std.proofs.Common.{◌≡◌, ℕ, zero, suc, ◌+◌, ◌≤◌, true, ◌||◌, List, [], ◌∷◌, ◌++◌, map, length, ap, sym, ◌∙◌, subst, inl, inr, arith, Some, None, append_assoc, append-nil}
+-- What is sure solves its rule at each node, and comes from nodes that stand before it in a rank.
+use Rattle.std.proofs.Common.{◌≡◌, ℕ, zero, suc, ◌+◌, ◌≤◌, Bool, true, ◌||◌, ◌&&◌, List, [], ◌∷◌, ◌++◌, map, length, refl, ap, sym, ◌∙◌, subst, inl, inr, arith, Option, Some, None, append_assoc, append-nil}
 use Rattle.std.specs.Fn.{iterate}
+use Rattle.std.specs.List.{list_any}
+use Rattle.std.proofs.lemmas.Bool.{both_ways}
 use Rattle.wsm_lists.specs.Rows.{AllRows}
 use Rattle.wsm_lists.proofs.Lists.{map-same, all-rows-map, rows-map}
 use Rattle.wsm_schema.specs.SchemaModel.{SchemaModel}
 use Rattle.wsm_schema.specs.Flat.{card_at, card_of, cards_of}
 use Rattle.wsm_schema.specs.Places.{places}
-use Rattle.wsm_schema.specs.Rank.{Behind}
-use Rattle.wsm_schema.specs.Sound.{Sure, none_sure, sure_by, sure_at, sure_of, writes_of, nodes_of, block_fault}
+use Rattle.wsm_schema.specs.Rank.{IsRank}
+use Rattle.wsm_schema.specs.Sound.{Sure, none_sure, sure_behind, sure_by, sure_by_syncs, sure_at, sure_of, has_one_edge, parts_bound, writes_of, block_fault}
 use Rattle.wsm_schema.specs.Trail.{is_one_of}
 use Rattle.wsm_schema.specs.declared.cards.Card.{Card}
-use Rattle.wsm_schema.specs.declared.places.Place.{Place}
-use Rattle.wsm_schema.proofs.DocumentOrder.{SyncsBehind, cards-behind, places-after}
-use Rattle.wsm_schema.proofs.Rounds.{iterate-last}
-use Rattle.wsm_marks.specs.Loops.{HasEdge}
-use Rattle.wsm_marks.specs.Schemas.{Regular}
+use Rattle.wsm_schema.specs.declared.cards.End.{End}
+use Rattle.wsm_schema.proofs.Rounds.{iterate-last, card_at-node}
+use Rattle.wsm_marks.specs.Schemas.{HasCard, Regular}
 use Rattle.wsm_marks.proofs.Cards.{placed-rows}
-use Rattle.wsm_marks.proofs.Lists.{one_of-last, one_of-middle}
+use Rattle.wsm_marks.proofs.Lists.{one_of-last}
+use Rattle.wsm_marks.proofs.RankInduction.{in_rank}
 use Rattle.wsm_marks.proofs.SoundSchemas.{sound-regular}
-use Rattle.wsm_marks.proofs.LoopOfSchema.{places-edged}
-use Rattle.wsm_data.specs.Passes.{Passes}
+use Rattle.wsm_marks.proofs.Sources.{sources-have_cards}
+use Rattle.wsm_marks.proofs.Values.{card-edged}
+use Rattle.wsm_data.specs.Passes.{IsNext, Seen}
 
--- ---- the sources of a card stand before it
-abbrev pub ControlBehind : List ℕ → List Card → Type 0
-ControlBehind seen [] = Unit {0}
-ControlBehind seen (c ∷ cs) = AllRows (λ e. is_one_of e.node seen ≡ true) c.ins × ControlBehind (seen ++ (c.node ∷ [])) cs
+-- two tests that say the same of each row find the same
+pub any-same : {X : Type 0} (f g : X → Bool) (xs : List X) → AllRows (λ x. f x ≡ g x) xs → list_any f xs ≡ list_any g xs
+any-same f g [] h = refl
+any-same f g (x ∷ xs) h = ap (λ b. b || list_any f xs) h.0 ∙ ap (λ b. g x || b) (any-same f g xs h.1)
 
--- the schema without its sync edges has the same places, and each card the same control edges
-abbrev without_syncs : SchemaModel → SchemaModel
-without_syncs s = record s { syncs = [] }
+rows-both : {X : Type 0} (P Q : X → Type 0) (xs : List X) → AllRows P xs → AllRows Q xs → AllRows (λ x. P x × Q x) xs
+rows-both P Q [] p q = tt
+rows-both P Q (x ∷ xs) p q = ((p.0, q.0), rows-both P Q xs p.1 q.1)
 
-no-syncs : (s : SchemaModel) (seen : List ℕ) (ps : List Place) → SyncsBehind seen (map (card_of (without_syncs s)) ps)
-no-syncs s seen [] = tt
-no-syncs s seen (p ∷ ps) = (tt, no-syncs s (seen ++ (p.node ∷ [])) ps)
-
-control-alone : (s : SchemaModel) (seen : List ℕ) (ps : List Place) → Behind seen (map (card_of (without_syncs s)) ps) → ControlBehind seen (map (card_of s) ps)
-control-alone s seen [] h = tt
-control-alone s seen (p ∷ ps) h = (h.0.0, control-alone s (seen ++ (p.node ∷ [])) ps h.1)
-
-control-behind : (s : SchemaModel) → ControlBehind [] (cards_of s)
-control-behind s =
-    let ps = places s.start s.body s.finish in
-    control-alone s [] ps (cards-behind (without_syncs s) [] ps (places-after s.start s.body s.finish) (no-syncs s [] ps))
-
--- ---- rounds
 module _ (s : SchemaModel) where
   abbrev round : Sure → Sure
   round sure n d = sure_at s sure (card_at n (cards_of s)) d
@@ -52,63 +40,78 @@ module _ (s : SchemaModel) where
   rounds k = iterate round k none_sure
 
   -- a round more is the rule of the node's card
-  round-at : (k n d : ℕ) (c : Card) → card_at n (cards_of s) ≡ Some c → rounds (suc k) n d ≡ sure_at s (rounds k) (Some c) d
-  round-at k n d c at = ap (λ (g : Sure). g n d) (iterate-last round k none_sure) ∙ ap (λ o. sure_at s (rounds k) o d) at
+  round-at : (k n d : ℕ) → rounds (suc k) n d ≡ sure_at s (rounds k) (card_at n (cards_of s)) d
+  round-at k n d = ap (λ (g : Sure). g n d) (iterate-last round k none_sure)
 
   -- what is sure at these nodes is the same from round k on
   abbrev Settled : ℕ → List ℕ → Type 0
   Settled k seen = (n d j : ℕ) → is_one_of n seen ≡ true → k ≤ j → rounds (suc j) n d ≡ rounds j n d
 
-  rule-same : (f g : Sure) (c : Card) (d : ℕ) → AllRows (λ e. f e.node d ≡ g e.node d) c.ins → sure_at s f (Some c) d ≡ sure_at s g (Some c) d
-  rule-same f g c d same =
-      ap (sure_by c.kind) (map-same (λ e. f e.node d || writes_of s e.node d) (λ e. g e.node d || writes_of s e.node d) c.ins (all-rows-map _ _ (λ e h. ap (λ b. b || writes_of s e.node d) h) c.ins same))
+  -- the rule of a card says the same where its sources say the same
+  rule-same : (f g : Sure) (c : Card) (d : ℕ) → AllRows (λ e. f e.node d ≡ g e.node d) c.ins → AllRows (λ m. f m d ≡ g m d) c.syncs_in → sure_at s f (Some c) d ≡ sure_at s g (Some c) d
+  rule-same f g c d ins syncs =
+      ap (λ bs. sure_by c.kind bs || sure_by_syncs s f c d) (map-same (λ e. sure_behind s f e.node d) (λ e. sure_behind s g e.node d) c.ins (all-rows-map _ _ (λ e h. ap (λ b. b || writes_of s e.node d) h) c.ins ins))
+      ∙ ap (λ b. sure_by c.kind (map (λ e. sure_behind s g e.node d) c.ins) || (has_one_edge c.kind && b))
+      (any-same (λ m. parts_bound s.body m c.node && sure_behind s f m d) (λ m. parts_bound s.body m c.node && sure_behind s g m d) c.syncs_in
+      (all-rows-map _ _ (λ m h. ap (λ b. parts_bound s.body m c.node && (b || writes_of s m d)) h) c.syncs_in syncs))
 
-  settled-next : (k : ℕ) (seen : List ℕ) (c : Card) → Settled k seen → card_at c.node (cards_of s) ≡ Some c → AllRows (λ e. is_one_of e.node seen ≡ true) c.ins → Settled (suc k) (seen ++ c.node ∷ [])
-  settled-next k seen c settled at ins n d zero there le = absurd (omega (arith, le))
-  settled-next k seen c settled at ins n d (suc j) there le =
-      elim (one_of-last n seen c.node there) [
-        | inl before ↦ settled n d (suc j) before (omega (arith, le))
-        | inr here ↦
-            let found : card_at n (cards_of s) ≡ Some c = ap (λ m. card_at m (cards_of s)) (sym here) ∙ at in
-            round-at (suc j) n d c found
-            ∙ rule-same (rounds (suc j)) (rounds j) c d (all-rows-map _ _ (λ e in_seen. settled e.node d j in_seen (omega (arith, le))) c.ins ins)
-            ∙ sym (round-at j n d c found)
-      ]
+  module _ (rank : List ℕ) (is : IsRank (cards_of s) rank) where
+    settled-next : (k : ℕ) (front rest : List ℕ) (n : ℕ) → rank ≡ front ++ n ∷ rest → Settled k front → Settled (suc k) (front ++ n ∷ [])
+    settled-next k front rest n at settled o d zero there le = absurd (omega (arith, le))
+    settled-next k front rest n at settled o d (suc j) there le =
+        elim (one_of-last o front n there) [
+          | inl before ↦ settled o d (suc j) before (omega (arith, le))
+          | inr here ↦ subst (λ i. rounds (suc (suc j)) i d ≡ rounds (suc j) i d) here (go (card_at n (cards_of s)) refl)
+        ]
+      where
+        go : (found : Option Card) → card_at n (cards_of s) ≡ found → rounds (suc (suc j)) n d ≡ rounds (suc j) n d
+        go None none = round-at (suc j) n d ∙ ap (λ f. sure_at s (rounds (suc j)) f d) none ∙ sym (round-at j n d ∙ ap (λ f. sure_at s (rounds j) f d) none)
+        go (Some c) found =
+            let order = is.behind front rest n c at found in
+            round-at (suc j) n d ∙ ap (λ f. sure_at s (rounds (suc j)) f d) found
+            ∙ rule-same (rounds (suc j)) (rounds j) c d
+            (all-rows-map _ _ (λ e in_front. settled e.node d j in_front (omega (arith, le))) c.ins order.0)
+            (all-rows-map _ _ (λ m in_front. settled m d j in_front (omega (arith, le))) c.syncs_in order.1)
+            ∙ sym (round-at j n d ∙ ap (λ f. sure_at s (rounds j) f d) found)
 
-  settled-all : (k : ℕ) (seen : List ℕ) (cs : List Card) → Settled k seen → ControlBehind seen cs → AllRows (λ c. card_at c.node (cards_of s) ≡ Some c) cs → Settled (k + length cs) (seen ++ nodes_of cs)
-  settled-all k seen [] settled behind at n d j there le = settled n d j (ap (is_one_of n) (sym (append-nil seen)) ∙ there) (omega (arith, le))
-  settled-all k seen (c ∷ cs) settled behind at n d j there le =
-      settled-all (suc k) (seen ++ c.node ∷ []) cs (settled-next k seen c settled at.0 behind.0) behind.1 at.1 n d j
-      (ap (is_one_of n) (append_assoc seen (c.node ∷ []) (nodes_of cs)) ∙ there) (omega (arith, le))
+    settled-all : (k : ℕ) (front rest : List ℕ) → rank ≡ front ++ rest → Settled k front → Settled (k + length rest) (front ++ rest)
+    settled-all k front [] at settled n d j there le = settled n d j (ap (is_one_of n) (sym (append-nil front)) ∙ there) (omega (arith, le))
+    settled-all k front (m ∷ rest) at settled n d j there le =
+        settled-all (suc k) (front ++ m ∷ []) rest (at ∙ sym (append_assoc front (m ∷ []) rest)) (settled-next k front rest m at settled) n d j
+        (ap (is_one_of n) (append_assoc front (m ∷ []) rest) ∙ there) (omega (arith, le))
 
-  -- each card is that of its node
-  cards-there : Regular s → AllRows (λ c. card_at c.node (cards_of s) ≡ Some c) (cards_of s)
-  cards-there regular = rows-map _ (card_of s) (places s.start s.body s.finish) (placed-rows s (places s.start s.body s.finish) regular.distinct)
+    -- so what is sure solves the rule of each node
+    solved : (n : ℕ) (c : Card) → card_at n (cards_of s) ≡ Some c → (d : ℕ) → sure_of s n d ≡ sure_at s (sure_of s) (Some c) d
+    solved n c at d =
+        let many = length (cards_of s) in
+        sym (settled-all 0 [] rank refl (λ k e j none le. absurd (both_ways _ refl none)) n d many (in_rank (cards_of s) rank is n c at) (omega (arith, is.size)))
+        ∙ round-at many n d ∙ ap (λ f. sure_at s (rounds many) f d) at
 
-  -- each card solves the rule
-  solved-all : (seen : List ℕ) (cs : List Card) → Settled (length (cards_of s)) (seen ++ nodes_of cs) → AllRows (λ c. card_at c.node (cards_of s) ≡ Some c) cs → AllRows (λ c. (d : ℕ) → sure_of s c.node d ≡ sure_at s (sure_of s) (Some c) d) cs
-  solved-all seen [] settled at = tt
-  solved-all seen (c ∷ cs) settled at = (
-    λ d. sym (settled c.node d (length (cards_of s)) (one_of-middle c.node seen (nodes_of cs)) (omega arith)) ∙ round-at (length (cards_of s)) c.node d c at.0,
-    solved-all (seen ++ c.node ∷ []) cs (subst (Settled (length (cards_of s))) (sym (append_assoc seen (c.node ∷ []) (nodes_of cs))) settled) at.1,
-  )
+    -- a node of the rank comes next when those before it were seen
+    pub rank-next : block_fault s ≡ None → (front rest : List ℕ) (n : ℕ) (c : Card) → rank ≡ front ++ n ∷ rest → card_at n (cards_of s) ≡ Some c → IsNext s front c
+    rank-next no_fault front rest n c split at =
+        let regular : Regular s = sound-regular s no_fault in
+        let order = is.behind front rest n c split at in
+        let cards = sources-have_cards s regular n c at in
+        let named : c.node ≡ n = card_at-node n (cards_of s) c at in
+        record {
+          edged = card-edged s regular n c at;
+          behind = rows-both (λ (e : End). is_one_of e.node front ≡ true) (λ e. HasCard (cards_of s) e.node) c.ins order.0 cards.0;
+          synced = rows-both (λ m. is_one_of m front ≡ true) (HasCard (cards_of s)) c.syncs_in order.1 cards.1;
+          solved = λ d. ap (λ k. sure_of s k d) named ∙ solved n c at d;
+        }
 
-  each-next : (seen : List ℕ) (cs : List Card) → ControlBehind seen cs → AllRows (λ c. HasEdge c.kind c.ins) cs → AllRows (λ c. (d : ℕ) → sure_of s c.node d ≡ sure_at s (sure_of s) (Some c) d) cs → Passes s seen cs
-  each-next seen [] behind edged solved = tt
-  each-next seen (c ∷ cs) behind edged solved = (record { edged = edged.0; behind = behind.0; solved = solved.0 }, each-next (seen ++ (c.node ∷ [])) cs behind.1 edged.1 solved.1)
-
-  -- so one pass in document order gives what is sure
-  pub document-passes : block_fault s ≡ None → Passes s [] (cards_of s)
-  document-passes no_fault =
-      let regular : Regular s = sound-regular s no_fault in
-      let there = cards-there regular in
-      let from_start : 0 + length (cards_of s) ≡ length (cards_of s) = omega arith in
-      let settled : Settled (length (cards_of s)) (nodes_of (cards_of s)) =
-      subst (λ k. Settled k (nodes_of (cards_of s))) from_start (settled-all 0 [] (cards_of s) (λ n d j h le. absurd (nobody n h)) (control-behind s) there)
-      in
-      each-next [] (cards_of s) (control-behind s)
-      (rows-map _ (card_of s) (places s.start s.body s.finish) (places-edged s.start s.finish s.body regular.full))
-      (solved-all [] (cards_of s) settled there)
-    where
-      nobody : (n : ℕ) → is_one_of n [] ≡ true → ⊥
-      nobody n h = absurd (cc)
+    -- behind the whole rank all cards may be looked at
+    pub all-next : block_fault s ≡ None → AllRows (IsNext s rank) (cards_of s)
+    all-next no_fault =
+        let regular : Regular s = sound-regular s no_fault in
+        let seen : (n : ℕ) → HasCard (cards_of s) n → Seen s rank n = λ n card. (in_rank (cards_of s) rank is n card.0 card.1, card) in
+        let there : AllRows (λ c. card_at c.node (cards_of s) ≡ Some c) (cards_of s) = rows-map _ (card_of s) (places s.start s.body s.finish) (placed-rows s (places s.start s.body s.finish) regular.distinct) in
+        all-rows-map _ _ (λ c at.
+        let cards = sources-have_cards s regular c.node c at in
+        record {
+          edged = card-edged s regular c.node c at;
+          behind = all-rows-map _ _ (λ e card. seen e.node card) c.ins cards.0;
+          synced = all-rows-map _ _ (λ m card. seen m card) c.syncs_in cards.1;
+          solved = solved c.node c at;
+        }) (cards_of s) there

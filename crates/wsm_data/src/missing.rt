@@ -1,17 +1,20 @@
 // Mandatory reads that may find no value.
 ghost use Rattle.std.specs.Prelude.{◌≡◌, ◌||◌, ◌==◌, None, IfOk, OnOk};
 ghost use Rattle.std.specs.List.{list_all, list_any};
+ghost use Rattle.wsm_lists.specs.Rows.{AllRows};
+ghost use Rattle.wsm_marks.specs.Loops.{HasEdge};
 ghost use Rattle.wsm_schema.specs.Flat.{flat_of, cards_of};
+ghost use Rattle.wsm_schema.specs.Rank.{IsRank};
 ghost use Rattle.wsm_schema.specs.Sound.{block_fault, first_some, missing_at, sure_of, writes_of};
 ghost use Rattle.wsm_schema.specs.Trail.{is_one_of};
-ghost use Rattle.wsm_data.specs.Tables.{IsPut};
+ghost use Rattle.wsm_data.specs.Tables.{IsPut, Tells, TellsAt};
 ghost use Rattle.wsm_data.specs.Sets.{Holds};
 
 use crate::sets::ElementSet;
 use crate::tables::{Behind, BehindTable, shared, sure_at};
 use std::alloc::Global;
 use std::sync::Arc;
-use wsm_schema::{Card, DataFault, Flat, NoMemory, Schema};
+use wsm_schema::{Card, DataFault, Enclosures, Flat, NoMemory, Rank, Schema};
 
 // The first mandatory read of a card whose element is not one of those that are sure there.
 fn missing_at(sure: &ElementSet, card: &Card) -> Option<DataFault>
@@ -25,29 +28,85 @@ fn missing_at(sure: &ElementSet, card: &Card) -> Option<DataFault>
     None
 }
 
-/// The first mandatory read that may find no value, by one pass over the nodes in document order, where there are reads.
+/// The first mandatory read that may find no value, by one pass over the nodes in the order of a rank, where there are reads.
 pub fn missing_read(
     alloc: Global,
     schema: &Schema,
     flat: &Flat,
+    rank: &Rank,
 ) -> Result<Option<DataFault>, NoMemory>
     requires flat { flat.now ≡ flat_of schema.now }
     requires blocks { block_fault schema.now ≡ None }
+    requires rank { IsRank (cards_of schema.now) rank.now }
     ensures { IfOk result (λ found. found ≡ first_some (missing_at (sure_of schema.now)) (cards_of schema.now)) }
 {
     if schema.reads.is_empty() {
         return Ok(None);
     }
+    let enclosures = Enclosures::of(alloc, schema, flat)?;
+    let table = behind_each(alloc, schema, flat, rank, &enclosures)?;
+    first_missing(alloc, &table, &enclosures, flat.cards())
+}
+
+// What is sure behind each node.
+fn behind_each(
+    alloc: Global,
+    schema: &Schema,
+    flat: &Flat,
+    rank: &Rank,
+    enclosures: &Enclosures<'_>,
+) -> Result<BehindTable, NoMemory>
+    requires flat { flat.now ≡ flat_of schema.now }
+    requires blocks { block_fault schema.now ≡ None }
+    requires rank { IsRank (cards_of schema.now) rank.now }
+    requires enclosed { enclosures.now ≡ schema.now }
+    ensures { IfOk result (λ table. Tells schema.now table rank.now) }
+{
     let mut table = BehindTable::new(alloc);
-    for card in flat.cards() {
-        let sure = sure_at(alloc, &table, card)?;
-        let found = missing_at(&sure, card);
+    for node in rank.nodes() {
+        if let Some(card) = flat.card(*node) {
+            let sure = sure_at(alloc, &table, enclosures, card)?;
+            put_behind(alloc, &mut table, schema, *node, sure)?;
+        }
+    }
+    Ok(table)
+}
+
+// The first mandatory read of the cards that may find no value, by what is sure behind all nodes.
+fn first_missing(
+    alloc: Global,
+    table: &BehindTable,
+    enclosures: &Enclosures<'_>,
+    cards: &[Card],
+) -> Result<Option<DataFault>, NoMemory>
+    requires { AllRows (λ c. HasEdge c.kind c.ins × TellsAt enclosures.now table.now c) cards.now }
+    ensures { IfOk result (λ found. found ≡ first_some (missing_at (sure_of enclosures.now)) cards.now) }
+{
+    for card in cards {
+        let found = missing_read_at(alloc, table, enclosures, card)?;
         if found.is_some() {
             return Ok(found);
         }
-        put_behind(alloc, &mut table, schema, card.node, sure)?;
     }
     Ok(None)
+}
+
+// The same of one card.
+fn missing_read_at(
+    alloc: Global,
+    table: &BehindTable,
+    enclosures: &Enclosures<'_>,
+    card: &Card,
+) -> Result<Option<DataFault>, NoMemory>
+    requires edged { HasEdge card.now.kind card.now.ins }
+    requires told { TellsAt enclosures.now table.now card.now }
+    ensures { IfOk result (λ found. found ≡ missing_at (sure_of enclosures.now) card.now) }
+{
+    if card.reads.is_empty() {
+        return Ok(None);
+    }
+    let sure = sure_at(alloc, table, enclosures, card)?;
+    Ok(missing_at(&sure, card))
 }
 
 // One more row: behind a node there is what is sure there, and what it writes.

@@ -1,17 +1,16 @@
 // Tables of the elements that have a value behind nodes, and the set of a node from those of its sources.
-ghost use Rattle.std.specs.Prelude.{◌≡◌, ◌<◌, map, length, IfOk};
+ghost use Rattle.std.specs.Prelude.{◌≡◌, ◌<◌, ◌||◌, map, length, IfOk, OnOk};
 ghost use Rattle.std.specs.List.{list_all, list_any};
-ghost use Rattle.wsm_schema.specs.Sound.{sure_by};
 ghost use Rattle.wsm_schema.specs.Trail.{is_one_of};
 ghost use Rattle.wsm_marks.specs.Loops.{HasEdge};
 ghost use Rattle.wsm_data.specs.Sets.{Holds, InOrder};
-ghost use Rattle.wsm_data.specs.Tables.{by_node, set_behind};
+ghost use Rattle.wsm_data.specs.Tables.{by_node, set_behind, told_at, told_by_syncs};
 
 use crate::sets::ElementSet;
 use std::alloc::Global;
 use std::sync::Arc;
 use wsm_lists::{Keys, NoMemory, Table};
-use wsm_schema::{Card, End, NodeKind};
+use wsm_schema::{Card, Enclosures, End, NodeKind};
 
 /// A node, and the elements that have a value behind it, whatever came before. Nodes share one set where it is the same.
 #[derive(Drop)]
@@ -37,22 +36,65 @@ impl Keys for ByBehind {
 pub type BehindTable = Table<ByBehind>;
 
 /// The elements that are sure at a card, where the table tells them of its sources: at an AND join those behind some
-/// source, elsewhere those behind all.
-pub fn sure_at(alloc: Global, table: &BehindTable, card: &Card) -> Result<Arc<ElementSet>, NoMemory>
+/// source, elsewhere those behind all; and those behind the sources of sync edges that are bound to the node.
+pub fn sure_at(
+    alloc: Global,
+    table: &BehindTable,
+    enclosures: &Enclosures<'_>,
+    card: &Card,
+) -> Result<Arc<ElementSet>, NoMemory>
     requires { HasEdge card.now.kind card.now.ins }
-    ensures { IfOk result (λ set. Holds set.value (λ d. sure_by card.now.kind (map (λ e. is_one_of d (set_behind table.now e.node)) card.now.ins))) }
+    ensures { IfOk result (λ set. Holds set.value (told_at enclosures.now table.now card.now)) }
 {
     match card.kind {
         NodeKind::Start => shared(alloc, ElementSet::new(alloc)),
         NodeKind::AndJoin => behind_some(alloc, table, card.ins.as_slice()),
+        NodeKind::XorJoin => behind_all(alloc, table, card.ins.as_slice()),
         NodeKind::Finish
         | NodeKind::Activity
         | NodeKind::AndSplit
         | NodeKind::XorSplit
-        | NodeKind::XorJoin
         | NodeKind::LoopStart
-        | NodeKind::LoopEnd => behind_all(alloc, table, card.ins.as_slice()),
+        | NodeKind::LoopEnd => {
+            let set = behind_all(alloc, table, card.ins.as_slice())?;
+            with_bound(alloc, table, enclosures, card, set)
+        }
     }
+}
+
+// The set with the elements behind the sources of sync edges that are bound to the node.
+fn with_bound(
+    alloc: Global,
+    table: &BehindTable,
+    enclosures: &Enclosures<'_>,
+    card: &Card,
+    set: Arc<ElementSet>,
+) -> Result<Arc<ElementSet>, NoMemory>
+    ensures { IfOk result (λ new. Holds new.value (λ d. is_one_of d set.value || told_by_syncs enclosures.now table.now card.now d)) }
+{
+    if card.syncs_in.is_empty() {
+        return Ok(set);
+    }
+    let mut more = set.copy(alloc)?;
+    add_bound(table, enclosures, card, &mut more)?;
+    shared(alloc, more)
+}
+
+// The elements behind the sources of sync edges that are bound to the node, put into a set.
+fn add_bound(
+    table: &BehindTable,
+    enclosures: &Enclosures<'_>,
+    card: &Card,
+    set: &mut ElementSet,
+) -> Result<(), NoMemory>
+    ensures { OnOk result (Holds set.new (λ d. is_one_of d set.old || told_by_syncs enclosures.now table.now card.now d)) }
+{
+    for source in card.syncs_in.as_slice() {
+        if enclosures.is_bound(*source, card.node) {
+            set.add_all(set_behind(table, *source))?;
+        }
+    }
+    Ok(())
 }
 
 /// The set, to be shared.

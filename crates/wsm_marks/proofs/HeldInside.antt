@@ -134,7 +134,7 @@ module _ (s : SchemaModel) (f : Facts) (m : Marking) where
   held-at n k same h = subst Held (sym (eqb-true n k same)) h
 
   module _ (solves : Solves (cards_of s) f m) where
-    split-entered : (g : Gate) (split : ℕ) (partner : Option ℕ) (from : End) (outs : List End) → Sane s f m (place split (split_kind g) partner (from ∷ []) outs) → Later (sig s f m from) (m split)
+    pub split-entered : (g : Gate) (split : ℕ) (partner : Option ℕ) (from : End) (outs : List End) → Sane s f m (place split (split_kind g) partner (from ∷ []) outs) → Later (sig s f m from) (m split)
     split-entered and_gate split partner from outs sane = node-one s f m solves split kind.AndSplit partner from outs sane tt
     split-entered xor_gate split partner from outs sane = node-one s f m solves split kind.XorSplit partner from outs sane tt
 

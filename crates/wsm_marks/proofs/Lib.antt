@@ -32,6 +32,7 @@ pub mod SureValues
 pub mod ReadyValues
 pub mod NeverIdle
 pub mod HeldInside
+pub mod BoundSources
 pub mod HeldBranches
 pub mod HeldApart
 pub mod ExamplesExchange

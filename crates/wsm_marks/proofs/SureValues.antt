@@ -10,11 +10,11 @@ use Rattle.wsm_schema.specs.SchemaModel.{SchemaModel}
 use Rattle.wsm_schema.specs.Flat.{flat_of, card_at, cards_of}
 use Rattle.wsm_schema.specs.Kinds.{worked_on}
 use Rattle.wsm_schema.specs.Rank.{IsRank}
-use Rattle.wsm_schema.specs.Rules.{Spots, is_yes, is_ready, is_skipped}
+use Rattle.wsm_schema.specs.Rules.{Spots, is_yes, is_no, is_ready, is_skipped}
 use Rattle.wsm_schema.specs.Replay.{fits_edges, fits_choice, replay_of, whole}
 use Rattle.wsm_schema.specs.Marks.{Facts, facts_of, is_end_of}
 use Rattle.wsm_schema.specs.Trail.{is_one_of, value_below, written_by}
-use Rattle.wsm_schema.specs.Sound.{Sure, none_sure, sure_by, sure_at, sure_of, missing_at, writes_of, data_fault}
+use Rattle.wsm_schema.specs.Sound.{Sure, none_sure, sure_by, sure_behind, sure_by_syncs, sure_at, sure_of, has_one_edge, parts_bound, missing_at, writes_of, data_fault}
 use Rattle.wsm_schema.specs.declared.cards.Card.{Card}
 use Rattle.wsm_schema.specs.declared.cards.End.{End}
 use Rattle.wsm_schema.specs.declared.cards.NodeKind.{NodeKind}
@@ -29,18 +29,20 @@ use Rattle.wsm_lists.proofs.Lists.{all-rows-map}
 use Rattle.wsm_schema.proofs.Rounds.{all-rows-card_at, card_at-node}
 use Rattle.wsm_marks.specs.Fits.{Orderly, RisesAfter, fits}
 use Rattle.wsm_marks.specs.Loops.{HasEdge}
-use Rattle.wsm_marks.specs.Schemas.{Regular}
+use Rattle.wsm_marks.specs.Schemas.{HasCard, Regular}
 use Rattle.wsm_marks.specs.Solving.{solution}
 use Rattle.wsm_marks.specs.Timed.{Entries, Marking, Solves, Timed, awaited, before, flow, latest, sig_at, sig_by, sig_of, time, timed_by}
 use Rattle.wsm_marks.proofs.BlockFlow.{greater-left, greater-right, not_some, sig}
+use Rattle.wsm_marks.proofs.BoundSources.{bound-free}
 use Rattle.wsm_marks.proofs.Cards.{on_card-true, same_card}
 use Rattle.wsm_marks.proofs.Causality.{solved_net}
 use Rattle.wsm_marks.proofs.FirstFailure.{fits-rows}
 use Rattle.wsm_marks.proofs.Lists.{lt-suc_self, map-map}
 use Rattle.wsm_marks.proofs.MarksOfTrails.{whole-fits}
 use Rattle.wsm_marks.proofs.NoFault.{no_either, no_first, no_map}
-use Rattle.wsm_marks.proofs.SaneTrails.{ended-ready, found-row, position-found}
+use Rattle.wsm_marks.proofs.SaneTrails.{all-sane, ended-ready, found-row, position-found}
 use Rattle.wsm_marks.proofs.Signals.{is_ready_mark}
+use Rattle.wsm_marks.proofs.Sources.{sources-have_cards}
 use Rattle.wsm_marks.proofs.Values.{WritersWork, card-edged, card-writes, edges-write, value-later, value-of_entry, writers-work}
 use Rattle.wsm_marks.proofs.WholeTrails.{whole-orderly}
 
@@ -93,12 +95,24 @@ sure-edge G kind.XorJoin sig sure xs edge ready h leads =
 sure-edge G _ sig sure [] edge ready h leads = absurd edge
 sure-edge G _ sig sure (x ∷ xs) edge ready h leads = leads.0 (and_parts (is_yes (flow (sig x))) _ ready).0 (and_parts (sure x) _ h).0
 
--- a node that is ready since t has its control edges' signals by then
-ready-time : (r s y : Bool) (a b t : ℕ) → timed_by (cond r (cond y verdict.Ready verdict.Waiting) (cond s verdict.Skipped verdict.Waiting)) a b ≡ Some (t, Yes) → (r ≡ true) × (a ≤ t)
-ready-time true s true a b t h = (refl, omega (arith, greater-left a b, ap time h))
+-- a node that is ready since t has the signals of its control edges and of its sync edges by then
+ready-time : (r s y : Bool) (a b t : ℕ) → timed_by (cond r (cond y verdict.Ready verdict.Waiting) (cond s verdict.Skipped verdict.Waiting)) a b ≡ Some (t, Yes) →
+    (r ≡ true) × (a ≤ t) × (y ≡ true) × (b ≤ t)
+ready-time true s true a b t h = (refl, omega (arith, greater-left a b, ap time h), refl, omega (arith, greater-right a b, ap time h))
 ready-time true s false a b t h = absurd (not_some (t, Yes) h)
 ready-time false true y a b t h = let p : Some No ≡ Some Yes = ap flow h in absurd (cc)
 ready-time false false y a b t h = absurd (not_some (t, Yes) h)
+
+-- sync edges that all signal by then, and one of whose sources passes a test
+synced-leads : (G : Type 0) (P : ℕ → Type 0) (test : ℕ → Bool) (sync : ℕ → Timed) (t : ℕ) → ((a : ℕ) → P a → is_some (flow (sync a)) ≡ true → time (sync a) ≤ t → test a ≡ true → G) →
+    (xs : List ℕ) → AllRows P xs → list_all is_some (map flow (map sync xs)) ≡ true → latest (map sync xs) ≤ t → list_any test xs ≡ true → G
+synced-leads G P test sync t lead [] rows all le any = absurd (both_ways _ refl any)
+synced-leads G P test sync t lead (x ∷ xs) rows all le any =
+    let r = and_parts (is_some (flow (sync x))) _ all in
+    elim (or_cases (test x) _ any) [
+      | inl it ↦ lead x rows.0 r.0 (omega (arith, le, greater-left (time (sync x)) (latest (map sync xs)))) it
+      | inr later ↦ synced-leads G P test sync t lead xs rows.1 r.1 (omega (arith, le, greater-right (time (sync x)) (latest (map sync xs)))) later
+    ]
 
 -- an edge is True where its source was ended, or is silent and ready, at that time
 abbrev Sourced : NodeKind → Timed → Option ℕ → Timed → Type 0
@@ -127,6 +141,30 @@ yes-sourced k None (Some u) choice label h =
       | inr silent ↦ absurd (both_ways _ refl (rw silent at h))
     ]
 
+-- so an edge signals only then, whatever it signals, where its source is not skipped
+some-sourced : (k : NodeKind) (x : Timed) (en choice label : Option ℕ) → is_no (flow x) ≡ false → is_some (flow (sig_of k x en choice label)) ≡ true → Sourced k x en (sig_of k x en choice label)
+some-sourced k (Some (t, No)) en choice label free h = absurd (both_ways _ free refl)
+some-sourced k (Some (t, Yes)) None choice label free h =
+    elim (cases_Bool (worked_on k)) [
+      | inl works ↦ absurd (both_ways _ refl (rw works at h))
+      | inr silent ↦ rw silent (inr (refl, refl))
+    ]
+some-sourced k (Some (t, Yes)) (Some u) choice label free h =
+    elim (cases_Bool (worked_on k)) [
+      | inl works ↦ rw works (inl (refl, refl))
+      | inr silent ↦ rw silent (inr (refl, refl))
+    ]
+some-sourced k None None choice label free h =
+    elim (cases_Bool (worked_on k)) [
+      | inl works ↦ absurd (both_ways _ refl (rw works at h))
+      | inr silent ↦ absurd (both_ways _ refl (rw silent at h))
+    ]
+some-sourced k None (Some u) choice label free h =
+    elim (cases_Bool (worked_on k)) [
+      | inl works ↦ rw works (inl (refl, refl))
+      | inr silent ↦ absurd (both_ways _ refl (rw silent at h))
+    ]
+
 module _ (s : SchemaModel) (regular : Regular s) (writers : WritersWork s) (es : Entries) (m : Marking) (solves : Solves (cards_of s) (facts_of es) m) (orderly : Orderly es)
     (fit : AllRows (λ e. fits (flat_of s) (facts_of es) m (λ d. value_below d e.0 es) e.0 e.1 ≡ true) es) where
   -- what a node that was ended writes is there behind its End
@@ -150,24 +188,53 @@ module _ (s : SchemaModel) (regular : Regular s) (writers : WritersWork s) (es :
   abbrev round : Sure → Sure
   round sure n d = sure_at s sure (card_at n (cards_of s)) d
 
-  -- what is sure after some rounds is there where the node is ready
+  -- what is sure of an element after so many rounds is there where a node is ready
+  abbrev Known : ℕ → ℕ → Type 0
+  Known k d = (j u : ℕ) (b : Card) → card_at j (cards_of s) ≡ Some b → m j ≡ Some (u, Yes) → iterate round k none_sure j d ≡ true → is_some (value_below d (suc u) es) ≡ true
+
   sure-there : (k n d t : ℕ) (c : Card) → card_at n (cards_of s) ≡ Some c → m n ≡ Some (t, Yes) → iterate round k none_sure n d ≡ true → is_some (value_below d (suc t) es) ≡ true
   sure-there zero n d t c at ready h = absurd (both_ways _ refl h)
   sure-there (suc k) n d t c at ready h =
       let sure : Sure = iterate round k none_sure in
       let sig : End → Timed = λ x. sig_at (cards_of s) (facts_of es) m x.label x.node in
-      let by_sources : sure_by c.kind (map (λ x. sure x.node d || writes_of s x.node d) c.ins) ≡ true = ap (λ o. sure_at s sure o d) (sym at) ∙ ap (λ g. g n d) (sym (iterate-last round k none_sure)) ∙ h in
-      let timely = ready-time (is_ready c.kind (map flow (map sig c.ins))) (is_skipped c.kind (map flow (map sig c.ins))) _ _ _ t (sym (solves.meets n c at) ∙ ready) in
-      sure-edge (is_some (value_below d (suc t) es) ≡ true) c.kind sig (λ x. sure x.node d || writes_of s x.node d) c.ins (card-edged s regular n c at) timely.0 by_sources
-      (all-rows-map _ _ (λ x le is_true known. value-later d (suc (time (sig x))) (suc t) (omega (arith, le, timely.1)) es (source (λ j u b. sure-there k j d u b) x is_true known)) c.ins (bounded c.kind sig c.ins by_sources))
+      let sync : ℕ → Timed = sig_at (cards_of s) (facts_of es) m None in
+      let control : Bool = sure_by c.kind (map (λ x. sure_behind s sure x.node d) c.ins) in
+      let by_sources : (control || sure_by_syncs s sure c d) ≡ true = ap (λ o. sure_at s sure o d) (sym at) ∙ ap (λ g. g n d) (sym (iterate-last round k none_sure)) ∙ h in
+      let timely = ready-time (is_ready c.kind (map flow (map sig c.ins))) (is_skipped c.kind (map flow (map sig c.ins))) (list_all is_some (map flow (map sync c.syncs_in))) _ (latest (map sync c.syncs_in)) t (sym (solves.meets n c at) ∙ ready) in
+      elim (or_cases control (sure_by_syncs s sure c d) by_sources) [
+        | inl by_control ↦
+            sure-edge (is_some (value_below d (suc t) es) ≡ true) c.kind sig (λ x. sure_behind s sure x.node d) c.ins (card-edged s regular n c at) timely.0 by_control
+            (all-rows-map _ _ (λ x le is_true known. value-later d (suc (time (sig x))) (suc t) (omega (arith, le, timely.1)) es (source (λ j u b. sure-there k j d u b) x is_true known)) c.ins (bounded c.kind sig c.ins by_control))
+        | inr by_syncs ↦
+            synced-leads (is_some (value_below d (suc t) es) ≡ true) (HasCard (cards_of s)) (λ a. parts_bound s.body a c.node && sure_behind s sure a d) sync t
+            (λ a card some le known. synced (λ j u b. sure-there k j d u b) a card.0 card.1 some le known)
+            c.syncs_in (sources-have_cards s regular n c at).1 timely.2 timely.3 (and_parts (has_one_edge c.kind) _ by_syncs).1
+      ]
     where
       -- the latest of the awaited signals
-      bounded : (kd : NodeKind) (sig : End → Timed) (xs : List End) → sure_by kd (map (λ x. iterate round k none_sure x.node d || writes_of s x.node d) xs) ≡ true → AllRows (λ x. time (sig x) ≤ latest (awaited kd (map sig xs))) xs
+      bounded : (kd : NodeKind) (sig : End → Timed) (xs : List End) → sure_by kd (map (λ x. sure_behind s (iterate round k none_sure) x.node d) xs) ≡ true → AllRows (λ x. time (sig x) ≤ latest (awaited kd (map sig xs))) xs
       bounded kind.Start sig xs h = absurd (both_ways _ refl h)
       bounded _ sig xs h = times-latest sig xs
 
-      source : ((j u : ℕ) (b : Card) → card_at j (cards_of s) ≡ Some b → m j ≡ Some (u, Yes) → iterate round k none_sure j d ≡ true → is_some (value_below d (suc u) es) ≡ true) →
-          (x : End) → is_yes (flow (sig_at (cards_of s) (facts_of es) m x.label x.node)) ≡ true → (iterate round k none_sure x.node d || writes_of s x.node d) ≡ true →
+      -- what is sure behind a source is there when its edge signals
+      behind : Known k d → (j : ℕ) (b : Card) (y : Timed) → card_at j (cards_of s) ≡ Some b → Sourced b.kind (m j) ((facts_of es).ended j) y → sure_behind s (iterate round k none_sure) j d ≡ true →
+          is_some (value_below d (suc (time y)) es) ≡ true
+      behind ih j b y at sourced known =
+          elim sourced [
+            | inl ended ↦
+                let r = ended-ready s es m orderly fit j _ ended.1 in
+                elim (or_cases (iterate round k none_sure j d) (writes_of s j d) known) [
+                  | inl sure ↦ value-later d (suc r.0) _ (omega (arith, r.2)) es (ih j r.0 b at r.1 sure)
+                  | inr writes ↦ written-by_end j _ d b at ended.1 (card-writes s regular j d b at writes)
+                ]
+            | inr silent ↦
+                elim (or_cases (iterate round k none_sure j d) (writes_of s j d) known) [
+                  | inl sure ↦ ih j _ b at silent.1 sure
+                  | inr writes ↦ absurd (both_ways _ silent.0 (writers j d b at writes))
+                ]
+          ]
+
+      source : Known k d → (x : End) → is_yes (flow (sig_at (cards_of s) (facts_of es) m x.label x.node)) ≡ true → sure_behind s (iterate round k none_sure) x.node d ≡ true →
           is_some (value_below d (suc (time (sig_at (cards_of s) (facts_of es) m x.label x.node))) es) ≡ true
       source ih x is_true known = go (card_at x.node (cards_of s)) refl is_true
         where
@@ -175,19 +242,20 @@ module _ (s : SchemaModel) (regular : Regular s) (writers : WritersWork s) (es :
               is_some (value_below d (suc (time (sig_by o (m x.node) ((facts_of es).ended x.node) ((facts_of es).choice x.node) x.label))) es) ≡ true
           go None at is_true = absurd (both_ways _ refl is_true)
           go (Some b) at is_true =
-              elim (yes-sourced b.kind (m x.node) ((facts_of es).ended x.node) ((facts_of es).choice x.node) x.label is_true) [
-                | inl ended ↦
-                    let r = ended-ready s es m orderly fit x.node _ ended.1 in
-                    elim (or_cases (iterate round k none_sure x.node d) (writes_of s x.node d) known) [
-                      | inl sure ↦ value-later d (suc r.0) _ (omega (arith, r.2)) es (ih x.node r.0 b at r.1 sure)
-                      | inr writes ↦ written-by_end x.node _ d b at ended.1 (card-writes s regular x.node d b at writes)
-                    ]
-                | inr silent ↦
-                    elim (or_cases (iterate round k none_sure x.node d) (writes_of s x.node d) known) [
-                      | inl sure ↦ ih x.node _ b at silent.1 sure
-                      | inr writes ↦ absurd (both_ways _ silent.0 (writers x.node d b at writes))
-                    ]
-              ]
+              behind ih x.node b (sig_of b.kind (m x.node) ((facts_of es).ended x.node) ((facts_of es).choice x.node) x.label) at
+              (yes-sourced b.kind (m x.node) ((facts_of es).ended x.node) ((facts_of es).choice x.node) x.label is_true) known
+
+      synced : Known k d → (a : ℕ) (b : Card) → card_at a (cards_of s) ≡ Some b → is_some (flow (sig_at (cards_of s) (facts_of es) m None a)) ≡ true → time (sig_at (cards_of s) (facts_of es) m None a) ≤ t →
+          (parts_bound s.body a c.node && sure_behind s (iterate round k none_sure) a d) ≡ true → is_some (value_below d (suc t) es) ≡ true
+      synced ih a b at_a some le known =
+          let f = facts_of es in
+          let y : Timed = sig_of b.kind (m a) (f.ended a) (f.choice a) None in
+          let is : sig_at (cards_of s) f m None a ≡ y = ap (λ o. sig_by o (m a) (f.ended a) (f.choice a) None) at_a in
+          let r = and_parts (parts_bound s.body a c.node) _ known in
+          let bound : parts_bound s.body a n ≡ true = ap (parts_bound s.body a) (sym (card_at-node n (cards_of s) c at)) ∙ r.0 in
+          let free = bound-free s f m solves n (ap (λ x. is_yes (flow x)) ready) regular (all-sane s es m orderly fit regular.distinct) a b at_a bound in
+          value-later d (suc (time y)) (suc t) (omega (arith, le, ap time is)) es
+          (behind ih a b y at_a (some-sourced b.kind (m a) (f.ended a) (f.choice a) None free (ap (λ x. is_some (flow x)) (sym is) ∙ some)) r.1)
 
 -- a list in which nothing is found
 pub none-found : {X : Type 0} (test : X → Bool) (xs : List X) → find test xs ≡ None → AllRows (λ x. test x ≡ false) xs

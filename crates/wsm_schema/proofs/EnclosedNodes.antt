@@ -45,7 +45,7 @@ mutual
       ]
 
 -- ---- the first of the blocks is one of the tree's
-abbrev HeadIn : (ℕ → Bool) → List Enclosure → Type 0
+abbrev pub HeadIn : (ℕ → Bool) → List Enclosure → Type 0
 HeadIn has [] = Unit {0}
 HeadIn has (x ∷ xs) = has x.first ≡ true
 
@@ -54,7 +54,7 @@ head-more has more [] f h = tt
 head-more has more (x ∷ xs) f h = f x.first h
 
 mutual
-  part-head : (p : Part) (n : ℕ) → HeadIn (part_has p) (part_round p n)
+  pub part-head : (p : Part) (n : ℕ) → HeadIn (part_has p) (part_round p n)
   part-head (act node) n = tt
   part-head (gate kind split join ls) n =
       lanes-head (part_has (gate kind split join ls)) split (split_kind kind) 0 ls n
@@ -62,7 +62,7 @@ mutual
   part-head (loop start end body) n =
       or_left (eqb start start || eqb end start) (parts_have body start) (or_left (eqb start start) (eqb end start) (eq-eqb start start refl))
 
-  parts-head : (ps : Parts) (n : ℕ) → HeadIn (parts_have ps) (parts_round ps n)
+  pub parts-head : (ps : Parts) (n : ℕ) → HeadIn (parts_have ps) (parts_round ps n)
   parts-head nothing n = tt
   parts-head (part p ps) n =
       elim (cases_Bool (part_has p n)) [
@@ -88,7 +88,7 @@ heads-part one other (x ∷ xs) (y ∷ ys) apart h k =
       | inr differ ↦ rw differ refl
     ]
 
-turned : (one other : ℕ → Bool) → ((n : ℕ) → one n ≡ true → other n ≡ false) → (n : ℕ) → other n ≡ true → one n ≡ false
+pub turned : (one other : ℕ → Bool) → ((n : ℕ) → one n ≡ true → other n ≡ false) → (n : ℕ) → other n ≡ true → one n ≡ false
 turned one other apart n there =
     elim (cases_Bool (one n)) [
       | inl here ↦ absurd (both_ways _ (apart n here) there)

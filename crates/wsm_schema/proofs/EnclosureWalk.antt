@@ -9,13 +9,14 @@ use Rattle.wsm_schema.specs.Tree.{Part, Parts, Lanes, act, gate, loop, nothing, 
 use Rattle.wsm_schema.specs.Places.{split_kind}
 use Rattle.wsm_schema.specs.SchemaModel.{SchemaModel}
 use Rattle.wsm_schema.specs.Flat.{cards_of}
-use Rattle.wsm_schema.specs.Sound.{part_has, parts_have, lanes_have, parts_apart, twice, nodes_of}
-use Rattle.wsm_schema.specs.Enclosures.{enclosure, part_round, parts_round, lanes_round, part_ways, part_walk, parts_walk, lanes_walk, schema_walk}
+use Rattle.wsm_schema.specs.Sound.{part_has, parts_have, lanes_have, parts_apart, parts_bound, twice, nodes_of}
+use Rattle.wsm_schema.specs.Enclosures.{enclosure, part_round, parts_round, lanes_round, part_ways, are_bound, part_walk, parts_walk, lanes_walk, schema_walk}
 use Rattle.wsm_schema.specs.declared.cards.Card.{Card}
 use Rattle.wsm_schema.specs.declared.cards.NodeKind.{NodeKind}
 use Rattle.wsm_schema.specs.declared.cards.NodeKind.TheVariants.{LoopStart}
 use Rattle.wsm_schema.specs.declared.enclosures.Enclosure.{Enclosure}
 use Rattle.wsm_schema.proofs.DocumentOrder.{one_of-append}
+use Rattle.wsm_schema.proofs.BoundNodes.{parts-bound}
 use Rattle.wsm_schema.proofs.EnclosedNodes.{parts-ways}
 use Rattle.wsm_schema.proofs.TreeNodes.{part_nodes, parts_nodes, lanes_nodes, nodes-of_tree, has-part_nodes, have-parts_nodes, have-lanes_nodes, PartOnce, PartsOnce, LanesOnce, body-once}
 
@@ -125,3 +126,6 @@ blocks-placed s = at-place (parts_round s.body) (cards_of s)
 -- and what they tell
 pub apart-by_blocks : (s : SchemaModel) → twice [] (nodes_of (cards_of s)) ≡ None → (a b : ℕ) → part_ways (parts_round s.body a) (parts_round s.body b) ≡ parts_apart s.body a b
 apart-by_blocks s distinct a b = sym (parts-ways s.body (body-once s distinct).body a b)
+
+pub bound-by_blocks : (s : SchemaModel) → twice [] (nodes_of (cards_of s)) ≡ None → (a b : ℕ) → are_bound (parts_round s.body a) (parts_round s.body b) ≡ parts_bound s.body a b
+bound-by_blocks s distinct a b = sym (parts-bound s.body (body-once s distinct).body a b)

@@ -66,6 +66,28 @@ an_optional_read_behind_one_branch = refl
 pub a_read_behind_its_write : data_fault (record (with_element ((2, 0) ∷ []) sequence) { reads = (3, 0, true) ∷ [] }) ≡ None
 a_read_behind_its_write = refl
 
+-- a sync edge brings what was written before it, where its source is bound to its target
+abbrev reads_behind_sync : SchemaModel → SchemaModel
+reads_behind_sync s = record (with_element ((4, 0) ∷ []) (synced ((4, 5) ∷ []) s)) { reads = (5, 0, true) ∷ [] }
+
+pub a_read_behind_a_sync_edge : data_fault (reads_behind_sync parallel) ≡ None
+a_read_behind_a_sync_edge = refl
+
+pub a_read_without_a_sync_edge : data_fault (record (reads_behind_sync parallel) { syncs = [] }) ≡ Some (Missing 5 0)
+a_read_without_a_sync_edge = refl
+
+-- not where a choice may skip the source
+pub a_read_behind_a_source_that_may_be_skipped : data_fault (reads_behind_sync (plain 0 1 (part (gate and_gate 2 3 (lane 0 (part (gate xor_gate 6 7 (lane 0 nothing (lane 1 (part (act 4) nothing) no_lane))) nothing) (lane 1 (part (act 5) nothing) no_lane))) nothing))) ≡ Some (Missing 5 0)
+a_read_behind_a_source_that_may_be_skipped = refl
+
+-- but where the same choice skips the target, too
+pub a_read_behind_a_source_in_the_same_branch : data_fault (reads_behind_sync (plain 0 1 (part (gate xor_gate 6 7 (lane 0 nothing (lane 1 (part (gate and_gate 2 3 (lane 0 (part (act 4) nothing) (lane 1 (part (act 5) nothing) no_lane))) nothing) no_lane))) nothing))) ≡ None
+a_read_behind_a_source_in_the_same_branch = refl
+
+-- what was written before the source comes with it
+pub a_read_behind_what_the_source_stands_behind : data_fault (record (reads_behind_sync (plain 0 1 (part (gate and_gate 2 3 (lane 0 (part (act 4) (part (act 6) nothing)) (lane 1 (part (act 5) nothing) no_lane))) nothing))) { syncs = (6, 5) ∷ [] }) ≡ None
+a_read_behind_what_the_source_stands_behind = refl
+
 -- two branches write one element, unless a sync edge orders them
 pub writes_side_by_side : data_fault (with_element ((4, 0) ∷ (5, 0) ∷ []) parallel) ≡ Some (ParallelWrite 4 5 0)
 writes_side_by_side = refl

@@ -1,8 +1,9 @@
 -- The blocks round each node, and what they tell of two nodes.
-use Rattle.std.specs.Prelude.{◌≡◌, ℕ, ◌+◌, Bool, false, List, [], ◌∷◌, ◌++◌, map, Option, Some, None, ◌==◌, if◌then◌else◌}
+use Rattle.std.specs.Prelude.{◌≡◌, ℕ, ◌+◌, Bool, true, false, not, ◌&&◌, List, [], ◌∷◌, ◌++◌, map, Option, Some, None, ◌==◌, if◌then◌else◌}
+use Rattle.std.specs.List.{list_all}
 use Rattle.wsm_schema.specs.Tree.{Part, Parts, Lanes, act, gate, loop, nothing, part, no_lane, lane}
 use Rattle.wsm_schema.specs.Places.{split_kind}
-use Rattle.wsm_schema.specs.Kinds.{is_and_split, is_loop_start}
+use Rattle.wsm_schema.specs.Kinds.{is_and_split, is_xor_split, is_loop_start}
 use Rattle.wsm_schema.specs.SchemaModel.{SchemaModel}
 use Rattle.wsm_schema.specs.Flat.{FlatModel, flat_of, cards_of}
 use Rattle.wsm_schema.specs.Sound.{part_has, parts_have, twice, nodes_of}
@@ -39,6 +40,16 @@ part_ways (x ∷ xs) (y ∷ ys) =
     if x.first == y.first
     then (if x.branch == y.branch then part_ways xs ys else is_and_split x.kind)
     else false
+
+-- whether none of the blocks chooses a branch
+abbrev pub are_free : List Enclosure → Bool
+are_free xs = list_all (λ x. not (is_xor_split x.kind)) xs
+
+-- whether each XOR block round one node is round another, with one branch, by the blocks round both
+abbrev pub are_bound : List Enclosure → List Enclosure → Bool
+are_bound [] ys = true
+are_bound (x ∷ xs) [] = are_free (x ∷ xs)
+are_bound (x ∷ xs) (y ∷ ys) = if x.first == y.first && x.branch == y.branch then are_bound xs ys else are_free (x ∷ xs)
 
 -- the start of the innermost loop among blocks, where `around` is that of what is round them
 abbrev pub innermost_loop : List Enclosure → Option ℕ → Option ℕ

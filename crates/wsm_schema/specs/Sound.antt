@@ -98,6 +98,21 @@ abbrev mutual
   lanes_apart (lane code ps ls) a b none_has_both =
       if parts_have ps a && parts_have ps b then parts_apart ps a b else lanes_apart ls a b none_has_both
 
+-- whether each XOR block that has one node in a branch has the other in the same branch: where the second is activated, the first is not skipped
+abbrev mutual
+  pub part_bound : Part → ℕ → ℕ → Bool
+  part_bound (act node) a b = true
+  part_bound (gate kind split join ls) a b = lanes_bound kind ls a b
+  part_bound (loop start end body) a b = parts_bound body a b
+
+  pub parts_bound : Parts → ℕ → ℕ → Bool
+  parts_bound nothing a b = true
+  parts_bound (part p ps) a b = part_bound p a b && parts_bound ps a b
+
+  pub lanes_bound : Gate → Lanes → ℕ → ℕ → Bool
+  lanes_bound kind no_lane a b = true
+  lanes_bound kind (lane code ps ls) a b = (is_and kind || (not (parts_have ps a) || parts_have ps b)) && (parts_bound ps a b && lanes_bound kind ls a b)
+
 -- the start of the innermost loop round a node, where `around` is that of the parts
 abbrev mutual
   pub part_loop : Part → ℕ → Option ℕ → Option ℕ
@@ -195,10 +210,25 @@ sure_by node_kind.Start before = false
 sure_by node_kind.AndJoin before = list_any (λ b. b) before
 sure_by _ before = list_all (λ b. b) before
 
--- what is sure at a node, from its sources and what they write
+-- what is sure behind a node: at it, or by what it writes
+abbrev pub sure_behind : SchemaModel → Sure → ℕ → ℕ → Bool
+sure_behind s sure n d = sure n d || writes_of s n d
+
+-- whether one control edge leads to nodes of a kind
+abbrev pub has_one_edge : NodeKind → Bool
+has_one_edge node_kind.Start = false
+has_one_edge node_kind.AndJoin = false
+has_one_edge node_kind.XorJoin = false
+has_one_edge _ = true
+
+-- what comes with the sync edges into a node, from the sources that are bound to it
+abbrev pub sure_by_syncs : SchemaModel → Sure → Card → ℕ → Bool
+sure_by_syncs s sure c d = has_one_edge c.kind && list_any (λ m. parts_bound s.body m c.node && sure_behind s sure m d) c.syncs_in
+
+-- what is sure at a node, from its sources
 abbrev pub sure_at : SchemaModel → Sure → Option Card → ℕ → Bool
 sure_at s sure None d = false
-sure_at s sure (Some c) d = sure_by c.kind (map (λ e. sure e.node d || writes_of s e.node d) c.ins)
+sure_at s sure (Some c) d = sure_by c.kind (map (λ e. sure_behind s sure e.node d) c.ins) || sure_by_syncs s sure c d
 
 -- the rule of each node applied to all nodes at once, as many times as there are nodes
 abbrev pub sure_of : SchemaModel → Sure

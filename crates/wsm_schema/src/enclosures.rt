@@ -1,10 +1,10 @@
 // The blocks round each node, and what they tell of two nodes.
 ghost use Rattle.std.specs.Prelude.{◌≡◌, ◌<◌, ◌∷◌, [], ◌++◌, ℕ, None, length, slice_get, slice_index, IfOk, OnOk};
 ghost use Rattle.wsm_schema.specs.Flat.{flat_of, cards_of};
-ghost use Rattle.wsm_schema.specs.Sound.{twice, nodes_of, parts_apart, parts_loop};
+ghost use Rattle.wsm_schema.specs.Sound.{twice, nodes_of, parts_apart, parts_bound, parts_loop};
 ghost use Rattle.wsm_schema.specs.Tree.{lanes};
 ghost use Rattle.wsm_schema.specs.TreeOf.{part_of, parts_of, lanes_of};
-ghost use Rattle.wsm_schema.specs.Enclosures.{enclosure, parts_round, part_ways, innermost_loop, part_walk, parts_walk, lanes_walk, schema_walk};
+ghost use Rattle.wsm_schema.specs.Enclosures.{enclosure, parts_round, part_ways, are_bound, are_free, innermost_loop, part_walk, parts_walk, lanes_walk, schema_walk};
 
 use crate::blocks::{Block, Branch};
 use crate::cards::NodeKind;
@@ -77,6 +77,13 @@ impl<'a> Enclosures<'a> {
         part_ways(self.round_at(a), self.round_at(b))
     }
 
+    /// Whether each XOR block that has the first node in a branch has the second one in the same branch.
+    pub fn is_bound(&self, a: u32, b: u32) -> bool
+        ensures { result ≡ parts_bound self.now.body a b }
+    {
+        are_bound(self.round(a), self.round(b))
+    }
+
     /// The start of the innermost loop round the node.
     pub fn loop_round(&self, node: u32) -> Option<u32>
         ensures { result ≡ parts_loop self.now.body node None }
@@ -118,6 +125,31 @@ fn part_ways(a: &[Enclosure], b: &[Enclosure]) -> bool
         }
     }
     false
+}
+
+// Whether each XOR block round one node is round another, with one branch, by the blocks round both.
+fn are_bound(a: &[Enclosure], b: &[Enclosure]) -> bool
+    ensures { result ≡ are_bound a.now b.now }
+{
+    let shorter = a.len().min(b.len());
+    for i in 0..shorter {
+        if a[i].first != b[i].first || a[i].branch != b[i].branch {
+            return are_free(&a[i..]);
+        }
+    }
+    are_free(&a[shorter..])
+}
+
+// Whether none of the blocks chooses a branch.
+fn are_free(blocks: &[Enclosure]) -> bool
+    ensures { result ≡ are_free blocks.now }
+{
+    for block in blocks {
+        if block.kind == NodeKind::XorSplit {
+            return false;
+        }
+    }
+    true
 }
 
 // The start of the innermost loop among blocks.

@@ -1,56 +1,35 @@
-use Rattle.std.proofs.Common.{arith, ◌≡◌, ◌+◌, [], ◌++◌, ◌∷◌, take, drop, refl, ap, sym, ◌∙◌, subst}
-use Rattle.std.proofs.lemmas.Bool.{both_ways}
+use Rattle.std.proofs.Common.{◌≡◌, [], ap, sym, ◌∙◌, subst, None}
+use Rattle.std.proofs.lemmas.Result.{IfOk-weaker}
+use Rattle.wsm_lists.specs.Rows.{AllRows}
+use Rattle.wsm_lists.proofs.Lists.{all-rows-map}
+use Rattle.wsm_marks.specs.Loops.{HasEdge}
 use Rattle.wsm_schema.specs.SchemaModel.{SchemaModel}
-use Rattle.wsm_schema.specs.Flat.{cards_of}
-use Rattle.wsm_schema.specs.Sound.{first_some, missing_at, sure_of, nodes_of}
-use Rattle.wsm_schema.specs.Trail.{is_one_of}
-use Rattle.wsm_data.specs.Passes.{Passes}
-use Rattle.wsm_data.specs.Sets.{Holds}
-use Rattle.wsm_data.specs.Tables.{Tells}
-use Rattle.wsm_data.proofs.Sure.{document-passes}
-use Rattle.wsm_data.proofs.Pass.{sure-there, missing-there, passes-step, nodes-step, tells-next, put-sure, first-found, first-left, nothing-read}
+use Rattle.wsm_schema.specs.Flat.{FlatModel, cards_of}
+use Rattle.wsm_schema.specs.Sound.{first_some, missing_at, nodes_of, sure_of, twice}
+use Rattle.wsm_data.specs.Tables.{TellsAt}
+use Rattle.wsm_data.proofs.Firsts.{distinct-nodes}
+use Rattle.wsm_data.proofs.Pass.{nothing-read, told-sure}
+use Rattle.wsm_data.proofs.Sure.{all-next}
 use Rattle.wsm_data.proofs.missing.missing_read.Goals as goal
-
-pub loop-card-init : goal.loop-card-init
-loop-card-init c =
-    let s = c.args.schema.now in
-    let all : c.cards-card-items.result.now ≡ cards_of s = c.cards-card-items.ensures ∙ ap (λ f. f.cards) c.requires.flat in
-    record {
-      rest = ap (first_some (missing_at (sure_of s))) all;
-      told = λ n d there. absurd (both_ways _ refl there);
-      left = subst (Passes s []) (sym all) (document-passes s c.requires.blocks);
-    }
 
 pub returns-then-is_empty : goal.returns-then-is_empty
 returns-then-is_empty c = nothing-read c.args.schema.now (sure_of c.args.schema.now) (ap (λ (m : SchemaModel). m.reads) (sym c.schema.view_is) ∙ c.is_empty.ensures.0 c.if-is_empty.true)
 
-pub returns-then-is_some : goal.returns-then-is_some
-returns-then-is_some c =
-    let s = c.args.schema.now in
-    let cards = c.cards-card-items.result.now in
-    let i = c.loop-card.card-index in
-    let card = c.card-item.result in
-    let sure = c.in_ok-sure.sure.value in
-    let next = (passes-step s cards i card (omega arith) c.card-item.is c.loop-card.invariant.left).0 in
-    let holds : Holds sure (sure_of s card.node) = sure-there s c.loop-card.table (nodes_of (take i cards)) card sure c.loop-card.invariant.told next c.in_ok-sure.ensures in
-    let found = c.missing_at-found.ensures ∙ ap (λ set. missing_at (λ n d. is_one_of d set) card) c.deref.ensures ∙ missing-there s card sure holds in
-    first-found (missing_at (sure_of s)) cards i card c.missing_at-found.result _ (omega arith) c.card-item.is found (sym c.is_some.ensures ∙ c.if-is_some.true) c.loop-card.invariant.rest
+pub of-requires-clause-distinct : goal.of-requires-clause-distinct
+of-requires-clause-distinct c = ap (λ (f : FlatModel). twice [] (nodes_of f.cards)) c.requires.flat ∙ distinct-nodes c.args.schema.now c.requires.blocks
 
-pub loop-card-preserved : goal.loop-card-preserved
-loop-card-preserved c =
+pub first_missing-requires : goal.first_missing-requires
+first_missing-requires c =
     let s = c.args.schema.now in
-    let cards = c.cards-card-items.result.now in
-    let i = c.loop-card.card-index in
-    let card = c.card-item.result in
-    let sure = c.in_ok-sure.sure.value in
-    let seen = nodes_of (take i cards) in
-    let step = passes-step s cards i card (omega arith) c.card-item.is c.loop-card.invariant.left in
-    let holds : Holds sure (sure_of s card.node) = sure-there s c.loop-card.table seen card sure c.loop-card.invariant.told step.0 c.in_ok-sure.ensures in
-    let found = c.missing_at-found.ensures ∙ ap (λ set. missing_at (λ n d. is_one_of d set) card) c.deref.ensures ∙ missing-there s card sure holds in
-    let put = put-sure s card.node sure c.loop-card.table c.put_behind.new.table holds c.in_ok-put_behind.ensures in
-    let nodes : seen ++ card.node ∷ [] ≡ nodes_of (take (i + 1) cards) = nodes-step cards i card (omega arith) c.card-item.is in
-    record {
-      rest = first-left (missing_at (sure_of s)) cards i card c.missing_at-found.result _ (omega arith) c.card-item.is found (sym c.is_some.ensures ∙ c.if-is_some.false) c.loop-card.invariant.rest;
-      told = subst (Tells s c.put_behind.new.table) nodes (tells-next s c.loop-card.table c.put_behind.new.table seen card.node c.loop-card.invariant.told put);
-      left = subst (λ ns. Passes s ns (drop (i + 1) cards)) nodes step.1;
-    }
+    let all : c.cards.result.now ≡ cards_of s = c.cards.ensures ∙ ap (λ (f : FlatModel). f.cards) c.requires.flat in
+    let rows : AllRows (λ k. HasEdge k.kind k.ins × TellsAt s c.in_ok-table.table k) (cards_of s) =
+    all-rows-map _ _ (λ k next. (next.edged, told-sure s c.in_ok-table.table c.args.rank.now k c.in_ok-table.ensures next)) (cards_of s) (all-next s c.args.rank.now c.requires.rank c.requires.blocks) in
+    subst (λ m. AllRows (λ k. HasEdge k.kind k.ins × TellsAt m c.in_ok-table.table k) c.cards.result.now) (sym c.in_ok-enclosures.ensures)
+    (subst (AllRows (λ k. HasEdge k.kind k.ins × TellsAt s c.in_ok-table.table k)) (sym all) rows)
+
+pub returns : goal.returns
+returns c =
+    let s = c.args.schema.now in
+    let all : c.cards.result.now ≡ cards_of s = c.cards.ensures ∙ ap (λ (f : FlatModel). f.cards) c.requires.flat in
+    IfOk-weaker c.first_missing.result (λ found. found ≡ first_some (missing_at (sure_of c.in_ok-enclosures.enclosures)) c.cards.result.now) (λ found. found ≡ first_some (missing_at (sure_of s)) (cards_of s))
+    (λ found is. is ∙ ap (λ m. first_some (missing_at (sure_of m)) c.cards.result.now) c.in_ok-enclosures.ensures ∙ ap (first_some (missing_at (sure_of s))) all) c.first_missing.ensures

@@ -1,0 +1,9 @@
+use Rattle.std.proofs.Common.{◌∙◌, ap}
+use Rattle.wsm_schema.specs.Enclosures.{parts_round, are_bound}
+use Rattle.wsm_schema.proofs.EnclosureWalk.{bound-by_blocks}
+use Rattle.wsm_schema.proofs.enclosures.Enclosures.is_bound.Goals as goal
+
+pub returns : goal.returns
+returns c =
+    c.are_bound.ensures ∙ ap (λ xs. are_bound xs c.round-2.result.now) c.round.ensures.blocks ∙ ap (are_bound (parts_round c.args.self.now.body c.args.a)) c.round-2.ensures.blocks
+    ∙ bound-by_blocks c.args.self.now c.round.ensures.distinct c.args.a c.args.b
