@@ -2,3 +2,4 @@ pub mod Results
 pub mod Handing
 pub mod Visits
 pub mod Begins
+pub mod TrailMarks

@@ -3,3 +3,4 @@ pub mod Events
 pub mod Freed
 pub mod Revised
 pub mod Signals
+pub mod Timing

@@ -7,9 +7,11 @@ mod overlays;
 mod pending;
 mod repeats;
 mod starts;
+mod timing;
 mod walks;
 
 pub use ends::after_end;
 pub use repeats::after_again;
 pub use starts::after_start;
+pub use timing::{TimedMarks, timed};
 pub use wsm_rules::{Changes, CountedMarks, Mark, MarkReads, Marks};

@@ -19,5 +19,7 @@ pub mod Once
 pub mod RegionMisfit
 pub mod Adapts
 pub mod MarkStates
+pub mod Told
+pub mod KeptStates
 pub mod Blocked
 pub mod FoundAt

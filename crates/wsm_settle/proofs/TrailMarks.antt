@@ -1,0 +1,48 @@
+-- A walk over all nodes, from what the trail tells, finds its marks; and what a replay answers tells how the trail replays.
+use Rattle.std.proofs.Common.{◌≡◌, ℕ, true, List, [], refl, ap, sym, ◌∙◌, subst, Option, Some, None}
+use Rattle.wsm_lists.specs.ByNumber.{changed}
+use Rattle.wsm_schema.specs.Flat.{FlatModel, cards_of, flat_of}
+use Rattle.wsm_schema.specs.Marks.{marks_of}
+use Rattle.wsm_schema.specs.Replay.{Outcome, fails, replay_of, whole}
+use Rattle.wsm_schema.specs.Rules.{Spots}
+use Rattle.wsm_schema.specs.Trail.{is_one_of}
+use Rattle.wsm_schema.specs.declared.cards.Card.{Card}
+use Rattle.wsm_schema.specs.declared.marks.Mark.{Mark}
+use Rattle.wsm_marks.specs.Fits.{RisesAfter}
+use Rattle.wsm_marks.specs.Timed.{Entries}
+use Rattle.wsm_replay.specs.Answer.{answer}
+use Rattle.wsm_walk.specs.Current.{mark_now}
+use Rattle.wsm_walk.specs.RankPlaces.{Handed, rank_place}
+use Rattle.wsm_walk.specs.Told.{told_rows}
+use Rattle.wsm_walk.specs.Walk.{Walks}
+use Rattle.wsm_walk.proofs.Goals.{trail-aim}
+use Rattle.wsm_walk.proofs.Stands.{some-one}
+use Rattle.wsm_walk.proofs.Told.{told-changes, told-stands}
+use Rattle.wsm_settle.specs.Timing.{MarksRight, failed_at, position_in}
+
+pub marks-right : (flat : FlatModel) (rank : List ℕ) (es : Entries) → RisesAfter 0 es → (places : List ℕ) → ((k : ℕ) → is_one_of k rank ≡ true → is_one_of (rank_place k rank) places ≡ true) →
+    (begun changes : List (ℕ × Option Mark)) → begun ≡ told_rows es [] → Walks flat.cards rank [] places begun [] changes → (rows : List (ℕ × Mark)) → rows ≡ changed changes [] → MarksRight flat rank es rows
+marks-right flat rank es rises places all begun changes begun_is walked rows rows_are s t flat_is regular ranked is_whole =
+    let whole_s : replay_of (flat_of s) es ≡ whole t = ap (λ f. replay_of f es) (sym flat_is) ∙ is_whole in
+    let walked_s : Walks (cards_of s) rank [] places (told_rows es []) [] changes =
+    subst (λ b. Walks (cards_of s) rank [] places b [] changes) begun_is (subst (λ (f : FlatModel). Walks f.cards rank [] places begun [] changes) flat_is walked) in
+    rows_are
+    ∙ told-changes s rank ranked es t rises whole_s regular places all changes
+    (walked_s (mark_now s rank es) (trail-aim s regular rank ranked es) (told-stands s rank ranked es t rises whole_s regular places all))
+    ∙ ap (λ f. marks_of f es) (sym flat_is)
+
+pub answer-position : (cards : List Card) (o : Outcome) → position_in (answer cards o) ≡ failed_at o
+answer-position cards (whole t) = refl
+answer-position cards (fails p) = refl
+
+pub failed-none : (o : Outcome) → failed_at o ≡ None → (t : Spots) × (o ≡ whole t)
+failed-none (whole t) h = (t, refl)
+failed-none (fails p) h = absurd (cc)
+
+pub failed-some : (o : Outcome) (p : ℕ) → failed_at o ≡ Some p → o ≡ fails p
+failed-some (whole t) p h = absurd (cc)
+failed-some (fails q) p h = ap fails (some-one q p h)
+
+-- where all nodes of the rank are handed, all are pending
+pub all-pending : (rank nodes old new : List ℕ) → nodes ≡ rank → old ≡ [] → Handed rank (λ k. is_one_of k nodes) 0 old new → Handed rank (λ k. is_one_of k rank) 0 [] new
+all-pending rank nodes old new are none handed = subst (λ ns. Handed rank (λ k. is_one_of k ns) 0 [] new) are (subst (λ l. Handed rank (λ k. is_one_of k nodes) 0 l new) none handed)

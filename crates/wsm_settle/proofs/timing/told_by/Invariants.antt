@@ -1,0 +1,6 @@
+use Rattle.std.proofs.Common.{◌≡◌, [], drop}
+use Rattle.wsm_walk.specs.Told.{told_rows}
+use Rattle.wsm_settle.proofs.timing.told_by.Given as goal
+
+abbrev pub invariant-loop-position : goal.invariant-loop-position
+invariant-loop-position l = told_rows (drop l.position-index l.entries) l.changes ≡ told_rows l.entries []
