@@ -67,10 +67,10 @@ module _ (many : ℕ → ℕ) (roles : List ℕ) (a t : ℕ) where
       (subst (FitKind (calls_of_kind t first ++ (calls_of_kind t others ++ es))) (sym (if-append (to_kind t l) l (filter (to_kind t) ls) rest)) whole)
 
 -- ---- filters in either order
-keeps : {X : Type 0} (p : X → Bool) (x : X) (xs : List X) → p x ≡ true → filter p (x ∷ xs) ≡ x ∷ filter p xs
+pub keeps : {X : Type 0} (p : X → Bool) (x : X) (xs : List X) → p x ≡ true → filter p (x ∷ xs) ≡ x ∷ filter p xs
 keeps p x xs is = ap (λ test. if test then x ∷ filter p xs else filter p xs) is
 
-drops : {X : Type 0} (p : X → Bool) (x : X) (xs : List X) → p x ≡ false → filter p (x ∷ xs) ≡ filter p xs
+pub drops : {X : Type 0} (p : X → Bool) (x : X) (xs : List X) → p x ≡ false → filter p (x ∷ xs) ≡ filter p xs
 drops p x xs is = ap (λ test. if test then x ∷ filter p xs else filter p xs) is
 
 pub filter-swap : {X : Type 0} (p q : X → Bool) (xs : List X) → filter p (filter q xs) ≡ filter q (filter p xs)

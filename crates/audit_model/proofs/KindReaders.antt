@@ -43,13 +43,35 @@ pub record IsTaken {A : Type 0} (takes : List Bytes → A → Type 0) (text : By
   pub taken : takes lines a
   pub whole : text ≡ ending lines
 
+-- a type's head and its definition, as lines
+abbrev pub kind_front : File → ℕ → TypeDecl → List Bytes
+kind_front f t d = ended (type_head d ++ defined_line f (defined t d))
+
+-- the text of a type is its lines
+pub kind-whole : (f : File) (t : ℕ) (d : TypeDecl) (k : ClosedKind) (others : List KindEntry) → k.journal ≡ (defined t d).journal ++ others → kind_text f d k ≡ ending (kind_front f t d ++ kind_lines f 2 others)
+kind-whole f t d k others journal_is =
+    let rest = numbered-lines kind_after kind_reply actor_of kind_event_of (caller_in f) (kind_line f) (kind_shown f) (kind-line f) 2 others in
+    ap (λ es. type_head d ++ numbered (kind_line f) 1 es) journal_is
+    ∙ (sym (append_assoc (type_head d) (defined_line f (defined t d)) (numbered (kind_line f) 2 others))
+    ∙ (ap (λ bs. first ++ bs) rest ∙ (ap (λ bs. bs ++ ending (kind_lines f 2 others)) (sym first-whole) ∙ sym (ending-append (kind_front f t d) (kind_lines f 2 others)))))
+  where
+    first : Bytes
+    first = type_head d ++ defined_line f (defined t d)
+
+    definition : KindEntry
+    definition = entry program (event.Define d.schema) (kind_reply (not_defined t) (event.Define d.schema))
+
+    first-whole : ending (kind_front f t d) ≡ first
+    first-whole =
+        whole-lines first (type_head d ++ kind_shown f 1 definition) (ap (λ bs. type_head d ++ bs) (kind-line f 1 definition) ∙ sym (append_assoc (type_head d) (kind_shown f 1 definition) (10 ∷ [])))
+
 module _ (f : File) (workable : IsWorkable f) (tells : TellsCallers f) (traces : List Trace) (of_lines : AreTraces f f.phases traces) where
   module _ (t : ℕ) (d : TypeDecl) (k : ClosedKind) (legal : IsLegalKind f traces t d k) where
     abbrev first : Bytes
     first = type_head d ++ defined_line f (defined t d)
 
     abbrev front : List Bytes
-    front = ended first
+    front = kind_front f t d
 
     abbrev entries : List Bytes
     entries = kind_lines f 2 legal.others
@@ -66,27 +88,12 @@ module _ (f : File) (workable : IsWorkable f) (tells : TellsCallers f) (traces :
         let is : kind_behind (defined t d) (legal.others, k.machine) ≡ k = ap (λ js. record { machine = k.machine; journal = js }) (sym (kind-journal f workable traces of_lines t d k legal)) in
         subst (Takes (journal_reader f t (defined t d)) entries) is made
 
-    abbrev definition : KindEntry
-    definition = entry program (event.Define d.schema) (kind_reply (not_defined t) (event.Define d.schema))
-
-    first-whole : ending front ≡ first
-    first-whole =
-        whole-lines first (type_head d ++ kind_shown f 1 definition) (ap (λ bs. type_head d ++ bs) (kind-line f 1 definition) ∙ sym (append_assoc (type_head d) (kind_shown f 1 definition) (10 ∷ [])))
-
     pub kind-taken : IsTaken (Takes (kind_reader f t d)) (kind_text f d k) k
     kind-taken = record {
       lines = front ++ entries;
       taken = then-takes (journal_reader f t) (given first (defined t d)) front entries (defined t d) k (expected-takes front (defined t d)) entries-taken;
-      whole = text_is;
+      whole = kind-whole f t d k legal.others (kind-journal f workable traces of_lines t d k legal);
     }
-      where
-        text_is : kind_text f d k ≡ ending (front ++ entries)
-        text_is =
-            let journal_is = kind-journal f workable traces of_lines t d k legal in
-            let rest = numbered-lines kind_after kind_reply actor_of kind_event_of (caller_in f) (kind_line f) (kind_shown f) (kind-line f) 2 legal.others in
-            ap (λ es. type_head d ++ numbered (kind_line f) 1 es) journal_is
-            ∙ (sym (append_assoc (type_head d) (defined_line f (defined t d)) (numbered (kind_line f) 2 legal.others))
-            ∙ (ap (λ bs. first ++ bs) rest ∙ (ap (λ bs. bs ++ ending entries) (sym first-whole) ∙ sym (ending-append front entries))))
 
   -- all types from one on
   abbrev AreLegal : ℕ → List TypeDecl → List ClosedKind → Type 0

@@ -35,14 +35,14 @@ known-actors f workable =
     all-rows-map (AllRows (IsKnown (length f.types) (length f.actors) f.cases)) (AllRows (λ l. IsActor f l.actor))
     (λ lines all. all-rows-map (IsKnown (length f.types) (length f.actors) f.cases) (λ l. IsActor f l.actor) (λ l k. (k.from_1, k.actor)) lines all) f.phases workable.known
 
-owed-actors : (f : File) (t : ℕ) → IsWorkable f → AllRows (AllRows (λ l. IsActor f (actor_of l))) (owed_kind f t)
+pub owed-actors : (f : File) (t : ℕ) → IsWorkable f → AllRows (AllRows (λ l. IsActor f (actor_of l))) (owed_kind f t)
 owed-actors f t workable =
     rows-map (AllRows (λ l. IsActor f l.actor)) (λ lines. filter (λ l. calls_kind t l.act) lines) f.phases
     (all-rows-map (AllRows (λ l. IsActor f l.actor)) (λ lines. AllRows (λ l. IsActor f l.actor) (filter (λ l. calls_kind t l.act) lines))
     (λ lines all. rows-filter (λ l. IsActor f l.actor) (λ l. calls_kind t l.act) lines all) f.phases (known-actors f workable))
 
 -- an entry of the program is no actor's
-not-own : (f : File) (e : KindEntry) (es : List KindEntry) (a : ℕ) → e.caller ≡ 0 → IsActor f a → calls_of a (e ∷ es) ≡ calls_of a es
+pub not-own : (f : File) (e : KindEntry) (es : List KindEntry) (a : ℕ) → e.caller ≡ 0 → IsActor f a → calls_of a (e ∷ es) ≡ calls_of a es
 not-own f e es a none actor = ap (λ test. if test then e ∷ calls_of a es else calls_of a es) (ne_eqb e.caller a (λ same. omega (arith, none, same, actor.0)))
 
 -- a beginning, without the program's entry

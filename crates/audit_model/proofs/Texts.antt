@@ -57,3 +57,17 @@ module _ {M E R W S L : Type 0} (after : S → E → S) (reply : S → E → R) 
 
 pub whole-lines : (text bs : Bytes) → text ≡ bs ++ 10 ∷ [] → ending (ended text) ≡ text
 whole-lines text bs is = ap (λ xs. ending (ended xs)) is ∙ (ending-ended bs ∙ sym is)
+
+-- ---- texts that end in a line feed
+pub record EndsLine (text : Bytes) : Type 0 where
+  pub before : Bytes
+  pub is : text ≡ before ++ 10 ∷ []
+
+pub ends-behind : (front text : Bytes) → EndsLine text → EndsLine (front ++ text)
+ends-behind front text h = record { before = front ++ h.before; is = ap (λ bs. front ++ bs) h.is ∙ sym (append_assoc front h.before (10 ∷ [])) }
+
+pub line-feed : EndsLine (codes "\n")
+line-feed = record { before = []; is = refl }
+
+pub ending-lines : (text : Bytes) → EndsLine text → ending (ended text) ≡ text
+ending-lines text h = whole-lines text h.before h.is

@@ -1,5 +1,5 @@
 -- The lines of the script with the versions that their actors were told.
-use Rattle.std.specs.Prelude.{ℕ, ◌==◌, ◌&&◌, List, [], ◌∷◌, filter, map, filter_map, Option, Some, None, if◌then◌else◌}
+use Rattle.std.specs.Prelude.{ℕ, ◌==◌, ◌&&◌, List, [], ◌∷◌, filter, map, Option, Some, None, if◌then◌else◌}
 use Rattle.case_core.specs.declared.events.Event.{Event}
 use Rattle.case_core.specs.declared.events.Event.TheVariants as event
 use Rattle.file_model.specs.declared.files.Act.{Act}
@@ -11,6 +11,7 @@ use Rattle.script_run.specs.Entries.{KindEntry}
 use Rattle.turn_cell.specs.History.{calls_of}
 use Rattle.type_core.specs.declared.events.KindEvent.{KindEvent}
 use Rattle.type_core.specs.declared.events.KindEvent.TheVariants as kind_event
+use Rattle.type_core.specs.declared.replies.KindReply.{KindReply}
 use Rattle.wsm_sound.specs.VersionModel.{VersionModel}
 use Rattle.wsm_sound.specs.declared.versions.CaseId.{CaseId}
 use Rattle.audit_model.specs.Owed.{calls_case}
@@ -25,9 +26,22 @@ kind_event_in _ = None
 abbrev pub kind_event_of : Line → Option KindEvent
 kind_event_of l = kind_event_in l.act
 
--- the versions that an actor was told, in order
+-- the version that an entry told, where it asked for the newest
+abbrev pub told_by : KindEvent → KindReply → Option VersionModel
+told_by kind_event.Newest r = answered_version r
+told_by _ r = None
+
+abbrev pub and_told : Option VersionModel → List VersionModel → List VersionModel
+and_told None vs = vs
+and_told (Some v) vs = v ∷ vs
+
+-- the versions that entries told, in order, and those that an actor was told
+abbrev pub told_in : List KindEntry → List VersionModel
+told_in [] = []
+told_in (e ∷ es) = and_told (told_by e.event e.reply) (told_in es)
+
 abbrev pub told_to : ℕ → List KindEntry → List VersionModel
-told_to a journal = filter_map (λ e. answered_version e.reply) (calls_of a journal)
+told_to a journal = told_in (calls_of a journal)
 
 -- which versions each actor has yet to be told, by each type
 abbrev pub Telling : Type 0

@@ -5,4 +5,5 @@ pub mod FirstWrong
 pub mod Owed
 pub mod Answers
 pub mod Journals
+pub mod Walks
 pub mod Examples

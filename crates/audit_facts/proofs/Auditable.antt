@@ -1,0 +1,103 @@
+-- What holds of each file that is read.
+use Rattle.std.proofs.Common.{◌≡◌, ℕ, ◌+◌, ◌==◌, Bool, true, false, List, [], ◌∷◌, length, refl, subst, Option, Some, None, Result, Ok, Err}
+use Rattle.std.specs.Prelude.{IfOk, IfSome, if◌then◌else◌}
+use Rattle.std.specs.Str.{is_utf8}
+use Rattle.file_words.specs.Lines.{Bytes, lines_of, without_return}
+use Rattle.file_words.specs.Words.{words_of, is_skipped}
+use Rattle.file_words.specs.Lengths.{first_long}
+use Rattle.file_words.specs.declared.lengths.TooLong.{TooLong}
+use Rattle.file_drafts.specs.Drafts.{around}
+use Rattle.file_drafts.specs.declared.drafts.Draft.{Draft}
+use Rattle.file_forms.specs.DeclarationForms.{is_header, declaration_line}
+use Rattle.file_forms.specs.Forms.{TypeLine}
+use Rattle.file_forms.specs.TypeForms.{type_line}
+use Rattle.file_forms.specs.ScriptForms.{script_line}
+use Rattle.file_forms.specs.OperationForms.{operation_line}
+use Rattle.file_model.specs.Steps.{State, Step, opening, refuse}
+use Rattle.file_model.specs.Declaring.{declared, outside}
+use Rattle.file_model.specs.Typing.{fits_in, typed}
+use Rattle.file_model.specs.Scripting.{scripted}
+use Rattle.file_model.specs.Operating.{operated}
+use Rattle.file_model.specs.Reading.{unless_long, formed, fitting, unless_not_text, step_in, step_words, step, finished_in, finished, at_line, read_from, file}
+use Rattle.file_model.specs.declared.files.File.{File}
+use Rattle.file_model.specs.declared.refusals.Refused.{Refused}
+use Rattle.file_model.specs.declared.refusals.Why.{Why}
+use Rattle.file_model.specs.declared.refusals.Why.TheVariants as why
+use Rattle.file_model.specs.declared.states.Contents.{Contents}
+use Rattle.file_model.specs.declared.states.Section.{Section}
+use Rattle.file_model.specs.declared.states.Section.TheVariants as section
+use Rattle.audit_facts.specs.Facts.{IsAuditable}
+use Rattle.audit_facts.proofs.Named.{NamedIn, NamedState, NamedStep, phase-named}
+use Rattle.audit_facts.proofs.NamedByLines.{declared-named, operated-named, scripted-named, typed-named}
+use Rattle.audit_facts.proofs.NamedForms.{NamedTypeLine, declaration-named, operation-named, script_line-named, type_line-named}
+
+-- ---- a line
+if-named : (test : Bool) (s o : Step) → NamedStep s → NamedStep o → NamedStep (if test then s else o)
+if-named true s o h k = h
+if-named false s o h k = k
+
+long-named : (l : Option TooLong) (c : Contents) (s : Step) → NamedStep s → NamedStep (unless_long l c s)
+long-named None c s h = h
+long-named (Some l) c s h = tt
+
+formed-named : {F : Type 0} (P : F → Type 0) (o : Option F) (ws : List Bytes) (go : F → Step) (c : Contents) → IfSome o P → ((f : F) → P f → NamedStep (go f)) → NamedStep (formed o ws go c)
+formed-named P None ws go c is h = tt
+formed-named P (Some f) ws go c is h = long-named (first_long ws) c (go f) (h f is)
+
+text-named : (test : Bool) (c : Contents) (s : Step) → NamedStep s → NamedStep (unless_not_text test c s)
+text-named true c s h = h
+text-named false c s h = tt
+
+fitting-named : (d : Draft) (o : Option TypeLine) → IfSome o NamedTypeLine → IfSome (fitting d o) NamedTypeLine
+fitting-named d None h = tt
+fitting-named d (Some l) h = by (fits_in (around d.frames) l)
+  where
+    by : (test : Bool) → IfSome (if test then Some l else None) NamedTypeLine
+    by true = h
+    by false = tt
+
+step_in-named : (p : Section) (at : ℕ) (line : Bytes) (ws : List Bytes) (c : Contents) → NamedIn p c → NamedStep (step_in p at line ws c)
+step_in-named section.Head at line ws c h = if-named (is_header ws) (Ok (outside c)) (refuse c why.Header) h tt
+step_in-named section.Outside at line ws c h =
+    text-named (is_utf8 line) c _ (formed-named _ (declaration_line ws) ws (λ d. declared d c) c (declaration-named ws) (λ d named. declared-named d c named h))
+step_in-named (section.InType d) at line ws c h =
+    text-named (is_utf8 line) c _ (formed-named _ (fitting d (type_line ws)) ws (λ l. typed l d c) c (fitting-named d (type_line ws) (type_line-named ws)) (λ l named. typed-named l d c named h))
+step_in-named (section.InPhase lines) at line ws c h =
+    text-named (is_utf8 line) c _ (formed-named _ (script_line ws) ws (λ l. scripted l lines at c) c (script_line-named ws) (λ l named. scripted-named l lines at c named h.0 h.1))
+step_in-named (section.InGroup lines g) at line ws c h =
+    text-named (is_utf8 line) c _ (formed-named _ (operation_line ws) ws (λ l. operated l g lines c) c (operation-named ws) (λ l named. operated-named l g lines c named h.0 h.1))
+
+step-named : (s : State) (at : ℕ) (line : Bytes) (ws : List Bytes) → NamedState s → NamedStep (step_words s at line ws)
+step-named s at line ws h = if-named (is_skipped ws) (Ok s) (step_in s.place at line ws s.contents) h (step_in-named s.place at line ws s.contents h)
+
+-- ---- the end of a file
+finished_in-auditable : (p : Section) (c : Contents) → NamedIn p c → IfOk (finished_in p c) IsAuditable
+finished_in-auditable section.Head c h = tt
+finished_in-auditable section.Outside c h = record { nodes = h.nodes; elements = h.elements; actors = h.actors; apart = h.apart; writes = h.writes }
+finished_in-auditable (section.InType d) c h = tt
+finished_in-auditable (section.InPhase lines) c (h, written) = record { nodes = h.nodes; elements = h.elements; actors = h.actors; apart = h.apart; writes = phase-named lines c h written }
+finished_in-auditable (section.InGroup lines g) c h = tt
+
+ended-auditable : (test : Bool) (s : State) → NamedState s → IfOk (if test then finished_in s.place s.contents else Err (why.Unended, s.contents)) IsAuditable
+ended-auditable true s h = finished_in-auditable s.place s.contents h
+ended-auditable false s h = tt
+
+-- ---- all lines
+at_line-named : {T : Type 0} (P : T → Type 0) (at : ℕ) (o : Result T (Why × Contents)) → IfOk o P → IfOk (at_line at o) P
+at_line-named P at (Ok x) h = h
+at_line-named P at (Err p) h = tt
+
+read_from-auditable : (o : Result State Refused) (at : ℕ) (left : Bytes) (ls : List Bytes) → IfOk o NamedState → IfOk (read_from o at left ls) IsAuditable
+read_from-auditable (Err r) at left ls h = tt
+read_from-auditable (Ok s) at left [] h = at_line-named IsAuditable at (finished s left) (ended-auditable (length left == 0) s h)
+read_from-auditable (Ok s) at left (l ∷ ls) h =
+    let line = without_return l in
+    read_from-auditable (at_line at (step s at line)) (at + 1) left ls (at_line-named NamedState at (step s at line) (step-named s at line (words_of line) h))
+
+opening-named : NamedState opening
+opening-named = record { nodes = (refl, (refl, tt)); elements = tt; actors = tt; names = refl; apart = λ i j d e at_i at_j same. absurd (cc (at_i)); writes = tt }
+
+-- reports of a file that is read can be judged
+pub file-auditable : (bytes : Bytes) (f : File) → file bytes ≡ Ok f → IsAuditable f
+file-auditable bytes f is =
+    subst (λ (o : Result File Refused). IfOk o IsAuditable) is (read_from-auditable (Ok opening) 1 (lines_of bytes).left (lines_of bytes).ended opening-named)

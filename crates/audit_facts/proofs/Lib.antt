@@ -1,0 +1,6 @@
+pub mod Options
+pub mod Words
+pub mod NamedForms
+pub mod Named
+pub mod NamedByLines
+pub mod Auditable

@@ -1,0 +1,110 @@
+-- What holds of names and texts behind each line that is read.
+use Rattle.std.proofs.Common.{◌≡◌, ℕ, zero, suc, Bool, true, false, List, [], ◌∷◌, ◌++◌, map, refl, sym, ap, ◌∙◌, subst, inl, inr, Option, Some, None, if◌then◌else◌}
+use Rattle.std.specs.Prelude.{IfOk, bytes_eq, slice_get}
+use Rattle.std.proofs.lemmas.Bool.{or_parts}
+use Rattle.std.proofs.lemmas.List.{map-append}
+use Rattle.std.proofs.lemmas.Slice.Eq.{bytes_eq-Decides}
+use Rattle.wsm_lists.proofs.Lists.{rows-append}
+use Rattle.wsm_lists.specs.Rows.{AllRows}
+use Rattle.file_facts.proofs.Lists.{at-push}
+use Rattle.file_model.specs.Declaring.{with_actor}
+use Rattle.file_model.specs.Scripting.{if_known}
+use Rattle.file_model.specs.Steps.{State, Step, unless, with_element, with_node}
+use Rattle.file_model.specs.declared.files.ActorDecl.{ActorDecl}
+use Rattle.file_model.specs.declared.files.Line.{Line}
+use Rattle.file_model.specs.declared.refusals.Why.{Why}
+use Rattle.file_model.specs.declared.states.Contents.{Contents}
+use Rattle.file_model.specs.declared.states.Section.{Section}
+use Rattle.file_model.specs.declared.states.Section.TheVariants as section
+use Rattle.file_names.specs.Names.{is_listed, noted}
+use Rattle.file_names.specs.declared.declared.DeclaredList.{DeclaredList}
+use Rattle.file_words.specs.Lines.{Bytes}
+use Rattle.audit_facts.specs.Facts.{AreApart, IsName, IsNamed, WritesOneLine}
+
+pub record AreNamed (ns es : List Bytes) (ds : DeclaredList ActorDecl) (ps : List (List Line)) : Type 0 where
+  pub nodes : AllRows IsName ns
+  pub elements : AllRows IsName es
+  pub actors : AllRows IsNamed ds.items
+  pub names : ds.names ≡ map (λ (d : ActorDecl). d.name) ds.items
+  pub apart : AreApart ds.items
+  pub writes : AllRows (AllRows WritesOneLine) ps
+
+abbrev pub Named : Contents → Type 0
+Named c = AreNamed c.nodes c.elements c.actors c.phases
+
+abbrev pub NamedIn : Section → Contents → Type 0
+NamedIn (section.InPhase lines) c = Named c × AllRows WritesOneLine lines
+NamedIn (section.InGroup lines g) c = Named c × AllRows WritesOneLine lines
+NamedIn _ c = Named c
+
+abbrev pub NamedState : State → Type 0
+NamedState s = NamedIn s.place s.contents
+
+abbrev pub NamedStep : Step → Type 0
+NamedStep o = IfOk o NamedState
+
+-- ---- one more name
+all-noted : (names : List Bytes) (n : Bytes) → IsName n → AllRows IsName names → AllRows IsName (noted names n)
+all-noted names n named all = by (is_listed n names)
+  where
+    by : (test : Bool) → AllRows IsName (if test then names else names ++ n ∷ [])
+    by true = all
+    by false = rows-append IsName names (n ∷ []) all (named, tt)
+
+pub node-named : (n : Bytes) (c : Contents) → IsName n → Named c → Named (with_node n c)
+node-named n c named h = record { nodes = all-noted c.nodes n named h.nodes; elements = h.elements; actors = h.actors; names = h.names; apart = h.apart; writes = h.writes }
+
+pub element-named : (e : Bytes) (c : Contents) → IsName e → Named c → Named (with_element e c)
+element-named e c named h = record { nodes = h.nodes; elements = all-noted c.elements e named h.elements; actors = h.actors; names = h.names; apart = h.apart; writes = h.writes }
+
+-- ---- one more actor
+-- one that is not listed has another name than those that are there
+not-listed : (actors : List ActorDecl) (n : Bytes) (i : ℕ) (d : ActorDecl) → is_listed n (map (λ (e : ActorDecl). e.name) actors) ≡ false → slice_get actors i ≡ Some d → n ≡ d.name → ⊥
+not-listed [] n i d absent at same = absurd (cc (at))
+not-listed (e ∷ es) n zero d absent at same =
+    let is : e ≡ d = cc (at) in
+    let equal : bytes_eq n e.name ≡ true = (bytes_eq-Decides n e.name).1 (same ∙ ap (λ (x : ActorDecl). x.name) (sym is)) in
+    let there : is_listed n (map (λ (x : ActorDecl). x.name) (e ∷ es)) ≡ true = rw equal refl in
+    cc (there, absent)
+not-listed (e ∷ es) n (suc i) d absent at same = let parts = or_parts (bytes_eq n e.name) (is_listed n (map (λ (x : ActorDecl). x.name) es)) absent in not-listed es n i d parts.1 at same
+
+apart-push : (actors : List ActorDecl) (x : ActorDecl) → is_listed x.name (map (λ (e : ActorDecl). e.name) actors) ≡ false → AreApart actors → AreApart (actors ++ x ∷ [])
+apart-push actors x absent apart i j d e at_i at_j same =
+    elim (at-push actors x i d at_i) [
+      | inl old_i ↦
+          elim (at-push actors x j e at_j) [
+            | inl old_j ↦ apart i j d e old_i old_j same
+            | inr new_j ↦ absurd (not-listed actors x.name i d absent old_i (ap (λ (y : ActorDecl). y.name) new_j.1 ∙ sym same))
+          ]
+      | inr new_i ↦
+          elim (at-push actors x j e at_j) [
+            | inl old_j ↦ absurd (not-listed actors x.name j e absent old_j (ap (λ (y : ActorDecl). y.name) new_i.1 ∙ same))
+            | inr new_j ↦ new_i.0 ∙ sym new_j.0
+          ]
+    ]
+
+pub actor-named : (n : Bytes) (roles : List ℕ) (c : Contents) → IsName n → is_listed n c.actors.names ≡ false → Named c → Named (with_actor n roles c)
+actor-named n roles c named absent h =
+    let x : ActorDecl = record { name = n; roles = roles } in
+    let of_names : is_listed n (map (λ (e : ActorDecl). e.name) c.actors.items) ≡ false = subst (λ names. is_listed n names ≡ false) h.names absent in
+    record {
+      nodes = h.nodes;
+      elements = h.elements;
+      actors = rows-append IsNamed c.actors.items (x ∷ []) h.actors (named, tt);
+      names = rw absent (ap (λ names. names ++ n ∷ []) h.names ∙ sym (map-append (λ (e : ActorDecl). e.name) c.actors.items (x ∷ [])));
+      apart = apart-push c.actors.items x of_names h.apart;
+      writes = h.writes;
+    }
+
+-- ---- one more phase
+pub phase-named : (lines : List Line) (c : Contents) → Named c → AllRows WritesOneLine lines → AllRows (AllRows WritesOneLine) (c.phases ++ lines ∷ [])
+phase-named lines c h written = rows-append (AllRows WritesOneLine) c.phases (lines ∷ []) h.writes (written, tt)
+
+-- ---- a state behind tests
+pub unless-named : (o : Option Why) (c : Contents) (s : State) → (o ≡ None → NamedState s) → NamedStep (unless o c s)
+unless-named None c s h = h refl
+unless-named (Some w) c s h = tt
+
+pub found-named : {A : Type 0} (o : Option A) (go : A → Step) (c : Contents) → ((x : A) → NamedStep (go x)) → NamedStep (if_known o go c)
+found-named None go c h = tt
+found-named (Some x) go c h = h x

@@ -1,0 +1,299 @@
+-- The calls of one case that an actor's lines stand for are the answers to those of its lines that call the case, with the versions that it was told.
+use Rattle.std.proofs.Common.{◌≡◌, ◌≢◌, ℕ, ◌<◌, ◌==◌, eq-eqb, ne_eqb, eqb, Bool, true, false, ◌&&◌, inl, inr, List, [], ◌∷◌, ◌++◌, filter, length, map, Option, Some, None, refl, sym, ap, ◌∙◌, subst, arith, append_assoc, if◌then◌else◌}
+use Rattle.std.proofs.lemmas.Bool.{eqb-true}
+use Rattle.std.proofs.lemmas.Option.{slice_get-map, slice_get_cases}
+use Rattle.std.specs.Option.{option_map}
+use mathlib.Core.Logic.{dite}
+use native.Mathlib.Decide.{ℕ_discrete}
+use Rattle.case_core.specs.Machine.{case_after, case_reply}
+use Rattle.case_core.specs.declared.events.Event.{Event}
+use Rattle.case_core.specs.declared.events.Event.TheVariants as event
+use Rattle.case_core.specs.declared.replies.Reply.{Reply}
+use Rattle.file_facts.proofs.Cases.{declared-placed, declared-typed}
+use Rattle.file_facts.specs.Facts.{IsDeclared, IsKnown, IsKnownAct, IsWorkable}
+use Rattle.file_model.specs.declared.files.Act.{Act}
+use Rattle.file_model.specs.declared.files.Act.TheVariants as act
+use Rattle.file_model.specs.declared.files.File.{File}
+use Rattle.file_model.specs.declared.files.Line.{Line}
+use Rattle.legal_run.proofs.OnMachines.{calls_of_case-append, calls_of_kind-append}
+use Rattle.legal_run.proofs.Told.{each-all, each-kind, entry_if, some-at, some-other}
+use Rattle.legal_run.specs.Legal.{AreTraces, IsActor, Trace, declared_cases, done_by}
+use Rattle.legal_run.specs.LineCalls.{AreCallsOf, AreCallsOfLines, Call, is_case, lines_of, calls_of_case, calls_of_kind, told, told_each}
+use Rattle.line_readers.proofs.Answers.{Fit}
+use Rattle.line_readers.proofs.Owed.{by-append}
+use Rattle.line_readers.specs.Owed.{all_owed, lines_by}
+use Rattle.script_run.specs.Calls.{roles_of}
+use Rattle.script_run.specs.Entries.{CaseEntry, KindEntry}
+use Rattle.turn_cell.specs.History.{entry}
+use Rattle.type_core.specs.declared.events.KindEvent.TheVariants as kind_event
+use Rattle.type_core.specs.declared.replies.KindReply.TheVariants as kind_answer
+use Rattle.wsm_lists.specs.Rows.{AllRows}
+use Rattle.wsm_sound.specs.VersionModel.{VersionModel}
+use Rattle.wsm_sound.specs.declared.versions.CaseId.{CaseId}
+use Rattle.audit_model.proofs.KindCalls.{drops, filter-swap, keeps}
+use Rattle.audit_model.specs.Asked.{Asked, Telling, and_told, asked_lines, asked_phases, asks, case_event_in, case_event_of, first_of, left_to_tell, owed_case, rest_of, told_at, told_by, told_in, version_for}
+use Rattle.audit_model.specs.Owed.{calls_case}
+
+abbrev pub asked_actor : Asked → ℕ
+asked_actor l = l.0.actor
+
+abbrev pub FitCase : File → List CaseEntry → List Asked → Type 0
+FitCase f es ls = Fit case_after case_reply asked_actor (case_event_of f) es ls
+
+abbrev pub to_case : CaseId → Asked → Bool
+to_case c l = calls_case c l.0.act
+
+-- ---- versions that were told
+and_told-append : (o : Option VersionModel) (xs ys : List VersionModel) → and_told o xs ++ ys ≡ and_told o (xs ++ ys)
+and_told-append None xs ys = refl
+and_told-append (Some v) xs ys = refl
+
+pub told-append : (xs ys : List KindEntry) → told_in (xs ++ ys) ≡ told_in xs ++ told_in ys
+told-append [] ys = refl
+told-append (e ∷ xs) ys = ap (and_told (told_by e.event e.reply)) (told-append xs ys) ∙ sym (and_told-append (told_by e.event e.reply) (told_in xs) (told_in ys))
+
+-- what the calls of a line tell by one type
+abbrev told_if : Option ℕ → Option VersionModel → ℕ → List VersionModel
+told_if None ver u = []
+told_if (Some t) None u = []
+told_if (Some t) (Some v) u = if t == u then v ∷ [] else []
+
+one-told : (b : Bool) (a : ℕ) (v : VersionModel) → told_in (if b then entry a kind_event.Newest (kind_answer.Is v) ∷ [] else []) ≡ (if b then v ∷ [] else [])
+one-told true a v = refl
+one-told false a v = refl
+
+none-told : (b : Bool) (e : KindEntry) → told_by e.event e.reply ≡ None → told_in (if b then e ∷ [] else []) ≡ []
+none-told true e is = ap (λ o. and_told o []) is
+none-told false e is = refl
+
+-- a line calls a case once, or not at all
+data Called (on : List CaseEntry) (calls : Bool) (o : Option Event) : Type 0 where
+  once : (e : CaseEntry) → on ≡ e ∷ [] → calls ≡ true → o ≡ Some e.event → Called on calls o
+  never : on ≡ [] → calls ≡ false → Called on calls o
+
+called-if : (b : Bool) (on : List CaseEntry) (calls : Bool) (o : Option Event) (e : CaseEntry) → on ≡ (if b then e ∷ [] else []) → calls ≡ b → o ≡ Some e.event → Called on calls o
+called-if true on calls o e is same event = once e is same event
+called-if false on calls o e is same event = never is same
+
+-- the calls of a line, as a case and the types see them
+record OfAct (f : File) (c : CaseId) (a : ℕ) (x : Act) (first : List Call) (ver : Option VersionModel) : Type 0 where
+  some : (t : ℕ) → asks x ≡ Some t → (v : VersionModel) × (ver ≡ Some v)
+  none : asks x ≡ None → ver ≡ None
+  tells : (u : ℕ) → told_in (calls_of_kind u first) ≡ told_if (asks x) ver u
+  called : Called (calls_of_case c first) (calls_case c x) (case_event_in (roles_of f a) a ver x)
+
+module _ (f : File) (workable : IsWorkable f) (a : ℕ) (c : CaseId) (declared : IsDeclared c f.cases) where
+  -- one call of a case
+  one-case : (x : Act) (d : CaseId) (e : Event) (r : Reply) (first : List Call) → asks x ≡ None → calls_case c x ≡ is_case c d → case_event_in (roles_of f a) a None x ≡ Some e → first ≡ told a d e r ∷ [] → OfAct f c a x first None
+  one-case x d e r first asks_none calls event is = record {
+    some = λ t same. absurd (cc (same, asks_none));
+    none = λ same. refl;
+    tells = λ u. ap (λ cs. told_in (calls_of_kind u cs)) is ∙ ap (λ o. told_if o None u) (sym asks_none);
+    called = called-if (is_case c d) (calls_of_case c first) (calls_case c x) (case_event_in (roles_of f a) a None x) (entry a e r) (ap (calls_of_case c) is) calls event;
+  }
+
+  each-called : (t : ℕ) (v : VersionModel) (rs : List Reply) → length rs ≡ declared_cases f t → Called (calls_of_case c (told_each a t (event.Migrate v) 0 rs)) (t == c.type_no) (Some (event.Migrate v))
+  each-called t v rs many = dite (ℕ_discrete t c.type_no) of_type other
+    where
+      e : Event
+      e = event.Migrate v
+
+      other : t ≢ c.type_no → Called (calls_of_case c (told_each a t (event.Migrate v) 0 rs)) (t == c.type_no) (Some (event.Migrate v))
+      other not = never (ap (calls_of_case c) (each-all a t (event.Migrate v) 0 rs) ∙ some-other a t (event.Migrate v) c 0 (map (λ r. Some r) rs) (inl not)) (ne_eqb t c.type_no not)
+
+      of_type : t ≡ c.type_no → Called (calls_of_case c (told_each a t (event.Migrate v) 0 rs)) (t == c.type_no) (Some (event.Migrate v))
+      of_type same =
+          let placed = declared-placed f.cases c workable.placed declared in
+          let low : c.place < length rs = subst (λ n. c.place < n) (ap (declared_cases f) (sym same) ∙ sym many) placed in
+          elim (slice_get_cases rs c.place).1 [
+            | inl there ↦
+                let one : calls_of_case c (told_each a t (event.Migrate v) 0 rs) ≡ entry a (event.Migrate v) there.0 ∷ [] =
+                ap (calls_of_case c) (each-all a t (event.Migrate v) 0 rs)
+                ∙ (some-at a t (event.Migrate v) c 0 c.place (map (λ r. Some r) rs) same (omega arith)
+                ∙ ap (entry_if a (event.Migrate v)) (slice_get-map (λ r. Some r) rs c.place ∙ ap (option_map (λ (r : Reply). Some r)) there.2)) in
+                once (entry a (event.Migrate v) there.0) one (eq-eqb t c.type_no same) refl
+            | inr past ↦ absurd (omega (arith, past.0, low))
+          ]
+
+  of-act : (x : Act) (first : List Call) → AreCallsOf (declared_cases f) (roles_of f a) a x first → (ver : Option VersionModel) × OfAct f c a x first ver
+  of-act (act.Create d) first (v, r, is) = (
+    Some v,
+    record {
+      some = λ t same. (v, refl);
+      none = λ same. absurd (cc (same));
+      tells = λ u. ap (λ cs. told_in (calls_of_kind u cs)) is ∙ one-told (eqb d.type_no u) a v;
+      called = called-if (is_case c d) (calls_of_case c first) (is_case c d) (Some (event.Create v)) (entry a (event.Create v) r) (ap (calls_of_case c) is) refl refl;
+    },
+  )
+  of-act (act.Start d n) first (r, is) = (None, one-case (act.Start d n) d (event.Start n a (roles_of f a)) r first refl refl refl is)
+  of-act (act.End d n writes choice) first (r, is) = (None, one-case (act.End d n writes choice) d (event.End n a writes choice) r first refl refl refl is)
+  of-act (act.Change d ops) first (r, is) = (None, one-case (act.Change d ops) d (event.Change ops) r first refl refl refl is)
+  of-act (act.Install t ops) first (r, is) = (
+    None,
+    record {
+      some = λ u same. absurd (cc (same));
+      none = λ same. refl;
+      tells = λ u. ap (λ cs. told_in (calls_of_kind u cs)) is ∙ none-told (eqb t u) (entry a (kind_event.Install ops) r) refl;
+      called = never (ap (calls_of_case c) is) refl;
+    },
+  )
+  of-act (act.Migrate t) first (v, rs, many, is) = (
+    Some v,
+    record {
+      some = λ u same. (v, refl);
+      none = λ same. absurd (cc (same));
+      tells = λ u. ap (λ cs. told_in (calls_of_kind u cs)) is
+          ∙ (ap (λ (es : List KindEntry). told_in (if eqb t u then entry a kind_event.Newest (kind_answer.Is v) ∷ es else es)) (each-kind a t (event.Migrate v) u 0 rs) ∙ one-told (eqb t u) a v);
+      called = subst (λ es. Called es (t == c.type_no) (Some (event.Migrate v))) (sym (ap (calls_of_case c) is)) (each-called t v rs many);
+    },
+  )
+
+  -- ---- what is still to be told
+  abbrev pub Told : Telling → List Call → Type 0
+  Told q calls = (t : ℕ) → t < length f.types → (more : List VersionModel) × (q a t ≡ told_in (calls_of_kind t calls) ++ more)
+
+  told-parts : (t : ℕ) (first rest : List Call) → told_in (calls_of_kind t (first ++ rest)) ≡ told_in (calls_of_kind t first) ++ told_in (calls_of_kind t rest)
+  told-parts t first rest = ap told_in (calls_of_kind-append t first rest) ∙ told-append (calls_of_kind t first) (calls_of_kind t rest)
+
+  known-type : (x : Act) (t : ℕ) → IsKnownAct (length f.types) f.cases x → asks x ≡ Some t → t < length f.types
+  known-type (act.Create d) t known is = subst (λ n. n < length f.types) (cc (is)) (declared-typed (length f.types) f.cases d workable.typed known)
+  known-type (act.Start d n) t known is = absurd (cc (is))
+  known-type (act.End d n writes choice) t known is = absurd (cc (is))
+  known-type (act.Change d ops) t known is = absurd (cc (is))
+  known-type (act.Install u ops) t known is = absurd (cc (is))
+  known-type (act.Migrate u) t known is = subst (λ n. n < length f.types) (cc (is)) known
+
+  -- what stands first in the line of versions to tell
+  queue-is : (q : Telling) (x : Act) (first rest : List Call) (ver : Option VersionModel) (t : ℕ) → OfAct f c a x first ver → Told q (first ++ rest) → asks x ≡ Some t → (u : ℕ) → u < length f.types
+      → (more : List VersionModel) × (q a u ≡ told_if (Some t) ver u ++ (told_in (calls_of_kind u rest) ++ more))
+  queue-is q x first rest ver t h to_tell is u low =
+      let (more, queue) = to_tell u low in
+      let here : told_in (calls_of_kind u first) ≡ told_if (Some t) ver u = h.tells u ∙ ap (λ o. told_if o ver u) is in
+      (more, queue ∙ (ap (λ vs. vs ++ more) (told-parts u first rest) ∙ (append_assoc (told_in (calls_of_kind u first)) (told_in (calls_of_kind u rest)) more ∙ ap (λ vs. vs ++ (told_in (calls_of_kind u rest) ++ more)) here)))
+
+  told-one : (t : ℕ) (ver : Option VersionModel) (v : VersionModel) → ver ≡ Some v → told_if (Some t) ver t ≡ v ∷ []
+  told-one t ver v is = ap (λ o. told_if (Some t) o t) is ∙ ap (λ test. if test then v ∷ [] else []) (eq-eqb t t refl)
+
+  told-other : (t u : ℕ) (ver : Option VersionModel) → t ≢ u → told_if (Some t) ver u ≡ []
+  told-other t u None not = refl
+  told-other t u (Some v) not = ap (λ test. if test then v ∷ [] else []) (ne_eqb t u not)
+
+  version-is : (q : Telling) (x : Act) (first rest : List Call) (ver : Option VersionModel) → IsKnownAct (length f.types) f.cases x → OfAct f c a x first ver → Told q (first ++ rest) → version_for q a (asks x) ≡ ver
+  version-is q x first rest ver known h to_tell = by (asks x) refl
+    where
+      by : (o : Option ℕ) → asks x ≡ o → version_for q a o ≡ ver
+      by None is = sym (h.none is)
+      by (Some t) is =
+          let (v, same) = h.some t is in
+          let (more, queue) = queue-is q x first rest ver t h to_tell is t (known-type x t known is) in
+          ap first_of queue ∙ (ap (λ vs. first_of (vs ++ (told_in (calls_of_kind t rest) ++ more))) (told-one t ver v same) ∙ sym same)
+
+  -- what is to tell behind a line of the actor, and behind a line of another
+  told-behind : (q : Telling) (x : Act) (first rest : List Call) (ver : Option VersionModel) → IsKnownAct (length f.types) f.cases x → OfAct f c a x first ver → Told q (first ++ rest) → Told (told_at q a (asks x)) rest
+  told-behind q x first rest ver known h to_tell u low = by (asks x) refl
+    where
+      by : (o : Option ℕ) → asks x ≡ o → (more : List VersionModel) × (told_at q a o a u ≡ told_in (calls_of_kind u rest) ++ more)
+      by None is =
+          let (more, queue) = to_tell u low in
+          let nothing : told_in (calls_of_kind u first) ≡ [] = h.tells u ∙ ap (λ o. told_if o ver u) is in
+          (more, queue ∙ (ap (λ vs. vs ++ more) (told-parts u first rest) ∙ ap (λ vs. (vs ++ told_in (calls_of_kind u rest)) ++ more) nothing))
+      by (Some t) is =
+          let (v, same) = h.some t is in
+          let (more, queue) = queue-is q x first rest ver t h to_tell is u low in
+          let self = eq-eqb a a refl in
+          dite (ℕ_discrete u t)
+          (λ (here : u ≡ t).
+          let one : told_if (Some t) ver u ≡ v ∷ [] = subst (λ n. told_if (Some t) ver n ≡ v ∷ []) (sym here) (told-one t ver v same) in (
+            more,
+            ap (λ test. if test && u == t then rest_of (q a u) else q a u) self ∙ (ap (λ test. if test then rest_of (q a u) else q a u) (eq-eqb u t here)
+                ∙ (ap rest_of queue ∙ ap (λ vs. rest_of (vs ++ (told_in (calls_of_kind u rest) ++ more))) one)),
+          ))
+          (λ (not : u ≢ t).
+          let none : told_if (Some t) ver u ≡ [] = told-other t u ver (λ k. not (sym k)) in (
+            more,
+            ap (λ test. if test && u == t then rest_of (q a u) else q a u) self ∙ (ap (λ test. if test then rest_of (q a u) else q a u) (ne_eqb u t not)
+                ∙ (queue ∙ ap (λ vs. vs ++ (told_in (calls_of_kind u rest) ++ more)) none)),
+          ))
+
+  told-apart : (q : Telling) (b : ℕ) (o : Option ℕ) (calls : List Call) → a ≢ b → Told q calls → Told (told_at q b o) calls
+  told-apart q b None calls not to_tell u low = to_tell u low
+  told-apart q b (Some t) calls not to_tell u low = let (more, queue) = to_tell u low in (more, ap (λ test. if test && u == t then rest_of (q a u) else q a u) (ne_eqb a b not) ∙ queue)
+
+  -- ---- the lines of a phase
+  abbrev own-lines : List Asked → List Asked
+  own-lines ls = filter (to_case c) (filter (λ l. asked_actor l == a) ls)
+
+  record HasTold (q : Telling) (ls : List Line) (calls later : List Call) : Type 0 where
+    left : Told (left_to_tell q ls) later
+    fit : FitCase f (calls_of_case c calls) (own-lines (asked_lines q ls))
+
+  fit-called : (x : Asked) (es : List CaseEntry) (rest : List Asked) (first : List Call) (o : Option Event) → case_event_of f x ≡ o → Called (calls_of_case c first) (to_case c x) o → FitCase f es rest
+      → FitCase f (calls_of_case c first ++ es) (if to_case c x then x ∷ rest else rest)
+  fit-called x es rest first o event (once e is calls same) fit =
+      subst (λ xs. FitCase f (xs ++ es) (if to_case c x then x ∷ rest else rest)) (sym is) (subst (λ test. FitCase f (e ∷ es) (if test then x ∷ rest else rest)) (sym calls) (event ∙ same, fit))
+  fit-called x es rest first o event (never is calls) fit =
+      subst (λ xs. FitCase f (xs ++ es) (if to_case c x then x ∷ rest else rest)) (sym is) (subst (λ test. FitCase f es (if test then x ∷ rest else rest)) (sym calls) fit)
+
+  has-told : (ls : List Line) (q : Telling) (calls later : List Call) → AllRows (λ l. IsKnown (length f.types) (length f.actors) f.cases l) ls → AreCallsOfLines (declared_cases f) (roles_of f a) a (lines_of a ls) calls → Told q (calls ++ later) → HasTold q ls calls later
+  has-told [] q calls later known are to_tell = record {
+    left = subst (λ cs. Told q (cs ++ later)) are to_tell;
+    fit = subst (λ cs. FitCase f (calls_of_case c cs) []) (sym are) tt;
+  }
+  has-told (l ∷ ls) q calls later (k, known) are to_tell = by (l.actor == a) refl are (λ r cs t. has-told ls r cs later known t)
+    where
+      More : Type 0
+      More = (r : Telling) (cs : List Call) → AreCallsOfLines (declared_cases f) (roles_of f a) a (lines_of a ls) cs → Told r (cs ++ later) → HasTold r ls cs later
+
+      by : (test : Bool) → (l.actor == a) ≡ test → AreCallsOfLines (declared_cases f) (roles_of f a) a (lines_of a (l ∷ ls)) calls → More → HasTold q (l ∷ ls) calls later
+      by false other are more =
+          let rest : AreCallsOfLines (declared_cases f) (roles_of f a) a (lines_of a ls) calls = subst (λ xs. AreCallsOfLines (declared_cases f) (roles_of f a) a xs calls) (drops (λ x. x.actor == a) l ls other) are in
+          let not : a ≢ l.actor = λ same. cc (other, eq-eqb l.actor a (sym same)) in
+          let h = more (told_at q l.actor (asks l.act)) calls rest (told-apart q l.actor (asks l.act) (calls ++ later) not to_tell) in
+          let x : Asked = (l, version_for q l.actor (asks l.act)) in
+          record {
+            left = h.left;
+            fit = subst (λ xs. FitCase f (calls_of_case c calls) (filter (to_case c) xs)) (sym (drops (λ y. asked_actor y == a) x (asked_lines (told_at q l.actor (asks l.act)) ls) other)) h.fit;
+          }
+      by true own are more =
+          let (first, others, is, here, rest) = subst (λ xs. AreCallsOfLines (declared_cases f) (roles_of f a) a xs calls) (keeps (λ x. x.actor == a) l ls own) are in
+          let (ver, o) = of-act l.act first here in
+          let same : l.actor ≡ a = eqb-true l.actor a own in
+          let to_tell_then : Told q (first ++ (others ++ later)) = subst (Told q) (ap (λ cs. cs ++ later) is ∙ append_assoc first others later) to_tell in
+          let behind = subst (λ b. Told (told_at q b (asks l.act)) (others ++ later)) (sym same) (told-behind q l.act first (others ++ later) ver k.act o to_tell_then) in
+          let h = more (told_at q l.actor (asks l.act)) others rest behind in
+          let x : Asked = (l, version_for q l.actor (asks l.act)) in
+          let version : version_for q l.actor (asks l.act) ≡ ver = ap (λ b. version_for q b (asks l.act)) same ∙ version-is q l.act first (others ++ later) ver k.act o to_tell_then in
+          let event : case_event_of f x ≡ case_event_in (roles_of f a) a ver l.act = ap (λ v. case_event_in (roles_of f l.actor) l.actor v l.act) version ∙ ap (λ b. case_event_in (roles_of f b) b ver l.act) same in
+          let fit = fit-called x (calls_of_case c others) (filter (to_case c) (filter (λ y. asked_actor y == a) (asked_lines (told_at q l.actor (asks l.act)) ls))) first (case_event_in (roles_of f a) a ver l.act) event o.called h.fit in
+          record {
+            left = h.left;
+            fit = subst (λ es. FitCase f es (filter (to_case c) (filter (λ y. asked_actor y == a) (asked_lines q (l ∷ ls))))) (sym (ap (calls_of_case c) is ∙ calls_of_case-append c first others))
+                (subst (λ xs. FitCase f (calls_of_case c first ++ calls_of_case c others) (filter (to_case c) xs)) (sym (keeps (λ y. asked_actor y == a) x (asked_lines (told_at q l.actor (asks l.act)) ls) own)) fit);
+          }
+
+-- ---- all phases
+fit-append : (f : File) (es fs : List CaseEntry) (xs ys : List Asked) → FitCase f es xs → FitCase f fs ys → FitCase f (es ++ fs) (xs ++ ys)
+fit-append f [] fs [] ys one two = two
+fit-append f [] fs (x ∷ xs) ys one two = absurd one
+fit-append f (e ∷ es) fs [] ys one two = absurd one
+fit-append f (e ∷ es) fs (x ∷ xs) ys (here, more) two = (here, fit-append f es fs xs ys more two)
+
+module _ (f : File) (workable : IsWorkable f) (a : ℕ) (actor : IsActor f a) (c : CaseId) (declared : IsDeclared c f.cases) where
+  abbrev known_in : List (List Line) → Type 0
+  known_in phases = AllRows (AllRows (IsKnown (length f.types) (length f.actors) f.cases)) phases
+
+  pub fit-case_phases : (phases : List (List Line)) (traces : List Trace) (q : Telling) → known_in phases → AreTraces f phases traces → Told f workable a c declared q (done_by a traces)
+      → FitCase f (calls_of_case c (done_by a traces)) (lines_by asked_actor a (all_owed (owed_case c (asked_phases q phases))))
+  fit-case_phases [] [] q known all to_tell = tt
+  fit-case_phases [] (trace ∷ traces) q known all to_tell = absurd all
+  fit-case_phases (lines ∷ phases) [] q known all to_tell = absurd all
+  fit-case_phases (lines ∷ phases) (trace ∷ traces) q (here, known) (made, all) to_tell =
+      let h = has-told f workable a c declared lines q (trace a) (done_by a traces) here (made a actor) to_tell in
+      let more = fit-case_phases phases traces (left_to_tell q lines) known all h.left in
+      let own_now = filter (λ (l : Asked). calls_case c l.0.act) (asked_lines q lines) in
+      let later = all_owed (owed_case c (asked_phases (left_to_tell q lines) phases)) in
+      let both = fit-append f (calls_of_case c (trace a)) (calls_of_case c (done_by a traces)) (filter (to_case c) (filter (λ l. asked_actor l == a) (asked_lines q lines))) (lines_by asked_actor a later) h.fit more in
+      let own : lines_by asked_actor a (own_now ++ later) ≡ filter (to_case c) (filter (λ l. asked_actor l == a) (asked_lines q lines)) ++ lines_by asked_actor a later =
+      by-append asked_actor a own_now later ∙ ap (λ xs. xs ++ lines_by asked_actor a later) (filter-swap (λ l. asked_actor l == a) (to_case c) (asked_lines q lines)) in
+      subst (λ es. FitCase f es (lines_by asked_actor a (own_now ++ later))) (sym (calls_of_case-append c (trace a) (done_by a traces)))
+      (subst (FitCase f (calls_of_case c (trace a) ++ calls_of_case c (done_by a traces))) (sym own) both)

@@ -1,0 +1,12 @@
+pub mod OneLine
+pub mod OneLineTexts
+pub mod KeptValues
+pub mod Callers
+pub mod Queues
+pub mod OwnLines
+pub mod LineQueues
+pub mod TakenParts
+pub mod Ready
+pub mod Live
+pub mod Whole
+pub mod FirstWrongLine

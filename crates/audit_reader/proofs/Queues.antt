@@ -1,0 +1,255 @@
+-- The calls of an actor's lines, taken from what types and cases have of the actor: each line takes the first of those that it calls.
+use Rattle.std.proofs.Common.{◌≡◌, ◌≢◌, ℕ, zero, suc, ◌+◌, ◌<◌, ◌≤◌, ◌==◌, eqb, eq-eqb, ne_eqb, Bool, true, false, ◌&&◌, ◌⊎◌, inl, inr, List, [], ◌∷◌, ◌++◌, append-nil, take, refl, sym, ap, ◌∙◌, subst, arith, append_assoc, if◌then◌else◌}
+use Rattle.std.proofs.lemmas.Bool.{and_from, and_parts, eqb-true}
+use mathlib.Core.Logic.{dite}
+use native.Mathlib.Decide.{ℕ_discrete}
+use Rattle.file_model.specs.declared.files.Act.{Act}
+use Rattle.file_model.specs.declared.files.Act.TheVariants as act
+use Rattle.file_model.specs.declared.files.Line.{Line}
+use Rattle.legal_run.proofs.OnMachines.{calls_of_case-append, calls_of_kind-append}
+use Rattle.legal_run.specs.Legal.{Trace, done_by}
+use Rattle.legal_run.specs.LineCalls.{Call, calls_of_case, calls_of_kind, is_case, lines_of, of_case, of_kind}
+use Rattle.script_run.specs.Entries.{CaseEntry, KindEntry}
+use Rattle.wsm_sound.specs.declared.versions.CaseId.{CaseId}
+use Rattle.audit_model.specs.Asked.{rest_of}
+use Rattle.audit_model.specs.Owed.{calls_case, calls_kind}
+
+abbrev pub KindQueues : Type 0
+KindQueues = ℕ → List KindEntry
+
+abbrev pub CaseQueues : Type 0
+CaseQueues = CaseId → List CaseEntry
+
+-- the first, where there is one
+abbrev pub ahead : {X : Type 0} → List X → List X
+ahead [] = []
+ahead (x ∷ xs) = x ∷ []
+
+ahead-rest : {X : Type 0} (xs : List X) → ahead xs ++ rest_of xs ≡ xs
+ahead-rest [] = refl
+ahead-rest (x ∷ xs) = refl
+
+abbrev pub of_type : ℕ → List KindEntry → List Call
+of_type t [] = []
+of_type t (e ∷ es) = of_kind t e ∷ []
+
+abbrev pub of_one : CaseId → List CaseEntry → List Call
+of_one c [] = []
+of_one c (e ∷ es) = of_case c e ∷ []
+
+abbrev pub id_at : ℕ → ℕ → CaseId
+id_at t place = record { type_no = t; place = place }
+
+-- of so many cases of a type, from a place on
+abbrev pub of_each : CaseQueues → ℕ → ℕ → ℕ → List Call
+of_each C t place zero = []
+of_each C t place (suc n) = of_one (id_at t place) (C (id_at t place)) ++ of_each C t (place + 1) n
+
+abbrev pub kinds_then : KindQueues → Act → KindQueues
+kinds_then K x t = if calls_kind t x then rest_of (K t) else K t
+
+abbrev pub cases_then : CaseQueues → Act → CaseQueues
+cases_then C x c = if calls_case c x then rest_of (C c) else C c
+
+-- ---- calls of types
+type-same : (t : ℕ) (es : List KindEntry) → calls_of_kind t (of_type t es) ≡ ahead es
+type-same t [] = refl
+type-same t (e ∷ es) = ap (λ test. if test then e ∷ [] else []) (eq-eqb t t refl)
+
+type-other : (t u : ℕ) → u ≢ t → (es : List KindEntry) → calls_of_kind t (of_type u es) ≡ []
+type-other t u not [] = refl
+type-other t u not (e ∷ es) = ap (λ test. if test then e ∷ [] else []) (ne_eqb u t not)
+
+type-at : (K : KindQueues) (t u : ℕ) → calls_of_kind t (of_type u (K u)) ≡ (if eqb u t then ahead (K t) else [])
+type-at K t u =
+    dite (ℕ_discrete u t)
+    (λ (same : u ≡ t). subst (λ n. calls_of_kind t (of_type n (K n)) ≡ (if eqb n t then ahead (K t) else [])) (sym same) (type-same t (K t) ∙ ap (λ test. if test then ahead (K t) else []) (sym (eq-eqb t t refl))))
+    (λ (not : u ≢ t). type-other t u not (K u) ∙ ap (λ test. if test then ahead (K t) else []) (sym (ne_eqb u t not)))
+
+one-no_kind : (t : ℕ) (c : CaseId) (es : List CaseEntry) → calls_of_kind t (of_one c es) ≡ []
+one-no_kind t c [] = refl
+one-no_kind t c (e ∷ es) = refl
+
+each-no_kind : (C : CaseQueues) (t u place n : ℕ) → calls_of_kind u (of_each C t place n) ≡ []
+each-no_kind C t u place zero = refl
+each-no_kind C t u place (suc n) =
+    calls_of_kind-append u (of_one (id_at t place) (C (id_at t place))) (of_each C t (place + 1) n)
+    ∙ (ap (λ xs. xs ++ calls_of_kind u (of_each C t (place + 1) n)) (one-no_kind u (id_at t place) (C (id_at t place))) ∙ each-no_kind C t u (place + 1) n)
+
+-- ---- calls of cases
+type-no_case : (c : CaseId) (t : ℕ) (es : List KindEntry) → calls_of_case c (of_type t es) ≡ []
+type-no_case c t [] = refl
+type-no_case c t (e ∷ es) = refl
+
+case-own : (c : CaseId) (es : List CaseEntry) → calls_of_case c (of_one c es) ≡ ahead es
+case-own c [] = refl
+case-own c (e ∷ es) = ap (λ test. if test then e ∷ [] else []) (and_from (c.type_no == c.type_no) (c.place == c.place) (eq-eqb c.type_no c.type_no refl) (eq-eqb c.place c.place refl))
+
+case-other : (c d : CaseId) → is_case c d ≡ false → (es : List CaseEntry) → calls_of_case c (of_one d es) ≡ []
+case-other c d not [] = refl
+case-other c d not (e ∷ es) = ap (λ test. if test then e ∷ [] else []) not
+
+pub same-id : (c d : CaseId) → is_case c d ≡ true → d ≡ c
+same-id c d is =
+    let (types, places) = and_parts (d.type_no == c.type_no) (d.place == c.place) is in
+    ap (λ t. id_at t d.place) (eqb-true d.type_no c.type_no types) ∙ ap (λ p. id_at c.type_no p) (eqb-true d.place c.place places)
+
+case-at : (C : CaseQueues) (c d : CaseId) → calls_of_case c (of_one d (C d)) ≡ (if is_case c d then ahead (C c) else [])
+case-at C c d = by (is_case c d) refl
+  where
+    by : (test : Bool) → is_case c d ≡ test → calls_of_case c (of_one d (C d)) ≡ (if test then ahead (C c) else [])
+    by true is = let same = same-id c d is in subst (λ x. calls_of_case c (of_one x (C x)) ≡ ahead (C c)) (sym same) (case-own c (C c))
+    by false not = case-other c d not (C d)
+
+no-place : (t p : ℕ) (c : CaseId) → (t ≢ c.type_no) ⊎ (c.place < p) → is_case c (id_at t p) ≡ false
+no-place t p c (inl not) = ap (λ test. test && p == c.place) (ne_eqb t c.type_no not)
+no-place t p c (inr past) = both (t == c.type_no) (p == c.place) (ne_eqb p c.place (λ same. omega (arith, same, past)))
+  where
+    both : (x y : Bool) → y ≡ false → (x && y) ≡ false
+    both true y is = is
+    both false y is = refl
+
+further : (t p : ℕ) (c : CaseId) → (t ≢ c.type_no) ⊎ (c.place < p) → (t ≢ c.type_no) ⊎ (c.place < p + 1)
+further t p c (inl not) = inl not
+further t p c (inr past) = inr (omega (arith, past))
+
+each-parts : (C : CaseQueues) (c : CaseId) (t place n : ℕ) → calls_of_case c (of_each C t place (suc n)) ≡ calls_of_case c (of_one (id_at t place) (C (id_at t place))) ++ calls_of_case c (of_each C t (place + 1) n)
+each-parts C c t place n = calls_of_case-append c (of_one (id_at t place) (C (id_at t place))) (of_each C t (place + 1) n)
+
+each-other : (C : CaseQueues) (c : CaseId) (t place n : ℕ) → (t ≢ c.type_no) ⊎ (c.place < place) → calls_of_case c (of_each C t place n) ≡ []
+each-other C c t place zero other = refl
+each-other C c t place (suc n) other =
+    each-parts C c t place n
+    ∙ (ap (λ xs. xs ++ calls_of_case c (of_each C t (place + 1) n)) (case-other c (id_at t place) (no-place t place c other) (C (id_at t place))) ∙ each-other C c t (place + 1) n (further t place c other))
+
+each-own : (C : CaseQueues) (c : CaseId) (t place n : ℕ) → t ≡ c.type_no → place ≤ c.place → c.place < place + n → calls_of_case c (of_each C t place n) ≡ ahead (C c)
+each-own C c t place zero same low high = absurd (omega (arith, low, high))
+each-own C c t place (suc n) same low high =
+    dite (ℕ_discrete place c.place)
+    (λ (here : place ≡ c.place).
+    let is : id_at t place ≡ c = ap (λ u. id_at u place) same ∙ ap (λ p. id_at c.type_no p) here in
+    each-parts C c t place n
+    ∙ (ap (λ xs. calls_of_case c (of_one (id_at t place) (C (id_at t place))) ++ xs) (each-other C c t (place + 1) n (inr (omega (arith, here))))
+    ∙ (append-nil (calls_of_case c (of_one (id_at t place) (C (id_at t place)))) ∙ subst (λ x. calls_of_case c (of_one x (C x)) ≡ ahead (C c)) (sym is) (case-own c (C c)))))
+    (λ (not : place ≢ c.place).
+    let other : is_case c (id_at t place) ≡ false = not-here not in
+    each-parts C c t place n
+    ∙ (ap (λ xs. xs ++ calls_of_case c (of_each C t (place + 1) n)) (case-other c (id_at t place) other (C (id_at t place))) ∙ each-own C c t (place + 1) n same (omega (arith, low, not)) (omega (arith, high))))
+  where
+    not-here : place ≢ c.place → is_case c (id_at t place) ≡ false
+    not-here not = ap (λ test. test && place == c.place) (eq-eqb t c.type_no same) ∙ ne_eqb place c.place not
+
+module _ (many : ℕ → ℕ) where
+  -- the calls of a line
+  abbrev pub calls_at : KindQueues → CaseQueues → Act → List Call
+  calls_at K C (act.Create c) = of_type c.type_no (K c.type_no) ++ of_one c (C c)
+  calls_at K C (act.Start c n) = of_one c (C c)
+  calls_at K C (act.End c n writes choice) = of_one c (C c)
+  calls_at K C (act.Change c ops) = of_one c (C c)
+  calls_at K C (act.Install t ops) = of_type t (K t)
+  calls_at K C (act.Migrate t) = of_type t (K t) ++ of_each C t 0 (many t)
+
+  kind-behind : (t u : ℕ) (K : KindQueues) (calls : List Call) → calls_of_kind t calls ≡ [] → calls_of_kind t (of_type u (K u) ++ calls) ≡ (if eqb u t then ahead (K t) else [])
+  kind-behind t u K calls none =
+      calls_of_kind-append t (of_type u (K u)) calls ∙ (ap (λ xs. calls_of_kind t (of_type u (K u)) ++ xs) none ∙ (append-nil (calls_of_kind t (of_type u (K u))) ∙ type-at K t u))
+
+  kind-taken : (K : KindQueues) (C : CaseQueues) (t : ℕ) (x : Act) → calls_of_kind t (calls_at K C x) ≡ (if calls_kind t x then ahead (K t) else [])
+  kind-taken K C t (act.Create c) = kind-behind t c.type_no K (of_one c (C c)) (one-no_kind t c (C c))
+  kind-taken K C t (act.Start c n) = one-no_kind t c (C c)
+  kind-taken K C t (act.End c n writes choice) = one-no_kind t c (C c)
+  kind-taken K C t (act.Change c ops) = one-no_kind t c (C c)
+  kind-taken K C t (act.Install u ops) = type-at K t u
+  kind-taken K C t (act.Migrate u) = kind-behind t u K (of_each C u 0 (many u)) (each-no_kind C u t 0 (many u))
+
+  case-behind : (c : CaseId) (u : ℕ) (es : List KindEntry) (calls : List Call) → calls_of_case c (of_type u es ++ calls) ≡ calls_of_case c calls
+  case-behind c u es calls = calls_of_case-append c (of_type u es) calls ∙ ap (λ xs. xs ++ calls_of_case c calls) (type-no_case c u es)
+
+  migrated : (C : CaseQueues) (c : CaseId) (t : ℕ) → c.place < many c.type_no → calls_of_case c (of_each C t 0 (many t)) ≡ (if eqb t c.type_no then ahead (C c) else [])
+  migrated C c t low =
+      dite (ℕ_discrete t c.type_no)
+      (λ (same : t ≡ c.type_no). each-own C c t 0 (many t) same (omega arith) (let there : c.place < many t = subst (λ n. c.place < many n) (sym same) low in omega (arith, there)) ∙ ap (λ test. if test then ahead (C c) else []) (sym (eq-eqb t c.type_no same)))
+      (λ (not : t ≢ c.type_no). each-other C c t 0 (many t) (inl not) ∙ ap (λ test. if test then ahead (C c) else []) (sym (ne_eqb t c.type_no not)))
+
+  case-taken : (K : KindQueues) (C : CaseQueues) (c : CaseId) → c.place < many c.type_no → (x : Act) → calls_of_case c (calls_at K C x) ≡ (if calls_case c x then ahead (C c) else [])
+  case-taken K C c low (act.Create d) = case-behind c d.type_no (K d.type_no) (of_one d (C d)) ∙ case-at C c d
+  case-taken K C c low (act.Start d n) = case-at C c d
+  case-taken K C c low (act.End d n writes choice) = case-at C c d
+  case-taken K C c low (act.Change d ops) = case-at C c d
+  case-taken K C c low (act.Install u ops) = type-no_case c u (K u)
+  case-taken K C c low (act.Migrate u) = case-behind c u (K u) (of_each C u 0 (many u)) ∙ migrated C c u low
+
+  -- ---- lines one after another
+  abbrev pub calls_along : KindQueues → CaseQueues → List Line → List Call
+  calls_along K C [] = []
+  calls_along K C (l ∷ ls) = calls_at K C l.act ++ calls_along (kinds_then K l.act) (cases_then C l.act) ls
+
+  abbrev pub kinds_left : KindQueues → List Line → KindQueues
+  kinds_left K [] = K
+  kinds_left K (l ∷ ls) = kinds_left (kinds_then K l.act) ls
+
+  abbrev pub cases_left : CaseQueues → List Line → CaseQueues
+  cases_left C [] = C
+  cases_left C (l ∷ ls) = cases_left (cases_then C l.act) ls
+
+  if-split : {X : Type 0} (test : Bool) (xs : List X) → (if test then ahead xs else []) ++ (if test then rest_of xs else xs) ≡ xs
+  if-split true xs = ahead-rest xs
+  if-split false xs = refl
+
+  kinds-split : (ls : List Line) (K : KindQueues) (C : CaseQueues) (t : ℕ) → calls_of_kind t (calls_along K C ls) ++ kinds_left K ls t ≡ K t
+  kinds-split [] K C t = refl
+  kinds-split (l ∷ ls) K C t =
+      let here = calls_at K C l.act in
+      let later = calls_along (kinds_then K l.act) (cases_then C l.act) ls in
+      let left = kinds_left (kinds_then K l.act) ls t in
+      ap (λ xs. xs ++ left) (calls_of_kind-append t here later)
+      ∙ (append_assoc (calls_of_kind t here) (calls_of_kind t later) left
+      ∙ (ap (λ xs. calls_of_kind t here ++ xs) (kinds-split ls (kinds_then K l.act) (cases_then C l.act) t)
+      ∙ (ap (λ xs. xs ++ kinds_then K l.act t) (kind-taken K C t l.act) ∙ if-split (calls_kind t l.act) (K t))))
+
+  cases-split : (ls : List Line) (K : KindQueues) (C : CaseQueues) (c : CaseId) → c.place < many c.type_no → calls_of_case c (calls_along K C ls) ++ cases_left C ls c ≡ C c
+  cases-split [] K C c low = refl
+  cases-split (l ∷ ls) K C c low =
+      let here = calls_at K C l.act in
+      let later = calls_along (kinds_then K l.act) (cases_then C l.act) ls in
+      let left = cases_left (cases_then C l.act) ls c in
+      ap (λ xs. xs ++ left) (calls_of_case-append c here later)
+      ∙ (append_assoc (calls_of_case c here) (calls_of_case c later) left
+      ∙ (ap (λ xs. calls_of_case c here ++ xs) (cases-split ls (kinds_then K l.act) (cases_then C l.act) c low)
+      ∙ (ap (λ xs. xs ++ cases_then C l.act c) (case-taken K C c low l.act) ∙ if-split (calls_case c l.act) (C c))))
+
+  -- ---- phases one after another, for all actors
+  abbrev pub traces_of : List (List Line) → (ℕ → KindQueues) → (ℕ → CaseQueues) → List Trace
+  traces_of [] K C = []
+  traces_of (lines ∷ phases) K C =
+      (λ a. calls_along (K a) (C a) (lines_of a lines)) ∷ traces_of phases (λ a. kinds_left (K a) (lines_of a lines)) (λ a. cases_left (C a) (lines_of a lines))
+
+  pub take-traces_of : (k : ℕ) (phases : List (List Line)) (K : ℕ → KindQueues) (C : ℕ → CaseQueues) → take k (traces_of phases K C) ≡ traces_of (take k phases) K C
+  take-traces_of zero phases K C = refl
+  take-traces_of (suc k) [] K C = refl
+  take-traces_of (suc k) (lines ∷ phases) K C =
+      ap (λ ts. (λ (a : ℕ). calls_along (K a) (C a) (lines_of a lines)) ∷ ts) (take-traces_of k phases (λ a. kinds_left (K a) (lines_of a lines)) (λ a. cases_left (C a) (lines_of a lines)))
+
+  -- what an actor did is a beginning of what there is of it
+  pub kinds-begin : (phases : List (List Line)) (K : ℕ → KindQueues) (C : ℕ → CaseQueues) (a t : ℕ) → (left : List KindEntry) × (calls_of_kind t (done_by a (traces_of phases K C)) ++ left ≡ K a t)
+  kinds-begin [] K C a t = (K a t, refl)
+  kinds-begin (lines ∷ phases) K C a t =
+      let own = lines_of a lines in
+      let here = calls_along (K a) (C a) own in
+      let rest = traces_of phases (λ b. kinds_left (K b) (lines_of b lines)) (λ b. cases_left (C b) (lines_of b lines)) in
+      let (left, more) = kinds-begin phases (λ b. kinds_left (K b) (lines_of b lines)) (λ b. cases_left (C b) (lines_of b lines)) a t in (
+        left,
+        ap (λ xs. xs ++ left) (calls_of_kind-append t here (done_by a rest)) ∙ (append_assoc (calls_of_kind t here) (calls_of_kind t (done_by a rest)) left
+            ∙ (ap (λ xs. calls_of_kind t here ++ xs) more ∙ kinds-split own (K a) (C a) t)),
+      )
+
+  pub cases-begin : (phases : List (List Line)) (K : ℕ → KindQueues) (C : ℕ → CaseQueues) (a : ℕ) (c : CaseId) → c.place < many c.type_no → (left : List CaseEntry) × (calls_of_case c (done_by a (traces_of phases K C)) ++ left ≡ C a c)
+  cases-begin [] K C a c low = (C a c, refl)
+  cases-begin (lines ∷ phases) K C a c low =
+      let own = lines_of a lines in
+      let here = calls_along (K a) (C a) own in
+      let rest = traces_of phases (λ b. kinds_left (K b) (lines_of b lines)) (λ b. cases_left (C b) (lines_of b lines)) in
+      let (left, more) = cases-begin phases (λ b. kinds_left (K b) (lines_of b lines)) (λ b. cases_left (C b) (lines_of b lines)) a c low in (
+        left,
+        ap (λ xs. xs ++ left) (calls_of_case-append c here (done_by a rest)) ∙ (append_assoc (calls_of_case c here) (calls_of_case c (done_by a rest)) left
+            ∙ (ap (λ xs. calls_of_case c here ++ xs) more ∙ cases-split own (K a) (C a) c low)),
+      )
