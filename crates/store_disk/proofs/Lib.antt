@@ -1,0 +1,8 @@
+mod ExamplesDisks
+mod ExamplesImages
+mod Framing
+mod Histories
+mod Moments
+mod Noted
+mod Steps
+mod Stops

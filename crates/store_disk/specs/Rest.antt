@@ -1,0 +1,33 @@
+-- A disk between two steps, and what a step leaves.
+use Rattle.std.specs.Prelude.{◌≡◌, ◌≢◌, ◌⊎◌, ℕ, ◌<◌, ◌^◌, List, [], ◌∷◌, ◌++◌, length}
+use Rattle.std.specs.List.{AllByRecursion}
+use Rattle.store_disk.specs.Disk.{Only}
+use Rattle.store_disk.specs.Image.{all_framed, u32, HasList}
+
+-- payloads, and behind them at a place a gate that is not open and whatever stands behind it
+pub record EndsAt (content : List ℕ) (ps : List (List ℕ)) (place : ℕ) : Type 0 where
+  pub gate : ℕ
+  pub behind : List ℕ
+  pub shut : gate ≢ 1
+  pub stands : place ≡ length (all_framed ps)
+  pub short : AllByRecursion (λ p. length p < 2 ^ 32) ps
+  pub bytes : content ≡ all_framed ps ++ gate ∷ behind
+
+-- nothing is pending, the disk holds these payloads, and the next record goes to this place
+pub record IsAtRest {D : Type 0} (content : D → List ℕ) (may_leave : D → List ℕ → Type 0) (disk : D) (ps : List (List ℕ)) (place : ℕ) : Type 0 where
+  pub ends : EndsAt (content disk) ps place
+  pub durable : Only (content disk) (may_leave disk)
+
+-- a payload with its length stands behind the gate at a place, with a closed gate behind it, and nothing is pending
+pub record IsStaged {D : Type 0} (content : D → List ℕ) (may_leave : D → List ℕ → Type 0) (disk : D) (ps : List (List ℕ)) (p : List ℕ) (place : ℕ) : Type 0 where
+  pub gate : ℕ
+  pub behind : List ℕ
+  pub stands : place ≡ length (all_framed ps)
+  pub short : AllByRecursion (λ q. length q < 2 ^ 32) ps
+  pub fits : length p < 2 ^ 32
+  pub bytes : content disk ≡ all_framed ps ++ gate ∷ (u32 (length p) ++ (p ++ 0 ∷ behind))
+  pub durable : Only (content disk) (may_leave disk)
+
+-- an image has the old list, or the old list and this payload
+abbrev pub IsBeforeOrAfter : List (List ℕ) → List ℕ → List ℕ → Type 0
+IsBeforeOrAfter ps p image = HasList ps image ⊎ HasList (ps ++ p ∷ []) image

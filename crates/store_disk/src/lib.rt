@@ -1,0 +1,20 @@
+// A disk that outlives a stop, and records on it that a stop at any moment leaves whole.
+//
+// A `Disk` is bytes that are read and written by place. What a contract says of it rests on what reads give, on what a
+// stop may leave, now and at each moment of a call, and on a count of faults that never falls. An image holds records
+// one behind another; `append` adds one, so that a stop at any moment leaves the records from before the call, or those
+// and the new one, and once it has answered Ok the new one too.
+#![tactic(auto)]
+
+mod disks;
+mod file;
+mod framed;
+mod history;
+mod memory;
+mod records;
+
+pub use disks::Disk;
+pub use file::{FileDisk, OpenFault};
+pub use framed::Framed;
+pub use memory::MemoryDisk;
+pub use records::append;

@@ -1,0 +1,5 @@
+//! Tests of the store: what no clause says of its disks and its records.
+#![tactic(auto)]
+
+#[cfg(test)]
+mod disks;
