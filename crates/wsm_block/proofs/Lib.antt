@@ -17,3 +17,4 @@ pub mod FirstFault
 pub mod RanksOfSchemas
 pub mod Forward
 pub mod FrontOrders
+pub mod Ascents

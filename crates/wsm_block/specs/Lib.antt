@@ -4,3 +4,4 @@ pub mod Sizes
 pub mod Clauses
 pub mod Order
 pub mod Refusals
+pub mod Ascents

@@ -1,7 +1,8 @@
 // Numbers that stand twice.
-ghost use Rattle.std.specs.Prelude.{◌≡◌, ◌≤◌, [], map, take, length, IfOk};
+ghost use Rattle.std.specs.Prelude.{◌≡◌, ◌≤◌, [], None, map, take, length, IfOk};
 ghost use Rattle.wsm_schema.specs.Sound.{twice, nodes_of};
 ghost use Rattle.wsm_schema.specs.Trail.{is_one_of};
+ghost use Rattle.wsm_block.specs.Ascents.{is_above, ascend_from};
 
 use crate::heights::Heights;
 use std::alloc::Global;
@@ -32,12 +33,39 @@ fn is_among(flat: &Flat, node: u32, count: usize) -> bool
     }
 }
 
-// The first code that stood earlier.
+// The first code that stood earlier. Most often the codes ascend, so that is asked first, which takes no memory.
 pub fn code_twice(alloc: Global, branches: &[Branch]) -> Result<Option<u16>, NoMemory>
     ensures { IfOk result (λ found. found ≡ twice [] (map (λ b. b.code) branches.now)) }
 {
+    if are_ascending(branches) {
+        return Ok(None);
+    }
     let codes = Heights::of(alloc, codes_of(alloc, branches)?)?;
     Ok(first_twice(&codes, branches))
+}
+
+// Whether each code is above the one before it.
+fn are_ascending(branches: &[Branch]) -> bool
+    ensures { result ≡ ascend_from None (map (λ b. b.code) branches.now) }
+{
+    let mut last = None;
+    for i in 0..branches.len() {
+        let code = branches[i].code;
+        if !is_above(last, code) {
+            return false;
+        }
+        last = Some(code);
+    }
+    true
+}
+
+fn is_above(last: Option<u16>, code: u16) -> bool
+    ensures { result ≡ is_above last code }
+{
+    match last {
+        None => true,
+        Some(last) => last < code,
+    }
 }
 
 // The same, where the codes are found by binary searches.

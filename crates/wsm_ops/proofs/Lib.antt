@@ -14,3 +14,4 @@ pub mod Weights
 pub mod Distinct
 pub mod OnePlace
 pub mod OncePieces
+pub mod NotedNodes

@@ -6,3 +6,4 @@ pub mod Outline
 pub mod Readings
 pub mod Putting
 pub mod Wrapped
+pub mod Places

@@ -20,7 +20,7 @@ pub fn apply(alloc: Global, schema: &Schema, ops: &Ops) -> Result<Schema, ApplyR
     ensures distinct { IfOk result (λ new. twice [] (nodes_of (cards_of new)) ≡ None) }
     ensures fault { IfErr result (λ refusal. IsOpFault (applied schema.now ops.now) refusal) }
 {
-    let mut draft = Draft::of(alloc, schema)?;
+    let mut draft = Draft::of(alloc, schema, ops.len())?;
     for (i, op) in ops.as_slice().iter().enumerate() {
         draft = after(alloc, draft, i as u32 + 1, op)?;
     }

@@ -41,15 +41,15 @@ impl Model for Draft {
 }
 
 impl Draft {
-    /// The draft of a schema.
-    pub fn of(alloc: Global, schema: &Schema) -> Result<Draft, NoMemory>
+    /// The draft of a schema, for so many operations.
+    pub fn of(alloc: Global, schema: &Schema, operations: usize) -> Result<Draft, NoMemory>
         requires { twice [] (nodes_of (cards_of schema.now)) ≡ None }
         ensures { IfOk result (λ draft. draft ≡ schema.now) }
     {
         Ok(Draft {
             start: schema.start,
             finish: schema.finish,
-            outline: Outline::of(pieces_of(alloc, schema)?),
+            outline: Outline::of(alloc, pieces_of(alloc, schema)?, operations)?,
             syncs: schema.syncs.copy(alloc)?,
             elements: schema.elements.copy(alloc)?,
             reads: schema.reads.copy(alloc)?,

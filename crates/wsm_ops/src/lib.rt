@@ -9,6 +9,7 @@ mod insertions;
 mod operations;
 mod outlines;
 mod pieces;
+mod places;
 mod readers;
 mod refusals;
 mod removals;

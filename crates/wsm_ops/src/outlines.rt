@@ -1,34 +1,54 @@
 // The pieces of a schema in document order, and edits of them.
-ghost use Rattle.std.specs.Prelude.{◌≡◌, ◌≤◌, ◌++◌, length, take, drop, position, OnOk, IfOk};
+ghost use Rattle.std.specs.Prelude.{◌≡◌, ◌<◌, ◌≤◌, ◌++◌, length, take, drop, slice_get, position, OnOk, IfOk, IsTrue};
+ghost use Rattle.std.specs.List.{remove};
+ghost use Rattle.std.specs.Option.{option_copied};
 ghost use Rattle.wsm_ops.specs.Outline.{is_node, at_gap, seat_at, has_head, behind, before, without_node, IsOnce};
+ghost use Rattle.wsm_ops.specs.Places.{seat_there, place_of, IsPlace, IsFound, IsNoted};
 ghost use Rattle.wsm_ops.specs.declared.operations.Gap.TheVariants.{After};
 
 use crate::operations::Gap;
 use crate::pieces::{Piece, Seat};
+use crate::places::Places;
+use std::alloc::Global;
 use std::marker::Model;
 use wsm_schema::NoMemory;
 
-/// The pieces of a schema, in document order.
+/// The pieces of a schema, in document order. Where it is noted where nodes were put, a node is looked for there, and is not
+/// far from there: as many places further on as pieces were put since, or as many before as were taken.
 #[derive(Drop)]
 pub struct Outline {
     pieces: Vec<Piece>,
+    is_noted: bool,
+    places: Places,
+    taken: usize,
 }
 
 impl Model for Outline {
-    ghost use Rattle.std.specs.Prelude.{List};
+    ghost use Rattle.std.specs.Prelude.{List, IsTrue};
+    ghost use Rattle.wsm_ops.specs.Places.{place_of, IsNoted};
     ghost use Rattle.wsm_ops.specs.declared.pieces.Piece.{Piece};
 
     ghost Value = { List Piece };
 
     ghost view = { λ o. o.pieces.items };
+
+    ghost invariant = { λ o. IsTrue o.is_noted → IsNoted (place_of o.places) o.pieces.items };
 }
 
 impl Outline {
-    /// The outline with these pieces.
-    pub fn of(pieces: Vec<Piece>) -> Outline
-        ensures { result ≡ pieces.items }
+    /// The outline with these pieces, for so many operations. For a few of them it is not noted where nodes are, since that
+    /// takes as long as some dozen passes over the pieces.
+    pub fn of(alloc: Global, pieces: Vec<Piece>, operations: usize) -> Result<Outline, NoMemory>
+        ensures { IfOk result (λ o. o ≡ pieces.items) }
     {
-        Outline { pieces }
+        let is_noted = operations > FEW;
+        let places = places_of(alloc, &pieces, is_noted)?;
+        Ok(Outline {
+            pieces,
+            is_noted,
+            places,
+            taken: 0,
+        })
     }
 
     /// All pieces.
@@ -40,9 +60,13 @@ impl Outline {
 
     /// What the node is.
     pub fn seat(&self, node: u32) -> Option<Seat>
+        requires { IsOnce (at_gap (After node)) self.now }
         ensures { result ≡ seat_at node self.now }
     {
-        seat_in(&self.pieces, node)
+        match self.node_place(node) {
+            None => None,
+            Some(at) => seat_in(&self.pieces, at, node),
+        }
     }
 
     /// Whether a branch with the code begins behind the split.
@@ -52,18 +76,41 @@ impl Outline {
         self.pieces.iter().any(|piece| piece.is_head(split, code))
     }
 
+    // Where the node stands.
+    fn node_place(&self, node: u32) -> Option<usize>
+        ensures { IsPlace (at_gap (After node)) self.now result }
+    {
+        if !self.is_noted {
+            return first_place(&self.pieces, Gap::After(node));
+        }
+        match self.places.get(node) {
+            None => None,
+            Some(at) => place_from(
+                &self.pieces,
+                at.saturating_sub(self.taken),
+                Gap::After(node),
+            ),
+        }
+    }
+
+    // Where the piece stands that the gap is behind.
+    fn place(&self, gap: Gap) -> Option<usize>
+        ensures { IsPlace (at_gap gap) self.now result }
+    {
+        match gap {
+            Gap::After(node) => self.node_place(node),
+            Gap::Head(..) => first_place(&self.pieces, gap),
+        }
+    }
+
     /// New pieces at the gap.
     pub fn put_behind(self, gap: Gap, new: &[Piece]) -> Result<Outline, NoMemory>
         requires { IsOnce (at_gap gap) self }
         ensures { IfOk result (λ o. o ≡ behind (at_gap gap) new.now self) }
     {
-        let mut pieces = self.pieces;
-        match place_in(&pieces, gap) {
-            None => Ok(Outline { pieces }),
-            Some(at) => {
-                put_all(&mut pieces, at + 1, new)?;
-                Ok(Outline { pieces })
-            }
+        match self.place(gap) {
+            None => Ok(self),
+            Some(at) => self.put_at(at + 1, new),
         }
     }
 
@@ -72,14 +119,21 @@ impl Outline {
         requires { IsOnce (at_gap (After node)) self }
         ensures { IfOk result (λ o. o ≡ before (is_node node) new.now self) }
     {
-        let mut pieces = self.pieces;
-        match place_in(&pieces, Gap::After(node)) {
-            None => Ok(Outline { pieces }),
-            Some(at) => {
-                put_all(&mut pieces, at, new)?;
-                Ok(Outline { pieces })
-            }
+        match self.node_place(node) {
+            None => Ok(self),
+            Some(at) => self.put_at(at, new),
         }
+    }
+
+    // New pieces at a place.
+    fn put_at(self, at: usize, new: &[Piece]) -> Result<Outline, NoMemory>
+        requires { at ≤ length self }
+        ensures { IfOk result (λ o. o ≡ take at self ++ (new.now ++ drop at self)) }
+    {
+        let mut all = self;
+        all.places.note_all(new, at)?;
+        put_all(&mut all.pieces, at, new)?;
+        Ok(all)
     }
 
     /// The pieces without the node.
@@ -87,19 +141,62 @@ impl Outline {
         requires { IsOnce (at_gap (After node)) self }
         ensures { result ≡ without_node node self }
     {
-        let mut pieces = self.pieces;
-        match place_in(&pieces, Gap::After(node)) {
-            None => Outline { pieces },
-            Some(at) => {
-                pieces.remove(at);
-                Outline { pieces }
-            }
+        match self.node_place(node) {
+            None => self,
+            Some(at) => self.taken_from(at),
         }
+    }
+
+    // The pieces without the one at that place.
+    fn taken_from(self, at: usize) -> Outline
+        requires { at < length self }
+        ensures { result ≡ remove self at }
+    {
+        let mut all = self;
+        all.pieces.remove(at);
+        all.taken = all.taken.saturating_add(1);
+        all
     }
 }
 
-// Where the first piece stands that the gap is behind.
-fn place_in(pieces: &[Piece], gap: Gap) -> Option<usize>
+// So many operations look for nodes by passes over the pieces.
+const FEW: usize = 16;
+
+// Where the nodes of the pieces stand, where that is to be noted.
+fn places_of(alloc: Global, pieces: &[Piece], is_noted: bool) -> Result<Places, NoMemory>
+    ensures { IfOk result (λ places. IsTrue is_noted → IsNoted (place_of places) pieces.now) }
+{
+    let mut places = Places::new(alloc);
+    if is_noted {
+        places.note_all(pieces, 0)?;
+    }
+    Ok(places)
+}
+
+// Where a piece stands that the gap is behind, which is looked for from a place on first.
+fn place_from(pieces: &[Piece], from: usize, gap: Gap) -> Option<usize>
+    ensures { IsPlace (at_gap gap) pieces.now result }
+{
+    match later_place(pieces, from, gap) {
+        None => first_place(pieces, gap),
+        found => found,
+    }
+}
+
+// Such a place that is not before the given one, if there is one.
+fn later_place(pieces: &[Piece], from: usize, gap: Gap) -> Option<usize>
+    ensures { IsFound (at_gap gap) pieces.now result }
+{
+    for at in from..pieces.len() {
+        if pieces[at].is_at(gap) {
+            return Some(at);
+        }
+    }
+    None
+}
+
+// The first such place.
+fn first_place(pieces: &[Piece], gap: Gap) -> Option<usize>
     ensures { result ≡ position (at_gap gap) pieces.now }
 {
     pieces.iter().position(|piece| piece.is_at(gap))
@@ -116,14 +213,18 @@ fn put_all(pieces: &mut Vec<Piece>, at: usize, new: &[Piece]) -> Result<(), NoMe
     Ok(())
 }
 
-// What the first piece of the node says of it.
-fn seat_in(pieces: &[Piece], node: u32) -> Option<Seat>
-    ensures { result ≡ seat_at node pieces.now }
+// What a piece there says of the node.
+fn seat_in(pieces: &[Piece], at: usize, node: u32) -> Option<Seat>
+    ensures { result ≡ seat_there node (slice_get pieces.now at) }
 {
-    for piece in pieces {
-        if let Some(seat) = piece.seat(node) {
-            return Some(seat);
-        }
+    match piece_in(pieces, at) {
+        None => None,
+        Some(piece) => piece.seat(node),
     }
-    None
+}
+
+fn piece_in(pieces: &[Piece], at: usize) -> Option<&Piece>
+    ensures { option_copied result ≡ slice_get pieces.now at }
+{
+    pieces.get(at)
 }

@@ -3,3 +3,4 @@ pub mod Before
 pub mod Lengths
 pub mod Replays
 pub mod OneEntryMore
+pub mod Markings

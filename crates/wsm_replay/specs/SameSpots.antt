@@ -2,7 +2,7 @@
 use Rattle.std.specs.Prelude.{◌≡◌, ℕ, List, Some}
 use Rattle.wsm_lists.specs.Rows.{row_at}
 use Rattle.wsm_schema.specs.Flat.{card_at}
-use Rattle.wsm_schema.specs.Rules.{Spots, spot_in, by_node}
+use Rattle.wsm_schema.specs.Rules.{Spots, spot_in, by_node, marking_of}
 use Rattle.wsm_schema.specs.declared.cards.Card.{Card}
 
 -- the same spots of the cards' nodes
@@ -12,3 +12,7 @@ SameSpots cards a b = (n : ℕ) (c : Card) → card_at n cards ≡ Some c → sp
 -- the same first rows of all nodes
 abbrev pub SameRows : Spots → Spots → Type 0
 SameRows a b = (n : ℕ) → row_at by_node (n, 0) a ≡ row_at by_node (n, 0) b
+
+-- a table that is the marking of its own spots
+abbrev pub IsMarking : List Card → Spots → Type 0
+IsMarking cards t = marking_of cards t ≡ t

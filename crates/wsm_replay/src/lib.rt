@@ -14,8 +14,8 @@ ghost use Rattle.wsm_trail.specs.LastWrites.{noted_entry};
 ghost use Rattle.wsm_replay.specs.Answer.{answer};
 
 use crate::fits::applicable;
-use crate::settling::{after, settled};
-use crate::spots::marking;
+use crate::settling::{after, given, settled};
+use crate::spots::{marking, spot_of};
 pub use extending::extend;
 pub use fits::fits_choice;
 pub use spots::spot_in;
@@ -46,7 +46,7 @@ pub fn replay(alloc: Global, flat: &Flat, rank: &Rank, trail: &Trail) -> Result<
         table = after(alloc, flat, rank, &table, entry)?;
         note(&mut before, *position, entry)?;
     }
-    Ok(Replayed::Whole(marking(alloc, flat, &table)?))
+    Ok(Replayed::Whole(table))
 }
 
 /// The marking after one more entry, which is applicable, where `now` is the marking before it. So a replay need not begin anew.
@@ -60,8 +60,10 @@ pub fn advance(
     requires { IsRank flat.now.cards rank.now }
     ensures { IfOk result (λ new. new ≡ marking_of flat.now.cards (after flat.now.cards entry.now now.now)) }
 {
-    let table = after(alloc, flat, rank, now, entry)?;
-    marking(alloc, flat, &table)
+    match spot_of(entry) {
+        None => marking(alloc, flat, now),
+        Some(spot) => given(alloc, flat, rank, now, spot),
+    }
 }
 
 // The last writes after that entry.

@@ -1,18 +1,18 @@
 // The settled net, by one pass in the order of a rank.
-ghost use Rattle.std.specs.Prelude.{◌≡◌, [], IfOk, OnOk, map, None};
+ghost use Rattle.std.specs.Prelude.{◌≡◌, [], ◌∷◌, IfOk, OnOk, map, None};
 ghost use Rattle.wsm_schema.specs.Flat.{card_at};
 ghost use Rattle.wsm_schema.specs.Pass.{pass, ruled_from, ruled_if};
 ghost use Rattle.wsm_schema.specs.Rank.{IsRank};
 ghost use Rattle.wsm_schema.specs.Replay.{after};
-ghost use Rattle.wsm_schema.specs.Rules.{spot_in, source_signal, signal_from, sync_from, verdict_at, settle};
-ghost use Rattle.wsm_replay.specs.SameSpots.{SameSpots, SameRows};
+ghost use Rattle.wsm_schema.specs.Rules.{spot_in, source_signal, signal_from, sync_from, verdict_at, settle, marking_of};
+ghost use Rattle.wsm_replay.specs.SameSpots.{SameRows, IsMarking};
 
 use crate::spots::{spot_in, spot_of};
 use std::alloc::Global;
 use wsm_rules::{Flow, Marking, Spot, Verdict, is_begun, judge, signal, state_by};
-use wsm_schema::{Card, Entry, Flat, NoMemory, Rank};
+use wsm_schema::{Card, End, Entry, Flat, NoMemory, Rank};
 
-/// The spots of the nodes after an entry.
+/// The marking after an entry, where `table` is the marking before it.
 pub fn after(
     alloc: Global,
     flat: &Flat,
@@ -20,25 +20,41 @@ pub fn after(
     table: &Marking,
     entry: &Entry,
 ) -> Result<Marking, NoMemory>
-    requires { IsRank flat.now.cards rank.now }
-    ensures { IfOk result (λ new. SameSpots flat.now.cards new (after flat.now.cards entry.now table.now)) }
+    requires rank { IsRank flat.now.cards rank.now }
+    requires marking { IsMarking flat.now.cards table.now }
+    ensures { IfOk result (λ new. new ≡ marking_of flat.now.cards (after flat.now.cards entry.now table.now)) }
 {
-    let mut old = table.copy(alloc)?;
     match spot_of(entry) {
-        None => Ok(old),
-        Some(spot) => {
-            old.set(spot)?;
-            settled(alloc, flat, rank, &old)
-        }
+        None => table.copy(alloc),
+        Some(spot) => given(alloc, flat, rank, table, spot),
     }
 }
 
-/// The spots of the nodes, settled from those of `old`.
+/// The marking after a node is given a spot.
+pub fn given(
+    alloc: Global,
+    flat: &Flat,
+    rank: &Rank,
+    table: &Marking,
+    spot: Spot,
+) -> Result<Marking, NoMemory>
+    requires { IsRank flat.now.cards rank.now }
+    ensures { IfOk result (λ new. new ≡ marking_of flat.now.cards (settle flat.now.cards (spot ∷ table.now))) }
+{
+    let mut old = table.copy(alloc)?;
+    old.set(spot)?;
+    settled(alloc, flat, rank, &old)
+}
+
+/// The marking that is settled from the spots of `old`. One pass makes it, since a table that ascends and has the spots of
+/// the cards' nodes is the marking.
 pub fn settled(alloc: Global, flat: &Flat, rank: &Rank, old: &Marking) -> Result<Marking, NoMemory>
     requires { IsRank flat.now.cards rank.now }
-    ensures { IfOk result (λ new. SameSpots flat.now.cards new (settle flat.now.cards old.now)) }
+    ensures { IfOk result (λ new. new ≡ marking_of flat.now.cards (settle flat.now.cards old.now)) }
 {
-    passed(alloc, flat, rank.nodes(), old)
+    let new = passed(alloc, flat, rank.nodes(), old)?;
+    let _ = new.as_slice();
+    Ok(new)
 }
 
 // The node rule at these nodes, one after another.
@@ -97,9 +113,24 @@ fn ruled(
 fn verdict_at(alloc: Global, flat: &Flat, table: &Marking, card: &Card) -> Result<Verdict, NoMemory>
     ensures { IfOk result (λ verdict. verdict ≡ verdict_at flat.now.cards table.now card.now) }
 {
+    if card.syncs_in.is_empty()
+        && let [end] = card.ins.as_slice()
+    {
+        return Ok(verdict_of_one(flat, table, card, *end));
+    }
     let control = control_signals(alloc, flat, table, card)?;
     let syncs = sync_signals(alloc, flat, table, card)?;
     Ok(judge(card, &control, &syncs))
+}
+
+// The same where one control edge leads to the card and no sync edge, which takes no memory.
+fn verdict_of_one(flat: &Flat, table: &Marking, card: &Card, end: End) -> Verdict
+    requires control { card.now.ins ≡ end ∷ [] }
+    requires syncs { card.now.syncs_in ≡ [] }
+    ensures { result ≡ verdict_at flat.now.cards table.now card.now }
+{
+    let signal = signal_from(flat, table, end.node, end.label);
+    judge(card, &[signal], &[])
 }
 
 fn control_signals(

@@ -1,15 +1,26 @@
-use Rattle.std.proofs.Common.{◌≡◌, ◌∙◌}
+use Rattle.std.proofs.Common.{◌≡◌, ◌∷◌, ap, sym, ◌∙◌}
 use Rattle.std.proofs.lemmas.Result.{IfOk-weaker}
 use Rattle.wsm_schema.specs.Replay.{after}
-use Rattle.wsm_schema.specs.Rules.{marking_of}
-use Rattle.wsm_replay.proofs.Replays.{marking_of-same}
+use Rattle.wsm_schema.specs.Rules.{settle, marking_of}
+use Rattle.wsm_replay.proofs.Agreement.{after_spot, after-spot}
 use Rattle.wsm_replay.proofs.advance.Goals as goal
 
-pub returns : goal.returns
-returns c =
+pub returns-in-None : goal.returns-in-None
+returns-in-None c =
     let cards = c.args.flat.now.cards in
-    let net = after cards c.args.entry.now c.args.now.now in
-    let table = c.in_ok-table.table in
-    IfOk-weaker c.marking.result (λ m. m ≡ marking_of cards table) (λ m. m ≡ marking_of cards net)
-    (λ m is. is ∙ marking_of-same cards table net c.in_ok-table.ensures)
+    let table = c.args.now.now in
+    let net : after cards c.args.entry.now table ≡ table = after-spot cards c.args.entry.now table ∙ ap (λ o. after_spot cards o table) (sym c.spot_of.ensures ∙ c.in-None.is) in
+    IfOk-weaker c.marking.result (λ new. new ≡ marking_of cards table) (λ new. new ≡ marking_of cards (after cards c.args.entry.now table))
+    (λ new is. is ∙ ap (marking_of cards) (sym net))
     c.marking.ensures
+
+pub returns-in-Some : goal.returns-in-Some
+returns-in-Some c =
+    let cards = c.args.flat.now.cards in
+    let table = c.args.now.now in
+    let spot = c.in-Some.spot in
+    let net : after cards c.args.entry.now table ≡ settle cards (spot ∷ table) =
+    after-spot cards c.args.entry.now table ∙ ap (λ o. after_spot cards o table) (sym c.spot_of.ensures ∙ c.in-Some.is) in
+    IfOk-weaker c.given.result (λ new. new ≡ marking_of cards (settle cards (spot ∷ table))) (λ new. new ≡ marking_of cards (after cards c.args.entry.now table))
+    (λ new is. is ∙ ap (marking_of cards) (sym net))
+    c.given.ensures
