@@ -6,3 +6,4 @@ pub mod Joins
 pub mod Meetings
 pub mod Places
 pub mod Splits
+pub mod Flags

@@ -31,6 +31,9 @@ module _ {A : Type 0} where
   same_from_next n xs ys y same =
       drop-set-lt (n + 1) ys n y (omega arith) ∙ (sym (drop-drop 1 n ys) ∙ (ap (λ zs. drop 1 zs) same ∙ drop-drop 1 n xs))
 
+  pub same_from_after : (n : ℕ) (xs ys : List A) → IsSameFrom n xs ys → IsSameFrom (n + 1) xs ys
+  same_from_after n xs ys same = sym (drop-drop 1 n ys) ∙ (ap (λ zs. drop 1 zs) same ∙ drop-drop 1 n xs)
+
   -- what was appended, with one item more
   pub appended_more : (xs ys zs us : List A) (y : A) → zs ≡ xs ++ ys → us ≡ zs ++ y ∷ [] → us ≡ xs ++ (ys ++ y ∷ [])
   appended_more xs ys zs us y e more = more ∙ (ap (λ z. z ++ y ∷ []) e ∙ append_assoc xs ys (y ∷ []))

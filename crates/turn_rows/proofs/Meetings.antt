@@ -1,5 +1,5 @@
 -- Passes of which the first ones have met.
-use Rattle.std.proofs.Common.{◌≡◌, ℕ, ◌+◌, ◌<◌, ◌≤◌, ltb, Bool, true, false, List, [], ◌∷◌, ◌++◌, length, take, get_or, set, All, Some, slice_get, refl, sym, ap, ◌∙◌, subst, arith, if◌then◌else◌}
+use Rattle.std.proofs.Common.{◌≡◌, ℕ, zero, suc, ◌+◌, ◌-◌, ◌<◌, ◌≤◌, ltb, Bool, true, false, List, [], ◌∷◌, ◌++◌, length, take, get_or, set, All, Some, slice_get, refl, sym, ap, ◌∙◌, subst, arith, if◌then◌else◌}
 use mathlib.Core.List.{IsPrefix}
 use Rattle.std.specs.Prelude.{option_map}
 use Rattle.std.specs.List.{AllZip}
@@ -15,7 +15,7 @@ use Rattle.turn_cell.specs.declared.cell.Cell.{Cell}
 use Rattle.turn_cell.specs.Passes.{PassView, view_of, IsPassOf, IsLegalView}
 use Rattle.turn_batch.specs.Batch.{AreOf}
 use Rattle.turn_rows.specs.Rows.{AreLevel, HasMet, IsSeenBy, first_met, second_met, seen_of, views, zip_with}
-use Rattle.turn_rows.proofs.Lists.{IsSameFrom, same_at, same_from_next, map-take_put, zip_with-push}
+use Rattle.turn_rows.proofs.Lists.{IsSameFrom, same_at, same_from_next, same_from_after, map-take_put, zip_with-push}
 use Rattle.turn_rows.proofs.Passes.{AreOf-set}
 use Rattle.turn_rows.proofs.Places.{All-slice_get}
 
@@ -104,3 +104,51 @@ module _ {M E R W S : Type 0} (after : S → E → S) (reply : S → E → R) wh
     pub legal_there : (n : ℕ) (os ns : List (Pass M E R W S g)) (d : Pass M E R W S g) → IsSameFrom n os ns → n < length os → All (IsLegalView after reply) (views os) → IsLegalView after reply (view_of (get_or ns n d))
     legal_there n os ns d same lt legal =
         rw (same_at n os ns d same) (All-slice_get (IsLegalView after reply) (views os) n (view_of (get_or os n d)) legal (view_there os n d lt))
+
+    head_of : (ps : List (Pass M E R W S g)) → 0 < length ps → Pass M E R W S g
+    head_of [] lt = absurd (omega (arith, lt))
+    head_of (p ∷ ps) lt = p
+
+    -- two passes that have seen the same are passed over
+    one_passed : (called : List Bool) (n : ℕ) (cs : List (Cell M E R W S)) (os us ns ms : List (Pass M E R W S g)) → HaveMetUpTo n cs os us ns ms → n < length cs → (length os ≡ length cs) × (length us ≡ length cs) × (length ns ≡ length cs) × (length ms ≡ length cs)
+        → AreLevel called (views os) (views us) → All (IsLegalView after reply) (views os) × All (IsLegalView after reply) (views us) → slice_get called n ≡ Some false → HaveMetUpTo (n + 1) cs os us ns ms
+    one_passed called n cs os us ns ms k lt even level legal calm =
+        let d = head_of os (omega (arith, lt, even.0)) in
+        let e = head_of us (omega (arith, lt, even.1)) in
+        let new = level-met (view_of (get_or ns n d)) (view_of (get_or ms n e)) (level_there called n cs os us ns ms d e k (omega (arith, lt, even.0)) (omega (arith, lt, even.1)) level calm)
+        (legal_there n os ns d k.same.0 (omega (arith, lt, even.0)) legal.0) (legal_there n us ms e k.same.1 (omega (arith, lt, even.1)) legal.1) in
+        record {
+          cells = k.cells;
+          met =
+              rw (map_more view_of os n d (omega (arith, lt, even.0)), map_more view_of us n e (omega (arith, lt, even.1)), map_more view_of ns n d (omega (arith, lt, even.2)), map_more view_of ms n e (omega (arith, lt, even.3)))
+              (HaveMet-push (views (take n os)) (views (take n us)) (views (take n ns)) (views (take n ms)) (view_of (get_or os n d)) (view_of (get_or us n e)) (view_of (get_or ns n d)) (view_of (get_or ms n e)) k.met
+              (subst (λ q. HasMet after reply (view_of q) (view_of (get_or us n e)) (view_of (get_or ns n d)) (view_of (get_or ms n e))) (same_at n os ns d k.same.0)
+              (subst (λ q. HasMet after reply (view_of (get_or ns n d)) (view_of q) (view_of (get_or ns n d)) (view_of (get_or ms n e))) (same_at n us ms e k.same.1) new)));
+          same = (same_from_after n os ns k.same.0, same_from_after n us ms k.same.1);
+        }
+
+    -- and so are those at all places between two
+    passed_over : (j : ℕ) (called : List Bool) (n : ℕ) (cs : List (Cell M E R W S)) (os us ns ms : List (Pass M E R W S g)) → HaveMetUpTo n cs os us ns ms → n + j ≤ length cs → (length os ≡ length cs) × (length us ≡ length cs) × (length ns ≡ length cs) × (length ms ≡ length cs)
+        → AreLevel called (views os) (views us) → All (IsLegalView after reply) (views os) × All (IsLegalView after reply) (views us) → ((p : ℕ) → n ≤ p → p < n + j → slice_get called p ≡ Some false) → HaveMetUpTo (n + j) cs os us ns ms
+    passed_over zero called n cs os us ns ms k le even level legal calm =
+        let here : n ≡ n + 0 = omega arith in
+        subst (λ m. HaveMetUpTo m cs os us ns ms) here k
+    passed_over (suc j) called n cs os us ns ms k le even level legal calm =
+        let there : (n + 1) + j ≡ n + suc j = omega arith in
+        let next = one_passed called n cs os us ns ms k (omega (arith, le)) even level legal (calm n (omega arith) (omega arith)) in
+        subst (λ m. HaveMetUpTo m cs os us ns ms) there (passed_over j called (n + 1) cs os us ns ms next (omega (arith, le)) even level legal (λ p ge lt. calm p (omega (arith, ge)) (omega (arith, lt))))
+
+    -- The first n of them have met, and no cell from there on to that place was called.
+    pub record HaveMetBefore (called : List Bool) (place : ℕ) (cs : List (Cell M E R W S)) (os us ns ms : List (Pass M E R W S g)) : Type 0 where
+      pub n : ℕ
+      pub within : n ≤ length cs
+      pub before : n ≤ place
+      pub met : HaveMetUpTo n cs os us ns ms
+      pub calm : (p : ℕ) → n ≤ p → p < place → slice_get called p ≡ Some false
+
+    -- so all before a place have met
+    pub met_before : (called : List Bool) (place to : ℕ) (cs : List (Cell M E R W S)) (os us ns ms : List (Pass M E R W S g)) → to ≤ place → to ≤ length cs → ((length os ≡ length cs) × (length us ≡ length cs) × (length ns ≡ length cs) × (length ms ≡ length cs))
+        → AreLevel called (views os) (views us) → All (IsLegalView after reply) (views os) × All (IsLegalView after reply) (views us) → (k : HaveMetBefore called place cs os us ns ms) → k.n ≤ to → HaveMetUpTo to cs os us ns ms
+    met_before called place to cs os us ns ms le within even level legal k from =
+        let there : k.n + (to - k.n) ≡ to = omega (arith, from) in
+        subst (λ m. HaveMetUpTo m cs os us ns ms) there (passed_over (to - k.n) called k.n cs os us ns ms k.met (omega (arith, from, within)) even level legal (λ p ge lt. k.calm p ge (omega (arith, lt, from, le))))

@@ -1,9 +1,9 @@
 //! How the passes of two rows tell each other what they have seen.
-ghost use Rattle.std.specs.Prelude.{◌≡◌, All, Some, false, slice_get};
-ghost use Rattle.std.specs.List.{AllZip};
+ghost use Rattle.std.specs.Prelude.{◌≡◌, ◌≤◌, ◌<◌, length, All, Some, false, slice_get};
+ghost use Rattle.std.specs.List.{AllZip, position, position_or_len};
 ghost use Rattle.turn_batch.specs.Batch.{AreOf};
-ghost use Rattle.turn_cell.specs.Passes.{IsLegalView, IsPassOf, view_of};
-ghost use Rattle.turn_rows.specs.Rows.{AreLevel, HasMet, IsSeenBy, first_met, second_met, views, zip_with};
+ghost use Rattle.turn_cell.specs.Passes.{IsLegalView};
+ghost use Rattle.turn_rows.specs.Rows.{AreLevel, IsSeenBy, first_met, second_met, views, zip_with};
 
 use turn_cell::{Cell, Machine, Pass};
 
@@ -39,28 +39,35 @@ pub fn meet_called<M: Machine>(
     ensures more_of_two { AllZip IsSeenBy (views two.old) (views one.new) × AllZip IsSeenBy (views two.old) (views two.new) }
     ensures legal { All (IsLegalView M.after M.reply) (views one.new) × All (IsLegalView M.after M.reply) (views two.new) }
 {
-    for (place, first) in one.iter_mut().enumerate() {
-        let meets = is_called(called, place);
-        meet_if(meets, &cells[place], first, &mut two[place]);
+    let mut place = next_called(called, 0);
+    while place < cells.len() {
+        cells[place].meet(&mut one[place], &mut two[place]);
+        place = next_called(called, place + 1);
     }
 }
 
-// A cell without a flag counts as called.
-fn is_called(called: &[bool], place: usize) -> bool
-    ensures { result ≡ false → slice_get called.now place ≡ Some false }
+// The first place from one on that has no lowered flag. A cell without a flag counts as called.
+fn next_called(called: &[bool], from: usize) -> usize
+    ensures on { from ≤ result }
+    ensures calm { (p : _) → from ≤ p → p < result → slice_get called.now p ≡ Some false }
 {
-    called.get(place).copied() != Some(false)
+    if from > called.len() {
+        return from;
+    }
+    let (_, rest) = called.split_at(from);
+    from + lowered_first(rest)
 }
 
-// The two passes of a cell meet where it was called. Elsewhere they have seen the same.
-fn meet_if<M: Machine>(is_called: bool, cell: &Cell<M>, one: &mut Pass<M>, two: &mut Pass<M>)
-    requires cell { IsPassOf cell.now one.old × IsPassOf cell.now two.old }
-    requires level { is_called ≡ false → (view_of one.old).seen ≡ (view_of two.old).seen }
-    requires legal { IsLegalView M.after M.reply (view_of one.old) × IsLegalView M.after M.reply (view_of two.old) }
-    ensures cell { IsPassOf cell.now one.new × IsPassOf cell.now two.new }
-    ensures met { HasMet M.after M.reply (view_of one.old) (view_of two.old) (view_of one.new) (view_of two.new) }
+// How many flags stand before the first that is raised.
+fn lowered_first(flags: &[bool]) -> usize
+    ensures first { result ≡ position_or_len (λ flag. flag) flags.now }
+    ensures within { result ≤ length flags.now }
 {
-    if is_called {
-        cell.meet(one, two);
-    }
+    first_raised(flags).unwrap_or(flags.len())
+}
+
+fn first_raised(flags: &[bool]) -> Option<usize>
+    ensures { result ≡ position (λ flag. flag) flags.now }
+{
+    flags.iter().position(|flag| *flag)
 }

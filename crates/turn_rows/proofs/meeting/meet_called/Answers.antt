@@ -1,8 +1,8 @@
-use Rattle.std.proofs.Common.{◌∙◌, ap, arith}
+use Rattle.std.proofs.Common.{◌+◌, ◌∙◌, length, arith}
 use Rattle.std.proofs.lemmas.List.{length-set}
 use Rattle.turn_batch.proofs.Calls.{length-passes}
 use Rattle.turn_rows.proofs.Passes.{of_cell}
-use Rattle.turn_rows.proofs.Meetings.{none_met, one_more_met, all_met, level_there, legal_there}
+use Rattle.turn_rows.proofs.Meetings.{none_met, one_more_met, met_before, all_met}
 use Rattle.turn_rows.proofs.meeting.meet_called.Goals as goal
 
 pub loop-place-init : goal.loop-place-init
@@ -10,29 +10,23 @@ loop-place-init g c =
     let m = g.M.Machine in
     let one = length-passes c.args.cells.now c.args.one.now c.requires.cells.0 in
     let two = length-passes c.args.cells.now c.args.two.now c.requires.cells.1 in
-    record { even = (one, two, one, two); met = none_met m.after m.reply c.args.cells.now c.args.one.now c.args.two.now c.requires.cells }
+    record {
+      even = (one, two, one, two);
+      met = record {
+        n = 0;
+        within = omega arith;
+        before = omega arith;
+        met = none_met m.after m.reply c.args.cells.now c.args.one.now c.args.two.now c.requires.cells;
+        calm = c.next_called-place.ensures.calm;
+      };
+    }
 
-pub meet_if-requires-clause-cell : goal.meet_if-requires-clause-cell
-meet_if-requires-clause-cell g c κs within =
-    let l = c.loop-place in (
-      of_cell c.args.cells.now l.one l.place c.index-cells-place.result c.index-one-place.result l.invariant.met.cells.0 (omega arith) c.index-cells-place.is,
-      of_cell c.args.cells.now l.two l.place c.index-cells-place.result c.index-two-place.result l.invariant.met.cells.1 (omega arith) c.index-cells-place.is,
-    )
-
-pub meet_if-requires-clause-level : goal.meet_if-requires-clause-level
-meet_if-requires-clause-level g c κs within = λ calm.
-    let m = g.M.Machine in
+pub meet-requires-clause-cell : goal.meet-requires-clause-cell
+meet-requires-clause-cell g c κs within =
     let l = c.loop-place in
-    let even = l.invariant.even in
-    level_there m.after m.reply c.args.called.now l.place c.args.cells.now c.args.one.now c.args.two.now l.one l.two c.index-one-place.result c.index-two-place.result l.invariant.met (omega arith) (omega arith) c.requires.level (c.is_called-meets.ensures calm)
-
-pub meet_if-requires-clause-legal : goal.meet_if-requires-clause-legal
-meet_if-requires-clause-legal g c κs within =
-    let m = g.M.Machine in
-    let l = c.loop-place in
-    let even = l.invariant.even in (
-      legal_there m.after m.reply l.place c.args.one.now l.one c.index-one-place.result l.invariant.met.same.0 (omega arith) c.requires.legal.0,
-      legal_there m.after m.reply l.place c.args.two.now l.two c.index-two-place.result l.invariant.met.same.1 (omega arith) c.requires.legal.1,
+    let of = l.invariant.met.met.cells in (
+      of_cell c.args.cells.now l.one l.place c.index-cells-place.result c.index-one-place.result of.0 (omega arith) c.index-cells-place.is,
+      of_cell c.args.cells.now l.two l.place c.index-cells-place.result c.index-two-place.result of.1 (omega arith) c.index-cells-place.is,
     )
 
 pub loop-place-preserved : goal.loop-place-preserved
@@ -40,17 +34,28 @@ loop-place-preserved g c =
     let m = g.M.Machine in
     let l = c.loop-place in
     let even = l.invariant.even in
-    let e = c.meet_if.ensures in
+    let e = c.meet.ensures in
+    let k = l.invariant.met in
+    let here = met_before m.after m.reply c.args.called.now l.place l.place c.args.cells.now c.args.one.now c.args.two.now l.one l.two (omega arith) (omega arith) even c.requires.level c.requires.legal k k.before in
     record {
-      even = (even.0, even.1, length-set l.one l.place c.meet_if.new.one ∙ even.2, length-set l.two l.place c.meet_if.new.two ∙ even.3);
-      met =
-          one_more_met m.after m.reply l.place c.args.cells.now c.args.one.now c.args.two.now l.one l.two c.index-cells-place.result c.index-one-place.result c.index-two-place.result c.meet_if.new.one c.meet_if.new.two l.invariant.met (omega arith) even
-          c.index-cells-place.is e.cell e.met;
+      even = (even.0, even.1, length-set l.one l.place c.meet.new.one ∙ even.2, length-set l.two l.place c.meet.new.two ∙ even.3);
+      met = record {
+        n = l.place + 1;
+        within = omega arith;
+        before = c.next_called-place-in-loop-place.ensures.on;
+        met =
+            one_more_met m.after m.reply l.place c.args.cells.now c.args.one.now c.args.two.now l.one l.two c.index-cells-place.result c.index-one-place.result c.index-two-place.result c.meet.new.one c.meet.new.two here (omega arith) even
+            c.index-cells-place.is e.cell (record { one = e.one; two = e.two; more = e.more; legal = e.legal });
+        calm = c.next_called-place-in-loop-place.ensures.calm;
+      };
     }
 
 pub returns : goal.returns
 returns g c =
     let m = g.M.Machine in
     let l = c.loop-place in
-    let all = all_met m.after m.reply l.place c.args.cells.now c.args.one.now c.args.two.now l.one l.two l.invariant.met (omega arith) l.invariant.even in
-    record { cells = l.invariant.met.cells; one = all.one; two = all.two; more_of_one = all.more_of_one; more_of_two = all.more_of_two; legal = all.legal }
+    let even = l.invariant.even in
+    let k = l.invariant.met in
+    let whole = met_before m.after m.reply c.args.called.now l.place (length c.args.cells.now) c.args.cells.now c.args.one.now c.args.two.now l.one l.two (omega arith) (omega arith) even c.requires.level c.requires.legal k k.within in
+    let all = all_met m.after m.reply (length c.args.cells.now) c.args.cells.now c.args.one.now c.args.two.now l.one l.two whole (omega arith) even in
+    record { cells = k.met.cells; one = all.one; two = all.two; more_of_one = all.more_of_one; more_of_two = all.more_of_two; legal = all.legal }

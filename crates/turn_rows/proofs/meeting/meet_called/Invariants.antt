@@ -1,5 +1,5 @@
-use Rattle.std.proofs.Common.{◌≡◌, length}
-use Rattle.turn_rows.proofs.Meetings.{HaveMetUpTo}
+use Rattle.std.proofs.Common.{◌≡◌, ◌-◌, length}
+use Rattle.turn_rows.proofs.Meetings.{HaveMetBefore}
 use Rattle.turn_rows.proofs.meeting.meet_called.Given as goal
 
 abbrev pub invariant-loop-place : goal.invariant-loop-place
@@ -7,5 +7,8 @@ invariant-loop-place g l =
     let m = g.M.Machine in
     record {
       even : (length l.fn.one ≡ length l.cells) × (length l.fn.two ≡ length l.cells) × (length l.one ≡ length l.cells) × (length l.two ≡ length l.cells);
-      met : HaveMetUpTo m.after m.reply l.place l.cells l.fn.one l.fn.two l.one l.two;
+      met : HaveMetBefore m.after m.reply l.called l.place l.cells l.fn.one l.fn.two l.one l.two;
     }
+
+abbrev pub decreases-loop-place : goal.decreases-loop-place
+decreases-loop-place g l = length l.cells - l.place
