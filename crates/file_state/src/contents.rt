@@ -26,12 +26,14 @@ pub fn place_in(names: &NameTable, name: NameWord<'_>) -> Result<Option<u32>, No
 pub fn no_contents(alloc: Global) -> Result<Contents, NoMemory>
     ensures { IfOk result (λ contents. contents ≡ no_contents) }
 {
+    let nodes = NameTable::start_and_finish(alloc)?;
+    let cases = CaseTable::new(alloc)?;
     Ok(Contents {
-        nodes: NameTable::start_and_finish(alloc)?,
+        nodes,
         elements: NameTable::new(alloc),
         types: DeclaredList::new(alloc),
         actors: DeclaredList::new(alloc),
-        cases: CaseTable::new(alloc)?,
+        cases,
         phases: Phases::new(alloc),
         counts: Counts {
             lines: 0,

@@ -11,6 +11,7 @@ ghost use Rattle.file_model.specs.Outcomes.{Stops};
 ghost use Rattle.file_model.specs.Steps.{at_place, node_in, with_node, element_in, with_element};
 ghost use Rattle.file_model.specs.Declaring.{with_type};
 ghost use Rattle.file_model.specs.Typing.{takes_blocks, takes_branch, is_outside, fits_in, typed};
+ghost use Rattle.file_state.specs.Taken.{Taken};
 
 use crate::contents::{element_number, node_and_element_numbers, node_number, node_numbers};
 use file_drafts::{Around, Draft, GateKind};
@@ -81,6 +82,25 @@ pub fn typed(
     ensures ok { IfOk result (λ place. typed (shown_type_line line.entry) draft contents.old ≡ Ok (at_place place contents.new)) }
     ensures refused { IfErr result (λ stop. Stops (typed (shown_type_line line.entry) draft contents.old) contents.new stop) }
 {
+    let mut draft = draft;
+    match put_line(contents, alloc, &mut draft, line) {
+        Ok(true) => Ok(Section::InType(draft)),
+        Ok(false) => end_line(contents, alloc, draft),
+        Err(stop) => Err(stop),
+    }
+}
+
+// A line that stays in the type. False, with no change, where the line ends the type. Here the draft is only borrowed: to
+// let it go where a line is refused would make each proof dear.
+fn put_line(
+    contents: &mut Contents,
+    alloc: Global,
+    draft: &mut Draft,
+    line: TypeLine<'_>,
+) -> Result<bool, Stop>
+    ensures ok { IfOk result (λ inside. Taken inside (shown_type_line line.entry) draft.old contents.old draft.new contents.new) }
+    ensures refused { IfErr result (λ stop. Stops (typed (shown_type_line line.entry) draft.old contents.old) contents.new stop) }
+{
     match line {
         TypeLine::Activity { node, role } => activity_line(contents, alloc, draft, node, role),
         TypeLine::And { split, join } => and_line(contents, alloc, draft, split, join),
@@ -96,117 +116,110 @@ pub fn typed(
             mandatory,
         } => read_line(contents, alloc, draft, node, element, mandatory),
         TypeLine::Write { node, element } => write_line(contents, alloc, draft, node, element),
-        TypeLine::TypeEnd => end_line(contents, alloc, draft),
+        TypeLine::TypeEnd => Ok(false),
     }
 }
 
 fn activity_line(
     contents: &mut Contents,
     alloc: Global,
-    draft: Draft,
+    draft: &mut Draft,
     node: NameWord<'_>,
     role: u32,
-) -> Result<Section, Stop>
-    ensures ok { IfOk result (λ place. typed (activity node.entry.bytes.now role) draft contents.old ≡ Ok (at_place place contents.new)) }
-    ensures refused { IfErr result (λ stop. Stops (typed (activity node.entry.bytes.now role) draft contents.old) contents.new stop) }
+) -> Result<bool, Stop>
+    ensures ok { IfOk result (λ inside. Taken inside (activity node.entry.bytes.now role) draft.old contents.old draft.new contents.new) }
+    ensures refused { IfErr result (λ stop. Stops (typed (activity node.entry.bytes.now role) draft.old contents.old) contents.new stop) }
 {
-    let mut draft = draft;
-    add_activity(contents, alloc, &mut draft, node, role)?;
-    Ok(Section::InType(draft))
+    add_activity(contents, alloc, draft, node, role)?;
+    Ok(true)
 }
 
 fn and_line(
     contents: &mut Contents,
     alloc: Global,
-    draft: Draft,
+    draft: &mut Draft,
     split: NameWord<'_>,
     join: NameWord<'_>,
-) -> Result<Section, Stop>
-    ensures ok { IfOk result (λ place. typed (opens_and split.entry.bytes.now join.entry.bytes.now) draft contents.old ≡ Ok (at_place place contents.new)) }
-    ensures refused { IfErr result (λ stop. Stops (typed (opens_and split.entry.bytes.now join.entry.bytes.now) draft contents.old) contents.new stop) }
+) -> Result<bool, Stop>
+    ensures ok { IfOk result (λ inside. Taken inside (opens_and split.entry.bytes.now join.entry.bytes.now) draft.old contents.old draft.new contents.new) }
+    ensures refused { IfErr result (λ stop. Stops (typed (opens_and split.entry.bytes.now join.entry.bytes.now) draft.old contents.old) contents.new stop) }
 {
     if draft.depth() >= MAX_DEPTH {
         return Err(Stop::Refused(Why::Limit(FileLimit::Depth)));
     }
-    let mut draft = draft;
-    open_and(contents, alloc, &mut draft, split, join)?;
-    Ok(Section::InType(draft))
+    open_and(contents, alloc, draft, split, join)?;
+    Ok(true)
 }
 
 fn xor_line(
     contents: &mut Contents,
     alloc: Global,
-    draft: Draft,
+    draft: &mut Draft,
     split: NameWord<'_>,
     join: NameWord<'_>,
     role: u32,
-) -> Result<Section, Stop>
-    ensures ok { IfOk result (λ place. typed (opens_xor split.entry.bytes.now join.entry.bytes.now role) draft contents.old ≡ Ok (at_place place contents.new)) }
-    ensures refused { IfErr result (λ stop. Stops (typed (opens_xor split.entry.bytes.now join.entry.bytes.now role) draft contents.old) contents.new stop) }
+) -> Result<bool, Stop>
+    ensures ok { IfOk result (λ inside. Taken inside (opens_xor split.entry.bytes.now join.entry.bytes.now role) draft.old contents.old draft.new contents.new) }
+    ensures refused { IfErr result (λ stop. Stops (typed (opens_xor split.entry.bytes.now join.entry.bytes.now role) draft.old contents.old) contents.new stop) }
 {
     if draft.depth() >= MAX_DEPTH {
         return Err(Stop::Refused(Why::Limit(FileLimit::Depth)));
     }
-    let mut draft = draft;
-    open_xor(contents, alloc, &mut draft, split, join, role)?;
-    Ok(Section::InType(draft))
+    open_xor(contents, alloc, draft, split, join, role)?;
+    Ok(true)
 }
 
 fn loop_line(
     contents: &mut Contents,
     alloc: Global,
-    draft: Draft,
+    draft: &mut Draft,
     start: NameWord<'_>,
     end: NameWord<'_>,
     role: u32,
-) -> Result<Section, Stop>
-    ensures ok { IfOk result (λ place. typed (opens_loop start.entry.bytes.now end.entry.bytes.now role) draft contents.old ≡ Ok (at_place place contents.new)) }
-    ensures refused { IfErr result (λ stop. Stops (typed (opens_loop start.entry.bytes.now end.entry.bytes.now role) draft contents.old) contents.new stop) }
+) -> Result<bool, Stop>
+    ensures ok { IfOk result (λ inside. Taken inside (opens_loop start.entry.bytes.now end.entry.bytes.now role) draft.old contents.old draft.new contents.new) }
+    ensures refused { IfErr result (λ stop. Stops (typed (opens_loop start.entry.bytes.now end.entry.bytes.now role) draft.old contents.old) contents.new stop) }
 {
     if draft.depth() >= MAX_DEPTH {
         return Err(Stop::Refused(Why::Limit(FileLimit::Depth)));
     }
-    let mut draft = draft;
-    open_loop(contents, alloc, &mut draft, start, end, role)?;
-    Ok(Section::InType(draft))
+    open_loop(contents, alloc, draft, start, end, role)?;
+    Ok(true)
 }
 
 fn branch_line(
     contents: &mut Contents,
     alloc: Global,
-    draft: Draft,
+    draft: &mut Draft,
     code: u16,
-) -> Result<Section, Stop>
-    ensures ok { IfOk result (λ place. typed (opens_branch code) draft contents.old ≡ Ok (at_place place contents.new)) }
-    ensures refused { IfErr result (λ stop. Stops (typed (opens_branch code) draft contents.old) contents.new stop) }
+) -> Result<bool, Stop>
+    ensures ok { IfOk result (λ inside. Taken inside (opens_branch code) draft.old contents.old draft.new contents.new) }
+    ensures refused { IfErr result (λ stop. Stops (typed (opens_branch code) draft.old contents.old) contents.new stop) }
 {
-    let mut draft = draft;
     draft.open_branch(alloc, code)?;
-    Ok(Section::InType(draft))
+    Ok(true)
 }
 
-fn done_line(contents: &mut Contents, alloc: Global, draft: Draft) -> Result<Section, Stop>
-    ensures ok { IfOk result (λ place. typed (closes_block) draft contents.old ≡ Ok (at_place place contents.new)) }
-    ensures refused { IfErr result (λ stop. Stops (typed (closes_block) draft contents.old) contents.new stop) }
+fn done_line(contents: &mut Contents, alloc: Global, draft: &mut Draft) -> Result<bool, Stop>
+    ensures ok { IfOk result (λ inside. Taken inside (closes_block) draft.old contents.old draft.new contents.new) }
+    ensures refused { IfErr result (λ stop. Stops (typed (closes_block) draft.old contents.old) contents.new stop) }
 {
-    let mut draft = draft;
     draft.close_block(alloc)?;
-    Ok(Section::InType(draft))
+    Ok(true)
 }
 
 fn sync_line(
     contents: &mut Contents,
     alloc: Global,
-    draft: Draft,
+    draft: &mut Draft,
     source: NameWord<'_>,
     target: NameWord<'_>,
-) -> Result<Section, Stop>
-    ensures ok { IfOk result (λ place. typed (a_sync source.entry.bytes.now target.entry.bytes.now) draft contents.old ≡ Ok (at_place place contents.new)) }
-    ensures refused { IfErr result (λ stop. Stops (typed (a_sync source.entry.bytes.now target.entry.bytes.now) draft contents.old) contents.new stop) }
+) -> Result<bool, Stop>
+    ensures ok { IfOk result (λ inside. Taken inside (a_sync source.entry.bytes.now target.entry.bytes.now) draft.old contents.old draft.new contents.new) }
+    ensures refused { IfErr result (λ stop. Stops (typed (a_sync source.entry.bytes.now target.entry.bytes.now) draft.old contents.old) contents.new stop) }
 {
-    let mut draft = draft;
-    if put_sync(contents, alloc, &mut draft, source, target)? {
-        Ok(Section::InType(draft))
+    if put_sync(contents, alloc, draft, source, target)? {
+        Ok(true)
     } else {
         Err(Stop::Refused(Why::Twice))
     }
@@ -215,16 +228,15 @@ fn sync_line(
 fn element_line(
     contents: &mut Contents,
     alloc: Global,
-    draft: Draft,
+    draft: &mut Draft,
     element: NameWord<'_>,
     kind: ElementKind,
-) -> Result<Section, Stop>
-    ensures ok { IfOk result (λ place. typed (an_element element.entry.bytes.now kind) draft contents.old ≡ Ok (at_place place contents.new)) }
-    ensures refused { IfErr result (λ stop. Stops (typed (an_element element.entry.bytes.now kind) draft contents.old) contents.new stop) }
+) -> Result<bool, Stop>
+    ensures ok { IfOk result (λ inside. Taken inside (an_element element.entry.bytes.now kind) draft.old contents.old draft.new contents.new) }
+    ensures refused { IfErr result (λ stop. Stops (typed (an_element element.entry.bytes.now kind) draft.old contents.old) contents.new stop) }
 {
-    let mut draft = draft;
-    if put_element(contents, alloc, &mut draft, element, kind)? {
-        Ok(Section::InType(draft))
+    if put_element(contents, alloc, draft, element, kind)? {
+        Ok(true)
     } else {
         Err(Stop::Refused(Why::Twice))
     }
@@ -233,17 +245,16 @@ fn element_line(
 fn read_line(
     contents: &mut Contents,
     alloc: Global,
-    draft: Draft,
+    draft: &mut Draft,
     node: NameWord<'_>,
     element: NameWord<'_>,
     mandatory: bool,
-) -> Result<Section, Stop>
-    ensures ok { IfOk result (λ place. typed (a_read node.entry.bytes.now element.entry.bytes.now mandatory) draft contents.old ≡ Ok (at_place place contents.new)) }
-    ensures refused { IfErr result (λ stop. Stops (typed (a_read node.entry.bytes.now element.entry.bytes.now mandatory) draft contents.old) contents.new stop) }
+) -> Result<bool, Stop>
+    ensures ok { IfOk result (λ inside. Taken inside (a_read node.entry.bytes.now element.entry.bytes.now mandatory) draft.old contents.old draft.new contents.new) }
+    ensures refused { IfErr result (λ stop. Stops (typed (a_read node.entry.bytes.now element.entry.bytes.now mandatory) draft.old contents.old) contents.new stop) }
 {
-    let mut draft = draft;
-    if put_read(contents, alloc, &mut draft, node, element, mandatory)? {
-        Ok(Section::InType(draft))
+    if put_read(contents, alloc, draft, node, element, mandatory)? {
+        Ok(true)
     } else {
         Err(Stop::Refused(Why::Twice))
     }
@@ -252,16 +263,15 @@ fn read_line(
 fn write_line(
     contents: &mut Contents,
     alloc: Global,
-    draft: Draft,
+    draft: &mut Draft,
     node: NameWord<'_>,
     element: NameWord<'_>,
-) -> Result<Section, Stop>
-    ensures ok { IfOk result (λ place. typed (a_write node.entry.bytes.now element.entry.bytes.now) draft contents.old ≡ Ok (at_place place contents.new)) }
-    ensures refused { IfErr result (λ stop. Stops (typed (a_write node.entry.bytes.now element.entry.bytes.now) draft contents.old) contents.new stop) }
+) -> Result<bool, Stop>
+    ensures ok { IfOk result (λ inside. Taken inside (a_write node.entry.bytes.now element.entry.bytes.now) draft.old contents.old draft.new contents.new) }
+    ensures refused { IfErr result (λ stop. Stops (typed (a_write node.entry.bytes.now element.entry.bytes.now) draft.old contents.old) contents.new stop) }
 {
-    let mut draft = draft;
-    if put_write(contents, alloc, &mut draft, node, element)? {
-        Ok(Section::InType(draft))
+    if put_write(contents, alloc, draft, node, element)? {
+        Ok(true)
     } else {
         Err(Stop::Refused(Why::Twice))
     }
@@ -274,7 +284,7 @@ fn end_line(contents: &mut Contents, alloc: Global, draft: Draft) -> Result<Sect
     let (name, schema) = draft.finish(alloc)?;
     match check(alloc, schema) {
         Ok(checked) => {
-            add_type(contents, alloc, name, &checked)?;
+            add_sound(contents, alloc, name, checked)?;
             Ok(Section::Outside)
         }
         Err(SoundRefusal::Fault(fault)) => Err(Stop::Refused(Why::Unsound(fault))),
@@ -402,6 +412,18 @@ fn put_write(
 {
     let (node, element) = node_and_element_numbers(contents, alloc, node, element)?;
     draft.put_write(node, element)
+}
+
+// One more type. The schema that was checked is let go here alone.
+fn add_sound(
+    contents: &mut Contents,
+    alloc: Global,
+    name: Name64,
+    checked: Checked,
+) -> Result<(), NoMemory>
+    ensures { OnOk result (contents.new ≡ with_type name checked contents.old) }
+{
+    add_type(contents, alloc, name, &checked)
 }
 
 fn add_type(

@@ -4,6 +4,7 @@
 //! the line stands, and what stood before it.
 #![tactic(auto)]
 
+mod files;
 mod reading;
 mod stepping;
 mod workable;

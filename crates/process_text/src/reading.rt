@@ -1,89 +1,64 @@
 // Reading a process file.
-ghost use Rattle.std.specs.Prelude.{◌≡◌, ◌≤◌, [], ◌∷◌, ◌++◌, length, Ok, IfOk, IfErr};
+ghost use Rattle.std.specs.Prelude.{◌≡◌, ◌≤◌, length, Ok, Err, IfOk, IfErr, OnOk};
 ghost use Rattle.file_model.specs.Outcomes.{Tells};
-ghost use Rattle.file_model.specs.Steps.{at_place};
-ghost use Rattle.file_model.specs.Reading.{file_of, finished_in, finished, at_line, file};
+ghost use Rattle.file_model.specs.Steps.{at_place, no_contents};
+ghost use Rattle.file_model.specs.Reading.{at_line, file_of, finished, file};
 ghost use Rattle.file_model.specs.Sizes.{IsBounded};
+ghost use Rattle.process_text.specs.Ends.{MayEnd, MayNotEnd};
 
+use crate::files::file_of;
 use crate::stepping::step_in;
 use file_model::{Contents, File, FileRefusal, Lines, Section, Stop, Why};
 use file_state::{no_contents, refusal};
 use file_words::{first_line, is_skipped, without_return, words_of};
 use std::alloc::Global;
-use wsm_lists::NoMemory;
 
-fn into_file(contents: Contents, alloc: Global) -> Result<File, NoMemory>
-    ensures { IfOk result (λ file. file ≡ file_of contents contents.phases) }
+// The lines of the phase that is open where a file ends, or why it may not end there.
+fn last_phase(place: Section, left: &[u8]) -> Result<Option<Lines>, Why>
+    ensures ok { IfOk result (λ last. MayEnd place left.now last) }
+    ensures refused { IfErr result (λ why. MayNotEnd place left.now why) }
 {
-    let Contents {
-        nodes,
-        elements,
-        types,
-        actors,
-        cases,
-        phases,
-        ..
-    } = contents;
-    Ok(File {
-        nodes: nodes.into_names(alloc)?,
-        elements: elements.into_names(alloc)?,
-        types: types.items,
-        actors: actors.items,
-        cases: cases.into_items(),
-        phases,
-    })
-}
-
-fn finished_in(
-    contents: Contents,
-    alloc: Global,
-    at: u32,
-    place: Section,
-) -> Result<File, FileRefusal>
-    ensures ok { IfOk result (λ read. at_line at (finished_in place contents) ≡ Ok read) }
-    ensures refused { IfErr result (λ refusal. Tells (at_line at (finished_in place contents)) refusal) }
-{
+    if !left.is_empty() {
+        return Err(Why::Unended);
+    }
     match place {
-        Section::Head => Err(refusal(&contents, alloc, at, Why::Header)),
-        Section::Outside => Ok(into_file(contents, alloc)?),
-        Section::InType(_) => Err(refusal(&contents, alloc, at, Why::Unended)),
-        Section::InGroup(_, _) => Err(refusal(&contents, alloc, at, Why::Unended)),
-        Section::InPhase(lines) => Ok(into_file_with(contents, alloc, lines)?),
+        Section::Head => Err(Why::Header),
+        Section::Outside => Ok(None),
+        Section::InPhase(lines) => Ok(Some(lines)),
+        Section::InType(_) => Err(Why::Unended),
+        Section::InGroup(_, _) => Err(Why::Unended),
     }
 }
 
-fn into_file_with(mut contents: Contents, alloc: Global, lines: Lines) -> Result<File, NoMemory>
-    ensures { IfOk result (λ file. file ≡ file_of contents (contents.phases ++ lines ∷ [])) }
-{
-    contents.phases.push(lines)?;
-    into_file(contents, alloc)
-}
-
-fn finished(
-    contents: Contents,
+// The end of a file: the phase that is open is the last one.
+fn end_lines(
+    contents: &mut Contents,
     alloc: Global,
     at: u32,
     place: Section,
     left: &[u8],
-) -> Result<File, FileRefusal>
-    ensures ok { IfOk result (λ read. at_line at (finished (at_place place contents) left.now) ≡ Ok read) }
-    ensures refused { IfErr result (λ refusal. Tells (at_line at (finished (at_place place contents) left.now)) refusal) }
+) -> Result<(), FileRefusal>
+    ensures ok { OnOk result (at_line at (finished (at_place place contents.old) left.now) ≡ Ok (file_of contents.new contents.new.phases)) }
+    ensures refused { IfErr result (λ refusal. Tells (at_line at (finished (at_place place contents.old) left.now)) refusal) }
 {
-    if left.is_empty() {
-        finished_in(contents, alloc, at, place)
-    } else {
-        Err(refusal(&contents, alloc, at, Why::Unended))
+    match last_phase(place, left) {
+        Ok(None) => Ok(()),
+        Ok(Some(lines)) => {
+            contents.phases.push(lines)?;
+            Ok(())
+        }
+        Err(why) => Err(refusal(contents, alloc, at, why)),
     }
 }
 
-/// Reads a process file, or gives its first refusal.
-pub fn read_file(alloc: Global, bytes: &[u8]) -> Result<File, FileRefusal>
-    requires { length bytes.now ≤ 16777216 }
-    ensures file { IfOk result (λ read. file bytes.now ≡ Ok read) }
-    ensures bounded { IfOk result (λ read. IsBounded read) }
+// What the lines of a file make of the contents, or the first refusal. Here the contents are only borrowed: to let them go
+// where a line is refused would make the proof dear.
+fn read_lines(contents: &mut Contents, alloc: Global, bytes: &[u8]) -> Result<(), FileRefusal>
+    requires begun { contents.old ≡ no_contents }
+    requires size { length bytes.now ≤ 16777216 }
+    ensures ok { OnOk result (file bytes.now ≡ Ok (file_of contents.new contents.new.phases)) }
     ensures refused { IfErr result (λ refusal. Tells (file bytes.now) refusal) }
 {
-    let mut contents = no_contents(alloc)?;
     let mut place = Section::Head;
     let mut at = 1;
     let mut rest = bytes;
@@ -95,14 +70,38 @@ pub fn read_file(alloc: Global, bytes: &[u8]) -> Result<File, FileRefusal>
         };
         // (what was read so far is only moved where the line says something)
         if !is_skipped(&words) {
-            match step_in(&mut contents, alloc, at, line, &words, place) {
+            match step_in(contents, alloc, at, line, &words, place) {
                 Ok(next) => place = next,
-                Err(Stop::Refused(why)) => return Err(refusal(&contents, alloc, at, why)),
+                Err(Stop::Refused(why)) => return Err(refusal(contents, alloc, at, why)),
                 Err(Stop::NoMemory) => return Err(FileRefusal::NoMemory),
             }
         }
         at += 1;
         rest = more;
     }
-    finished(contents, alloc, at, place, rest)
+    end_lines(contents, alloc, at, place, rest)
+}
+
+// What was read is let go here alone: to follow how a value is let go where it was changed is dear.
+fn given_up(_contents: Contents, refusal: FileRefusal) -> Result<File, FileRefusal>
+    ensures { result ≡ Err refusal }
+{
+    Err(refusal)
+}
+
+/// Reads a process file, or gives its first refusal.
+pub fn read_file(alloc: Global, bytes: &[u8]) -> Result<File, FileRefusal>
+    requires { length bytes.now ≤ 16777216 }
+    ensures file { IfOk result (λ read. file bytes.now ≡ Ok read) }
+    ensures bounded { IfOk result (λ read. IsBounded read) }
+    ensures refused { IfErr result (λ refusal. Tells (file bytes.now) refusal) }
+{
+    let mut contents = no_contents(alloc)?;
+    match read_lines(&mut contents, alloc, bytes) {
+        Ok(()) => {
+            let file = file_of(contents, alloc)?;
+            Ok(file)
+        }
+        Err(refusal) => given_up(contents, refusal),
+    }
 }

@@ -2,14 +2,19 @@
 ghost use Rattle.std.specs.Prelude.{◌≡◌, Ok, IfOk, IfErr};
 ghost use Rattle.std.specs.Option.{option_map};
 ghost use Rattle.file_words.specs.Shown.{shown};
-ghost use Rattle.file_forms.specs.Shown.{shown_type_line};
+ghost use Rattle.file_forms.specs.Shown.{shown_type_line, shown_script_line, shown_operation};
 ghost use Rattle.file_forms.specs.TypeForms.{type_line};
+ghost use Rattle.file_forms.specs.ScriptForms.{script_line};
+ghost use Rattle.file_forms.specs.OperationForms.{operation_line};
 ghost use Rattle.file_model.specs.Outcomes.{Stops};
 ghost use Rattle.file_model.specs.Steps.{at_place};
 ghost use Rattle.file_model.specs.Reading.{why_long, fitting, step_in};
+ghost use Rattle.process_text.specs.Forms.{HasForm, LacksForm};
 
 use file_drafts::Draft;
-use file_forms::{TypeLine, declaration_line, operation_line, script_line, type_line};
+use file_forms::{
+    OperationLine, ScriptLine, TypeLine, declaration_line, operation_line, script_line, type_line,
+};
 use file_model::{Contents, FileLimit, Group, Lines, Section, Stop, Why};
 use file_state::{declared, fits_in, headed, operated, scripted, typed};
 use file_words::{TooLong, first_long, is_text};
@@ -33,6 +38,56 @@ fn fitting_line<'a>(draft: &Draft, words: &[&'a [u8]]) -> Option<TypeLine<'a>>
         Some(line)
     } else {
         None
+    }
+}
+
+// The form of a line of a type. It is made before what was read so far is taken up, so a line that has none lets a small
+// value go, and no draft.
+fn type_form<'a>(draft: &Draft, line: &[u8], words: &[&'a [u8]]) -> Result<TypeLine<'a>, Stop>
+    ensures ok { IfOk result (λ form. HasForm line.now (shown words.now) (fitting draft.now (type_line (shown words.now))) (shown_type_line form)) }
+    ensures refused { IfErr result (λ stop. LacksForm line.now (shown words.now) (fitting draft.now (type_line (shown words.now))) stop) }
+{
+    if !is_text(line) {
+        return Err(Stop::Refused(Why::NotText));
+    }
+    match fitting_line(draft, words) {
+        None => Err(Stop::Refused(Why::Form)),
+        Some(form) => match first_long(words) {
+            Some(long) => Err(Stop::Refused(why_long(long))),
+            None => Ok(form),
+        },
+    }
+}
+
+fn script_form<'a>(alloc: Global, line: &[u8], words: &[&'a [u8]]) -> Result<ScriptLine<'a>, Stop>
+    ensures ok { IfOk result (λ form. HasForm line.now (shown words.now) (script_line (shown words.now)) (shown_script_line form)) }
+    ensures refused { IfErr result (λ stop. LacksForm line.now (shown words.now) (script_line (shown words.now)) stop) }
+{
+    if !is_text(line) {
+        return Err(Stop::Refused(Why::NotText));
+    }
+    match script_line(alloc, words)? {
+        None => Err(Stop::Refused(Why::Form)),
+        Some(form) => match first_long(words) {
+            Some(long) => Err(Stop::Refused(why_long(long))),
+            None => Ok(form),
+        },
+    }
+}
+
+fn operation_form<'a>(line: &[u8], words: &[&'a [u8]]) -> Result<OperationLine<'a>, Stop>
+    ensures ok { IfOk result (λ form. HasForm line.now (shown words.now) (operation_line (shown words.now)) (shown_operation form)) }
+    ensures refused { IfErr result (λ stop. LacksForm line.now (shown words.now) (operation_line (shown words.now)) stop) }
+{
+    if !is_text(line) {
+        return Err(Stop::Refused(Why::NotText));
+    }
+    match operation_line(words) {
+        None => Err(Stop::Refused(Why::Form)),
+        Some(form) => match first_long(words) {
+            Some(long) => Err(Stop::Refused(why_long(long))),
+            None => Ok(form),
+        },
     }
 }
 
@@ -92,15 +147,9 @@ fn type_step(
     ensures ok { IfOk result (λ place. step_in (Section.InType draft) at line.now (shown words.now) contents.old ≡ Ok (at_place place contents.new)) }
     ensures refused { IfErr result (λ stop. Stops (step_in (Section.InType draft) at line.now (shown words.now) contents.old) contents.new stop) }
 {
-    if !is_text(line) {
-        return Err(Stop::Refused(Why::NotText));
-    }
-    match fitting_line(&draft, words) {
-        None => Err(Stop::Refused(Why::Form)),
-        Some(form) => match first_long(words) {
-            Some(long) => Err(Stop::Refused(why_long(long))),
-            None => typed(contents, alloc, draft, form),
-        },
+    match type_form(&draft, line, words) {
+        Ok(form) => typed(contents, alloc, draft, form),
+        Err(stop) => Err(stop),
     }
 }
 
@@ -115,15 +164,9 @@ fn script_step(
     ensures ok { IfOk result (λ place. step_in (Section.InPhase lines) at line.now (shown words.now) contents.old ≡ Ok (at_place place contents.new)) }
     ensures refused { IfErr result (λ stop. Stops (step_in (Section.InPhase lines) at line.now (shown words.now) contents.old) contents.new stop) }
 {
-    if !is_text(line) {
-        return Err(Stop::Refused(Why::NotText));
-    }
-    match script_line(alloc, words)? {
-        None => Err(Stop::Refused(Why::Form)),
-        Some(form) => match first_long(words) {
-            Some(long) => Err(Stop::Refused(why_long(long))),
-            None => scripted(contents, alloc, at, lines, form),
-        },
+    match script_form(alloc, line, words) {
+        Ok(form) => scripted(contents, alloc, at, lines, form),
+        Err(stop) => Err(stop),
     }
 }
 
@@ -139,14 +182,8 @@ fn operation_step(
     ensures ok { IfOk result (λ place. step_in (Section.InGroup lines group) at line.now (shown words.now) contents.old ≡ Ok (at_place place contents.new)) }
     ensures refused { IfErr result (λ stop. Stops (step_in (Section.InGroup lines group) at line.now (shown words.now) contents.old) contents.new stop) }
 {
-    if !is_text(line) {
-        return Err(Stop::Refused(Why::NotText));
-    }
-    match operation_line(words) {
-        None => Err(Stop::Refused(Why::Form)),
-        Some(form) => match first_long(words) {
-            Some(long) => Err(Stop::Refused(why_long(long))),
-            None => operated(contents, alloc, lines, group, form),
-        },
+    match operation_form(line, words) {
+        Ok(form) => operated(contents, alloc, lines, group, form),
+        Err(stop) => Err(stop),
     }
 }

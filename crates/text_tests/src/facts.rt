@@ -25,11 +25,20 @@ fn file_of(alloc: Global, bytes: &[u8]) -> Option<File>
     read_workable(alloc, bytes).ok()
 }
 
+// The place of the second case, and the actor of the first line.
+fn place_and_actor(file: &File) -> Option<(u32, u32)> {
+    let place = file.cases.get(1)?.id.place;
+    Some((place, file.phases.get(0)?.get(0)?.actor))
+}
+
+fn read_place_and_actor(alloc: Global, bytes: &[u8]) -> Option<(u32, u32)>
+    requires { length bytes.now ≤ 1000 }
+{
+    place_and_actor(&file_of(alloc, bytes)?)
+}
+
 #[test]
 fn reads_a_file(rt: HostRuntime) -> Result<(), Fail> {
-    let file = file_of(rt.alloc(), FILE).ok_or("a file")?;
-    assert_eq!(rt; file.cases.get(1).ok_or("a case")?.id.place, 1);
-    let lines = file.phases.get(0).ok_or("a phase")?;
-    assert_eq!(rt; lines.get(0).ok_or("a line")?.actor, 2);
+    assert!(rt; read_place_and_actor(rt.alloc(), FILE) == Some((1, 2)));
     Ok(())
 }

@@ -64,37 +64,71 @@ fn case_reply(run: &Run, place: usize, index: usize) -> Option<&Reply> {
     Some(&run.cases.get(place)?.journal.get(index)?.reply)
 }
 
+// No test holds a run or a file, which makes its proof dear.
+fn kinds_are_called_in_order(run: &Run) -> bool {
+    matches!(kind_reply(run, 0), Some(KindReply::Defined))
+        && matches!(kind_reply(run, 1), Some(KindReply::Is(_)))
+        && matches!(kind_reply(run, 2), Some(KindReply::Installed(_)))
+        && matches!(kind_reply(run, 3), Some(KindReply::Is(_)))
+        && kind_reply(run, 4).is_none()
+}
+
+fn kinds_are_run(alloc: Global) -> bool {
+    match run(alloc) {
+        Some(run) => kinds_are_called_in_order(&run),
+        None => false,
+    }
+}
+
 #[test]
 fn a_type_is_called_in_file_order(rt: HostRuntime) -> Result<(), Fail> {
-    let run = run(rt.alloc()).ok_or("a run")?;
-    assert!(rt; matches!(kind_reply(&run, 0), Some(KindReply::Defined)));
-    assert!(rt; matches!(kind_reply(&run, 1), Some(KindReply::Is(_))));
-    assert!(rt; matches!(kind_reply(&run, 2), Some(KindReply::Installed(_))));
-    assert!(rt; matches!(kind_reply(&run, 3), Some(KindReply::Is(_))));
-    assert!(rt; kind_reply(&run, 4).is_none());
+    assert!(rt; kinds_are_run(rt.alloc()));
     Ok(())
+}
+
+fn cases_are_called_in_order(run: &Run) -> bool {
+    matches!(case_reply(run, 0, 0), Some(Reply::Created))
+        && matches!(case_reply(run, 0, 1), Some(Reply::Started(_)))
+        && matches!(case_reply(run, 0, 2), Some(Reply::Migrated(_)))
+        && matches!(case_reply(run, 0, 3), Some(Reply::Ended))
+        && matches!(case_reply(run, 0, 4), Some(Reply::Changed))
+        && matches!(case_reply(run, 1, 0), Some(Reply::NoCase))
+}
+
+fn cases_are_run(alloc: Global) -> bool {
+    match run(alloc) {
+        Some(run) => cases_are_called_in_order(&run),
+        None => false,
+    }
 }
 
 #[test]
 fn cases_are_called_in_file_order(rt: HostRuntime) -> Result<(), Fail> {
-    let run = run(rt.alloc()).ok_or("a run")?;
-    assert!(rt; matches!(case_reply(&run, 0, 0), Some(Reply::Created)));
-    assert!(rt; matches!(case_reply(&run, 0, 1), Some(Reply::Started(_))));
-    assert!(rt; matches!(case_reply(&run, 0, 2), Some(Reply::Migrated(_))));
-    assert!(rt; matches!(case_reply(&run, 0, 3), Some(Reply::Ended)));
-    assert!(rt; matches!(case_reply(&run, 0, 4), Some(Reply::Changed)));
-    assert!(rt; matches!(case_reply(&run, 1, 0), Some(Reply::NoCase)));
+    assert!(rt; cases_are_run(rt.alloc()));
     Ok(())
+}
+
+// How many verdicts there are, the line of the first, and the version that its install made.
+fn first_verdict(verdicts: &Verdicts) -> Option<(usize, u32, u32)> {
+    let verdict = verdicts.get(0)?;
+    match &verdict.reply {
+        KindReply::Installed(number) => Some((verdicts.len(), verdict.at, *number)),
+        _ => None,
+    }
+}
+
+fn verdict_on(alloc: Global, file: &File) -> Option<(usize, u32, u32)>
+    requires { IsBounded file.now }
+{
+    first_verdict(&verdicts_of(alloc, file)?)
+}
+
+fn verdict(alloc: Global) -> Option<(usize, u32, u32)> {
+    verdict_on(alloc, &file_of(alloc, FILE)?)
 }
 
 #[test]
 fn installs_have_verdicts(rt: HostRuntime) -> Result<(), Fail> {
-    let alloc = rt.alloc();
-    let file = file_of(alloc, FILE).ok_or("a file")?;
-    let verdicts = verdicts_of(alloc, &file).ok_or("verdicts")?;
-    assert_eq!(rt; verdicts.len(), 1);
-    let verdict = verdicts.get(0).ok_or("a verdict")?;
-    assert_eq!(rt; verdict.at, 12);
-    assert!(rt; matches!(verdict.reply, KindReply::Installed(2)));
+    assert!(rt; verdict(rt.alloc()) == Some((1, 12, 2)));
     Ok(())
 }

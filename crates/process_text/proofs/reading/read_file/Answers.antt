@@ -1,12 +1,6 @@
-use Rattle.std.proofs.Common.{◌≡◌, Ok, IfOk, rules}
-use Rattle.std.proofs.lemmas.Result.{IfOk-weaker}
-use Rattle.file_model.specs.Reading.{file}
-use Rattle.file_model.specs.Sizes.{IsBounded}
-use Rattle.file_model.specs.declared.files.File.{File}
+use Rattle.std.proofs.Common.{Ok, ap, sym, ◌∙◌}
 use Rattle.file_model.proofs.Bounds.{file-bounded}
 use Rattle.process_text.proofs.reading.read_file.Goals as goal
 
-pub returns-clause-bounded : goal.returns-clause-bounded
-returns-clause-bounded c =
-    let found : IfOk c.finished.result (λ read. file c.args.bytes.now ≡ Ok read) = search rules in
-    IfOk-weaker c.finished.result (λ (read : File). file c.args.bytes.now ≡ Ok read) IsBounded (λ f is. file-bounded c.args.bytes.now f is) found
+pub returns-in_ok-file-in-Ok-clause-bounded : goal.returns-in_ok-file-in-Ok-clause-bounded
+returns-in_ok-file-in-Ok-clause-bounded c = file-bounded c.args.bytes.now c.in_ok-file-in-Ok.file (c.in-Ok.ensures.ok ∙ ap Ok (sym c.in_ok-file-in-Ok.ensures))

@@ -2,7 +2,7 @@ use Rattle.std.proofs.Common.{◌≡◌, ◌≤◌, ◌+◌, length, Ok}
 use Rattle.file_words.specs.Lines.{lines_of}
 use Rattle.file_model.specs.Steps.{at_place}
 use Rattle.file_model.specs.Reading.{read_from, file}
-use Rattle.process_text.proofs.reading.read_file.Given as goal
+use Rattle.process_text.proofs.reading.read_lines.Given as goal
 
 abbrev pub invariant-loop-line : goal.invariant-loop-line
 invariant-loop-line l = record {

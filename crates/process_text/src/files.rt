@@ -1,0 +1,74 @@
+// The file, once all lines were read.
+ghost use Rattle.std.specs.Prelude.{◌≡◌, [], IfOk};
+ghost use Rattle.file_model.specs.Reading.{file_of};
+
+use file_model::{ActorDecl, CaseTable, Contents, File, Phases, TypeDecl};
+use file_names::{DeclaredList, NameTable, Names};
+use std::alloc::Global;
+use wsm_lists::NoMemory;
+
+/// The file of what was read.
+pub fn file_of(contents: Contents, alloc: Global) -> Result<File, NoMemory>
+    ensures { IfOk result (λ file. file ≡ file_of contents contents.phases) }
+{
+    let Contents {
+        nodes,
+        elements,
+        types,
+        actors,
+        cases,
+        phases,
+        ..
+    } = contents;
+    named(
+        nameless(types, actors, cases, phases, alloc),
+        nodes,
+        elements,
+        alloc,
+    )
+}
+
+// A file without the names of nodes and elements. To make it takes no memory.
+fn nameless(
+    types: DeclaredList<TypeDecl>,
+    actors: DeclaredList<ActorDecl>,
+    cases: CaseTable,
+    phases: Phases,
+    alloc: Global,
+) -> File
+    ensures { result ≡ record { nodes = []; elements = []; types = types.items; actors = actors.items; cases = cases.items; phases = phases } }
+{
+    File {
+        nodes: Names::new(alloc),
+        elements: Names::new(alloc),
+        types: types.items,
+        actors: actors.items,
+        cases: cases.into_items(),
+        phases,
+    }
+}
+
+fn named(file: File, nodes: NameTable, elements: NameTable, alloc: Global) -> Result<File, NoMemory>
+    ensures { IfOk result (λ read. read ≡ record file { nodes = nodes; elements = elements }) }
+{
+    let (nodes, elements) = both_names(nodes, elements, alloc)?;
+    Ok(File {
+        nodes,
+        elements,
+        types: file.types,
+        actors: file.actors,
+        cases: file.cases,
+        phases: file.phases,
+    })
+}
+
+fn both_names(
+    nodes: NameTable,
+    elements: NameTable,
+    alloc: Global,
+) -> Result<(Names, Names), NoMemory>
+    ensures { IfOk result (λ names. names ≡ (nodes, elements)) }
+{
+    let nodes = nodes.into_names(alloc)?;
+    Ok((nodes, elements.into_names(alloc)?))
+}
