@@ -3,3 +3,7 @@ mod NamedRows
 mod Takings
 mod Telling
 mod Examples
+mod Parting
+mod WordCounts
+mod Ending
+mod SmallTypes

@@ -5,11 +5,17 @@
 #![tactic(auto)]
 
 mod answers;
+mod asking;
 mod fits;
 mod fitting;
+mod inputs;
+mod parts;
 mod progress;
 mod tables;
 mod taking;
+mod versions;
+mod writing;
 
 pub use fits::{CaseFit, FitRefusal, Fits};
 pub use fitting::fit;
+pub use inputs::fit_input;

@@ -103,8 +103,9 @@ fn put_choice<K: Sink>(sink: &mut K, ok: bool, choice: Option<u16>) -> bool
     }
 }
 
+/// What a case answered, as the journal says it.
 #[tactic(auto, using(adept_io::proofs::Sent::gives_then))]
-fn put_reply<K: Sink>(sink: &mut K, ok: bool, file: &File, reply: &Reply) -> bool
+pub fn put_reply<K: Sink>(sink: &mut K, ok: bool, file: &File, reply: &Reply) -> bool
     ensures { Gives K.written K.faults ok result sink.old sink.new (reply_text file.now reply.now) }
 {
     let ok = put(sink, ok, reply_word(reply));

@@ -11,6 +11,7 @@ mod kind_lines;
 mod report;
 
 pub use adept_io::Failed;
+pub use case_lines::put_reply;
 pub use checks::write_verdicts;
 pub use report::{write_run, write_summary};
 pub use script_run::{

@@ -1,0 +1,6 @@
+use Rattle.std.proofs.Common.{sym, string_bytes, arith}
+use Rattle.log_fit.proofs.WordCounts.{too_few}
+use Rattle.log_fit.proofs.asking.Asked.of.Goals as goal
+
+pub returns-in-len1 : goal.returns-in-len1
+returns-in-len1 c = sym (too_few string_bytes c.args.words.now (omega (arith, c.in-len1.len_below)))

@@ -1,0 +1,9 @@
+use Rattle.std.proofs.Common.{◌≡◌, ap, decimal}
+use Rattle.adept_io.proofs.Sent.{gives_then}
+use Rattle.report_words.proofs.Rows.{gives_as}
+use Rattle.log_fit.proofs.writing.put_holder.Goals as goal
+
+pub returns : goal.returns
+returns g c =
+    let user : c.from.result ≡ c.args.user = cc in
+    gives_then _ _ _ _ _ _ _ _ _ _ c.put-ok.ensures (gives_as _ _ _ _ _ _ _ _ c.put_number.ensures (ap decimal user))
