@@ -109,8 +109,8 @@ module _ {M E R W S L : Type 0} (after : S → E → S) (reply : S → E → R) 
           let first : l ∷ ls ≡ m ∷ ms = cc (both) in
           let rest : filled later ≡ filled others = cc (both) in
           subst (λ o. AreSame (OneMore n k s o) (OneMore n k s (due ys))) (sym is) (subst (λ o. AreSame (OneMore n k s ((l ∷ ls) ∷ later)) (OneMore n k s o)) (sym at)
-              (subst (λ phase. AreSame (OneMore n k s ((l ∷ ls) ∷ later)) (OneMore n k s (phase ∷ others))) first
-                  (same-takes (λ line. is_some (shown after reply actor_of event_of caller_in print k s (l ∷ ls) line)) _ _ (λ line. next go later others rest (shown after reply actor_of event_of caller_in print k s (l ∷ ls) line)))))
+          (subst (λ phase. AreSame (OneMore n k s ((l ∷ ls) ∷ later)) (OneMore n k s (phase ∷ others))) first
+          (same-takes (λ line. is_some (shown after reply actor_of event_of caller_in print k s (l ∷ ls) line)) _ _ (λ line. next go later others rest (shown after reply actor_of event_of caller_in print k s (l ∷ ls) line)))))
         where
           next : Later → (later others : List (List L)) → filled later ≡ filled others → (o : Option (Entry M E R W S × List L))
               → AreSame (behind after reply actor_of event_of caller_in print (λ t more. the_journal n (k + 1) t more) s later o) (behind after reply actor_of event_of caller_in print (λ t more. the_journal n (k + 1) t more) s others o)

@@ -54,17 +54,21 @@ module _ {M E R W S L : Type 0} (after : S → E → S) (reply : S → E → R) 
       let there : left_of text ≡ line ++ 10 ∷ left_of mid = (full-front piece text stands).0 ∙ append_assoc line (10 ∷ []) (left_of mid) in
       let cut : lines_of (left_of text) ≡ record { ended = line ∷ ended (left_of mid); left = (lines_of (left_of mid)).left } = ap lines_of there ∙ cut-line line (left_of mid) one in
       let counted : passed mid ≡ passed text + 1 =
-          let one_more_line : feeds piece ≡ 1 = feeds-append line (10 ∷ []) ∙ ap (λ m. m + 1) (no-feed line one) in
-          (full-front piece text stands).1 ∙ ap (λ m. passed text + m) one_more_line in
-      let (x, xs, some) = first-some a phase (l, others) first in
-      (refl, λ end value more.
-          (more.0, subst (λ p. Goes (the_journal (suc n) k s (p ∷ later)) (left_of text) (left_of end) (passed text) (passed end) (option_map (with_entry after reply actor_of event_of caller_in print made) value)) (sym some)
+      let one_more_line : feeds piece ≡ 1 = feeds-append line (10 ∷ []) ∙ ap (λ m. m + 1) (no-feed line one) in
+      (full-front piece text stands).1 ∙ ap (λ m. passed text + m) one_more_line in
+      let (x, xs, some) = first-some a phase (l, others) first in (
+        refl,
+        λ end value more. (
+          more.0,
+          subst (λ p. Goes (the_journal (suc n) k s (p ∷ later)) (left_of text) (left_of end) (passed text) (passed end) (option_map (with_entry after reply actor_of event_of caller_in print made) value)) (sym some)
               (goes-line _ _ (left_of text) line (left_of mid) (left_of end) (passed text) (passed end) _ cut
-                  (subst (λ p. is_some (the_shown k s p line) ≡ true) some (ap is_some is_shown))
-                  (subst (λ o. Goes (behind after reply actor_of event_of caller_in print (go_on n k) s later o) (left_of mid) (left_of end) (passed text + 1) (passed end) (option_map (with_entry after reply actor_of event_of caller_in print made) value))
-                      (subst (λ p. Some (made, others) ≡ the_shown k s p line) some (sym is_shown))
-                      (subst (λ m. Goes (mapped (with_entry after reply actor_of event_of caller_in print made) (the_journal n (k + 1) (after s e) (others ∷ later))) (left_of mid) (left_of end) m (passed end) (option_map (with_entry after reply actor_of event_of caller_in print made) value)) counted
-                          (goes-mapped _ _ (left_of mid) (left_of end) (passed mid) (passed end) value more.1))))))
+              (subst (λ p. is_some (the_shown k s p line) ≡ true) some (ap is_some is_shown))
+              (subst (λ o. Goes (behind after reply actor_of event_of caller_in print (go_on n k) s later o) (left_of mid) (left_of end) (passed text + 1) (passed end) (option_map (with_entry after reply actor_of event_of caller_in print made) value))
+              (subst (λ p. Some (made, others) ≡ the_shown k s p line) some (sym is_shown))
+              (subst (λ m. Goes (mapped (with_entry after reply actor_of event_of caller_in print made) (the_journal n (k + 1) (after s e) (others ∷ later))) (left_of mid) (left_of end) m (passed end) (option_map (with_entry after reply actor_of event_of caller_in print made) value)) counted
+              (goes-mapped _ _ (left_of mid) (left_of end) (passed mid) (passed end) value more.1)))),
+        ),
+      )
 
   -- No line may stand there that does.
   pub line-not-shown : (n k : ℕ) (s : S) (phase : List L) (later : List (List L)) (x : L) (xs : List L) → phase ≡ x ∷ xs → (text : Followed)
@@ -72,8 +76,11 @@ module _ {M E R W S L : Type 0} (after : S → E → S) (reply : S → E → R) 
   line-not-shown n k s phase later x xs some text none = by (ended (left_of text)) refl
     where
       at_phase : Goes (at_line n k s phase later) (left_of text) (left_of text) (passed text) (passed text) None → Follows (the_journal (suc n) k s (phase ∷ later)) text text None
-      at_phase goes = (refl, subst (λ p. Goes (the_journal (suc n) k s (p ∷ later)) (left_of text) (left_of text) (passed text) (passed text) None) (sym some)
-          (subst (λ p. Goes (at_line n k s p later) (left_of text) (left_of text) (passed text) (passed text) None) some goes))
+      at_phase goes = (
+        refl,
+        subst (λ p. Goes (the_journal (suc n) k s (p ∷ later)) (left_of text) (left_of text) (passed text) (passed text) None) (sym some)
+            (subst (λ p. Goes (at_line n k s p later) (left_of text) (left_of text) (passed text) (passed text) None) some goes),
+      )
 
       by : (ls : List Bytes) → ended (left_of text) ≡ ls → Follows (the_journal (suc n) k s (phase ∷ later)) text text None
       by [] is = at_phase (goes-ended _ _ (left_of text) (passed text) is)
@@ -99,8 +106,8 @@ module _ {M E R W S L : Type 0} (after : S → E → S) (reply : S → E → R) 
           let equal : m ≡ line = (bytes_eq-Decides m line).0 same in
           let behind : Bytes = ending rest ++ (lines_of (left_of text)).left in
           let there : left_of text ≡ (line ++ 10 ∷ []) ++ behind =
-              sym (cut-together (left_of text)) ∙ (ap (λ ls. ending ls ++ (lines_of (left_of text)).left) is
-              ∙ (append_assoc m (10 ∷ ending rest) (lines_of (left_of text)).left ∙ (ap (λ l. l ++ 10 ∷ behind) equal ∙ sym (append_assoc line (10 ∷ []) behind)))) in
+          sym (cut-together (left_of text)) ∙ (ap (λ ls. ending ls ++ (lines_of (left_of text)).left) is
+          ∙ (append_assoc m (10 ∷ ending rest) (lines_of (left_of text)).left ∙ (ap (λ l. l ++ 10 ∷ behind) equal ∙ sym (append_assoc line (10 ∷ []) behind)))) in
           let all : same_front (line ++ 10 ∷ []) (left_of text) ≡ length (line ++ 10 ∷ []) = ap (same_front (line ++ 10 ∷ [])) there ∙ own-front (line ++ 10 ∷ []) behind in
           absurd (cc (not, eq-eqb (same_front (line ++ 10 ∷ []) (left_of text)) (length (line ++ 10 ∷ [])) all))
 
@@ -125,7 +132,7 @@ module _ {M E R W S L : Type 0} (after : S → E → S) (reply : S → E → R) 
       let made : Entry M E R W S = entry a e (reply s e) in
       let (x, xs, some) = first-some a phase (l, others) first in
       let stopped = line-not-shown n k s phase later x xs some text (λ m rest is.
-          let differs : bytes_eq m (print k made) ≡ false = ap (bytes_eq m) (sym printed) ∙ other-line line text m rest not is in
-          rw (caller m rest is, first, event, differs) refl) in
+      let differs : bytes_eq m (print k made) ≡ false = ap (bytes_eq m) (sym printed) ∙ other-line line text m rest not is in
+      rw (caller m rest is, first, event, differs) refl) in
       let counted = none-passed line text one not in
       (refl, record { lines = counted ∙ stopped.1.lines; at_end = stopped.1.at_end })

@@ -63,7 +63,6 @@ passed-on piece s = ap feeds (take-add s.at (same_front piece (left_of s)) s.tex
 drop-more : (n m : ℕ) (xs : Bytes) → drop (n + m) xs ≡ drop m (drop n xs)
 drop-more n m xs = sym (drop-drop m n xs)
 
-
 -- where all of a piece stands in front, the text is the piece and what is behind it
 front-is : (p r : Bytes) → same_front p r ≡ length p → r ≡ p ++ drop (length p) r
 front-is [] r same = refl
@@ -183,7 +182,7 @@ module _ {A : Type 0} (a : A) where
       by false not more = rw not (subst (λ t. Reads (ended (b ∷ p)) (ended (c ∷ r)) 0 (if_all t (drop (length p) r))) (sym (none-eqb (length p))) (step-other b c not (lines_of p) (lines_of r) whole (b == 10) (c == 10) refl refl))
       by true is more = rw is (subst (λ d. Reads (ended (b ∷ p)) (ended (d ∷ r)) (if d == 10 then suc (feeds (take (same_front p r) r)) else feeds (take (same_front p r) r)) (if_all (suc (same_front p r) == suc (length p)) (drop (length p) r))) (eqb-true b c is)
           (step-same b (lines_of p) (lines_of r) _ _ whole (b == 10) refl
-              (subst (λ t. Reads (ended p) (ended r) (feeds (take (same_front p r) r)) (if_all t (drop (length p) r))) (sym (suc-eqb (same_front p r) (length p))) more)))
+          (subst (λ t. Reads (ended p) (ended r) (feeds (take (same_front p r) r)) (if_all t (drop (length p) r))) (sym (suc-eqb (same_front p r) (length p))) more)))
 
   -- what is behind the last line feed is behind it still
   stay-behind : (b : ℕ) (r : Bytes) (test : Bool) → (b == 10) ≡ test → (test ≡ false → HasLine (lines_of r)) → (lines_of (b ∷ r)).left ≡ (lines_of r).left
@@ -206,9 +205,9 @@ module _ {A : Type 0} (a : A) where
           let all : same_front p r ≡ length p = omega (arith, same) in
           let equal : b ≡ c = eqb-true b c is in
           more whole_p all ∙ sym (stay-behind c r (c == 10) refl (λ no_feed.
-              let no_feed_b : (b == 10) ≡ false = subst (λ d. (d == 10) ≡ false) (sym equal) no_feed in
-              let h = has-line b (lines_of p) whole in
-              by_lines no_feed_b (lines_of p).ended refl whole (along p r whole_p).end_is all))
+          let no_feed_b : (b == 10) ≡ false = subst (λ d. (d == 10) ≡ false) (sym equal) no_feed in
+          let h = has-line b (lines_of p) whole in
+          by_lines no_feed_b (lines_of p).ended refl whole (along p r whole_p).end_is all))
         where
           by_lines : (b == 10) ≡ false → (ls : List Bytes) → (lines_of p).ended ≡ ls → (lines_of (b ∷ p)).left ≡ [] → walk (expected (lines_of p).ended a) (ended r) ≡ if_all (same_front p r == length p) (drop (length p) r) → same_front p r ≡ length p → HasLine (lines_of r)
           by_lines no_feed [] lines nothing walked all =
@@ -224,19 +223,23 @@ module _ {A : Type 0} (a : A) where
       let n = same_front piece (left_of s) in
       let equal : n ≡ length piece = eqb-true n (length piece) all in
       let read = along piece (left_of s) whole in
-      let behind : left_of (followed piece s) ≡ drop (length piece) (left_of s) = drop-more s.at n s.text ∙ ap (λ m. drop m (left_of s)) equal in
-      (refl, record {
-        lines = passed-on piece s ∙ ap (λ m. passed s + m) (sym read.count_is);
-        at_end = (read.end_is ∙ (ap (λ t. if_all t (drop (length piece) (left_of s))) all ∙ ap (λ bs. Some (a, ended bs)) (sym behind)), ap (λ bs. (lines_of bs).left) behind ∙ left-behind piece (left_of s) whole equal);
-      })
+      let behind : left_of (followed piece s) ≡ drop (length piece) (left_of s) = drop-more s.at n s.text ∙ ap (λ m. drop m (left_of s)) equal in (
+        refl,
+        record {
+          lines = passed-on piece s ∙ ap (λ m. passed s + m) (sym read.count_is);
+          at_end = (read.end_is ∙ (ap (λ t. if_all t (drop (length piece) (left_of s))) all ∙ ap (λ bs. Some (a, ended bs)) (sym behind)), ap (λ bs. (lines_of bs).left) behind ∙ left-behind piece (left_of s) whole equal);
+        },
+      )
 
   pub piece-stops : (piece : Bytes) (s : Followed) → IsWhole piece → (same_front piece (left_of s) == length piece) ≡ false → Follows (expected (ended piece) a) s (followed piece s) None
   piece-stops piece s whole not =
-      let read = along piece (left_of s) whole in
-      (refl, record {
-        lines = passed-on piece s ∙ ap (λ m. passed s + m) (sym read.count_is);
-        at_end = read.end_is ∙ ap (λ t. if_all t (drop (length piece) (left_of s))) not;
-      })
+      let read = along piece (left_of s) whole in (
+        refl,
+        record {
+          lines = passed-on piece s ∙ ap (λ m. passed s + m) (sym read.count_is);
+          at_end = read.end_is ∙ ap (λ t. if_all t (drop (length piece) (left_of s))) not;
+        },
+      )
 
 -- ---- pieces that a line feed ends
 left-ended : (bs : Bytes) → (lines_of (bs ++ 10 ∷ [])).left ≡ [] × ((lines_of (bs ++ 10 ∷ [])).ended ≡ [] → ⊥)

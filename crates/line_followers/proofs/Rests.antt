@@ -55,8 +55,8 @@ module _ {M E R W S L : Type 0} (after : S → E → S) (reply : S → E → R) 
       → Reaches (rest_of k s (phase ∷ later)) text (rest_of (k + 1) (after s e) (others ∷ later)) (followed (line ++ 10 ∷ []) text) (behind_entries (entry a e (reply s e) ∷ []))
   rest-line k s phase later a l others e text line printed one caller first event stands =
       subst (λ n. Reaches (the_journal n k s (phase ∷ later)) text (rest_of (k + 1) (after s e) (others ∷ later)) (followed (line ++ 10 ∷ []) text) (behind_entries (entry a e (reply s e) ∷ [])))
-          (sym (one-fewer phase later a l others first))
-          (line-right after reply actor_of event_of caller_in print (how_many (others ∷ later)) k s phase later a l others e text line printed one caller first event stands)
+      (sym (one-fewer phase later a l others first))
+      (line-right after reply actor_of event_of caller_in print (how_many (others ∷ later)) k s phase later a l others e text line printed one caller first event stands)
 
   pub rest-differs : (k : ℕ) (s : S) (phase : List L) (later : List (List L)) (a : ℕ) (l : L) (others : List L) (e : E) (text : Followed) (line : Bytes)
       → line ≡ print k (entry a e (reply s e)) → IsOneLine line → ((m : Bytes) (rest : List Bytes) → ended (left_of text) ≡ m ∷ rest → caller_in k m ≡ Some a) → first_by actor_of a phase ≡ Some (l, others) → event_of l ≡ Some e
@@ -64,7 +64,7 @@ module _ {M E R W S L : Type 0} (after : S → E → S) (reply : S → E → R) 
       → Follows (rest_of k s (phase ∷ later)) text (followed (line ++ 10 ∷ []) text) None
   rest-differs k s phase later a l others e text line printed one caller first event not =
       subst (λ n. Follows (the_journal n k s (phase ∷ later)) text (followed (line ++ 10 ∷ []) text) None) (sym (one-fewer phase later a l others first))
-          (line-differs after reply actor_of event_of caller_in print (how_many (others ∷ later)) k s phase later a l others e text line printed one caller first event not)
+      (line-differs after reply actor_of event_of caller_in print (how_many (others ∷ later)) k s phase later a l others e text line printed one caller first event not)
 
   -- entries in front of entries
   pub entries-on : (es fs : List (Entry M E R W S)) (made : Made) → behind_entries es (behind_entries fs made) ≡ behind_entries (es ++ fs) made
@@ -75,7 +75,7 @@ module _ {M E R W S L : Type 0} (after : S → E → S) (reply : S → E → R) 
       → Reaches (rest_of k s owed) old (rest_of n u last) new (behind_entries (es ++ fs))
   rest-on k m s t u owed more last n es fs old mid new h g =
       reaches-same (rest_of k s owed) (rest_of n u last) (λ made. behind_entries es (behind_entries fs made)) (behind_entries (es ++ fs)) old new (entries-on es fs)
-          (reaches-on (rest_of k s owed) (rest_of m t more) (rest_of n u last) (behind_entries es) (behind_entries fs) old mid new h g)
+      (reaches-on (rest_of k s owed) (rest_of m t more) (rest_of n u last) (behind_entries es) (behind_entries fs) old mid new h g)
 
   -- a phase in which nothing more is owed is over
   pub phase-over : (k : ℕ) (s : S) (later : List (List L)) → AreSame (rest_of k s later) (rest_of k s ([] ∷ later))
@@ -94,4 +94,4 @@ module _ {M E R W S L : Type 0} (after : S → E → S) (reply : S → E → R) 
   rest-wrong k s (x ∷ xs) later some text none =
       let fewer : suc (how_many (xs ∷ later)) ≡ how_many ((x ∷ xs) ∷ later) = omega arith in
       subst (λ n. Follows (the_journal n k s ((x ∷ xs) ∷ later)) text text None) fewer
-          (line-not-shown after reply actor_of event_of caller_in print (how_many (xs ∷ later)) k s (x ∷ xs) later x xs refl text none)
+      (line-not-shown after reply actor_of event_of caller_in print (how_many (xs ∷ later)) k s (x ∷ xs) later x xs refl text none)
