@@ -1,6 +1,7 @@
 mod ExamplesDisks
 mod ExamplesImages
 mod Framing
+mod Gates
 mod Histories
 mod Moments
 mod Noted

@@ -23,3 +23,11 @@ module _ {D : Type 0} (moment : D → ℕ) (left_since : D → ℕ → List ℕ 
     each = λ c left. ⊎_elim (λ before. weaker c (first.each c before)) (λ now. now) (second.before (moment old) c first.later left);
     before = λ t c le left. ⊎_elim (λ before. ⊎_elim (λ b. inl b) (λ now. inr (weaker c now)) (first.before t c le before)) (λ now. inr now) (second.before t c (omega (arith, le, first.later)) left);
   }
+
+  -- what has P has Q
+  pub weaker : (old new : D) (P Q : List ℕ → Type 0) → LeavesOnly moment left_since old new P → ((c : List ℕ) → P c → Q c) → LeavesOnly moment left_since old new Q
+  weaker old new P Q run to = record {
+    later = run.later;
+    each = λ c left. to c (run.each c left);
+    before = λ t c le left. ⊎_elim (λ b. inl b) (λ p. inr (to c p)) (run.before t c le left);
+  }

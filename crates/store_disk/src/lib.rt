@@ -9,12 +9,16 @@
 mod disks;
 mod file;
 mod framed;
+mod frames;
 mod history;
 mod memory;
+mod opening;
 mod records;
 
 pub use disks::Disk;
 pub use file::{FileDisk, OpenFault};
 pub use framed::Framed;
+pub use frames::{Frame, frame_in};
 pub use memory::MemoryDisk;
+pub use opening::{MAX_IMAGE, open_image, settle};
 pub use records::append;

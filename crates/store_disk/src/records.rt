@@ -9,7 +9,7 @@ use crate::{Disk, Framed};
 use adept_io::Failed;
 
 // The gate of a record that counts.
-const OPEN: u8 = 1;
+pub(crate) const OPEN: u8 = 1;
 
 // Writes the record behind the gate at a place.
 fn stage<D: Disk>(disk: &mut D, gate: u64, framed: &Framed) -> Result<(), Failed>
