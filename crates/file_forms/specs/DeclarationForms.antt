@@ -2,10 +2,9 @@
 use Rattle.std.specs.Prelude.{ℕ, Bool, false, ◌&&◌, nat_lt, List, [], ◌∷◌, length, Option, Some, None, option_map, if◌then◌else◌, codes}
 use Rattle.file_words.specs.Lines.{Bytes}
 use Rattle.file_words.specs.Words.{is}
-use Rattle.file_words.specs.Names.{name}
 use Rattle.file_words.specs.Numbers.{role}
 use Rattle.file_forms.specs.Forms.{Declaration, a_type, an_actor, a_case, first_phase}
-use Rattle.file_forms.specs.PieceForms.{◌>>=◌, nothing_more, one_name, two_names}
+use Rattle.file_forms.specs.PieceForms.{◌>>=◌, nothing_more, one_name, name_ahead, two_names}
 
 -- whether the one word of a list is k
 abbrev pub is_only : Bytes → List Bytes → Bool
@@ -33,11 +32,10 @@ roles_at_end [] = Some []
 roles_at_end (k ∷ ws) = if is (codes "roles") k then some_roles ws else None
 
 abbrev pub actor_line : List Bytes → Option Declaration
-actor_line [] = None
-actor_line (n ∷ ws) = do
-  x ← name n
-  rs ← roles_at_end ws
-  Some (an_actor x rs)
+actor_line ws = do
+  a ← name_ahead ws
+  rs ← roles_at_end a.1
+  Some (an_actor a.0 rs)
 
 -- a declaration but for an actor
 abbrev pub plain_line : Bytes → List Bytes → Option Declaration

@@ -3,17 +3,15 @@ use Rattle.std.specs.Prelude.{ℕ, List, [], ◌∷◌, length, ◌==◌, Option
 use Rattle.std.specs.Option.{option_or}
 use Rattle.file_words.specs.Lines.{Bytes}
 use Rattle.file_words.specs.Words.{is}
-use Rattle.file_words.specs.Names.{name}
 use Rattle.file_words.specs.Numbers.{role, code}
 use Rattle.file_forms.specs.Forms.{NamedGap, behind, at_head, OperationLine, insert, parallel, conditional, delete, move, sync, unsync, element, read, unread, write, unwrite, set_role, group_end}
-use Rattle.file_forms.specs.PieceForms.{◌>>=◌, nothing_more, only, one_name, two_names, two_names_ahead, element_and_kind, read_edge}
+use Rattle.file_forms.specs.PieceForms.{◌>>=◌, nothing_more, only, one_name, name_ahead, two_names, two_names_ahead, element_and_kind, read_edge}
 
 abbrev pub name_and_code : List Bytes → Option (Bytes × ℕ)
-name_and_code [] = None
-name_and_code (s ∷ ws) = do
-  x ← name s
-  c ← only ws >>= code
-  Some (x, c)
+name_and_code ws = do
+  a ← name_ahead ws
+  c ← only a.1 >>= code
+  Some (a.0, c)
 
 abbrev pub place : List Bytes → Option NamedGap
 place [] = None
@@ -33,11 +31,10 @@ role_ahead (k ∷ ws) = if is (codes "role") k then role_number_ahead ws else So
 
 -- a new node, its role, and the words behind
 abbrev pub new_node : List Bytes → Option (Bytes × ℕ × List Bytes)
-new_node [] = None
-new_node (n ∷ ws) = do
-  x ← name n
-  r ← role_ahead ws
-  Some (x, r.0, r.1)
+new_node ws = do
+  a ← name_ahead ws
+  r ← role_ahead a.1
+  Some (a.0, r.0, r.1)
 
 -- `with` and two names, and the words behind
 abbrev pub with_block : List Bytes → Option (Bytes × Bytes × List Bytes)
@@ -49,11 +46,10 @@ abbrev pub last_item : Bytes → List Bytes → Option Bytes
 last_item first ws = if length ws == 0 then Some first else one_name ws
 
 abbrev pub first_and_last : List Bytes → Option (Bytes × Bytes)
-first_and_last [] = None
-first_and_last (a ∷ ws) = do
-  x ← name a
-  y ← last_item x ws
-  Some (x, y)
+first_and_last ws = do
+  a ← name_ahead ws
+  b ← last_item a.0 a.1
+  Some (a.0, b)
 
 abbrev pub around_items : List Bytes → Option (Bytes × Bytes)
 around_items [] = None
@@ -80,18 +76,16 @@ conditional_line ws = do
   Some (conditional n.0 n.1 b.0 b.1 p)
 
 abbrev pub move_line : List Bytes → Option OperationLine
-move_line [] = None
-move_line (n ∷ ws) = do
-  x ← name n
-  p ← place ws
-  Some (move x p)
+move_line ws = do
+  a ← name_ahead ws
+  p ← place a.1
+  Some (move a.0 p)
 
 abbrev pub role_line : List Bytes → Option OperationLine
-role_line [] = None
-role_line (n ∷ ws) = do
-  x ← name n
-  r ← only ws >>= role
-  Some (set_role x r)
+role_line ws = do
+  a ← name_ahead ws
+  r ← only a.1 >>= role
+  Some (set_role a.0 r)
 
 -- operations that change the tree of blocks, and the end of the group
 abbrev pub tree_operation : Bytes → List Bytes → Option OperationLine
@@ -104,19 +98,28 @@ tree_operation k ws =
     else (if is (codes "end") k then nothing_more group_end ws
     else None)))))
 
--- operations on edges, elements and roles
-abbrev pub list_operation : Bytes → List Bytes → Option OperationLine
-list_operation k ws =
-    if is (codes "sync") k then option_map (λ p. sync p.0 p.1) (two_names ws)
-    else (if is (codes "unsync") k then option_map (λ p. unsync p.0 p.1) (two_names ws)
-    else (if is (codes "element") k then option_map (λ p. element p.0 p.1) (element_and_kind ws)
-    else (if is (codes "read") k then option_map (λ p. read p.0 p.1 p.2) (read_edge ws)
-    else (if is (codes "unread") k then option_map (λ p. unread p.0 p.1) (two_names ws)
-    else (if is (codes "write") k then option_map (λ p. write p.0 p.1) (two_names ws)
-    else (if is (codes "unwrite") k then option_map (λ p. unwrite p.0 p.1) (two_names ws)
-    else (if is (codes "role") k then role_line ws
-    else None)))))))
+-- an operation on the edge between two names
+abbrev pub edge_operation : Bytes → Bytes × Bytes → Option OperationLine
+edge_operation k p =
+    if is (codes "sync") k then Some (sync p.0 p.1)
+    else (if is (codes "unsync") k then Some (unsync p.0 p.1)
+    else (if is (codes "unread") k then Some (unread p.0 p.1)
+    else (if is (codes "write") k then Some (write p.0 p.1)
+    else (if is (codes "unwrite") k then Some (unwrite p.0 p.1)
+    else None))))
 
+abbrev pub edge_line : Bytes → List Bytes → Option OperationLine
+edge_line k ws = two_names ws >>= edge_operation k
+
+-- an operation on an element, a read or a role
+abbrev pub row_line : Bytes → List Bytes → Option OperationLine
+row_line k ws =
+    if is (codes "element") k then option_map (λ p. element p.0 p.1) (element_and_kind ws)
+    else (if is (codes "read") k then option_map (λ p. read p.0 p.1 p.2) (read_edge ws)
+    else (if is (codes "role") k then role_line ws
+    else None))
+
+-- no keyword is in two of these
 abbrev pub operation_line : List Bytes → Option OperationLine
 operation_line [] = None
-operation_line (k ∷ ws) = option_or (tree_operation k ws) (list_operation k ws)
+operation_line (k ∷ ws) = option_or (tree_operation k ws) (option_or (edge_line k ws) (row_line k ws))

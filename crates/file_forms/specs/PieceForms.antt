@@ -24,17 +24,16 @@ only (w ∷ ws) = nothing_more w ws
 abbrev pub one_name : List Bytes → Option Bytes
 one_name ws = only ws >>= name
 
-abbrev pub two_names : List Bytes → Option (Bytes × Bytes)
-two_names [] = None
-two_names (a ∷ ws) = do
-  x ← name a
-  y ← one_name ws
-  Some (x, y)
-
 -- a name, and the words behind it
 abbrev pub name_ahead : List Bytes → Option (Bytes × List Bytes)
 name_ahead [] = None
 name_ahead (w ∷ ws) = option_map (λ x. (x, ws)) (name w)
+
+abbrev pub two_names : List Bytes → Option (Bytes × Bytes)
+two_names ws = do
+  a ← name_ahead ws
+  b ← one_name a.1
+  Some (a.0, b)
 
 abbrev pub two_names_ahead : List Bytes → Option (Bytes × Bytes × List Bytes)
 two_names_ahead ws = do
@@ -48,18 +47,16 @@ role_at_end [] = Some 0
 role_at_end (k ∷ ws) = if is (codes "role") k then only ws >>= role else None
 
 abbrev pub name_and_role : List Bytes → Option (Bytes × ℕ)
-name_and_role [] = None
-name_and_role (n ∷ ws) = do
-  x ← name n
-  r ← role_at_end ws
-  Some (x, r)
+name_and_role ws = do
+  a ← name_ahead ws
+  r ← role_at_end a.1
+  Some (a.0, r)
 
 abbrev pub two_names_and_role : List Bytes → Option (Bytes × Bytes × ℕ)
-two_names_and_role [] = None
-two_names_and_role (n ∷ ws) = do
-  x ← name n
-  p ← name_and_role ws
-  Some (x, p.0, p.1)
+two_names_and_role ws = do
+  a ← name_ahead ws
+  p ← name_and_role a.1
+  Some (a.0, p.0, p.1)
 
 abbrev pub element_kind : Bytes → Option ElementKind
 element_kind w =
@@ -67,11 +64,10 @@ element_kind w =
     else (if is (codes "text") w then Some kind.Text else None)
 
 abbrev pub element_and_kind : List Bytes → Option (Bytes × ElementKind)
-element_and_kind [] = None
-element_and_kind (e ∷ ws) = do
-  x ← name e
-  k ← only ws >>= element_kind
-  Some (x, k)
+element_and_kind ws = do
+  a ← name_ahead ws
+  k ← only a.1 >>= element_kind
+  Some (a.0, k)
 
 -- a read is mandatory, unless the word `optional` says that it is not
 abbrev pub is_mandatory : List Bytes → Option Bool
@@ -79,15 +75,13 @@ is_mandatory [] = Some true
 is_mandatory (w ∷ ws) = if is (codes "optional") w then nothing_more false ws else None
 
 abbrev pub element_read : List Bytes → Option (Bytes × Bool)
-element_read [] = None
-element_read (e ∷ ws) = do
-  x ← name e
-  m ← is_mandatory ws
-  Some (x, m)
+element_read ws = do
+  a ← name_ahead ws
+  m ← is_mandatory a.1
+  Some (a.0, m)
 
 abbrev pub read_edge : List Bytes → Option (Bytes × Bytes × Bool)
-read_edge [] = None
-read_edge (n ∷ ws) = do
-  x ← name n
-  p ← element_read ws
-  Some (x, p.0, p.1)
+read_edge ws = do
+  a ← name_ahead ws
+  p ← element_read a.1
+  Some (a.0, p.0, p.1)

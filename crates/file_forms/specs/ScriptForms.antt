@@ -36,15 +36,20 @@ end_deed ws = do
   p ← two_names_ahead ws
   end_behind p.0 p.1 p.2
 
+-- what an actor does where one name says on what
+abbrev pub named_deed : Bytes → Bytes → Option Deed
+named_deed k n =
+    if is (codes "create") k then Some (to_create n)
+    else (if is (codes "change") k then Some (to_change n)
+    else (if is (codes "install") k then Some (to_install n)
+    else (if is (codes "migrate") k then Some (to_migrate n)
+    else None)))
+
 -- what an actor does, but for an end
 abbrev pub plain_deed : Bytes → List Bytes → Option Deed
 plain_deed k ws =
-    if is (codes "create") k then option_map to_create (one_name ws)
-    else (if is (codes "start") k then option_map (λ p. to_start p.0 p.1) (two_names ws)
-    else (if is (codes "change") k then option_map to_change (one_name ws)
-    else (if is (codes "install") k then option_map to_install (one_name ws)
-    else (if is (codes "migrate") k then option_map to_migrate (one_name ws)
-    else None))))
+    if is (codes "start") k then option_map (λ p. to_start p.0 p.1) (two_names ws)
+    else one_name ws >>= named_deed k
 
 abbrev pub deed : List Bytes → Option Deed
 deed [] = None

@@ -4,7 +4,7 @@ ghost use Rattle.file_words.specs.Shown.{shown};
 ghost use Rattle.file_forms.specs.DeclarationForms.{is_only, is_header, roles, some_roles, roles_at_end, actor_line, plain_line, declaration_line};
 ghost use Rattle.file_forms.specs.Shown.{shown_declaration};
 
-use crate::pieces::{one_name, two_names};
+use crate::pieces::{name_ahead, one_name, two_names};
 use file_words::{NameWord, NoMemory, role};
 use std::alloc::Global;
 use wsm_lists::RoleList;
@@ -74,11 +74,11 @@ fn roles_at_end(alloc: Global, words: &[&[u8]]) -> Result<Option<RoleList>, NoMe
 fn actor_line<'a>(alloc: Global, words: &[&'a [u8]]) -> Result<Option<Declaration<'a>>, NoMemory>
     ensures { IfOk result (λ line. option_map shown_declaration line ≡ actor_line (shown words.now)) }
 {
-    match words {
-        [] => Ok(None),
-        [word, rest @ ..] => match (NameWord::of(*word), roles_at_end(alloc, rest)?) {
-            (Some(name), Some(roles)) => Ok(Some(Declaration::Actor { name, roles })),
-            _ => Ok(None),
+    match name_ahead(words) {
+        None => Ok(None),
+        Some((name, rest)) => match roles_at_end(alloc, rest)? {
+            None => Ok(None),
+            Some(roles) => Ok(Some(Declaration::Actor { name, roles })),
         },
     }
 }

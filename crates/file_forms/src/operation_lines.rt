@@ -1,10 +1,12 @@
 // Lines of a group of operations.
 ghost use Rattle.std.specs.Prelude.{◌≡◌, option_map};
 ghost use Rattle.file_words.specs.Shown.{shown, shown_name};
-ghost use Rattle.file_forms.specs.OperationForms.{name_and_code, place, role_number_ahead, role_ahead, new_node, with_block, last_item, first_and_last, around_items, insert_line, parallel_line, conditional_line, move_line, role_line, tree_operation, list_operation, operation_line};
+ghost use Rattle.file_forms.specs.OperationForms.{name_and_code, place, role_number_ahead, role_ahead, new_node, with_block, last_item, first_and_last, around_items, insert_line, parallel_line, conditional_line, move_line, role_line, tree_operation, edge_operation, edge_line, row_line, operation_line};
 ghost use Rattle.file_forms.specs.Shown.{shown_names, shown_with, shown_behind, shown_two_ahead, shown_new_node, shown_place, shown_operation};
 
-use crate::pieces::{element_and_kind, one_name, only, read_edge, two_names, two_names_ahead};
+use crate::pieces::{
+    element_and_kind, name_ahead, one_name, only, read_edge, two_names, two_names_ahead,
+};
 use file_words::{NameWord, code, role};
 use wsm_lists::ElementKind;
 
@@ -85,14 +87,9 @@ pub enum OperationLine<'a> {
 fn name_and_code<'a>(words: &[&'a [u8]]) -> Option<(NameWord<'a>, u16)>
     ensures { option_map shown_with result ≡ name_and_code (shown words.now) }
 {
-    match words {
-        [] => None,
-        [word, rest @ ..] => {
-            let name = NameWord::of(*word)?;
-            let code = code(only(rest)?)?;
-            Some((name, code))
-        }
-    }
+    let (name, rest) = name_ahead(words)?;
+    let code = code(only(rest)?)?;
+    Some((name, code))
 }
 
 fn place_of<'a>(words: &[&'a [u8]]) -> Option<NamedGap<'a>>
@@ -145,14 +142,9 @@ fn role_ahead<'a, 'b>(words: &'b [&'a [u8]]) -> Option<(u32, &'b [&'a [u8]])>
 fn new_node<'a, 'b>(words: &'b [&'a [u8]]) -> Option<(NameWord<'a>, u32, &'b [&'a [u8]])>
     ensures { option_map shown_new_node result ≡ new_node (shown words.now) }
 {
-    match words {
-        [] => None,
-        [word, rest @ ..] => {
-            let node = NameWord::of(*word)?;
-            let (role, behind) = role_ahead(rest)?;
-            Some((node, role, behind))
-        }
-    }
+    let (node, rest) = name_ahead(words)?;
+    let (role, behind) = role_ahead(rest)?;
+    Some((node, role, behind))
 }
 
 /// The split and the join of a new block, and the words behind them.
@@ -184,14 +176,9 @@ fn last_item<'a>(first: NameWord<'a>, words: &[&'a [u8]]) -> Option<NameWord<'a>
 fn first_and_last<'a>(words: &[&'a [u8]]) -> Option<(NameWord<'a>, NameWord<'a>)>
     ensures { option_map shown_names result ≡ first_and_last (shown words.now) }
 {
-    match words {
-        [] => None,
-        [word, rest @ ..] => {
-            let first = NameWord::of(*word)?;
-            let last = last_item(first, rest)?;
-            Some((first, last))
-        }
-    }
+    let (first, rest) = name_ahead(words)?;
+    let last = last_item(first, rest)?;
+    Some((first, last))
 }
 
 /// The items that a new block goes round.
@@ -252,27 +239,17 @@ fn conditional_line<'a>(words: &[&'a [u8]]) -> Option<OperationLine<'a>>
 fn move_line<'a>(words: &[&'a [u8]]) -> Option<OperationLine<'a>>
     ensures { option_map shown_operation result ≡ move_line (shown words.now) }
 {
-    match words {
-        [] => None,
-        [word, rest @ ..] => {
-            let node = NameWord::of(*word)?;
-            let place = place_of(rest)?;
-            Some(OperationLine::Move { node, place })
-        }
-    }
+    let (node, rest) = name_ahead(words)?;
+    let place = place_of(rest)?;
+    Some(OperationLine::Move { node, place })
 }
 
 fn role_line<'a>(words: &[&'a [u8]]) -> Option<OperationLine<'a>>
     ensures { option_map shown_operation result ≡ role_line (shown words.now) }
 {
-    match words {
-        [] => None,
-        [word, rest @ ..] => {
-            let node = NameWord::of(*word)?;
-            let role = role(only(rest)?)?;
-            Some(OperationLine::Role { node, role })
-        }
-    }
+    let (node, rest) = name_ahead(words)?;
+    let role = role(only(rest)?)?;
+    Some(OperationLine::Role { node, role })
 }
 
 /// An operation that changes the tree of blocks, or the end of the group.
@@ -296,17 +273,56 @@ fn tree_operation<'a>(keyword: &[u8], words: &[&'a [u8]]) -> Option<OperationLin
     }
 }
 
-/// An operation on edges, elements or roles.
-fn list_operation<'a>(keyword: &[u8], words: &[&'a [u8]]) -> Option<OperationLine<'a>>
-    ensures { option_map shown_operation result ≡ list_operation keyword.now (shown words.now) }
+/// An operation on the edge between two names.
+fn edge_operation<'a>(
+    keyword: &[u8],
+    first: NameWord<'a>,
+    second: NameWord<'a>,
+) -> Option<OperationLine<'a>>
+    ensures { option_map shown_operation result ≡ edge_operation keyword.now (first.entry.bytes.now, second.entry.bytes.now) }
 {
     if keyword == b"sync".as_slice() {
-        let (source, target) = two_names(words)?;
-        Some(OperationLine::Sync { source, target })
+        Some(OperationLine::Sync {
+            source: first,
+            target: second,
+        })
     } else if keyword == b"unsync".as_slice() {
-        let (source, target) = two_names(words)?;
-        Some(OperationLine::Unsync { source, target })
-    } else if keyword == b"element".as_slice() {
+        Some(OperationLine::Unsync {
+            source: first,
+            target: second,
+        })
+    } else if keyword == b"unread".as_slice() {
+        Some(OperationLine::Unread {
+            node: first,
+            element: second,
+        })
+    } else if keyword == b"write".as_slice() {
+        Some(OperationLine::Write {
+            node: first,
+            element: second,
+        })
+    } else if keyword == b"unwrite".as_slice() {
+        Some(OperationLine::Unwrite {
+            node: first,
+            element: second,
+        })
+    } else {
+        None
+    }
+}
+
+fn edge_line<'a>(keyword: &[u8], words: &[&'a [u8]]) -> Option<OperationLine<'a>>
+    ensures { option_map shown_operation result ≡ edge_line keyword.now (shown words.now) }
+{
+    let (first, second) = two_names(words)?;
+    edge_operation(keyword, first, second)
+}
+
+/// An operation on an element, a read or a role.
+fn row_line<'a>(keyword: &[u8], words: &[&'a [u8]]) -> Option<OperationLine<'a>>
+    ensures { option_map shown_operation result ≡ row_line keyword.now (shown words.now) }
+{
+    if keyword == b"element".as_slice() {
         let (element, kind) = element_and_kind(words)?;
         Some(OperationLine::Element { element, kind })
     } else if keyword == b"read".as_slice() {
@@ -316,15 +332,6 @@ fn list_operation<'a>(keyword: &[u8], words: &[&'a [u8]]) -> Option<OperationLin
             element,
             mandatory,
         })
-    } else if keyword == b"unread".as_slice() {
-        let (node, element) = two_names(words)?;
-        Some(OperationLine::Unread { node, element })
-    } else if keyword == b"write".as_slice() {
-        let (node, element) = two_names(words)?;
-        Some(OperationLine::Write { node, element })
-    } else if keyword == b"unwrite".as_slice() {
-        let (node, element) = two_names(words)?;
-        Some(OperationLine::Unwrite { node, element })
     } else if keyword == b"role".as_slice() {
         role_line(words)
     } else {
@@ -340,7 +347,10 @@ pub fn operation_line<'a>(words: &[&'a [u8]]) -> Option<OperationLine<'a>>
         [] => None,
         [keyword, rest @ ..] => match tree_operation(*keyword, rest) {
             Some(line) => Some(line),
-            None => list_operation(*keyword, rest),
+            None => match edge_line(*keyword, rest) {
+                Some(line) => Some(line),
+                None => row_line(*keyword, rest),
+            },
         },
     }
 }

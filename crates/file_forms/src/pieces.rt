@@ -25,21 +25,8 @@ pub fn one_name<'a>(words: &[&'a [u8]]) -> Option<NameWord<'a>>
     NameWord::of(word)
 }
 
-/// Two names and nothing more.
-pub fn two_names<'a>(words: &[&'a [u8]]) -> Option<(NameWord<'a>, NameWord<'a>)>
-    ensures { option_map shown_names result ≡ two_names (shown words.now) }
-{
-    match words {
-        [] => None,
-        [word, rest @ ..] => {
-            let first = NameWord::of(*word)?;
-            let second = one_name(rest)?;
-            Some((first, second))
-        }
-    }
-}
-
-fn name_ahead<'a, 'b>(words: &'b [&'a [u8]]) -> Option<(NameWord<'a>, &'b [&'a [u8]])>
+/// A name, and the words behind it.
+pub fn name_ahead<'a, 'b>(words: &'b [&'a [u8]]) -> Option<(NameWord<'a>, &'b [&'a [u8]])>
     ensures { option_map shown_ahead result ≡ name_ahead (shown words.now) }
 {
     match words {
@@ -49,6 +36,15 @@ fn name_ahead<'a, 'b>(words: &'b [&'a [u8]]) -> Option<(NameWord<'a>, &'b [&'a [
             Some((name, rest))
         }
     }
+}
+
+/// Two names and nothing more.
+pub fn two_names<'a>(words: &[&'a [u8]]) -> Option<(NameWord<'a>, NameWord<'a>)>
+    ensures { option_map shown_names result ≡ two_names (shown words.now) }
+{
+    let (first, rest) = name_ahead(words)?;
+    let second = one_name(rest)?;
+    Some((first, second))
 }
 
 /// Two names, and the words behind them.
@@ -81,28 +77,18 @@ fn role_at_end(words: &[&[u8]]) -> Option<u32>
 pub fn name_and_role<'a>(words: &[&'a [u8]]) -> Option<(NameWord<'a>, u32)>
     ensures { option_map shown_with result ≡ name_and_role (shown words.now) }
 {
-    match words {
-        [] => None,
-        [word, rest @ ..] => {
-            let name = NameWord::of(*word)?;
-            let role = role_at_end(rest)?;
-            Some((name, role))
-        }
-    }
+    let (name, rest) = name_ahead(words)?;
+    let role = role_at_end(rest)?;
+    Some((name, role))
 }
 
 /// Two names, and a role where one is written.
 pub fn two_names_and_role<'a>(words: &[&'a [u8]]) -> Option<(NameWord<'a>, NameWord<'a>, u32)>
     ensures { option_map shown_two_with result ≡ two_names_and_role (shown words.now) }
 {
-    match words {
-        [] => None,
-        [word, rest @ ..] => {
-            let first = NameWord::of(*word)?;
-            let (second, role) = name_and_role(rest)?;
-            Some((first, second, role))
-        }
-    }
+    let (first, rest) = name_ahead(words)?;
+    let (second, role) = name_and_role(rest)?;
+    Some((first, second, role))
 }
 
 fn element_kind(word: &[u8]) -> Option<ElementKind>
@@ -121,14 +107,9 @@ fn element_kind(word: &[u8]) -> Option<ElementKind>
 pub fn element_and_kind<'a>(words: &[&'a [u8]]) -> Option<(NameWord<'a>, ElementKind)>
     ensures { option_map shown_with result ≡ element_and_kind (shown words.now) }
 {
-    match words {
-        [] => None,
-        [word, rest @ ..] => {
-            let element = NameWord::of(*word)?;
-            let kind = element_kind(only(rest)?)?;
-            Some((element, kind))
-        }
-    }
+    let (element, rest) = name_ahead(words)?;
+    let kind = element_kind(only(rest)?)?;
+    Some((element, kind))
 }
 
 fn is_mandatory(words: &[&[u8]]) -> Option<bool>
@@ -149,26 +130,16 @@ fn is_mandatory(words: &[&[u8]]) -> Option<bool>
 fn element_read<'a>(words: &[&'a [u8]]) -> Option<(NameWord<'a>, bool)>
     ensures { option_map shown_with result ≡ element_read (shown words.now) }
 {
-    match words {
-        [] => None,
-        [word, rest @ ..] => {
-            let element = NameWord::of(*word)?;
-            let mandatory = is_mandatory(rest)?;
-            Some((element, mandatory))
-        }
-    }
+    let (element, rest) = name_ahead(words)?;
+    let mandatory = is_mandatory(rest)?;
+    Some((element, mandatory))
 }
 
 /// A node and an element that it reads, and whether it must.
 pub fn read_edge<'a>(words: &[&'a [u8]]) -> Option<(NameWord<'a>, NameWord<'a>, bool)>
     ensures { option_map shown_two_with result ≡ read_edge (shown words.now) }
 {
-    match words {
-        [] => None,
-        [word, rest @ ..] => {
-            let node = NameWord::of(*word)?;
-            let (element, mandatory) = element_read(rest)?;
-            Some((node, element, mandatory))
-        }
-    }
+    let (node, rest) = name_ahead(words)?;
+    let (element, mandatory) = element_read(rest)?;
+    Some((node, element, mandatory))
 }

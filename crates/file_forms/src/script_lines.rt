@@ -1,7 +1,7 @@
 // Lines of a phase.
 ghost use Rattle.std.specs.Prelude.{◌≡◌, option_map, map, IfOk};
 ghost use Rattle.file_words.specs.Shown.{shown, shown_pair};
-ghost use Rattle.file_forms.specs.ScriptForms.{pairs, code_ahead, choice_ahead, end_behind, end_deed, plain_deed, deed, deed_line, script_line};
+ghost use Rattle.file_forms.specs.ScriptForms.{pairs, code_ahead, choice_ahead, end_behind, end_deed, named_deed, plain_deed, deed, deed_line, script_line};
 ghost use Rattle.file_forms.specs.Shown.{shown_behind, shown_deed, shown_script_line};
 
 use crate::pieces::{one_name, two_names, two_names_ahead};
@@ -113,23 +113,32 @@ fn end_deed<'a>(alloc: Global, words: &[&'a [u8]]) -> Result<Option<Deed<'a>>, N
     }
 }
 
+/// What an actor does where one name says on what.
+fn named_deed<'a>(keyword: &[u8], name: NameWord<'a>) -> Option<Deed<'a>>
+    ensures { option_map shown_deed result ≡ named_deed keyword.now name.entry.bytes.now }
+{
+    if keyword == b"create".as_slice() {
+        Some(Deed::Create(name))
+    } else if keyword == b"change".as_slice() {
+        Some(Deed::Change(name))
+    } else if keyword == b"install".as_slice() {
+        Some(Deed::Install(name))
+    } else if keyword == b"migrate".as_slice() {
+        Some(Deed::Migrate(name))
+    } else {
+        None
+    }
+}
+
 /// What an actor does, but for an end.
 fn plain_deed<'a>(keyword: &[u8], words: &[&'a [u8]]) -> Option<Deed<'a>>
     ensures { option_map shown_deed result ≡ plain_deed keyword.now (shown words.now) }
 {
-    if keyword == b"create".as_slice() {
-        Some(Deed::Create(one_name(words)?))
-    } else if keyword == b"start".as_slice() {
+    if keyword == b"start".as_slice() {
         let (case, node) = two_names(words)?;
         Some(Deed::Start { case, node })
-    } else if keyword == b"change".as_slice() {
-        Some(Deed::Change(one_name(words)?))
-    } else if keyword == b"install".as_slice() {
-        Some(Deed::Install(one_name(words)?))
-    } else if keyword == b"migrate".as_slice() {
-        Some(Deed::Migrate(one_name(words)?))
     } else {
-        None
+        named_deed(keyword, one_name(words)?)
     }
 }
 
