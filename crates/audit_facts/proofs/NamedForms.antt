@@ -11,9 +11,9 @@ use Rattle.file_forms.specs.DeclarationForms.{actor_line, declaration_line, plai
 use Rattle.file_forms.specs.Forms.{Declaration, a_type, an_actor, a_case, first_phase, TypeLine, activity, opens_and, opens_xor, opens_branch, opens_loop, closes_block, a_sync, an_element, a_read, a_write, type_end}
 use Rattle.file_forms.specs.Forms.{Deed, to_create, to_start, to_end, to_change, to_install, to_migrate, ScriptLine, next_phase, a_deed}
 use Rattle.file_forms.specs.Forms.{NamedGap, behind, at_head, OperationLine, insert, parallel, conditional, delete, move, sync, unsync, element, read, unread, write, unwrite, set_role, group_end}
-use Rattle.file_forms.specs.OperationForms.{around_items, conditional_line, first_and_last, insert_line, last_item, list_operation, move_line, name_and_code, new_node, operation_line, parallel_line, place, role_ahead, role_line, tree_operation, with_block}
+use Rattle.file_forms.specs.OperationForms.{around_items, conditional_line, edge_line, edge_operation, first_and_last, insert_line, last_item, move_line, name_and_code, new_node, operation_line, parallel_line, place, role_ahead, role_line, row_line, tree_operation, with_block}
 use Rattle.file_forms.specs.PieceForms.{◌>>=◌, element_and_kind, element_kind, element_read, is_mandatory, name_ahead, name_and_role, nothing_more, one_name, only, read_edge, role_at_end, two_names, two_names_ahead, two_names_and_role}
-use Rattle.file_forms.specs.ScriptForms.{choice_ahead, deed, deed_line, end_behind, end_deed, pairs, plain_deed, script_line}
+use Rattle.file_forms.specs.ScriptForms.{choice_ahead, deed, deed_line, end_behind, end_deed, named_deed, pairs, plain_deed, script_line}
 use Rattle.file_forms.specs.TypeForms.{outer_line, tree_line, type_line}
 use Rattle.audit_facts.specs.Facts.{IsName}
 use Rattle.audit_facts.proofs.Options.{some-any, some-bound, some-either, some-mapped, some-or}
@@ -41,36 +41,30 @@ Both_With p = IsName p.0 × IsName p.1
 one_name-is : (ws : List Bytes) → IfSome (one_name ws) IsName
 one_name-is ws = some-bound Any IsName (only ws) name (any (only ws)) (λ w any. name-is w)
 
-two_names-are : (ws : List Bytes) → IfSome (two_names ws) Both
-two_names-are [] = tt
-two_names-are (a ∷ ws) = some-bound IsName Both (name a) _ (name-is a) (λ x h. some-bound IsName Both (one_name ws) _ (one_name-is ws) (λ y k. (h, k)))
-
 name_ahead-is : (ws : List Bytes) → IfSome (name_ahead ws) First
 name_ahead-is [] = tt
 name_ahead-is (w ∷ ws) = some-mapped IsName First (λ x. (x, ws)) (name w) (name-is w) (λ x h. h)
+
+two_names-are : (ws : List Bytes) → IfSome (two_names ws) Both
+two_names-are ws = some-bound First Both (name_ahead ws) _ (name_ahead-is ws) (λ a h. some-bound IsName Both (one_name a.1) _ (one_name-is a.1) (λ y k. (h, k)))
 
 two_ahead-are : (ws : List Bytes) → IfSome (two_names_ahead ws) Both_With
 two_ahead-are ws = some-bound First Both_With (name_ahead ws) _ (name_ahead-is ws) (λ a h. some-bound First Both_With (name_ahead a.1) _ (name_ahead-is a.1) (λ b k. (h, k)))
 
 name_role-is : (ws : List Bytes) → IfSome (name_and_role ws) First
-name_role-is [] = tt
-name_role-is (n ∷ ws) = some-bound IsName First (name n) _ (name-is n) (λ x h. some-bound Any First (role_at_end ws) _ (any (role_at_end ws)) (λ r any. h))
+name_role-is ws = some-bound First First (name_ahead ws) _ (name_ahead-is ws) (λ a h. some-bound Any First (role_at_end a.1) _ (any (role_at_end a.1)) (λ r any. h))
 
 two_role-are : (ws : List Bytes) → IfSome (two_names_and_role ws) Both_With
-two_role-are [] = tt
-two_role-are (n ∷ ws) = some-bound IsName Both_With (name n) _ (name-is n) (λ x h. some-bound First Both_With (name_and_role ws) _ (name_role-is ws) (λ p k. (h, k)))
+two_role-are ws = some-bound First Both_With (name_ahead ws) _ (name_ahead-is ws) (λ a h. some-bound First Both_With (name_and_role a.1) _ (name_role-is a.1) (λ p k. (h, k)))
 
 element_kind-is : (ws : List Bytes) → IfSome (element_and_kind ws) First
-element_kind-is [] = tt
-element_kind-is (e ∷ ws) = some-bound IsName First (name e) _ (name-is e) (λ x h. some-bound Any First (only ws >>= element_kind) _ (any (only ws >>= element_kind)) (λ k any. h))
+element_kind-is ws = some-bound First First (name_ahead ws) _ (name_ahead-is ws) (λ a h. some-bound Any First (only a.1 >>= element_kind) _ (any (only a.1 >>= element_kind)) (λ k any. h))
 
 element_read-is : (ws : List Bytes) → IfSome (element_read ws) First
-element_read-is [] = tt
-element_read-is (e ∷ ws) = some-bound IsName First (name e) _ (name-is e) (λ x h. some-bound Any First (is_mandatory ws) _ (any (is_mandatory ws)) (λ m any. h))
+element_read-is ws = some-bound First First (name_ahead ws) _ (name_ahead-is ws) (λ a h. some-bound Any First (is_mandatory a.1) _ (any (is_mandatory a.1)) (λ m any. h))
 
 read_edge-is : (ws : List Bytes) → IfSome (read_edge ws) Both_With
-read_edge-is [] = tt
-read_edge-is (n ∷ ws) = some-bound IsName Both_With (name n) _ (name-is n) (λ x h. some-bound First Both_With (element_read ws) _ (element_read-is ws) (λ p k. (h, k)))
+read_edge-is ws = some-bound First Both_With (name_ahead ws) _ (name_ahead-is ws) (λ a h. some-bound First Both_With (element_read a.1) _ (element_read-is a.1) (λ p k. (h, k)))
 
 -- ---- declarations
 abbrev pub NamedDeclaration : Declaration → Type 0
@@ -78,8 +72,7 @@ NamedDeclaration (an_actor n roles) = IsName n
 NamedDeclaration _ = Unit {0}
 
 actor-named : (ws : List Bytes) → IfSome (actor_line ws) NamedDeclaration
-actor-named [] = tt
-actor-named (n ∷ ws) = some-bound IsName NamedDeclaration (name n) _ (name-is n) (λ x h. some-bound Any NamedDeclaration (roles_at_end ws) _ (any (roles_at_end ws)) (λ rs any. h))
+actor-named ws = some-bound First NamedDeclaration (name_ahead ws) _ (name_ahead-is ws) (λ a h. some-bound Any NamedDeclaration (roles_at_end a.1) _ (any (roles_at_end a.1)) (λ rs any. h))
 
 phase-named : (ws : List Bytes) → IfSome (nothing_more first_phase ws) NamedDeclaration
 phase-named [] = tt
@@ -155,13 +148,17 @@ end-behind-named c n ws named =
 end-named : (ws : List Bytes) → IfSome (end_deed ws) NamedDeed
 end-named ws = some-bound Both_With NamedDeed (two_names_ahead ws) _ (two_ahead-are ws) (λ p h. end-behind-named p.0 p.1 p.2 h.1)
 
+named_deed-named : (k n : Bytes) → IfSome (named_deed k n) NamedDeed
+named_deed-named k n =
+    some-either NamedDeed (is (codes "create") k) _ _ tt
+    (some-either NamedDeed (is (codes "change") k) _ _ tt
+    (some-either NamedDeed (is (codes "install") k) _ _ tt
+    (some-either NamedDeed (is (codes "migrate") k) _ _ tt tt)))
+
 plain_deed-named : (k : Bytes) (ws : List Bytes) → IfSome (plain_deed k ws) NamedDeed
 plain_deed-named k ws =
-    some-either NamedDeed (is (codes "create") k) _ _ (some-mapped Any NamedDeed to_create (one_name ws) (any (one_name ws)) (λ n any. tt))
-    (some-either NamedDeed (is (codes "start") k) _ _ (some-mapped Both NamedDeed (λ p. to_start p.0 p.1) (two_names ws) (two_names-are ws) (λ p h. h.1))
-    (some-either NamedDeed (is (codes "change") k) _ _ (some-mapped Any NamedDeed to_change (one_name ws) (any (one_name ws)) (λ n any. tt))
-    (some-either NamedDeed (is (codes "install") k) _ _ (some-mapped Any NamedDeed to_install (one_name ws) (any (one_name ws)) (λ n any. tt))
-    (some-either NamedDeed (is (codes "migrate") k) _ _ (some-mapped Any NamedDeed to_migrate (one_name ws) (any (one_name ws)) (λ n any. tt)) tt))))
+    some-either NamedDeed (is (codes "start") k) _ _ (some-mapped Both NamedDeed (λ p. to_start p.0 p.1) (two_names ws) (two_names-are ws) (λ p h. h.1))
+    (some-bound Any NamedDeed (one_name ws) _ (any (one_name ws)) (λ n any. named_deed-named k n))
 
 deed-named : (ws : List Bytes) → IfSome (deed ws) NamedDeed
 deed-named [] = tt
@@ -196,8 +193,7 @@ NamedOperation (set_role n r) = IsName n
 NamedOperation group_end = Unit {0}
 
 name_code-is : (ws : List Bytes) → IfSome (name_and_code ws) First
-name_code-is [] = tt
-name_code-is (s ∷ ws) = some-bound IsName First (name s) _ (name-is s) (λ x h. some-bound Any First (only ws >>= code) _ (any (only ws >>= code)) (λ c any. h))
+name_code-is ws = some-bound First First (name_ahead ws) _ (name_ahead-is ws) (λ a h. some-bound Any First (only a.1 >>= code) _ (any (only a.1 >>= code)) (λ c any. h))
 
 place-named : (ws : List Bytes) → IfSome (place ws) NamedPlace
 place-named [] = tt
@@ -206,8 +202,7 @@ place-named (k ∷ ws) =
     (some-either NamedPlace (is (codes "head") k) _ _ (some-mapped First NamedPlace (λ p. at_head p.0 p.1) (name_and_code ws) (name_code-is ws) (λ p h. h)) tt)
 
 new_node-is : (ws : List Bytes) → IfSome (new_node ws) First_Of_Three
-new_node-is [] = tt
-new_node-is (n ∷ ws) = some-bound IsName First_Of_Three (name n) _ (name-is n) (λ x h. some-bound Any First_Of_Three (role_ahead ws) _ (any (role_ahead ws)) (λ r any. h))
+new_node-is ws = some-bound First First_Of_Three (name_ahead ws) _ (name_ahead-is ws) (λ a h. some-bound Any First_Of_Three (role_ahead a.1) _ (any (role_ahead a.1)) (λ r any. h))
 
 block-is : (ws : List Bytes) → IfSome (with_block ws) Both_With
 block-is [] = tt
@@ -217,8 +212,7 @@ last-is : (first : Bytes) (ws : List Bytes) → IsName first → IfSome (last_it
 last-is first ws named = some-either IsName (length ws == 0) _ _ named (one_name-is ws)
 
 first_last-are : (ws : List Bytes) → IfSome (first_and_last ws) Both
-first_last-are [] = tt
-first_last-are (a ∷ ws) = some-bound IsName Both (name a) _ (name-is a) (λ x h. some-bound IsName Both (last_item x ws) _ (last-is x ws h) (λ y k. (h, k)))
+first_last-are ws = some-bound First Both (name_ahead ws) _ (name_ahead-is ws) (λ a h. some-bound IsName Both (last_item a.0 a.1) _ (last-is a.0 a.1 h) (λ y k. (h, k)))
 
 items-are : (ws : List Bytes) → IfSome (around_items ws) Both
 items-are [] = tt
@@ -240,12 +234,10 @@ conditional-named ws =
     some-bound NamedPlace NamedOperation (place b.2) _ (place-named b.2) (λ p l. (h, k.0, k.1, l))))
 
 move-named : (ws : List Bytes) → IfSome (move_line ws) NamedOperation
-move-named [] = tt
-move-named (n ∷ ws) = some-bound IsName NamedOperation (name n) _ (name-is n) (λ x h. some-bound NamedPlace NamedOperation (place ws) _ (place-named ws) (λ p k. (h, k)))
+move-named ws = some-bound First NamedOperation (name_ahead ws) _ (name_ahead-is ws) (λ a h. some-bound NamedPlace NamedOperation (place a.1) _ (place-named a.1) (λ p k. (h, k)))
 
 role-named : (ws : List Bytes) → IfSome (role_line ws) NamedOperation
-role-named [] = tt
-role-named (n ∷ ws) = some-bound IsName NamedOperation (name n) _ (name-is n) (λ x h. some-bound Any NamedOperation (only ws >>= role) _ (any (only ws >>= role)) (λ r any. h))
+role-named ws = some-bound First NamedOperation (name_ahead ws) _ (name_ahead-is ws) (λ a h. some-bound Any NamedOperation (only a.1 >>= role) _ (any (only a.1 >>= role)) (λ r any. h))
 
 tree_operation-named : (k : Bytes) (ws : List Bytes) → IfSome (tree_operation k ws) NamedOperation
 tree_operation-named k ws =
@@ -256,17 +248,24 @@ tree_operation-named k ws =
     (some-either NamedOperation (is (codes "move") k) _ _ (move-named ws)
     (some-either NamedOperation (is (codes "end") k) _ _ (none-more NamedOperation group_end ws tt) tt)))))
 
-list_operation-named : (k : Bytes) (ws : List Bytes) → IfSome (list_operation k ws) NamedOperation
-list_operation-named k ws =
-    some-either NamedOperation (is (codes "sync") k) _ _ (some-mapped Both NamedOperation (λ p. sync p.0 p.1) (two_names ws) (two_names-are ws) (λ p h. h))
-    (some-either NamedOperation (is (codes "unsync") k) _ _ (some-mapped Both NamedOperation (λ p. unsync p.0 p.1) (two_names ws) (two_names-are ws) (λ p h. h))
-    (some-either NamedOperation (is (codes "element") k) _ _ (some-mapped First NamedOperation (λ p. element p.0 p.1) (element_and_kind ws) (element_kind-is ws) (λ p h. h))
+edge_operation-named : (k : Bytes) (p : Bytes × Bytes) → Both p → IfSome (edge_operation k p) NamedOperation
+edge_operation-named k p h =
+    some-either NamedOperation (is (codes "sync") k) _ _ h
+    (some-either NamedOperation (is (codes "unsync") k) _ _ h
+    (some-either NamedOperation (is (codes "unread") k) _ _ h
+    (some-either NamedOperation (is (codes "write") k) _ _ h
+    (some-either NamedOperation (is (codes "unwrite") k) _ _ h tt))))
+
+edge-named : (k : Bytes) (ws : List Bytes) → IfSome (edge_line k ws) NamedOperation
+edge-named k ws = some-bound Both NamedOperation (two_names ws) _ (two_names-are ws) (λ p h. edge_operation-named k p h)
+
+row-named : (k : Bytes) (ws : List Bytes) → IfSome (row_line k ws) NamedOperation
+row-named k ws =
+    some-either NamedOperation (is (codes "element") k) _ _ (some-mapped First NamedOperation (λ p. element p.0 p.1) (element_and_kind ws) (element_kind-is ws) (λ p h. h))
     (some-either NamedOperation (is (codes "read") k) _ _ (some-mapped Both_With NamedOperation (λ p. read p.0 p.1 p.2) (read_edge ws) (read_edge-is ws) (λ p h. h))
-    (some-either NamedOperation (is (codes "unread") k) _ _ (some-mapped Both NamedOperation (λ p. unread p.0 p.1) (two_names ws) (two_names-are ws) (λ p h. h))
-    (some-either NamedOperation (is (codes "write") k) _ _ (some-mapped Both NamedOperation (λ p. write p.0 p.1) (two_names ws) (two_names-are ws) (λ p h. h))
-    (some-either NamedOperation (is (codes "unwrite") k) _ _ (some-mapped Both NamedOperation (λ p. unwrite p.0 p.1) (two_names ws) (two_names-are ws) (λ p h. h))
-    (some-either NamedOperation (is (codes "role") k) _ _ (role-named ws) tt)))))))
+    (some-either NamedOperation (is (codes "role") k) _ _ (role-named ws) tt))
 
 pub operation-named : (ws : List Bytes) → IfSome (operation_line ws) NamedOperation
 operation-named [] = tt
-operation-named (k ∷ ws) = some-or NamedOperation (tree_operation k ws) (list_operation k ws) (tree_operation-named k ws) (list_operation-named k ws)
+operation-named (k ∷ ws) =
+    some-or NamedOperation (tree_operation k ws) _ (tree_operation-named k ws) (some-or NamedOperation (edge_line k ws) (row_line k ws) (edge-named k ws) (row-named k ws))
