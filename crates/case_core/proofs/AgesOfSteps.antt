@@ -1,5 +1,5 @@
 -- An event raises the age of a case by its weight at most.
-use Rattle.std.proofs.Common.{◌≡◌, ℕ, ◌+◌, ◌-◌, ◌*◌, ◌≤◌, Bool, true, false, not, List, ◌++◌, length, length-append, ◌==◌, refl, arith, Option, Some, None, Result, Ok, Err}
+use Rattle.std.proofs.Common.{◌≡◌, ℕ, ◌+◌, ◌*◌, ◌≤◌, Bool, true, false, not, List, ◌++◌, length, length-append, ◌==◌, refl, arith, Option, Some, None, Result, Ok, Err}
 use Rattle.case_core.specs.Ages.{age, live_age, weight}
 use Rattle.case_core.specs.CaseModel.{CaseModel, LiveModel, created_on, is_finished, replay_of_case}
 use Rattle.case_core.specs.Machine.{next_case, event_on, start_on, end_on, start_refusal, end_refusal, repeats, when_reply, or_reply, with_live, with_trail, ended_trail, ended_reply, start_entry, reads_now, misfit, failed_at, changed, change_with, change_live, migrated, migrate_with, migrate_live, migrate_refusal}

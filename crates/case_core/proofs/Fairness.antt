@@ -1,12 +1,11 @@
 -- What a case shows: it is never stuck, what is offered has its values, and what is held writes apart.
-use Rattle.std.proofs.Common.{◌≡◌, ◌⊎◌, ℕ, Bool, true, false, ◌&&◌, ◌||◌, not, List, [], ◌∷◌, ◌++◌, map, cond, flat_map, refl, ap, sym, ◌∙◌, subst, inl, inr, Option, Some, None, is_some, eqb}
-use Rattle.std.specs.Prelude.{◌==◌}
+use Rattle.std.proofs.Common.{◌≡◌, ℕ, true, false, ◌||◌, List, [], ◌∷◌, ◌++◌, map, cond, flat_map, refl, ap, sym, ◌∙◌, subst, inl, inr, Option, Some, None, is_some, eqb}
 use Rattle.std.proofs.lemmas.Bool.{cases_Bool, both_ways, or_cases, or_left, or_right, eqb-true, eq-eqb}
 use Rattle.std.proofs.lemmas.Option.{same_Some}
-use Rattle.case_core.specs.CaseModel.{LiveModel, replay_of_case, shown_after, shown_spots, state_of, value_now, is_finished}
+use Rattle.case_core.specs.CaseModel.{LiveModel, replay_of_case, shown_after, shown_spots, is_finished}
 use Rattle.case_core.specs.Kept.{Kept}
 use Rattle.case_core.specs.Shown.{item_in, item_of, items_of, values_of, shown_live}
-use Rattle.case_core.specs.Promises.{has_work, goes_on, holds, is_held, IsFilled, AreApart, IsFair}
+use Rattle.case_core.specs.Promises.{has_work, goes_on, is_held, IsFilled, IsFair}
 use Rattle.case_core.specs.declared.items.Item.{Item}
 use Rattle.case_core.specs.declared.items.Item.TheVariants as item
 use Rattle.case_core.proofs.Keeping.{table-of, state-is}
@@ -27,10 +26,9 @@ use Rattle.wsm_schema.specs.Rank.{IsRank}
 use Rattle.wsm_schema.specs.Trail.{is_one_of}
 use Rattle.wsm_schema.specs.declared.places.Place.{Place}
 use Rattle.wsm_schema.specs.Replay.{whole, is_in_state}
-use Rattle.wsm_schema.specs.Rules.{Spots, spot, spot_in, marking_of}
-use Rattle.wsm_schema.specs.Sound.{Sound, writes_of}
+use Rattle.wsm_schema.specs.Rules.{Spots, spot_in, marking_of}
+use Rattle.wsm_schema.specs.Sound.{Sound}
 use Rattle.wsm_schema.specs.declared.cards.Card.{Card}
-use Rattle.wsm_schema.specs.declared.entries.Entry.{Entry}
 use Rattle.wsm_schema.specs.declared.states.Spot.{Spot}
 use Rattle.wsm_schema.specs.declared.states.State.{State}
 use Rattle.wsm_schema.specs.declared.states.State.TheVariants.{NotActivated, Activated, Running, Completed, Skipped}

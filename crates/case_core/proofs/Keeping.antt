@@ -1,12 +1,12 @@
 -- What every step keeps of a case that was created.
-use Rattle.std.proofs.Common.{◌≡◌, ◌⊎◌, ℕ, ◌+◌, ◌<◌, ◌^◌, Bool, true, false, ◌&&◌, ◌||◌, not, List, [], ◌∷◌, ◌++◌, map, filter, find, length, refl, ap, sym, ◌∙◌, subst, inl, inr, arith, Option, Some, None, is_some, Ok, eqb}
+use Rattle.std.proofs.Common.{◌≡◌, ℕ, ◌<◌, ◌^◌, true, false, ◌||◌, List, [], ◌∷◌, ◌++◌, map, filter, length, refl, ap, sym, ◌∙◌, subst, inl, inr, arith, Option, Some, None, is_some, Ok, eqb}
 use Rattle.std.specs.Prelude.{◌==◌}
 use Rattle.std.proofs.lemmas.Bool.{cases_Bool, both_ways, and_parts, eqb-true}
 use Rattle.std.proofs.lemmas.Option.{same_Some}
 use Rattle.std.proofs.Math.Bool.{or-false}
-use Rattle.case_core.specs.CaseModel.{LiveModel, created_on, on_schema, replay_of_case, shown_after, shown_spots, state_of, value_now}
+use Rattle.case_core.specs.CaseModel.{LiveModel, created_on, on_schema, replay_of_case, shown_after, state_of, value_now}
 use Rattle.case_core.specs.Kept.{Kept}
-use Rattle.case_core.specs.Machine.{start_refusal, end_refusal, start_entry, reads_now, repeats, repeated_trail, with_trail, wrong_reply}
+use Rattle.case_core.specs.Machine.{start_refusal, end_refusal, start_entry, repeats, repeated_trail, with_trail, wrong_reply}
 use Rattle.case_writes.proofs.RightWrites.{right-writes}
 use Rattle.case_writes.specs.Writes.{number_key, wrong_elements, by_element}
 use Rattle.wsm_lists.proofs.Lists.{all_rows, rows-append}
@@ -18,7 +18,6 @@ use Rattle.wsm_marks.proofs.NoFault.{no_either, no_when, not_false}
 use Rattle.wsm_marks.proofs.ReadyValues.{activated-values, running-begun}
 use Rattle.wsm_marks.proofs.Repeats.{loop-of_schema, repeat-whole}
 use Rattle.wsm_marks.proofs.SoundSchemas.{sound-regular}
-use Rattle.wsm_marks.specs.Loops.{LoopOf}
 use Rattle.wsm_replay.proofs.OneEntryMore.{marking_of-spots}
 use Rattle.wsm_schema.specs.Flat.{cards_of, card_at, card_of, flat_of, loop_nodes}
 use Rattle.wsm_schema.specs.Kinds.{is_loop_end}
@@ -30,7 +29,7 @@ use Rattle.wsm_schema.specs.Replay.{Outcome, whole, fails, replay_of, is_in_stat
 use Rattle.wsm_schema.specs.Rules.{Spots, spot_in}
 use Rattle.wsm_schema.specs.SchemaModel.{SchemaModel}
 use Rattle.wsm_schema.specs.Sound.{Sound}
-use Rattle.wsm_schema.specs.Trail.{TrailModel, pushed, cut_by, value_below}
+use Rattle.wsm_schema.specs.Trail.{pushed, value_below}
 use Rattle.wsm_schema.specs.Tree.{Gate, Part, Parts, Lanes, act, gate, loop, nothing, part, no_lane, lane}
 use Rattle.wsm_schema.specs.declared.cards.Card.{Card}
 use Rattle.wsm_schema.specs.declared.cards.End.{End}
@@ -50,7 +49,6 @@ use Rattle.wsm_steps.proofs.Positions.{rises-after, last-below}
 use Rattle.wsm_steps.specs.Whole.{is_whole}
 use Rattle.wsm_trail.proofs.Cutting.{rises_cut}
 use Rattle.wsm_trail.proofs.Rising.{rises_push}
-use Rattle.wsm_trail.specs.TrailWithRoom.{Rises}
 
 -- a replay that fails nowhere ends in a table
 pub table-of : (o : Outcome) → is_whole o ≡ true → (t : Spots) × (o ≡ whole t)
@@ -125,6 +123,10 @@ mutual
 places-partners : (s : SchemaModel) → AllRows HasPartner (places s.start s.body s.finish)
 places-partners s = ((λ h. absurd (both_ways _ refl h)), rows-append HasPartner (parts_places s.body (plain_end s.start) s.finish) _ (parts-partners s.body (plain_end s.start) s.finish) ((λ h. absurd (both_ways _ refl h)), tt))
 
+-- so the end of a loop has its start
+pub loop-partner : (s : SchemaModel) (n : ℕ) (c : Card) → card_at n (cards_of s) ≡ Some c → is_loop_end c.kind ≡ true → (m : ℕ) × (c.partner ≡ Some m)
+loop-partner s n c at = found-card s HasPartner (λ k. is_loop_end k.kind ≡ true → (m : ℕ) × (k.partner ≡ Some m)) (λ p h. h) n (places s.start s.body s.finish) (places-partners s) c at
+
 module _ (l : LiveModel) (kept : Kept l) (n user : ℕ) (c : Card) (at : card_at n (cards_of l.schema) ≡ Some c) where
   abbrev rank : List ℕ
   rank = kept.checked.rank
@@ -174,8 +176,8 @@ module _ (l : LiveModel) (kept : Kept l) (n user : ℕ) (c : Card) (at : card_at
       (start-applies (flat_of l.schema) table.0 (λ d. value_below d next es) n user c at (state-in Activated (ready roles none)) (read-there_now roles none)))
 
   module _ (writes : Written) (choice : Option ℕ) (none : end_refusal l c n user writes choice ≡ None) where
-    running : is_in_state (state_of l n) Running ≡ true
-    running = not_false _ (no_when _ _ (no_either _ _ none).0)
+    pub ended-running : is_in_state (state_of l n) Running ≡ true
+    ended-running = not_false _ (no_when _ _ (no_either _ _ none).0)
 
     behind : (wrong_elements l.schema.elements c.writes writes ≡ []) × ((fits_choice c choice || repeats c choice) ≡ true)
     behind =
@@ -194,16 +196,16 @@ module _ (l : LiveModel) (kept : Kept l) (n user : ℕ) (c : Card) (at : card_at
         let chosen : fits_choice c choice ≡ true = sym (or-false (fits_choice c choice)) ∙ ap (λ b. fits_choice c choice || b) (sym leaves) ∙ behind.1 in
         kept-push (entry.End n (by_element writes) choice) (λ k. refl)
         (next-whole (flat_of l.schema) es next (entry.End n (by_element writes) choice) kept.rises table.0 table.1
-        (end-applies (flat_of l.schema) table.0 (λ d. value_below d next es) n (by_element writes) choice c at (state-in Running running) right chosen))
+        (end-applies (flat_of l.schema) table.0 (λ d. value_below d next es) n (by_element writes) choice c at (state-in Running ended-running) right chosen))
 
     -- the end of a loop that goes on
     pub kept-repeat : repeats c choice ≡ true → Kept (with_trail l (repeated_trail l n (by_element writes)))
     kept-repeat goes_on =
         let ends : is_loop_end c.kind ≡ true = (and_parts (is_loop_end c.kind) _ goes_on).0 in
-        let partner = found-card l.schema HasPartner (λ k. is_loop_end k.kind ≡ true → (m : ℕ) × (k.partner ≡ Some m)) (λ p h. h) n (places l.schema.start l.schema.body l.schema.finish) (places-partners l.schema) c at ends in
+        let partner = loop-partner l.schema n c at ends in
         let regular = sound-regular l.schema sound.blocks in
         let body = loop_nodes (cards_of l.schema) n in
-        let begun = running-begun l.schema rank is es table.0 (rises-after 0 next es kept.rises) table.1 next (last-below 0 next es kept.rises) n c at (state-in Running running) in
+        let begun = running-begun l.schema rank is es table.0 (rises-after 0 next es kept.rises) table.1 next (last-below 0 next es kept.rises) n c at (state-in Running ended-running) in
         let again = repeat-whole l.schema regular rank is partner.0 n c at ends partner.1 es table.0 (rises-after 0 next es kept.rises) table.1 next (last-below 0 next es kept.rises) begun.0 begun.1 (by_element writes) in
         record {
           checked = kept.checked;

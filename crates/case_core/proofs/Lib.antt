@@ -1,6 +1,10 @@
 pub mod NoOverlap
 pub mod AgesOfSteps
-pub mod States
 pub mod Keeping
+pub mod Marked
+pub mod ItemRows
 pub mod Fairness
 pub mod Starts
+pub mod TrailFacts
+pub mod CheckedSchemas
+pub mod Journals

@@ -1,5 +1,5 @@
 -- A case without own operations has none in common with a version.
-use Rattle.std.proofs.Common.{◌≡◌, false, List, [], ◌∷◌, filter, refl, None, ap}
+use Rattle.std.proofs.Common.{◌≡◌, List, [], ◌∷◌, filter, refl, None, ap}
 use Rattle.wsm_ops.specs.declared.operations.Op.{Op}
 use Rattle.wsm_foot.specs.Foot.{all_changes, is_among, least, least_overlap}
 use Rattle.wsm_foot.specs.declared.names.Name.{Name}

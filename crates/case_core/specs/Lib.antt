@@ -1,8 +1,9 @@
 pub mod CaseModel
 pub mod Codes
 pub mod Machine
-pub mod Replayed
+pub mod Remarks
 pub mod Shown
 pub mod Ages
 pub mod Kept
 pub mod Promises
+pub mod Journals

@@ -1,7 +1,7 @@
 -- What a case promises of what it shows.
 use Rattle.std.specs.Prelude.{◌≡◌, ℕ, Bool, true, false, ◌||◌, ◌==◌, List, [], ◌∷◌, Option, Some, None, is_some, if◌then◌else◌}
 use Rattle.std.specs.List.{list_any}
-use Rattle.case_core.specs.CaseModel.{CaseModel, LiveModel}
+use Rattle.case_core.specs.CaseModel.{CaseModel, LiveModel, state_of, value_now}
 use Rattle.case_core.specs.declared.events.Event.{Event}
 use Rattle.case_core.specs.declared.events.Event.TheVariants as event
 use Rattle.case_core.specs.declared.items.Item.{Item}
@@ -10,13 +10,18 @@ use Rattle.case_core.specs.declared.replies.Reply.{Reply}
 use Rattle.case_core.specs.declared.replies.Reply.TheVariants as reply
 use Rattle.case_core.specs.declared.views.View.{View}
 use Rattle.case_core.specs.declared.views.View.TheVariants as view
-use Rattle.wsm_lists.specs.Rows.{AllRows}
+use Rattle.wsm_lists.specs.Keys.{first}
+use Rattle.wsm_lists.specs.Rows.{AllRows, Ascends}
 use Rattle.wsm_lists.specs.Values.{Written, value_in}
 use Rattle.wsm_lists.specs.declared.values.Value.{Value}
 use Rattle.wsm_schema.specs.Flat.{cards_of, card_at}
 use Rattle.wsm_schema.specs.SchemaModel.{SchemaModel}
 use Rattle.wsm_schema.specs.Sound.{writes_of}
 use Rattle.wsm_schema.specs.declared.cards.Card.{Card}
+use Rattle.wsm_schema.specs.Replay.{is_in_state}
+use Rattle.wsm_schema.specs.declared.entries.Entry.TheVariants as entry
+use Rattle.wsm_schema.specs.declared.states.State.TheVariants.{Running}
+use Rattle.wsm_trail.specs.EntryAt.{entry_at}
 
 abbrev pub has_work : List Item → Bool
 has_work [] = false
@@ -70,3 +75,32 @@ ReadsAll l node _ = Unit {0}
 abbrev pub StartsFilled : Option LiveModel → Event → Reply → Type 0
 StartsFilled (Some l) (event.Start node user roles) r = ReadsAll l node r
 StartsFilled _ _ r = Unit {0}
+
+-- the values that are shown are those of the last writes below the next position, ascending by element
+abbrev pub AreLastWrites : LiveModel → View → Type 0
+AreLastWrites l view.None = Unit {0}
+AreLastWrites l (view.Live version own finished marking values items) = Ascends first values × ((d : ℕ) → value_in d values ≡ value_now l d)
+
+abbrev pub ShowsLastWrites : Option LiveModel → View → Type 0
+ShowsLastWrites None shown = Unit {0}
+ShowsLastWrites (Some l) shown = AreLastWrites l shown
+
+-- the entry that a blocked reply names stands in the trail at its position
+abbrev pub NamesEntry : LiveModel → Reply → Type 0
+NamesEntry l (reply.Blocked position e) = entry_at position l.trail.entries ≡ Some e
+NamesEntry l _ = Unit {0}
+
+abbrev pub NamesEntryIn : Option LiveModel → Reply → Type 0
+NamesEntryIn None r = Unit {0}
+NamesEntryIn (Some l) r = NamesEntry l r
+
+-- who holds a node started it: the trail has the Start
+abbrev pub HasStart : LiveModel → ℕ → ℕ → Type 0
+HasStart l n user = (p : ℕ) × (reads : List (ℕ × Option Value)) × (entry_at p l.trail.entries ≡ Some (entry.Start n user reads))
+
+abbrev pub StartedWhereRunning : LiveModel → ℕ → ℕ → Type 0
+StartedWhereRunning l n user = is_in_state (state_of l n) Running ≡ true → HasStart l n user
+
+abbrev pub HolderStarted : Option LiveModel → ℕ → Option ℕ → Type 0
+HolderStarted (Some l) n (Some user) = HasStart l n user
+HolderStarted _ n _ = Unit {0}

@@ -1,5 +1,5 @@
 -- What a case shows: its marking, its values and its work items.
-use Rattle.std.specs.Prelude.{ℕ, Bool, List, [], ◌∷◌, length, flat_map, Option, Some, None, if◌then◌else◌}
+use Rattle.std.specs.Prelude.{ℕ, List, [], ◌∷◌, length, flat_map, Option, Some, None, if◌then◌else◌}
 pub use Rattle.case_core.specs.CaseModel.{shown_after, shown_spots, is_finished}
 use Rattle.case_core.specs.CaseModel.{CaseModel, LiveModel, state_of, shown_spots, is_finished}
 use Rattle.case_core.specs.Machine.{holder_of}
@@ -11,7 +11,7 @@ use Rattle.case_core.specs.declared.items.Item.{Item}
 use Rattle.case_core.specs.declared.items.Item.TheVariants as item
 use Rattle.wsm_schema.specs.Flat.{cards_of, card_at}
 use Rattle.wsm_schema.specs.Kinds.{worked_on}
-use Rattle.wsm_schema.specs.Replay.{is_in_state}
+use Rattle.wsm_schema.specs.Rules.{spot_in}
 use Rattle.wsm_schema.specs.declared.states.Spot.{Spot}
 use Rattle.wsm_schema.specs.declared.cards.Card.{Card}
 use Rattle.wsm_schema.specs.declared.states.State.{State}
@@ -26,6 +26,10 @@ item_in l c _ = []
 abbrev pub item_of : LiveModel → Spot → Option Card → List Item
 item_of l s None = []
 item_of l s (Some c) = if worked_on c.kind then item_in l c s.state else []
+
+-- that of a node
+abbrev pub items_at : LiveModel → ℕ → List Item
+items_at l n = item_of l (spot_in n (shown_spots l)) (card_at n (cards_of l.schema))
 
 -- an item, where there is one
 abbrev pub items_in : Option Item → List Item

@@ -3,9 +3,10 @@ ghost use Rattle.std.specs.Prelude.{◌≡◌, ◌==◌, ◌+◌, ◌≤◌, tru
 ghost use Rattle.std.specs.Option.{option_copied, option_map};
 ghost use Rattle.case_core.specs.Ages.{age, weight};
 ghost use Rattle.case_core.specs.CaseModel.{not_created};
-ghost use Rattle.case_core.specs.Kept.{KeptIn};
+ghost use Rattle.case_core.specs.Journals.{JournalsKeep};
+ghost use Rattle.case_core.specs.Kept.{KeptIn, OnceIn};
 ghost use Rattle.case_core.specs.Machine.{next_case};
-ghost use Rattle.case_core.specs.Promises.{IsFairView, StartsFilled, goes_on};
+ghost use Rattle.case_core.specs.Promises.{HolderStarted, IsFairView, NamesEntryIn, ShowsLastWrites, StartsFilled, goes_on};
 ghost use Rattle.case_core.specs.Shown.{own_of, shown, shown_state, shown_holder};
 
 use crate::events::Event;
@@ -40,7 +41,10 @@ impl Model for Case {
 impl Case {
     /// A case of the type that is not created.
     pub fn new(type_no: u32) -> Case
-        ensures { result ≡ not_created type_no }
+        ensures case { result ≡ not_created type_no }
+
+        // Whatever events come to it, it keeps what a case keeps: what it shows is never stuck, and finds its data.
+        ensures journals { JournalsKeep type_no }
     {
         Case {
             type_no,
@@ -58,6 +62,9 @@ impl Case {
 
         // A start that is accepted read a value for each element that the node must read.
         ensures filled { IfOk result (λ replies. StartsFilled self.old.live event.now replies.0) }
+
+        // The entry that a blocked reply names stands in the trail at its position.
+        ensures named { IfOk result (λ replies. NamesEntryIn self.old.live replies.0) }
         ensures err { OnErr result (self.new ≡ self.old) }
     {
         let _ = self.live();
@@ -139,6 +146,9 @@ impl Case {
 
         // What an offered node must read is there, and no two held nodes write one element.
         ensures fair { IfOk result (IsFairView self.now) }
+
+        // The values are those of the last writes below the next position.
+        ensures values { IfOk result (ShowsLastWrites self.now.live) }
     {
         match &self.live {
             None => Ok(View::None),
@@ -157,9 +167,11 @@ impl Case {
         Some(live)
     }
 
-    /// What was started and ended. None where the case is not created.
+    /// What was started and ended. None where the case is not created. Each node has one Start, one End and one Again there,
+    /// or none.
     pub fn trail(&self) -> Option<&Trail>
-        ensures { option_map (λ t. t.trail) (option_copied result) ≡ option_map (λ l. l.trail) self.now.live }
+        ensures once { OnceIn self.now.live }
+        ensures trail { option_map (λ t. t.trail) (option_copied result) ≡ option_map (λ l. l.trail) self.now.live }
     {
         match &self.live {
             None => None,
@@ -212,7 +224,10 @@ impl Case {
 
     /// The user who holds a running node. None where the node is not running.
     pub fn holder(&self, node: u32) -> Option<u32>
-        ensures { result ≡ shown_holder self.now.live node }
+        ensures holder { result ≡ shown_holder self.now.live node }
+
+        // The trail has the Start of who holds the node.
+        ensures started { HolderStarted self.now.live node result }
     {
         match &self.live {
             None => None,

@@ -8,6 +8,8 @@ mod items;
 mod live;
 mod replies;
 mod showing;
+mod spots;
+mod timing;
 mod views;
 mod work;
 

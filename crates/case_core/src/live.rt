@@ -1,41 +1,48 @@
 // A case that was created.
-ghost use Rattle.std.specs.Prelude.{◌≡◌, ◌+◌, ◌<◌, ◌^◌, Ok, is_some, length, IfOk, OnOk, OnErr, if◌then◌else◌};
+ghost use Rattle.std.specs.Prelude.{◌≡◌, ◌+◌, ◌<◌, ◌^◌, Ok, is_some, length, flat_map, IfOk, OnOk, OnErr, if◌then◌else◌};
 ghost use Rattle.std.specs.Option.{option_copied};
 ghost use Rattle.case_core.specs.CaseModel.{created_on, on_schema, replay_of_case, state_of, value_now};
-ghost use Rattle.case_core.specs.Kept.{Kept};
+ghost use Rattle.case_core.specs.Kept.{IsOnceEach, Kept, marks_in};
 ghost use Rattle.case_core.specs.Machine.{failed_at, holder_of, reads_now, repeated_trail, with_trail};
-ghost use Rattle.case_core.specs.Replayed.{state_in};
-ghost use Rattle.case_core.specs.Shown.{is_finished, shown_spots};
+ghost use Rattle.case_core.specs.Promises.{StartedWhereRunning};
+ghost use Rattle.case_core.specs.Remarks.{AgainRemarks, EndRemarks, Remarks, RunsLoop, StartRemarks};
+ghost use Rattle.case_core.specs.Shown.{is_finished, items_at, items_of, shown_spots};
 ghost use Rattle.wsm_ops.specs.Apply.{applied};
-ghost use Rattle.wsm_schema.specs.Flat.{flat_of, card_at};
+ghost use Rattle.wsm_schema.specs.Flat.{flat_of, card_at, cards_of};
+ghost use Rattle.wsm_schema.specs.Rules.{spot_in};
 ghost use Rattle.wsm_schema.specs.Trail.{cut_by, pushed};
 
+use crate::spots::{spot_by, unmarked};
+use crate::timing::{Uncounted, started, starter, timed_on};
 use std::alloc::Global;
 use std::marker::Model;
 use std::sync::Arc;
-use wsm_lists::copy_option;
+use wsm_lists::{GrowingTable, copy_option};
 use wsm_ops::Ops;
-use wsm_replay::{Replayed, extend, replay, spot_in};
-use wsm_schema::{Card, Entry, Marking, NoMemory, Nodes, ReadValues, Spot, State, Value, Writes};
+use wsm_rules::{Changes, Marks};
+use wsm_schema::{
+    BySpot, Card, Entry, Marking, NoMemory, Nodes, ReadValues, Spot, State, Value, Writes,
+};
+use wsm_settle::{TimedMarks, after_again, after_end, after_start};
 use wsm_sound::{Checked, Version};
 use wsm_trail::Trail;
 
-/// A case that was created: its version, its own operations, its schema, its trail, and the replay of the trail on the schema.
+/// A case that was created: its version, its own operations, its schema, its trail, and the marks of the trail on the schema.
 #[derive(Drop)]
 pub struct Live {
     base: Version,
     own: Ops,
     schema: Arc<Checked>,
     trail: Trail,
-    replayed: Replayed,
+    marks: Marks,
 }
 
 impl Model for Live {
     ghost use Rattle.std.specs.Prelude.{◌≡◌};
-    ghost use Rattle.case_core.specs.CaseModel.{LiveModel, replay_of_case};
+    ghost use Rattle.case_core.specs.CaseModel.{LiveModel};
     ghost use Rattle.case_core.specs.Codes.{live_code};
-    ghost use Rattle.wsm_replay.specs.Answer.{answer};
-    ghost use Rattle.wsm_schema.specs.Flat.{cards_of};
+    ghost use Rattle.wsm_schema.specs.Flat.{flat_of};
+    ghost use Rattle.wsm_schema.specs.Marks.{marks_of};
 
     ghost Value = { LiveModel };
 
@@ -45,7 +52,7 @@ impl Model for Live {
 
     ghost view = { λ a. record { base = a.base; own = a.own; schema = a.schema.value; trail = a.trail.trail } };
 
-    ghost invariant = { λ a. Kept (record { base = a.base; own = a.own; schema = a.schema.value; trail = a.trail.trail }) × (a.replayed ≡ answer (cards_of a.schema.value) (replay_of_case (record { base = a.base; own = a.own; schema = a.schema.value; trail = a.trail.trail }))) };
+    ghost invariant = { λ a. Kept (record { base = a.base; own = a.own; schema = a.schema.value; trail = a.trail.trail }) × (a.marks.rows ≡ marks_of (flat_of a.schema.value) a.trail.trail.entries) };
 }
 
 impl Live {
@@ -55,14 +62,16 @@ impl Live {
     {
         let schema = version.share_schema()?;
         let trail = Trail::new(alloc);
-        let replayed = replay(alloc, schema.flat(), schema.rank(), &trail)?;
-        Ok(Live {
-            base: version.share()?,
-            own: Ops::new(alloc),
-            schema,
-            trail,
-            replayed,
-        })
+        match timed_on(alloc, &schema, &trail)? {
+            TimedMarks::Fails { .. } => unreachable!(),
+            TimedMarks::Whole(marks) => Ok(Live {
+                base: version.share()?,
+                own: Ops::new(alloc),
+                schema,
+                trail,
+                marks,
+            }),
+        }
     }
 
     /// The version that the case stands on.
@@ -88,9 +97,10 @@ impl Live {
         &self.schema
     }
 
-    /// What was started and ended.
+    /// What was started and ended. Each node has one Start, one End and one Again there, or none.
     pub fn trail(&self) -> &Trail
-        ensures { result.now.trail ≡ self.now.trail }
+        ensures trail { result.now.trail ≡ self.now.trail }
+        ensures once { IsOnceEach self.now.trail.entries }
     {
         &self.trail
     }
@@ -107,27 +117,45 @@ impl Live {
     pub fn state(&self, node: u32) -> State
         ensures { result ≡ state_of self.now node }
     {
-        state_in(&self.replayed, node)
+        self.spot(node).state
     }
 
-    /// The spots of the case's nodes in ascending order of nodes.
-    pub fn spots(&self) -> &[Spot]
-        ensures { result.now ≡ shown_spots self.now }
+    /// The spot of a node, by its mark.
+    pub fn spot(&self, node: u32) -> Spot
+        ensures { result ≡ spot_in node (shown_spots self.now) }
     {
-        match &self.replayed {
-            Replayed::Whole(marking) => marking.as_slice(),
-            Replayed::Fails { .. } => &[],
+        match self.card(node) {
+            None => unmarked(node),
+            Some(card) => spot_by(card.kind, node, self.marks().get(node)),
         }
+    }
+
+    /// The marks of the nodes of which something is known. Each node with a work item is one of them.
+    pub fn marks(&self) -> &Marks
+        ensures rows { result.now.rows ≡ marks_in self.now }
+        ensures items { items_of self.now ≡ flat_map (λ r. items_at self.now r.0) result.now.rows }
+        ensures kept { Kept self.now }
+    {
+        &self.marks
+    }
+
+    // The cards of the schema's nodes.
+    fn cards(&self) -> &[Card]
+        ensures cards { result.now ≡ cards_of self.now.schema }
+        ensures kept { Kept self.now }
+    {
+        self.schema.flat().cards()
     }
 
     /// The marking: the spots of the case's nodes.
     pub fn marking(&self, alloc: Global) -> Result<Marking, NoMemory>
         ensures { IfOk result (λ marking. marking ≡ shown_spots self.now) }
     {
-        match &self.replayed {
-            Replayed::Whole(marking) => marking.copy(alloc),
-            Replayed::Fails { .. } => Ok(Marking::new(alloc)),
+        let mut spots = GrowingTable::<BySpot>::new(alloc);
+        for card in self.cards() {
+            spots.set(self.spot(card.node))?;
         }
+        spots.into_table(alloc)
     }
 
     /// Whether the finish node is completed.
@@ -144,23 +172,12 @@ impl Live {
         self.trail.value(element)
     }
 
-    /// The user who started a node last, or 0.
+    /// The user who started a node last, or 0. The trail has the Start of a node that is running.
     pub fn holder(&self, node: u32) -> u32
-        ensures { result ≡ holder_of self.now node }
+        ensures holder { result ≡ holder_of self.now node }
+        ensures started { StartedWhereRunning self.now node result }
     {
-        for entry in self.trail.entries() {
-            if let Entry::Start {
-                node: started,
-                user,
-                ..
-            } = &entry.1
-            {
-                if *started == node {
-                    return *user;
-                }
-            }
-        }
-        0
+        starter(self.trail(), started(self.marks(), node))
     }
 
     /// The values that a start of the node would read.
@@ -174,24 +191,79 @@ impl Live {
         Ok(ReadValues::from_vec(reads))
     }
 
-    /// One more entry.
-    pub fn append(&mut self, alloc: Global, entry: Entry) -> Result<(), NoMemory>
+    /// What the start of a node would change of the marks.
+    pub fn start_changes(&self, alloc: Global, node: u32) -> Result<Changes, NoMemory>
+        ensures { IfOk result (StartRemarks self.now node) }
+    {
+        let mut marks = Uncounted {
+            marks: self.marks(),
+        };
+        after_start(
+            alloc,
+            self.checked().flat(),
+            &mut marks,
+            node,
+            self.trail().next(),
+        )
+    }
+
+    /// What the end of a node with that choice would change of the marks.
+    pub fn end_changes(
+        &self,
+        alloc: Global,
+        node: u32,
+        choice: Option<u16>,
+    ) -> Result<Changes, NoMemory>
+        ensures { IfOk result (EndRemarks self.now node choice) }
+    {
+        let mut marks = Uncounted {
+            marks: self.marks(),
+        };
+        let schema = self.checked();
+        let position = self.trail().next();
+        after_end(
+            alloc,
+            schema.flat(),
+            schema.rank(),
+            &mut marks,
+            node,
+            position,
+            choice,
+        )
+    }
+
+    /// What the loop that ends with the node would change of the marks if it went on once more.
+    pub fn again_changes(&self, alloc: Global, node: u32) -> Result<Changes, NoMemory>
+        requires { RunsLoop self.now node }
+        ensures { IfOk result (AgainRemarks self.now node) }
+    {
+        let mut marks = Uncounted {
+            marks: self.marks(),
+        };
+        let schema = self.checked();
+        let position = self.trail().next();
+        after_again(
+            alloc,
+            schema.flat(),
+            schema.rank(),
+            &mut marks,
+            node,
+            position,
+        )
+    }
+
+    /// One more entry, with what it changes of the marks.
+    pub fn append(&mut self, entry: Entry, changes: Changes) -> Result<(), NoMemory>
         requires position { self.old.trail.next + 1 < 2 ^ 32 }
         requires kept { Kept (with_trail self.old (pushed entry self.old.trail)) }
+        requires marks { Remarks self.old (pushed entry self.old.trail) changes }
         ensures ok { OnOk result (self.new ≡ with_trail self.old (pushed entry self.old.trail)) }
         ensures err { OnErr result (self.new ≡ self.old) }
     {
-        let replayed = extend(
-            alloc,
-            self.schema.flat(),
-            self.schema.rank(),
-            &self.trail,
-            &self.replayed,
-            &entry,
-        )?;
         self.trail.reserve_for(&entry)?;
+        self.marks.reserve(changes.len())?;
         self.trail.push(entry);
-        self.replayed = replayed;
+        self.marks.take_in(changes);
         Ok(())
     }
 
@@ -210,55 +282,49 @@ impl Live {
         ensures live { IfOk result (λ failed. self.new ≡ (if is_some failed then self.old else on_schema self.old base own schema.value)) }
         ensures err { OnErr result (self.new ≡ self.old) }
     {
-        let replayed = replay(alloc, schema.flat(), schema.rank(), &self.trail)?;
-        if let Replayed::Fails { position } = replayed {
-            return Ok(Some(position));
+        match timed_on(alloc, &schema, &self.trail)? {
+            TimedMarks::Fails { position } => Ok(Some(position)),
+            TimedMarks::Whole(marks) => {
+                self.base = base;
+                self.own = own;
+                self.schema = schema;
+                self.marks = marks;
+                Ok(None)
+            }
         }
-        self.base = base;
-        self.own = own;
-        self.schema = schema;
-        self.replayed = replayed;
-        Ok(None)
     }
 
     /// The loop that ends with the node goes on once more.
     pub fn repeat(&mut self, alloc: Global, node: u32, writes: Writes) -> Result<(), NoMemory>
         requires position { self.old.trail.next + 1 < 2 ^ 32 }
         requires kept { Kept (with_trail self.old (repeated_trail self.old node writes)) }
+        requires running { RunsLoop self.old node }
         ensures ok { OnOk result (self.new ≡ with_trail self.old (repeated_trail self.old node writes)) }
         ensures err { OnErr result (self.new ≡ self.old) }
     {
-        let body = self.schema.flat().loop_body(alloc, node)?;
-        let trail = repeated_trail(alloc, &self.trail, &body, Entry::Again { node, writes })?;
-        self.replayed = replay(alloc, self.schema.flat(), self.schema.rank(), &trail)?;
-        self.trail = trail;
-        Ok(())
+        let body = self.checked().flat().loop_body(alloc, node)?;
+        let changes = self.again_changes(alloc, node)?;
+        self.cut_and_append(&body, Entry::Again { node, writes }, changes)
     }
-}
 
-// The trail without the entries of a loop's nodes, and with one more entry.
-fn repeated_trail(
-    alloc: Global,
-    trail: &Trail,
-    body: &Nodes,
-    entry: Entry,
-) -> Result<Trail, NoMemory>
-    requires { trail.now.trail.next + 1 < 2 ^ 32 }
-    ensures { IfOk result (λ new. new.trail ≡ pushed entry (cut_by body.now trail.now.trail)) }
-{
-    let mut new = trail.copy(alloc)?;
-    new.cut(body);
-    new.reserve_for(&entry)?;
-    new.push(entry);
-    Ok(new)
-}
-
-// The state of a node in a replay.
-fn state_in(replayed: &Replayed, node: u32) -> State
-    ensures { result ≡ state_in replayed.now node }
-{
-    match replayed {
-        Replayed::Whole(marking) => spot_in(marking, node).state,
-        Replayed::Fails { .. } => State::NotActivated,
+    // One more entry behind the trail that is cut by a loop, with what both change of the marks.
+    fn cut_and_append(
+        &mut self,
+        body: &Nodes,
+        entry: Entry,
+        changes: Changes,
+    ) -> Result<(), NoMemory>
+        requires position { self.old.trail.next + 1 < 2 ^ 32 }
+        requires kept { Kept (with_trail self.old (pushed entry (cut_by body.now self.old.trail))) }
+        requires marks { Remarks self.old (pushed entry (cut_by body.now self.old.trail)) changes }
+        ensures ok { OnOk result (self.new ≡ with_trail self.old (pushed entry (cut_by body.now self.old.trail))) }
+        ensures err { OnErr result (self.new ≡ self.old) }
+    {
+        self.trail.reserve_for(&entry)?;
+        self.marks.reserve(changes.len())?;
+        self.trail.cut(body);
+        self.trail.push(entry);
+        self.marks.take_in(changes);
+        Ok(())
     }
 }

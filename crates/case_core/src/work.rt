@@ -34,7 +34,8 @@ impl Live {
         }
         let reads = self.reads(alloc, card)?;
         let replies = both(alloc, Reply::Started(reads.duplicate(alloc)?))?;
-        self.append(alloc, Entry::Start { node, user, reads })?;
+        let changes = self.start_changes(alloc, node)?;
+        self.append(Entry::Start { node, user, reads }, changes)?;
         Ok(replies)
     }
 
@@ -80,13 +81,14 @@ impl Live {
             self.repeat(alloc, node, writes)?;
             return Ok((Reply::Repeated, Reply::Repeated));
         }
+        let changes = self.end_changes(alloc, node, choice)?;
         self.append(
-            alloc,
             Entry::End {
                 node,
                 writes,
                 choice,
             },
+            changes,
         )?;
         Ok((Reply::Ended, Reply::Ended))
     }

@@ -1,9 +1,10 @@
-// A replay, and one entry more.
+// A replay, one entry more, and the marks that a replay leaves.
 use crate::versions::row_of;
 use std::alloc::Global;
 use std::test::Fail;
 use wsm_replay::{Replayed, advance, extend, replay, spot_in};
-use wsm_schema::{Entry, Marking, NoMemory, ReadValues, State, Writes};
+use wsm_schema::{Entry, Mark, Marking, NoMemory, ReadValues, State, Writes};
+use wsm_settle::{TimedMarks, timed};
 use wsm_sound::{Checked, check};
 use wsm_trail::Trail;
 
@@ -107,5 +108,41 @@ const EXPECTED: [Option<State>; 3] = [
 #[test]
 fn a_start_and_then_an_end(rt: HostRuntime) -> Result<(), Fail> {
     assert!(rt; states_of_activity(rt.alloc()) == Some(EXPECTED));
+    Ok(())
+}
+
+// The mark of a node, where the trail replays whole.
+fn mark_behind(
+    alloc: Global,
+    checked: &Checked,
+    trail: &Trail,
+    node: u32,
+) -> Result<Option<Mark>, NoMemory> {
+    match timed(alloc, checked.flat(), checked.rank(), trail)? {
+        TimedMarks::Whole(marks) => Ok(marks.get(node).copied()),
+        TimedMarks::Fails { .. } => Ok(None),
+    }
+}
+
+fn mark_of_started(alloc: Global, checked: &Checked) -> Result<Option<Mark>, NoMemory> {
+    mark_behind(alloc, checked, &started(alloc)?, 2)
+}
+
+fn mark_of_activity(alloc: Global) -> Option<Mark> {
+    mark_of_started(alloc, &one_activity(alloc)?).ok()?
+}
+
+const STARTED: Mark = Mark {
+    ready_at: Some(0),
+    skipped_at: None,
+    started: Some(1),
+    ended: None,
+    choice: None,
+    again: None,
+};
+
+#[test]
+fn marks_behind_a_start(rt: HostRuntime) -> Result<(), Fail> {
+    assert!(rt; mark_of_activity(rt.alloc()) == Some(STARTED));
     Ok(())
 }

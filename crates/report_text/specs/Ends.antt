@@ -1,7 +1,7 @@
 -- How a case ended.
 use Rattle.std.specs.Prelude.{ℕ, Bool, [], ◌++◌, flat_map, length, Option, Some, None, if◌then◌else◌, codes, decimal}
 use Rattle.case_core.specs.CaseModel.{LiveModel, state_of, value_now}
-use Rattle.case_core.specs.Shown.{is_finished, item_of, items_of}
+use Rattle.case_core.specs.Shown.{is_finished, items_at, items_of}
 use Rattle.case_core.specs.declared.items.Item.{Item}
 use Rattle.case_core.specs.declared.items.Item.TheVariants as item
 use Rattle.file_words.specs.Lines.{Bytes}
@@ -9,9 +9,8 @@ use Rattle.file_model.specs.declared.files.File.{File}
 use Rattle.report_words.specs.Words.{node_then, caller_text, assigned, letter}
 use Rattle.wsm_lists.specs.declared.values.ElementKind.{ElementKind}
 use Rattle.wsm_lists.specs.declared.values.Value.{Value}
-use Rattle.wsm_schema.specs.Flat.{cards_of, card_at}
+use Rattle.wsm_schema.specs.Flat.{cards_of}
 use Rattle.wsm_schema.specs.declared.cards.Card.{Card}
-use Rattle.wsm_schema.specs.declared.states.Spot.{Spot}
 
 abbrev pub progress : Bool → Bytes
 progress finished = if finished then codes " finished" else codes " running"
@@ -44,8 +43,8 @@ item_text f (item.Offered node role) = node_then f node (codes "@") ++ decimal r
 item_text f (item.Held node user) = node_then f node (codes ":") ++ caller_text f user
 
 -- the work item of a node, where it has one
-abbrev pub spot_text : File → LiveModel → Spot → Bytes
-spot_text f l s = flat_map (item_text f) (item_of l s (card_at s.node (cards_of l.schema)))
+abbrev pub node_text : File → LiveModel → ℕ → Bytes
+node_text f l n = flat_map (item_text f) (items_at l n)
 
 abbrev pub items_line : File → LiveModel → Bytes
 items_line f l = codes "items" ++ (flat_map (item_text f) (items_of l) ++ codes "\n")

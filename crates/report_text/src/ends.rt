@@ -4,7 +4,7 @@ ghost use Rattle.std.specs.Option.{option_copied};
 ghost use Rattle.adept_io.specs.Written.{Gives};
 ghost use Rattle.case_core.specs.declared.items.Item.TheVariants as item;
 ghost use Rattle.case_core.specs.Shown.{is_finished, item_in};
-ghost use Rattle.report_text.specs.Ends.{end_text, item_text, items_line, live_text, mark_text, marking_line, progress, spot_text, state_line, value_now_text, values_line};
+ghost use Rattle.report_text.specs.Ends.{end_text, item_text, items_line, live_text, mark_text, marking_line, node_text, progress, state_line, value_now_text, values_line};
 ghost use Rattle.wsm_schema.specs.Flat.{cards_of};
 
 use adept_io::{Sink, put, put_number, put_pieces};
@@ -12,8 +12,8 @@ use case_core::Live;
 use file_model::File;
 use itoa::Buffer;
 use report_words::{caller_word, letter, put_assigned, put_node};
-use wsm_rules::is_worked_on;
-use wsm_schema::{Card, ElementKind, Spot, State};
+use wsm_rules::{Mark, is_worked_on};
+use wsm_schema::{Card, ElementKind, State};
 
 /// The lines that say how a case ended: one where it was not created, and else four.
 pub fn put_end<K: Sink>(sink: &mut K, ok: bool, file: &File, live: Option<&Live>) -> bool
@@ -130,30 +130,36 @@ fn put_items_line<K: Sink>(sink: &mut K, ok: bool, file: &File, live: &Live) -> 
     ensures { Gives K.written K.faults ok result sink.old sink.new (items_line file.now live.now) }
 {
     let ok = put(sink, ok, b"items");
-    let ok = put_items(sink, ok, file, live, live.spots());
+    let ok = put_items(sink, ok, file, live, live.marks().as_slice());
     put(sink, ok, b"\n")
 }
 
-fn put_items<K: Sink>(sink: &mut K, ok: bool, file: &File, live: &Live, spots: &[Spot]) -> bool
-    ensures { Gives K.written K.faults ok result sink.old sink.new (flat_map (spot_text file.now live.now) spots.now) }
+fn put_items<K: Sink>(
+    sink: &mut K,
+    ok: bool,
+    file: &File,
+    live: &Live,
+    marks: &[(u32, Mark)],
+) -> bool
+    ensures { Gives K.written K.faults ok result sink.old sink.new (flat_map (λ m. node_text file.now live.now m.0) marks.now) }
 {
     let mut well = ok;
-    for spot in spots {
-        well = put_spot(sink, well, file, live, spot);
+    for mark in marks {
+        well = put_item(sink, well, file, live, mark.0);
     }
     well
 }
 
 // The work item of a node, where it has one.
 #[tactic(auto, using(adept_io::proofs::Sent::gives_nothing))]
-fn put_spot<K: Sink>(sink: &mut K, ok: bool, file: &File, live: &Live, spot: &Spot) -> bool
-    ensures { Gives K.written K.faults ok result sink.old sink.new (spot_text file.now live.now spot.now) }
+fn put_item<K: Sink>(sink: &mut K, ok: bool, file: &File, live: &Live, node: u32) -> bool
+    ensures { Gives K.written K.faults ok result sink.old sink.new (node_text file.now live.now node) }
 {
-    let Some(card) = live.card(spot.node) else {
+    let Some(card) = live.card(node) else {
         return ok;
     };
     if is_worked_on(card.kind) {
-        put_work(sink, ok, file, live, card, spot.state)
+        put_work(sink, ok, file, live, card, live.state(node))
     } else {
         ok
     }

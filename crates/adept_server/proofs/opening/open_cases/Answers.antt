@@ -25,7 +25,7 @@ loop-place-preserved c =
     let push = c.push_reserved.ensures in
     record {
       many = ap length push.items ∙ (length_push l.cases.items c.new.result ∙ ap (λ n. n + 1) l.invariant.many);
-      made = one_made (λ i. not_created c.args.type_no) l.cases.items c.push_reserved.new.self.items l._place c.new.result l.invariant.many push.items c.new.ensures l.invariant.made;
+      made = one_made (λ i. not_created c.args.type_no) l.cases.items c.push_reserved.new.self.items l._place c.new.result l.invariant.many push.items c.new.ensures.case l.invariant.made;
       room = omega (arith, l.invariant.room, push.len, push.capacity);
     }
 

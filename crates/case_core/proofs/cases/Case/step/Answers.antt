@@ -4,7 +4,8 @@ use Rattle.case_core.specs.Ages.{age, weight}
 use Rattle.case_core.specs.Machine.{next_case}
 use Rattle.case_core.proofs.AgesOfSteps.{age-next_case}
 use Rattle.case_core.proofs.Starts.{starts-filled}
-use Rattle.case_core.specs.Promises.{StartsFilled}
+use Rattle.case_core.proofs.TrailFacts.{names-entry}
+use Rattle.case_core.specs.Promises.{NamesEntryIn, StartsFilled}
 use Rattle.case_core.proofs.cases.Case.step.Goals as goal
 
 pub returns-clause-age : goal.returns-clause-age
@@ -20,3 +21,10 @@ returns-clause-filled c =
     let e = c.args.event.now in
     IfOk-weaker c.answer.result (λ r. r.0 ≡ (next_case old e).1) (λ r. StartsFilled old.live e r.0)
     (λ r is. subst (StartsFilled old.live e) (sym is) (starts-filled old e c.live.ensures.kept)) c.answer.ensures.first
+
+pub returns-clause-named : goal.returns-clause-named
+returns-clause-named c =
+    let old = c.args.self.now in
+    let e = c.args.event.now in
+    IfOk-weaker c.answer.result (λ r. r.0 ≡ (next_case old e).1) (λ r. NamesEntryIn old.live r.0)
+    (λ r is. subst (NamesEntryIn old.live) (sym is) (names-entry old e)) c.answer.ensures.first

@@ -1,6 +1,5 @@
-use Rattle.std.proofs.Common.{◌≡◌, ◌++◌, Ok, rules, sym, ◌∙◌, ap, subst}
+use Rattle.std.proofs.Common.{◌≡◌, ◌++◌, Ok, rules}
 use Rattle.case_core.specs.CaseModel.{LiveModel}
-use Rattle.wsm_ops.specs.Apply.{applied}
 use Rattle.wsm_schema.specs.SchemaModel.{SchemaModel}
 use Rattle.wsm_sound.proofs.InARow.{applied-in_a_row}
 use Rattle.wsm_sound.proofs.NoFaults.{taken_parts}

@@ -1,6 +1,7 @@
 use Rattle.std.proofs.Common.{◌≡◌, true, false, Some, None, rules, sym, ◌∙◌, ap, subst}
 use Rattle.std.specs.Option.{option_copied}
 use Rattle.case_core.proofs.Keeping.{kept-end, kept-repeat}
+use Rattle.case_core.proofs.Marked.{runs-loop}
 use Rattle.case_core.specs.CaseModel.{LiveModel}
 use Rattle.case_core.specs.Kept.{Kept}
 use Rattle.case_core.specs.Machine.{end_refusal, repeats, repeated_trail, with_trail}
@@ -21,6 +22,15 @@ repeat-requires-clause-kept c =
     subst (λ w. Kept (with_trail l (repeated_trail l c.args.node w))) (sym writes)
     (kept-repeat l c.card.ensures.kept c.args.node c.args.user c.in-Some.card.now at c.args.writes.now c.args.choice none goes_on)
 
+pub repeat-requires-clause-running : goal.repeat-requires-clause-running
+repeat-requires-clause-running c =
+    let l : LiveModel = c.args.self.now in
+    let at : card_at c.args.node (cards_of l.schema) ≡ Some c.in-Some.card.now = sym c.card.ensures.card ∙ ap option_copied c.in-Some.is in
+    let refused : c.in_ok-refusal.field-0 ≡ None = search rules in
+    let none : end_refusal l c.in-Some.card.now c.args.node c.args.user c.args.writes.now c.args.choice ≡ None = sym c.in_ok-refusal.ensures ∙ refused in
+    let goes_on : repeats c.in-Some.card.now c.args.choice ≡ true = search rules in
+    runs-loop l c.card.ensures.kept c.args.node c.args.user c.in-Some.card.now at c.args.writes.now c.args.choice none goes_on
+
 pub append-requires-clause-kept : goal.append-requires-clause-kept
 append-requires-clause-kept c =
     let l : LiveModel = c.args.self.now in
@@ -31,3 +41,15 @@ append-requires-clause-kept c =
     let leaves : repeats c.in-Some.card.now c.args.choice ≡ false = search rules in
     subst (λ w. Kept (with_trail l (pushed (End c.args.node w c.args.choice) l.trail))) (sym writes)
     (kept-end l c.card.ensures.kept c.args.node c.args.user c.in-Some.card.now at c.args.writes.now c.args.choice none leaves)
+
+pub append-requires-clause-marks : goal.append-requires-clause-marks
+append-requires-clause-marks c =
+    let l : LiveModel = c.args.self.now in
+    let at : card_at c.args.node (cards_of l.schema) ≡ Some c.in-Some.card.now = sym c.card.ensures.card ∙ ap option_copied c.in-Some.is in
+    let refused : c.in_ok-refusal.field-0 ≡ None = search rules in
+    let none : end_refusal l c.in-Some.card.now c.args.node c.args.user c.args.writes.now c.args.choice ≡ None = sym c.in_ok-refusal.ensures ∙ refused in
+    let writes : c.in_ok-writes.writes ≡ by_element c.args.writes.now = c.in_ok-writes.ensures in
+    let leaves : repeats c.in-Some.card.now c.args.choice ≡ false = search rules in
+    c.in_ok-changes.ensures c.in_ok-writes.writes
+    (subst (λ w. Kept (with_trail l (pushed (End c.args.node w c.args.choice) l.trail))) (sym writes)
+    (kept-end l c.card.ensures.kept c.args.node c.args.user c.in-Some.card.now at c.args.writes.now c.args.choice none leaves))

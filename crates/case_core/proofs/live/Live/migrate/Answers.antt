@@ -1,4 +1,4 @@
-use Rattle.std.proofs.Common.{◌≡◌, Ok, rules, sym, ◌∙◌, ap, subst}
+use Rattle.std.proofs.Common.{◌≡◌, Ok, rules, ◌∙◌, ap}
 use Rattle.wsm_ops.specs.Apply.{applied}
 use Rattle.wsm_sound.proofs.NoFaults.{taken_parts}
 use Rattle.wsm_sound.specs.Faults.{changed_by}

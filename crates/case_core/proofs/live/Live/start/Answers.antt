@@ -18,3 +18,14 @@ append-requires-clause-kept c =
     let reads : c.in_ok-reads.reads ≡ reads_now l c.in-Some.card.now = c.in_ok-reads.ensures in
     subst (λ r. Kept (with_trail l (pushed (Start c.args.node c.args.user r) l.trail))) (sym reads)
     (kept-start l c.card.ensures.kept c.args.node c.args.user c.in-Some.card.now at c.args.roles.now none)
+
+pub append-requires-clause-marks : goal.append-requires-clause-marks
+append-requires-clause-marks c =
+    let l : LiveModel = c.args.self.now in
+    let at : card_at c.args.node (cards_of l.schema) ≡ Some c.in-Some.card.now = sym c.card.ensures.card ∙ ap option_copied c.in-Some.is in
+    let refused : c.start_refusal.result ≡ None = search rules in
+    let none : start_refusal l c.in-Some.card.now c.args.node c.args.roles.now ≡ None = sym c.start_refusal.ensures ∙ refused in
+    let reads : c.in_ok-reads.reads ≡ reads_now l c.in-Some.card.now = c.in_ok-reads.ensures in
+    c.in_ok-changes.ensures c.args.user c.in_ok-reads.reads
+    (subst (λ r. Kept (with_trail l (pushed (Start c.args.node c.args.user r) l.trail))) (sym reads)
+    (kept-start l c.card.ensures.kept c.args.node c.args.user c.in-Some.card.now at c.args.roles.now none))

@@ -1,7 +1,8 @@
 use Rattle.std.proofs.Common.{◌≡◌, true, Some, sym, subst, ◌∙◌, ap}
 use Rattle.std.proofs.lemmas.Result.{IfOk-weaker}
 use Rattle.case_core.proofs.Fairness.{never-stuck, fair}
-use Rattle.case_core.specs.Promises.{goes_on, IsFair}
+use Rattle.case_core.proofs.TrailFacts.{last-writes}
+use Rattle.case_core.specs.Promises.{AreLastWrites, goes_on, IsFair}
 use Rattle.case_core.specs.Shown.{shown_live}
 use Rattle.case_core.proofs.live.Live.view.Goals as goal
 
@@ -14,3 +15,8 @@ pub returns-clause-fair : goal.returns-clause-fair
 returns-clause-fair c =
     let l = c.args.self.now in
     IfOk-weaker c.shown.result (λ v. v ≡ shown_live (Some l)) (IsFair l) (λ v is. subst (IsFair l) (sym is) (fair l c.base.ensures.kept)) c.shown.ensures
+
+pub returns-clause-values : goal.returns-clause-values
+returns-clause-values c =
+    let l = c.args.self.now in
+    IfOk-weaker c.shown.result (λ v. v ≡ shown_live (Some l)) (AreLastWrites l) (λ v is. subst (AreLastWrites l) (sym is) (last-writes l c.base.ensures.kept)) c.shown.ensures

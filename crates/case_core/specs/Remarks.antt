@@ -1,0 +1,63 @@
+-- What an event changes of a case's marks.
+use Rattle.std.specs.Prelude.{◌≡◌, ℕ, true, List, Option, Some, None, option_map}
+use Rattle.case_core.specs.CaseModel.{LiveModel, state_of}
+use Rattle.case_core.specs.Kept.{Kept, marks_in}
+use Rattle.case_core.specs.Machine.{repeated_trail, user_of, with_trail}
+use Rattle.wsm_lists.specs.ByNumber.{changed, item_at}
+use Rattle.wsm_lists.specs.Values.{Written}
+use Rattle.wsm_lists.specs.declared.values.Value.{Value}
+use Rattle.wsm_schema.specs.Flat.{card_at, cards_of, flat_of}
+use Rattle.wsm_schema.specs.Kinds.{is_loop_end}
+use Rattle.wsm_schema.specs.Marks.{marks_of}
+use Rattle.wsm_schema.specs.Replay.{fails, is_in_state, replay_of}
+use Rattle.wsm_schema.specs.SchemaModel.{SchemaModel}
+use Rattle.wsm_schema.specs.Trail.{TrailModel, pushed}
+use Rattle.wsm_schema.specs.declared.cards.Card.{Card}
+use Rattle.wsm_schema.specs.declared.entries.Entry.{Entry}
+use Rattle.wsm_schema.specs.declared.entries.Entry.TheVariants as entry
+use Rattle.wsm_schema.specs.declared.marks.Mark.{Mark}
+use Rattle.wsm_schema.specs.declared.states.State.TheVariants.{Running}
+use Rattle.wsm_settle.specs.declared.timing.TimedMarks.{TimedMarks}
+use Rattle.wsm_settle.specs.declared.timing.TimedMarks.TheVariants as timed
+use Rattle.wsm_steps.specs.Whole.{is_whole}
+use Rattle.wsm_trail.specs.EntryAt.{entry_at}
+use Rattle.wsm_walk.specs.Kept.{mark_or}
+
+-- changes that make the marks those of the case with another trail
+abbrev pub Remarks : LiveModel → TrailModel → List (ℕ × Option Mark) → Type 0
+Remarks l t changes = changed changes (marks_in l) ≡ marks_in (with_trail l t)
+
+-- those of the start of a node, where the case may take it in
+abbrev pub StartRemarks : LiveModel → ℕ → List (ℕ × Option Mark) → Type 0
+StartRemarks l node changes =
+    (user : ℕ) (reads : List (ℕ × Option Value)) → Kept (with_trail l (pushed (entry.Start node user reads) l.trail)) → Remarks l (pushed (entry.Start node user reads) l.trail) changes
+
+-- of its end
+abbrev pub EndRemarks : LiveModel → ℕ → Option ℕ → List (ℕ × Option Mark) → Type 0
+EndRemarks l node choice changes =
+    (writes : Written) → Kept (with_trail l (pushed (entry.End node writes choice) l.trail)) → Remarks l (pushed (entry.End node writes choice) l.trail) changes
+
+-- and of a loop that goes on
+abbrev pub AgainRemarks : LiveModel → ℕ → List (ℕ × Option Mark) → Type 0
+AgainRemarks l node changes = (writes : Written) → Remarks l (repeated_trail l node writes) changes
+
+-- the node is the end of a loop, and is running
+pub record RunsLoop (l : LiveModel) (node : ℕ) : Type 0 where
+  pub card : Card
+  pub found : card_at node (cards_of l.schema) ≡ Some card
+  pub ends : is_loop_end card.kind ≡ true
+  pub running : is_in_state (state_of l node) Running ≡ true
+
+-- the marks of a trail on a schema where it replays whole, else where it fails
+abbrev pub IsTimedOn : SchemaModel → List (ℕ × Entry) → TimedMarks → Type 0
+IsTimedOn s es (timed.Whole marks) = (is_whole (replay_of (flat_of s) es) ≡ true) × (marks.rows ≡ marks_of (flat_of s) es)
+IsTimedOn s es (timed.Fails position) = replay_of (flat_of s) es ≡ fails position
+
+-- where a node was started, by its mark
+abbrev pub started_in : List (ℕ × Mark) → ℕ → Option ℕ
+started_in rows n = (mark_or (item_at n rows)).started
+
+-- the user of the Start at a position, else 0
+abbrev pub user_at : List (ℕ × Entry) → Option ℕ → ℕ
+user_at es None = 0
+user_at es (Some p) = user_of (option_map (λ x. (p, x)) (entry_at p es))

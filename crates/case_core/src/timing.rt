@@ -1,0 +1,69 @@
+// The marks of a case's trail, and who started a node.
+ghost use Rattle.std.specs.Prelude.{◌≡◌, Some, IfOk};
+ghost use Rattle.case_core.specs.Machine.{user_of};
+ghost use Rattle.case_core.specs.Remarks.{IsTimedOn, started_in, user_at};
+ghost use Rattle.wsm_sound.specs.Flattened.{IsChecked};
+
+use std::alloc::Global;
+use wsm_rules::{Mark, MarkReads, Marks};
+use wsm_schema::{Entry, NoMemory};
+use wsm_settle::{TimedMarks, timed};
+use wsm_sound::Checked;
+use wsm_trail::Trail;
+
+/// Marks, of which no read is counted.
+#[derive(Drop)]
+pub struct Uncounted<'a> {
+    pub marks: &'a Marks,
+}
+
+impl<'a> MarkReads for Uncounted<'a> {
+    ghost kept = { λ m. m.marks.now.rows };
+
+    ghost reads = { λ m. 0 };
+
+    fn get(&mut self, node: u32) -> Option<Mark> {
+        self.marks.get(node).copied()
+    }
+}
+
+/// The marks of a trail on a sound schema, where it replays.
+pub fn timed_on(alloc: Global, checked: &Checked, trail: &Trail) -> Result<TimedMarks, NoMemory>
+    ensures marks { IfOk result (IsTimedOn checked.now trail.now.trail.entries) }
+    ensures checked { IsChecked checked.now }
+{
+    timed(alloc, checked.flat(), checked.rank(), trail)
+}
+
+/// Where a node was started, by its mark.
+pub fn started(marks: &Marks, node: u32) -> Option<u32>
+    ensures { result ≡ started_in marks.now.rows node }
+{
+    match marks.get(node) {
+        None => None,
+        Some(mark) => mark.started,
+    }
+}
+
+/// The user of the Start at a position, else 0.
+pub fn starter(trail: &Trail, position: Option<u32>) -> u32
+    ensures { result ≡ user_at trail.now.trail.entries position }
+{
+    match position {
+        None => 0,
+        Some(position) => match trail.entry(position) {
+            None => 0,
+            Some(entry) => user_of(entry),
+        },
+    }
+}
+
+// The user of a Start, else 0.
+fn user_of(entry: &Entry) -> u32
+    ensures { result ≡ user_of (Some (0, entry.now)) }
+{
+    match entry {
+        Entry::Start { user, .. } => *user,
+        Entry::End { .. } | Entry::Again { .. } | Entry::Wrote { .. } => 0,
+    }
+}
