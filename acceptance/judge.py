@@ -21,7 +21,7 @@ import sys
 
 WORD = re.compile(r'(?:[^ \t"]|"(?:[^"\\]|\\.)*")+')
 TEXT = re.compile(r'"(?:[^"\\]|\\.)*"')
-ACCEPTED = {"created", "started", "ended", "repeated", "changed", "migrated"}
+ACCEPTED = {"created", "started", "ended", "repeated", "withdrawn", "changed", "migrated"}
 
 # A script line: its phase, its actor, what is done to what, and the line itself with those of its group.
 Script = collections.namedtuple("Script", "phase actor verb target lines")
@@ -41,6 +41,7 @@ class File:
         self.nodes, self.elements = {"start": 0, "finish": 1}, {}
         lines = [line.rstrip("\r") for line in text.split("\n")]
         rows = [(WORD.findall(line), line) for line in lines if line.strip(" \t") and not line.lstrip(" \t").startswith("#")]
+        self.format = rows[0][0][1]
         rows, phase = iter(rows[1:]), 0
         for words, line in rows:
             if words[0] == "phase" and len(words) == 1:
@@ -56,7 +57,7 @@ class File:
 
     def put_script(self, phase, words, line, rows):
         actor, verb, target = words[:3]
-        if verb in ("start", "end"):
+        if verb in ("start", "end", "withdraw"):
             self.see(self.nodes, words[3])
             self.see(self.elements, *(word.split("=")[0] for word in words[4:] if "=" in word))
         grouped = verb in ("change", "install")
@@ -133,12 +134,12 @@ class File:
 class Report:
     """A report: the journals by cell, the lines of the end state by case, and the summary."""
 
-    def __init__(self, text):
+    def __init__(self, text, format):
         self.journals, self.states = {}, {}
         if not text.endswith("\n"):
             raise Illegal("the last line has no line feed")
         lines = text[:-1].split("\n")
-        if lines[0] != "adept report 1":
+        if lines[0] != "adept report " + format:
             raise Illegal("the first line is %r" % lines[0])
         self.summary, cell = lines[-1], None
         for line in lines[1:-1]:
@@ -171,14 +172,14 @@ def played(program, file, kind, script, cases=()):
     numbers = "numbers"
     while numbers in file.types:
         numbers += "_"
-    lines = ["adept 1", "type " + numbers]
+    lines = ["adept " + file.format, "type " + numbers]
     lines += ["act " + node for node in list(file.nodes)[2:]] + ["element %s int" % element for element in file.elements] + ["end"]
     lines += file.types[kind] + file.actors + ["case %s %s" % (case, kind) for case in cases] + ["phase"] + script
     text = "".join(line + "\n" for line in lines)
     done = subprocess.run([*program, "play"], input=text.encode(), stdout=subprocess.PIPE, stderr=subprocess.PIPE)
     if done.returncode:
         raise Illegal("the machine's file ends with status %d: %s" % (done.returncode, done.stderr.decode()))
-    return Report(done.stdout.decode())
+    return Report(done.stdout.decode(), file.format)
 
 
 class Judge:
@@ -302,7 +303,8 @@ def compare(journal, found):
 def what_is_wrong(program, file, report):
     """What is wrong with the report of the file, or None."""
     try:
-        Judge(program, File(file), Report(report)).judge()
+        read = File(file)
+        Judge(program, read, Report(report, read.format)).judge()
     except Illegal as why:
         return str(why)
     except (LookupError, ValueError) as why:

@@ -75,6 +75,10 @@ module _ (roles : List ℕ) (v w : DeskView) (desk : IsDesk v) where
   start-acts id node (Ok r) k = (told v.number id (event.Start node v.number roles) r ∷ [], (r, refl), case-done (event.Start node v.number roles) id (Ok r) v w desk k)
   start-acts id node (Err f) k = (([], refl, case-done (event.Start node v.number roles) id (Err f) v w desk k), λ is. case-full (event.Start node v.number roles) id (Err f) v w k (ap Err is))
 
+  pub withdraw-acts : (id : CaseId) (node : ℕ) (answer : Result Reply CallFault) → CallsCase (event.Withdraw node v.number) id answer v w → Acts roles (act.Withdraw id node) answer v w
+  withdraw-acts id node (Ok r) k = (told v.number id (event.Withdraw node v.number) r ∷ [], (r, refl), case-done (event.Withdraw node v.number) id (Ok r) v w desk k)
+  withdraw-acts id node (Err f) k = (([], refl, case-done (event.Withdraw node v.number) id (Err f) v w desk k), λ is. case-full (event.Withdraw node v.number) id (Err f) v w k (ap Err is))
+
   pub end-acts : (id : CaseId) (node : ℕ) (writes : _) (choice : Option ℕ) (answer : Result Reply CallFault) → CallsCase (event.End node v.number writes choice) id answer v w → Acts roles (act.End id node writes choice) answer v w
   end-acts id node writes choice (Ok r) k = (told v.number id (event.End node v.number writes choice) r ∷ [], (r, refl), case-done (event.End node v.number writes choice) id (Ok r) v w desk k)
   end-acts id node writes choice (Err f) k = (([], refl, case-done (event.End node v.number writes choice) id (Err f) v w desk k), λ is. case-full (event.End node v.number writes choice) id (Err f) v w k (ap Err is))
@@ -159,6 +163,7 @@ acts-fault {B} roles x y v w f (Err g) is same k = subst (λ h. Acts {A = B} rol
 same-act : (many others : ℕ → ℕ) → ((t : ℕ) → many t ≡ others t) → (roles : List ℕ) (a : ℕ) (x : Act) (calls : List Call) → AreCallsOf many roles a x calls → AreCallsOf others roles a x calls
 same-act many others same roles a (act.Create c) calls k = k
 same-act many others same roles a (act.Start c n) calls k = k
+same-act many others same roles a (act.Withdraw c n) calls k = k
 same-act many others same roles a (act.End c n writes choice) calls k = k
 same-act many others same roles a (act.Change c ops) calls k = k
 same-act many others same roles a (act.Install t ops) calls k = k
@@ -167,6 +172,7 @@ same-act many others same roles a (act.Migrate t) calls (v, rs, many_told, is) =
 same-part : (many others : ℕ → ℕ) → ((t : ℕ) → many t ≡ others t) → (roles : List ℕ) (a : ℕ) (x : Act) (calls : List Call) → ArePartOf many roles a x calls → ArePartOf others roles a x calls
 same-part many others same roles a (act.Create c) calls k = k
 same-part many others same roles a (act.Start c n) calls k = k
+same-part many others same roles a (act.Withdraw c n) calls k = k
 same-part many others same roles a (act.End c n writes choice) calls k = k
 same-part many others same roles a (act.Change c ops) calls k = k
 same-part many others same roles a (act.Install t ops) calls k = k
@@ -263,6 +269,7 @@ module _ (calls : List Call) (v w : DeskView) (d : DeskHasDone calls v w) where
   act-still : (x : Act) → CanAct v x → CanAct w x
   act-still (act.Create c) (there, known) = (case-still c there, done-defined calls v w d c.type_no known)
   act-still (act.Start c node) there = case-still c there
+  act-still (act.Withdraw c node) there = case-still c there
   act-still (act.End c node writes choice) there = case-still c there
   act-still (act.Change c ops) (there, few) = (case-still c there, few)
   act-still (act.Install t ops) (there, few) = (kind-still t there, few)

@@ -86,6 +86,9 @@ module _ (v w : DeskView) where
   pub start-leaves : (id : CaseId) (node : ℕ) (e : Event) (answer : Result Reply CallFault) → CallsCase e id answer v w → LeavesOthers (act.Start id node) v w
   start-leaves id node e answer k = case-leaves (λ t. names_kind t (act.Start id node) ≡ false) (λ c. names_case c (act.Start id node) ≡ false) e id answer v w (named-case id) k
 
+  pub withdraw-leaves : (id : CaseId) (node : ℕ) (e : Event) (answer : Result Reply CallFault) → CallsCase e id answer v w → LeavesOthers (act.Withdraw id node) v w
+  withdraw-leaves id node e answer k = case-leaves (λ t. names_kind t (act.Withdraw id node) ≡ false) (λ c. names_case c (act.Withdraw id node) ≡ false) e id answer v w (named-case id) k
+
   pub end-leaves : (id : CaseId) (node : ℕ) (writes : _) (choice : Option ℕ) (e : Event) (answer : Result Reply CallFault) → CallsCase e id answer v w → LeavesOthers (act.End id node writes choice) v w
   end-leaves id node writes choice e answer k = case-leaves (λ t. names_kind t (act.End id node writes choice) ≡ false) (λ c. names_case c (act.End id node writes choice) ≡ false) e id answer v w (named-case id) k
 

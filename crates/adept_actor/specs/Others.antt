@@ -12,6 +12,7 @@ use Rattle.wsm_sound.specs.declared.versions.CaseId.{CaseId}
 abbrev pub names_kind : ℕ → Act → Bool
 names_kind t (act.Create c) = c.type_no == t
 names_kind t (act.Start c node) = false
+names_kind t (act.Withdraw c node) = false
 names_kind t (act.End c node writes choice) = false
 names_kind t (act.Change c ops) = false
 names_kind t (act.Install u ops) = u == t
@@ -20,6 +21,7 @@ names_kind t (act.Migrate u) = u == t
 abbrev pub names_case : CaseId → Act → Bool
 names_case d (act.Create c) = is_case d c
 names_case d (act.Start c node) = is_case d c
+names_case d (act.Withdraw c node) = is_case d c
 names_case d (act.End c node writes choice) = is_case d c
 names_case d (act.Change c ops) = is_case d c
 names_case d (act.Install u ops) = false

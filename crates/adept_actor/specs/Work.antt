@@ -20,6 +20,7 @@ case_count v t = length (get_or v.cases t [])
 abbrev pub CanAct : DeskView → Act → Type 0
 CanAct v (act.Create c) = has_case v c × IsDefinedFor v c.type_no
 CanAct v (act.Start c node) = has_case v c
+CanAct v (act.Withdraw c node) = has_case v c
 CanAct v (act.End c node writes choice) = has_case v c
 CanAct v (act.Change c ops) = has_case v c × (length ops ≤ 256)
 CanAct v (act.Install t ops) = has_kind v t × (length ops ≤ 256)

@@ -38,6 +38,9 @@ pub fn act<R: Threads + Wait + Sync, G: Gate + Sync>(
         Act::Start(id, node) => {
             server.start(rt, alloc, desk, *id, *node, roles, gate, line)?;
         }
+        Act::Withdraw(id, node) => {
+            server.withdraw(rt, alloc, desk, *id, *node, gate, line)?;
+        }
         Act::End(id, node, writes, choice) => {
             server.end(rt, alloc, desk, *id, *node, writes, *choice, gate, line)?;
         }

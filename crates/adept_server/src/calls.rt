@@ -215,6 +215,29 @@ impl Server {
         self.call_case(rt, alloc, desk, id, &event, gate, line)
     }
 
+    /// Gives a node back. The user is the desk's number.
+    pub fn withdraw<R: Wait, G: Gate>(
+        &self,
+        rt: &R,
+        alloc: Global,
+        desk: &mut Desk,
+        id: CaseId,
+        node: u32,
+        gate: &G,
+        line: u32,
+    ) -> Result<Reply, CallFault>
+        requires desk { IsDeskOf self.now desk.old }
+        requires there { has_case (desk_view desk.old) id }
+        ensures desk { IsDeskOf self.now desk.new }
+        ensures called { CallsCase (Event.Withdraw node (desk_view desk.old).number) id result (desk_view desk.old) (desk_view desk.new) }
+    {
+        let event = Event::Withdraw {
+            node,
+            user: desk.number,
+        };
+        self.call_case(rt, alloc, desk, id, &event, gate, line)
+    }
+
     /// Ends a node with these writes and with a choice. The user is the desk's number.
     pub fn end<R: Wait, G: Gate>(
         &self,

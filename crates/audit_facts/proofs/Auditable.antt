@@ -8,7 +8,7 @@ use Rattle.file_words.specs.Lengths.{first_long}
 use Rattle.file_words.specs.declared.lengths.TooLong.{TooLong}
 use Rattle.file_drafts.specs.Drafts.{around}
 use Rattle.file_drafts.specs.declared.drafts.Draft.{Draft}
-use Rattle.file_forms.specs.DeclarationForms.{is_header, declaration_line}
+use Rattle.file_forms.specs.DeclarationForms.{header, declaration_line}
 use Rattle.file_forms.specs.Forms.{TypeLine}
 use Rattle.file_forms.specs.TypeForms.{type_line}
 use Rattle.file_forms.specs.ScriptForms.{script_line}
@@ -18,7 +18,7 @@ use Rattle.file_model.specs.Declaring.{declared, outside}
 use Rattle.file_model.specs.Typing.{fits_in, typed}
 use Rattle.file_model.specs.Scripting.{scripted}
 use Rattle.file_model.specs.Operating.{operated}
-use Rattle.file_model.specs.Reading.{unless_long, formed, fitting, unless_not_text, step_in, step_words, step, finished_in, finished, at_line, read_from, file}
+use Rattle.file_model.specs.Reading.{in_format, unless_long, formed, fitting, unless_not_text, step_in, step_words, step, finished_in, finished, at_line, read_from, file}
 use Rattle.file_model.specs.declared.files.File.{File}
 use Rattle.file_model.specs.declared.refusals.Refused.{Refused}
 use Rattle.file_model.specs.declared.refusals.Why.{Why}
@@ -56,14 +56,18 @@ fitting-named d (Some l) h = by (fits_in (around d.frames) l)
     by true = h
     by false = tt
 
+format-named : (o : Option ℕ) (c : Contents) → NamedIn section.Head c → NamedStep (in_format o c)
+format-named None c h = tt
+format-named (Some n) c h = record { nodes = h.nodes; elements = h.elements; actors = h.actors; names = h.names; apart = h.apart; writes = h.writes }
+
 step_in-named : (p : Section) (at : ℕ) (line : Bytes) (ws : List Bytes) (c : Contents) → NamedIn p c → NamedStep (step_in p at line ws c)
-step_in-named section.Head at line ws c h = if-named (is_header ws) (Ok (outside c)) (refuse c why.Header) h tt
+step_in-named section.Head at line ws c h = format-named (header ws) c h
 step_in-named section.Outside at line ws c h =
     text-named (is_utf8 line) c _ (formed-named _ (declaration_line ws) ws (λ d. declared d c) c (declaration-named ws) (λ d named. declared-named d c named h))
 step_in-named (section.InType d) at line ws c h =
     text-named (is_utf8 line) c _ (formed-named _ (fitting d (type_line ws)) ws (λ l. typed l d c) c (fitting-named d (type_line ws) (type_line-named ws)) (λ l named. typed-named l d c named h))
 step_in-named (section.InPhase lines) at line ws c h =
-    text-named (is_utf8 line) c _ (formed-named _ (script_line ws) ws (λ l. scripted l lines at c) c (script_line-named ws) (λ l named. scripted-named l lines at c named h.0 h.1))
+    text-named (is_utf8 line) c _ (formed-named _ (script_line c.format ws) ws (λ l. scripted l lines at c) c (script_line-named c.format ws) (λ l named. scripted-named l lines at c named h.0 h.1))
 step_in-named (section.InGroup lines g) at line ws c h =
     text-named (is_utf8 line) c _ (formed-named _ (operation_line ws) ws (λ l. operated l g lines c) c (operation-named ws) (λ l named. operated-named l g lines c named h.0 h.1))
 

@@ -11,7 +11,7 @@ use Rattle.file_drafts.specs.Drafts.{whole}
 use Rattle.file_drafts.specs.declared.drafts.Draft.{Draft}
 use Rattle.file_facts.proofs.Held.{neither}
 use Rattle.file_forms.specs.Forms.{Declaration, a_type, an_actor, a_case, first_phase, TypeLine, activity, opens_and, opens_xor, opens_branch, opens_loop, closes_block, a_sync, an_element, a_read, a_write, type_end}
-use Rattle.file_forms.specs.Forms.{Deed, to_create, to_start, to_end, to_change, to_install, to_migrate, ScriptLine, next_phase, a_deed}
+use Rattle.file_forms.specs.Forms.{Deed, to_create, to_start, to_withdraw, to_end, to_change, to_install, to_migrate, ScriptLine, next_phase, a_deed}
 use Rattle.file_forms.specs.Forms.{NamedGap, behind, at_head, OperationLine, insert, parallel, conditional, delete, move, sync, unsync, element, read, unread, write, unwrite, set_role, group_end}
 use Rattle.file_model.specs.Declaring.{case_declared, declared, outside, with_actor, with_case}
 use Rattle.file_model.specs.Operating.{act_of, grouped, line_of_group, op_in, operated, with_names, with_op, with_place}
@@ -108,6 +108,8 @@ acted-named : (d : Deed) (actor : ℕ) (lines : List Line) (at : ℕ) (c : Conte
 acted-named (to_create n) actor lines at c named h written = found-named (case_in n c) _ c (λ id. line-named lines at actor (act.Create id) c tt h written)
 acted-named (to_start n node) actor lines at c named h written =
     found-named (case_in n c) _ c (λ id. line-named lines at actor (act.Start id (node_in node c)) (with_node node c) tt (node-named node c named h) written)
+acted-named (to_withdraw n node) actor lines at c named h written =
+    found-named (case_in n c) _ c (λ id. line-named lines at actor (act.Withdraw id (node_in node c)) (with_node node c) tt (node-named node c named h) written)
 acted-named (to_end n node choice writes) actor lines at c named h written =
     let c1 = with_node node c in
     found-named (case_in n c) _ c (λ id.

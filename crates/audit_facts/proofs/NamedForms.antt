@@ -9,7 +9,7 @@ use Rattle.file_words.specs.Pairs.{pair}
 use Rattle.file_words.specs.Words.{is}
 use Rattle.file_forms.specs.DeclarationForms.{actor_line, declaration_line, plain_line, roles_at_end}
 use Rattle.file_forms.specs.Forms.{Declaration, a_type, an_actor, a_case, first_phase, TypeLine, activity, opens_and, opens_xor, opens_branch, opens_loop, closes_block, a_sync, an_element, a_read, a_write, type_end}
-use Rattle.file_forms.specs.Forms.{Deed, to_create, to_start, to_end, to_change, to_install, to_migrate, ScriptLine, next_phase, a_deed}
+use Rattle.file_forms.specs.Forms.{Deed, to_create, to_start, to_withdraw, to_end, to_change, to_install, to_migrate, ScriptLine, next_phase, a_deed}
 use Rattle.file_forms.specs.Forms.{NamedGap, behind, at_head, OperationLine, insert, parallel, conditional, delete, move, sync, unsync, element, read, unread, write, unwrite, set_role, group_end}
 use Rattle.file_forms.specs.OperationForms.{around_items, conditional_line, edge_line, edge_operation, first_and_last, insert_line, last_item, move_line, name_and_code, new_node, operation_line, parallel_line, place, role_ahead, role_line, row_line, tree_operation, with_block}
 use Rattle.file_forms.specs.PieceForms.{◌>>=◌, element_and_kind, element_kind, element_read, is_mandatory, name_ahead, name_and_role, nothing_more, one_name, only, read_edge, role_at_end, two_names, two_names_ahead, two_names_and_role}
@@ -130,6 +130,7 @@ type_line-named (k ∷ ws) = some-or NamedTypeLine (tree_line k ws) (outer_line 
 -- ---- lines of a phase
 abbrev pub NamedDeed : Deed → Type 0
 NamedDeed (to_start n node) = IsName node
+NamedDeed (to_withdraw n node) = IsName node
 NamedDeed (to_end n node choice writes) = IsName node × AllRows IsWrite writes
 NamedDeed _ = Unit {0}
 
@@ -155,21 +156,22 @@ named_deed-named k n =
     (some-either NamedDeed (is (codes "install") k) _ _ tt
     (some-either NamedDeed (is (codes "migrate") k) _ _ tt tt)))
 
-plain_deed-named : (k : Bytes) (ws : List Bytes) → IfSome (plain_deed k ws) NamedDeed
-plain_deed-named k ws =
+plain_deed-named : (format : ℕ) (k : Bytes) (ws : List Bytes) → IfSome (plain_deed format k ws) NamedDeed
+plain_deed-named format k ws =
     some-either NamedDeed (is (codes "start") k) _ _ (some-mapped Both NamedDeed (λ p. to_start p.0 p.1) (two_names ws) (two_names-are ws) (λ p h. h.1))
-    (some-bound Any NamedDeed (one_name ws) _ (any (one_name ws)) (λ n any. named_deed-named k n))
+    (some-either NamedDeed (is (codes "withdraw") k && format == 2) _ _ (some-mapped Both NamedDeed (λ p. to_withdraw p.0 p.1) (two_names ws) (two_names-are ws) (λ p h. h.1))
+    (some-bound Any NamedDeed (one_name ws) _ (any (one_name ws)) (λ n any. named_deed-named k n)))
 
-deed-named : (ws : List Bytes) → IfSome (deed ws) NamedDeed
-deed-named [] = tt
-deed-named (k ∷ ws) = some-either NamedDeed (is (codes "end") k) _ _ (end-named ws) (plain_deed-named k ws)
+deed-named : (format : ℕ) (ws : List Bytes) → IfSome (deed format ws) NamedDeed
+deed-named format [] = tt
+deed-named format (k ∷ ws) = some-either NamedDeed (is (codes "end") k) _ _ (end-named ws) (plain_deed-named format k ws)
 
-deed_line-named : (a : Bytes) (ws : List Bytes) → IfSome (deed_line a ws) NamedScriptLine
-deed_line-named a ws = some-bound Any NamedScriptLine (name a) _ (any (name a)) (λ actor any. some-bound NamedDeed NamedScriptLine (deed ws) _ (deed-named ws) (λ d h. h))
+deed_line-named : (format : ℕ) (a : Bytes) (ws : List Bytes) → IfSome (deed_line format a ws) NamedScriptLine
+deed_line-named format a ws = some-bound Any NamedScriptLine (name a) _ (any (name a)) (λ actor any. some-bound NamedDeed NamedScriptLine (deed format ws) _ (deed-named format ws) (λ d h. h))
 
-pub script_line-named : (ws : List Bytes) → IfSome (script_line ws) NamedScriptLine
-script_line-named [] = tt
-script_line-named (k ∷ ws) = some-either NamedScriptLine (is (codes "phase") k && length ws == 0) _ _ tt (deed_line-named k ws)
+pub script_line-named : (format : ℕ) (ws : List Bytes) → IfSome (script_line format ws) NamedScriptLine
+script_line-named format [] = tt
+script_line-named format (k ∷ ws) = some-either NamedScriptLine (is (codes "phase") k && length ws == 0) _ _ tt (deed_line-named format k ws)
 
 -- ---- lines of a group
 abbrev pub NamedPlace : NamedGap → Type 0

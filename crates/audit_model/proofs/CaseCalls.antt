@@ -126,6 +126,7 @@ module _ (f : File) (workable : IsWorkable f) (a : ℕ) (c : CaseId) (declared :
     },
   )
   of-act (act.Start d n) first (r, is) = (None, one-case (act.Start d n) d (event.Start n a (roles_of f a)) r first refl refl refl is)
+  of-act (act.Withdraw d n) first (r, is) = (None, one-case (act.Withdraw d n) d (event.Withdraw n a) r first refl refl refl is)
   of-act (act.End d n writes choice) first (r, is) = (None, one-case (act.End d n writes choice) d (event.End n a writes choice) r first refl refl refl is)
   of-act (act.Change d ops) first (r, is) = (None, one-case (act.Change d ops) d (event.Change ops) r first refl refl refl is)
   of-act (act.Install t ops) first (r, is) = (
@@ -158,6 +159,7 @@ module _ (f : File) (workable : IsWorkable f) (a : ℕ) (c : CaseId) (declared :
   known-type : (x : Act) (t : ℕ) → IsKnownAct (length f.types) f.cases x → asks x ≡ Some t → t < length f.types
   known-type (act.Create d) t known is = subst (λ n. n < length f.types) (cc (is)) (declared-typed (length f.types) f.cases d workable.typed known)
   known-type (act.Start d n) t known is = absurd (cc (is))
+  known-type (act.Withdraw d n) t known is = absurd (cc (is))
   known-type (act.End d n writes choice) t known is = absurd (cc (is))
   known-type (act.Change d ops) t known is = absurd (cc (is))
   known-type (act.Install u ops) t known is = absurd (cc (is))

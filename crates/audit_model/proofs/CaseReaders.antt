@@ -20,7 +20,7 @@ use Rattle.line_readers.specs.Owed.{how_many}
 use Rattle.line_readers.specs.Readers.{and_then, ending, mapped}
 use Rattle.report_text.specs.Ends.{end_text, items_line, item_text, marking_line, state_line, values_line}
 use Rattle.report_text.specs.Journals.{case_line, event_text, numbered, reply_text}
-use Rattle.report_text.specs.Report.{case_head, case_text, cases_text, kinds_text, summary, text}
+use Rattle.report_text.specs.Report.{first_line, case_head, case_text, cases_text, kinds_text, summary, text}
 use Rattle.report_words.specs.Migrations.{with_fate}
 use Rattle.report_words.specs.Totals.{case_totals}
 use Rattle.report_words.specs.Words.{type_text}
@@ -56,8 +56,8 @@ summary-ends f r =
     (ends-behind (codes " blocked=") _ (ends-behind (decimal (sum_by (with_fate fate.Blocked) r.cases)) _
     (ends-behind (codes " overlap=") _ (ends-behind (decimal (sum_by (with_fate fate.Overlap) r.cases)) (codes "\n") line-feed))))))
 
-header-ends : EndsLine (codes "adept report 1\n")
-header-ends = record { before = codes "adept report 1"; is = refl }
+header-ends : (f : File) → EndsLine (first_line f)
+header-ends f = ends-behind (codes "adept report ") _ (ends-behind (decimal f.format) (codes "\n") line-feed)
 
 abbrev pub case_lines : File → ℕ → List CaseEntry → List Bytes
 case_lines f k es = lines_from case_after case_reply asked_actor (case_event_of f) (caller_in f) (case_shown f) k es
@@ -133,11 +133,11 @@ module _ (f : File) (workable : IsWorkable f) (tells : TellsCallers f) (traces :
 
 -- ---- the whole report
 -- the text of a report is the lines of its parts
-pub report-whole : (f : File) (r : Run) (ks cs : List Bytes) → kinds_text f f.types r.kinds ≡ ending ks → cases_text f f.cases r.cases ≡ ending cs → text f r ≡ ending (((ended (codes "adept report 1\n") ++ ks) ++ cs) ++ ended (summary f r))
+pub report-whole : (f : File) (r : Run) (ks cs : List Bytes) → kinds_text f f.types r.kinds ≡ ending ks → cases_text f f.cases r.cases ≡ ending cs → text f r ≡ ending (((ended (first_line f) ++ ks) ++ cs) ++ ended (summary f r))
 report-whole f r ks cs b c =
-    let header = ended (codes "adept report 1\n") in
+    let header = ended (first_line f) in
     let last = ended (summary f r) in
-    ap (λ x. x ++ (kinds_text f f.types r.kinds ++ (cases_text f f.cases r.cases ++ summary f r))) (sym (ending-lines (codes "adept report 1\n") header-ends))
+    ap (λ x. x ++ (kinds_text f f.types r.kinds ++ (cases_text f f.cases r.cases ++ summary f r))) (sym (ending-lines (first_line f) (header-ends f)))
     ∙ (ap (λ x. ending header ++ (x ++ (cases_text f f.cases r.cases ++ summary f r))) b
     ∙ (ap (λ x. ending header ++ (ending ks ++ (x ++ summary f r))) c
     ∙ (ap (λ x. ending header ++ (ending ks ++ (ending cs ++ x))) (sym (ending-lines (summary f r) (summary-ends f r)))
@@ -148,17 +148,17 @@ report-whole f r ks cs b c =
 
 pub run-taken : (f : File) → IsWorkable f → TellsCallers f → (r : Run) → Legal f r → IsTaken (Takes (report_reader f)) (text f r) r
 run-taken f workable tells r legal =
-    let header : List Bytes = ended (codes "adept report 1\n") in
+    let header : List Bytes = ended (first_line f) in
     let last : List Bytes = ended (summary f r) in
     let ks = kinds-taken f workable tells legal.traces legal.of_lines 0 f.types r.kinds legal.as_many_kinds (λ i d k at_d at_k. let same : i ≡ 0 + i = omega arith in subst (λ m. IsLegalKind f legal.traces m d k) same (legal.kinds i d k at_d at_k)) in
     let cs = cases-taken f workable tells legal.traces legal.of_lines r.kinds legal.as_many_kinds legal.kinds 0 f.cases r.cases legal.as_many_cases
     (λ i d c at_d at_c. let same : i ≡ 0 + i = omega arith in (subst (λ m. slice_get f.cases m ≡ Some d) same at_d, legal.cases i d c at_d at_c)) in
     let cases_taken = mapped-takes (λ (cases : List ClosedCase). record { kinds = r.kinds; cases = cases }) (cases_reader f (asked_phases (telling r.kinds) f.phases) f.cases) cs.lines r.cases cs.taken in
-    let first_two = then-takes (λ (n : ℕ). kinds_reader f 0 f.types) (given (codes "adept report 1\n") 0) header ks.lines 0 r.kinds (expected-takes header 0) ks.taken in
-    let first_three = then-takes (cases_behind f) (and_then (given (codes "adept report 1\n") 0) (λ (n : ℕ). kinds_reader f 0 f.types)) (header ++ ks.lines) cs.lines r.kinds r first_two cases_taken in
+    let first_two = then-takes (λ (n : ℕ). kinds_reader f 0 f.types) (given (first_line f) 0) header ks.lines 0 r.kinds (expected-takes header 0) ks.taken in
+    let first_three = then-takes (cases_behind f) (and_then (given (first_line f) 0) (λ (n : ℕ). kinds_reader f 0 f.types)) (header ++ ks.lines) cs.lines r.kinds r first_two cases_taken in
     record {
       lines = ((header ++ ks.lines) ++ cs.lines) ++ last;
-      taken = then-takes (λ (x : Run). given (summary f x) x) (and_then (and_then (given (codes "adept report 1\n") 0) (λ (n : ℕ). kinds_reader f 0 f.types)) (cases_behind f)) ((header ++ ks.lines) ++ cs.lines) last r r first_three (expected-takes last r);
+      taken = then-takes (λ (x : Run). given (summary f x) x) (and_then (and_then (given (first_line f) 0) (λ (n : ℕ). kinds_reader f 0 f.types)) (cases_behind f)) ((header ++ ks.lines) ++ cs.lines) last r r first_three (expected-takes last r);
       whole = report-whole f r ks.lines cs.lines ks.whole cs.whole;
     }
 

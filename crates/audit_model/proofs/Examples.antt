@@ -32,6 +32,7 @@ type_decl = record { name = codes "t"; schema = schema }
 
 abbrev file_of : List (List Line) → File
 file_of phases = record {
+  format = 1;
   nodes = codes "start" ∷ codes "finish" ∷ codes "A" ∷ codes "B" ∷ [];
   elements = [];
   types = type_decl ∷ [];

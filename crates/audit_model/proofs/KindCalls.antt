@@ -41,6 +41,7 @@ module _ (many : ℕ → ℕ) (roles : List ℕ) (a t : ℕ) where
       → FitKind (calls_of_kind t calls ++ es) (if calls_kind t x then l ∷ rest else rest)
   fit-act (act.Create c) l calls es rest event k fit = subst (λ xs. FitKind (calls_of_kind t xs ++ es) (if eqb c.type_no t then l ∷ rest else rest)) (sym k.2) (fit-one (eqb c.type_no t) _ l es rest event fit)
   fit-act (act.Start c n) l calls es rest event k fit = subst (λ xs. FitKind (calls_of_kind t xs ++ es) rest) (sym k.1) fit
+  fit-act (act.Withdraw c n) l calls es rest event k fit = subst (λ xs. FitKind (calls_of_kind t xs ++ es) rest) (sym k.1) fit
   fit-act (act.End c n writes choice) l calls es rest event k fit = subst (λ xs. FitKind (calls_of_kind t xs ++ es) rest) (sym k.1) fit
   fit-act (act.Change c ops) l calls es rest event k fit = subst (λ xs. FitKind (calls_of_kind t xs ++ es) rest) (sym k.1) fit
   fit-act (act.Install u ops) l calls es rest event k fit = subst (λ xs. FitKind (calls_of_kind t xs ++ es) (if eqb u t then l ∷ rest else rest)) (sym k.1) (fit-one (eqb u t) _ l es rest event fit)

@@ -102,6 +102,7 @@ migrated_by (Some v) = Some (event.Migrate v)
 abbrev pub case_event_in : List ℕ → ℕ → Option VersionModel → Act → Option Event
 case_event_in roles a v (act.Create c) = created_by v
 case_event_in roles a v (act.Start c node) = Some (event.Start node a roles)
+case_event_in roles a v (act.Withdraw c node) = Some (event.Withdraw node a)
 case_event_in roles a v (act.End c node writes choice) = Some (event.End node a writes choice)
 case_event_in roles a v (act.Change c ops) = Some (event.Change ops)
 case_event_in roles a v (act.Install t ops) = None

@@ -16,6 +16,7 @@ calls_kind t _ = false
 abbrev pub calls_case : CaseId → Act → Bool
 calls_case c (act.Create d) = is_case c d
 calls_case c (act.Start d node) = is_case c d
+calls_case c (act.Withdraw d node) = is_case c d
 calls_case c (act.End d node writes choice) = is_case c d
 calls_case c (act.Change d ops) = is_case c d
 calls_case c (act.Install t ops) = false

@@ -13,7 +13,7 @@ use Rattle.line_readers.specs.Owed.{how_many}
 use Rattle.line_readers.specs.Readers.{Reader, done, expected, and_then, mapped}
 use Rattle.report_text.specs.Ends.{end_text}
 use Rattle.report_text.specs.Journals.{kind_line}
-use Rattle.report_text.specs.Report.{type_head, case_head, summary}
+use Rattle.report_text.specs.Report.{first_line, type_head, case_head, summary}
 use Rattle.script_run.specs.Entries.{CaseEntry, KindEntry}
 use Rattle.script_run.specs.Serial.{defined}
 use Rattle.script_run.specs.declared.runs.ClosedCase.{ClosedCase}
@@ -77,4 +77,4 @@ abbrev pub cases_behind : File → List ClosedKind → Reader Run
 cases_behind f kinds = mapped (λ cases. record { kinds = kinds; cases = cases }) (cases_reader f (asked_phases (telling kinds) f.phases) f.cases)
 
 abbrev pub report_reader : File → Reader Run
-report_reader f = and_then (and_then (and_then (given (codes "adept report 1\n") 0) (λ (n : ℕ). kinds_reader f 0 f.types)) (cases_behind f)) (λ r. given (summary f r) r)
+report_reader f = and_then (and_then (and_then (given (first_line f) 0) (λ (n : ℕ). kinds_reader f 0 f.types)) (cases_behind f)) (λ r. given (summary f r) r)

@@ -3,7 +3,7 @@ use Rattle.std.proofs.Common.{◌≡◌, ℕ, ◌==◌, Bool, true, false, ◌||
 use Rattle.std.specs.Option.{option_or}
 use Rattle.std.specs.Prelude.{IfSome, nat_lt}
 use Rattle.case_core.specs.CaseModel.{CaseModel, LiveModel, created_on, is_finished, replay_of_case, state_of, value_now}
-use Rattle.case_core.specs.Machine.{case_after, case_reply, change_with, changed, end_on, end_refusal, ended_reply, ended_trail, event_on, failed_at, holder_of, may_work, migrate_live, migrate_refusal, migrate_with, migrated, misfit, or_reply, overlap_reply, overlap_with, reads_now, repeats, start_entry, start_on, start_refusal, taken, when_reply, with_live, with_trail, wrong_reply}
+use Rattle.case_core.specs.Machine.{case_after, case_reply, change_with, changed, end_on, end_refusal, ended_reply, ended_trail, event_on, failed_at, hold_refusal, holder_of, may_work, migrate_live, migrate_refusal, migrate_with, migrated, misfit, or_reply, overlap_reply, overlap_with, reads_now, repeats, start_entry, start_on, start_refusal, taken, when_reply, with_live, with_trail, withdraw_on, wrong_reply}
 use Rattle.case_core.specs.declared.events.Event.{Event}
 use Rattle.case_core.specs.declared.events.Event.TheVariants as event
 use Rattle.case_core.specs.declared.replies.Reply.{Reply}
@@ -17,6 +17,7 @@ use Rattle.wsm_lists.specs.Values.{Written, value_in}
 use Rattle.wsm_lists.specs.declared.values.Value.{Value}
 use Rattle.wsm_ops.specs.declared.operations.Op.{Op}
 use Rattle.wsm_schema.specs.Flat.{card_at, flat_of, loop_nodes}
+use Rattle.wsm_schema.specs.Marks.{is_start_of}
 use Rattle.wsm_schema.specs.Replay.{fits_choice, is_in_state}
 use Rattle.wsm_schema.specs.SchemaModel.{SchemaModel}
 use Rattle.wsm_schema.specs.Trail.{TrailModel, cut_by, cut_entry, is_one_of, later_or, pushed, value_below, written_by, wrote}
@@ -27,6 +28,7 @@ use Rattle.wsm_schema.specs.declared.states.State.TheVariants as state
 use Rattle.wsm_sound.specs.Faults.{changed_by}
 use Rattle.wsm_sound.specs.VersionModel.{VersionModel}
 use Rattle.wsm_sound.specs.declared.faults.Fault.{Fault}
+use Rattle.wsm_trail.specs.Withdrawn.{withdrawn, without_start}
 use Rattle.audit_facts.specs.Facts.{IsOneLineValue, IsOneLineWrite}
 use Rattle.audit_reader.proofs.OneLineTexts.{IsOneLineRead, ShowsOneLine, WritesValues}
 
@@ -142,12 +144,16 @@ wrong-one : (ds : List ℕ) → IfSome (wrong_reply ds) ShowsOneLine
 wrong-one [] = tt
 wrong-one (d ∷ ds) = tt
 
+hold_refusal-one : (l : LiveModel) (node user : ℕ) → IfSome (hold_refusal l node user) ShowsOneLine
+hold_refusal-one l node user =
+    option-or-one (when_reply (not (is_in_state (state_of l node) state.Running)) (reply.NotRunning (state_of l node))) _ (when-one (not (is_in_state (state_of l node) state.Running)) (reply.NotRunning (state_of l node)) tt)
+    (when-one (not (holder_of l node == user)) (reply.NotHolder (holder_of l node)) tt)
+
 end_refusal-one : (l : LiveModel) (c : Card) (node user : ℕ) (writes : Written) (choice : Option ℕ) → IfSome (end_refusal l c node user writes choice) ShowsOneLine
 end_refusal-one l c node user writes choice =
-    option-or-one (when_reply (not (is_in_state (state_of l node) state.Running)) (reply.NotRunning (state_of l node))) _ (when-one (not (is_in_state (state_of l node) state.Running)) (reply.NotRunning (state_of l node)) tt)
-    (option-or-one (when_reply (not (holder_of l node == user)) (reply.NotHolder (holder_of l node))) _ (when-one (not (holder_of l node == user)) (reply.NotHolder (holder_of l node)) tt)
+    option-or-one (hold_refusal l node user) _ (hold_refusal-one l node user)
     (option-or-one (wrong_reply (wrong_elements l.schema.elements c.writes writes)) _ (wrong-one (wrong_elements l.schema.elements c.writes writes))
-    (when-one (not (fits_choice c choice || repeats c choice)) (reply.NoBranch choice) tt)))
+    (when-one (not (fits_choice c choice || repeats c choice)) (reply.NoBranch choice) tt))
 
 ended-kept : (l : LiveModel) (node : ℕ) (writes : Written) (choice : Option ℕ) (again : Bool) → AllRows IsOneLineWrite writes → KeptLive l → KeptTrail (ended_trail l node writes choice again)
 ended-kept l node writes choice false one kept = pushed-kept (entry.End node writes choice) l.trail one kept
@@ -164,6 +170,20 @@ end-good l node user writes choice None one kept = (kept, tt)
 end-good l node user writes choice (Some c) one kept =
     or-good (end_refusal l c node user writes choice) l (with_trail l (ended_trail l node (by_element writes) choice (repeats c choice)), ended_reply (repeats c choice)) (end_refusal-one l c node user writes choice) kept
     (ended-kept l node (by_element writes) choice (repeats c choice) (sorted-kept writes [] one tt) kept, ended-reply-one (repeats c choice))
+
+-- a start that is taken away takes no value away
+left-kept : (node : ℕ) (es : List (ℕ × Entry)) → AllRows KeptEntry es → AllRows KeptEntry (without_start node es)
+left-kept node [] kept = tt
+left-kept node (e ∷ es) kept = by (is_start_of node e.1) refl (left-kept node es kept.1)
+  where
+    by : (test : Bool) → is_start_of node e.1 ≡ test → AllRows KeptEntry (without_start node es) → AllRows KeptEntry (without_start node (e ∷ es))
+    by true is more = rw is more
+    by false is more = rw is (kept.0, more)
+
+withdraw-good : (l : LiveModel) (node user : ℕ) (o : Option Card) → KeptLive l → GoodStep (withdraw_on l node user o)
+withdraw-good l node user None kept = (kept, tt)
+withdraw-good l node user (Some c) kept =
+    or-good (hold_refusal l node user) l (with_trail l (withdrawn node l.trail), reply.Withdrawn) (hold_refusal-one l node user) kept (left-kept node l.trail.entries kept, tt)
 
 misfit-one : (l : LiveModel) (o : Option ℕ) → IfSome (misfit l o) ShowsOneLine
 misfit-one l None = tt
@@ -202,11 +222,13 @@ or-case (Some r) s step one kept good = (kept, one)
 event-good : (s : CaseModel) (o : Option LiveModel) (e : Event) → KeptCase s → IfSome o KeptLive → WritesValues e → GoodCase (event_on s o e)
 event-good s None (event.Create v) kept live good = or-case _ s (with_live s (created_on v, reply.Created)) (when-one (not (v.type_no == s.type_no)) reply.OtherType tt) kept (tt, tt)
 event-good s None (event.Start node user roles) kept live good = (kept, tt)
+event-good s None (event.Withdraw node user) kept live good = (kept, tt)
 event-good s None (event.End node user writes choice) kept live good = (kept, tt)
 event-good s None (event.Change ops) kept live good = (kept, tt)
 event-good s None (event.Migrate v) kept live good = (kept, tt)
 event-good s (Some l) (event.Create v) kept live good = (kept, tt)
 event-good s (Some l) (event.Start node user roles) kept live good = start-good l node user roles (card_at node (flat_of l.schema).cards) live
+event-good s (Some l) (event.Withdraw node user) kept live good = withdraw-good l node user (card_at node (flat_of l.schema).cards) live
 event-good s (Some l) (event.End node user writes choice) kept live good = end-good l node user writes choice (card_at node (flat_of l.schema).cards) good live
 event-good s (Some l) (event.Change ops) kept live good = or-good (when_reply (is_finished l) reply.Finished) l (change_with l ops (changed_by l.schema ops)) (when-one (is_finished l) reply.Finished tt) live (change-good l ops (changed_by l.schema ops) live)
 event-good s (Some l) (event.Migrate v) kept live good = or-case _ s (with_live s (migrate_live l v)) (when-one (not (v.type_no == s.type_no)) reply.OtherType tt) kept (migrate_live-good l v live)

@@ -213,6 +213,7 @@ module _ (f : File) (workable : IsWorkable f) (a : ℕ) where
       let one = tells-one K C ver (act.Create c) kinds cases version c (event.Create h.version) known (same-case c) (ap (λ o. case_event_in (roles_of f a) a o (act.Create c)) h.is) in
       (h.version, one.answer, ap (λ xs. of_type c.type_no xs ++ of_one c (C c)) h.queue ∙ ap (λ xs. asked a c.type_no h.version ∷ xs) one.calls)
   calls-are K C ver (act.Start c n) known (kinds, cases, version) = let one = tells-one K C ver (act.Start c n) kinds cases version c (event.Start n a (roles_of f a)) known (same-case c) refl in (one.answer, one.calls)
+  calls-are K C ver (act.Withdraw c n) known (kinds, cases, version) = let one = tells-one K C ver (act.Withdraw c n) kinds cases version c (event.Withdraw n a) known (same-case c) refl in (one.answer, one.calls)
   calls-are K C ver (act.End c n writes choice) known (kinds, cases, version) = let one = tells-one K C ver (act.End c n writes choice) kinds cases version c (event.End n a writes choice) known (same-case c) refl in (one.answer, one.calls)
   calls-are K C ver (act.Change c ops) known (kinds, cases, version) = let one = tells-one K C ver (act.Change c ops) kinds cases version c (event.Change ops) known.0 (same-case c) refl in (one.answer, one.calls)
   calls-are K C ver (act.Install t ops) known (kinds, cases, version) =
@@ -273,6 +274,7 @@ module _ (f : File) (workable : IsWorkable f) (a : ℕ) where
   told-then : (K : KindQueues) (r : OwnTelling) (x : Act) (t : ℕ) → (calls_kind t x ≡ true → IsAsked K x t) → r t ≡ told_in (K t) → own_then r (asks x) t ≡ told_in (kinds_then K x t)
   told-then K r (act.Create c) t asked_now same = told-asking K r (act.Create c) c.type_no t refl refl asked_now same
   told-then K r (act.Start c n) t asked_now same = same
+  told-then K r (act.Withdraw c n) t asked_now same = same
   told-then K r (act.End c n writes choice) t asked_now same = same
   told-then K r (act.Change c ops) t asked_now same = same
   told-then K r (act.Install u ops) t asked_now same = by (u == t) refl

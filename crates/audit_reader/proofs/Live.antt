@@ -22,7 +22,7 @@ use Rattle.line_readers.specs.Owed.{how_many}
 use Rattle.line_readers.specs.Readers.{IsLive, IsOneLine, Reader, and_then, mapped}
 use Rattle.report_text.specs.Ends.{end_text}
 use Rattle.report_text.specs.Journals.{event_text, kind_event_text, kind_reply_text, reply_text}
-use Rattle.report_text.specs.Report.{case_head, summary, type_head}
+use Rattle.report_text.specs.Report.{first_line, case_head, summary, type_head}
 use Rattle.script_run.specs.Calls.{roles_of}
 use Rattle.script_run.specs.Entries.{CaseEntry, KindEntry}
 use Rattle.script_run.specs.Serial.{defined}
@@ -89,6 +89,7 @@ module _ (f : File) (workable : IsWorkable f) (auditable : IsAuditable f) where
   kind-event : (t : ℕ) (x : Act) → calls_kind t x ≡ true → (e : KindEvent) × (kind_event_in x ≡ Some e)
   kind-event t (act.Create c) calls = (kind_event.Newest, refl)
   kind-event t (act.Start c n) calls = absurd (cc (calls))
+  kind-event t (act.Withdraw c n) calls = absurd (cc (calls))
   kind-event t (act.End c n writes choice) calls = absurd (cc (calls))
   kind-event t (act.Change c ops) calls = absurd (cc (calls))
   kind-event t (act.Install u ops) calls = (kind_event.Install ops, refl)
@@ -131,6 +132,7 @@ module _ (f : File) (workable : IsWorkable f) (auditable : IsAuditable f) where
   case-event : (a : ℕ) (ver : Option VersionModel) (c : CaseId) (x : Act) → ((t : ℕ) → asks x ≡ Some t → (v : VersionModel) × (ver ≡ Some v)) → HasOneLineWrites x → calls_case c x ≡ true → HasEvent (case_event_in (roles_of f a) a ver x)
   case-event a ver c (act.Create d) told one calls = let (v, is) = told d.type_no refl in record { event = event.Create v; is = ap (λ o. case_event_in (roles_of f a) a o (act.Create d)) is; good = tt }
   case-event a ver c (act.Start d n) told one calls = record { event = event.Start n a (roles_of f a); is = refl; good = tt }
+  case-event a ver c (act.Withdraw d n) told one calls = record { event = event.Withdraw n a; is = refl; good = tt }
   case-event a ver c (act.End d n writes choice) told one calls = record { event = event.End n a writes choice; is = refl; good = one }
   case-event a ver c (act.Change d ops) told one calls = record { event = event.Change ops; is = refl; good = tt }
   case-event a ver c (act.Install t ops) told one calls = absurd (cc (calls))
@@ -187,8 +189,8 @@ module _ (f : File) (workable : IsWorkable f) (auditable : IsAuditable f) where
   -- ---- the report
   pub report-live : IsLive (report_reader f)
   report-live =
-      let types = and_then (given (codes "adept report 1\n") 0) (λ (n : ℕ). kinds_reader f 0 f.types) in
+      let types = and_then (given (first_line f) 0) (λ (n : ℕ). kinds_reader f 0 f.types) in
       then-live (λ (r : Run). given (summary f r) r) (and_then types (cases_behind f))
-      (then-live (cases_behind f) types (then-live (λ (n : ℕ). kinds_reader f 0 f.types) (given (codes "adept report 1\n") 0) (given-live {A = ℕ} (codes "adept report 1\n") 0) (λ ls n is. kinds-live 0 f.types))
+      (then-live (cases_behind f) types (then-live (λ (n : ℕ). kinds_reader f 0 f.types) (given (first_line f) 0) (given-live {A = ℕ} (first_line f) 0) (λ ls n is. kinds-live 0 f.types))
       (λ ls ks is. let h = types-of f ls ks is in behind-live ks h.kinds.many (kind-at f h.part ks h.kinds)))
       (λ ls r is. given-live (summary f r) r)

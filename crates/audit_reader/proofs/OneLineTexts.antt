@@ -66,6 +66,7 @@ word-one reply.Created = is-one (codes "created") refl
 word-one (reply.Started reads) = is-one (codes "started") refl
 word-one reply.Ended = is-one (codes "ended") refl
 word-one reply.Repeated = is-one (codes "repeated") refl
+word-one reply.Withdrawn = is-one (codes "withdrawn") refl
 word-one reply.Already = is-one (codes "already") refl
 word-one reply.NoCase = is-one (codes "no-case") refl
 word-one reply.NoNode = is-one (codes "no-node") refl
@@ -222,6 +223,7 @@ module _ (f : File) (auditable : IsAuditable f) where
   pub event-one : (e : Event) → WritesValues e → IsOneLine (event_text f e)
   event-one (event.Create version) good = said-first (codes "create ") _ (is-one (codes "create ") refl) (decimal-one version.number)
   event-one (event.Start n user roles) good = said-first (codes "start ") _ (is-one (codes "start ") refl) (node-one n)
+  event-one (event.Withdraw n user) good = said-first (codes "withdraw ") _ (is-one (codes "withdraw ") refl) (node-one n)
   event-one (event.End n user writes choice) good =
       said-first (codes "end ") _ (is-one (codes "end ") refl)
       (one-append (node_text f n) (choice_text choice ++ flat_map (assigned f) writes) (node-one n) (one-append (choice_text choice) (flat_map (assigned f) writes) (choice-one choice) (writes-one writes good)))
@@ -247,6 +249,7 @@ module _ (f : File) (auditable : IsAuditable f) where
   rest-one (reply.Started reads) one = reads-one reads one
   rest-one reply.Ended one = tt
   rest-one reply.Repeated one = tt
+  rest-one reply.Withdrawn one = tt
   rest-one reply.Already one = tt
   rest-one reply.NoCase one = tt
   rest-one reply.NoNode one = tt

@@ -144,6 +144,7 @@ module _ (many : ℕ → ℕ) where
   abbrev pub calls_at : KindQueues → CaseQueues → Act → List Call
   calls_at K C (act.Create c) = of_type c.type_no (K c.type_no) ++ of_one c (C c)
   calls_at K C (act.Start c n) = of_one c (C c)
+  calls_at K C (act.Withdraw c n) = of_one c (C c)
   calls_at K C (act.End c n writes choice) = of_one c (C c)
   calls_at K C (act.Change c ops) = of_one c (C c)
   calls_at K C (act.Install t ops) = of_type t (K t)
@@ -156,6 +157,7 @@ module _ (many : ℕ → ℕ) where
   kind-taken : (K : KindQueues) (C : CaseQueues) (t : ℕ) (x : Act) → calls_of_kind t (calls_at K C x) ≡ (if calls_kind t x then ahead (K t) else [])
   kind-taken K C t (act.Create c) = kind-behind t c.type_no K (of_one c (C c)) (one-no_kind t c (C c))
   kind-taken K C t (act.Start c n) = one-no_kind t c (C c)
+  kind-taken K C t (act.Withdraw c n) = one-no_kind t c (C c)
   kind-taken K C t (act.End c n writes choice) = one-no_kind t c (C c)
   kind-taken K C t (act.Change c ops) = one-no_kind t c (C c)
   kind-taken K C t (act.Install u ops) = type-at K t u
@@ -173,6 +175,7 @@ module _ (many : ℕ → ℕ) where
   case-taken : (K : KindQueues) (C : CaseQueues) (c : CaseId) → c.place < many c.type_no → (x : Act) → calls_of_case c (calls_at K C x) ≡ (if calls_case c x then ahead (C c) else [])
   case-taken K C c low (act.Create d) = case-behind c d.type_no (K d.type_no) (of_one d (C d)) ∙ case-at C c d
   case-taken K C c low (act.Start d n) = case-at C c d
+  case-taken K C c low (act.Withdraw d n) = case-at C c d
   case-taken K C c low (act.End d n writes choice) = case-at C c d
   case-taken K C c low (act.Change d ops) = case-at C c d
   case-taken K C c low (act.Install u ops) = type-no_case c u (K u)

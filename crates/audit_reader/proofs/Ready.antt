@@ -125,6 +125,7 @@ module _ (f : File) (workable : IsWorkable f) where
   asks-calls : (x : Act) (t : ℕ) → asks x ≡ Some t → (calls_kind t x ≡ true) × (kind_event_in x ≡ Some kind_event.Newest)
   asks-calls (act.Create c) t is = (eq-eqb c.type_no t (cc (is)), refl)
   asks-calls (act.Start c n) t is = absurd (cc (is))
+  asks-calls (act.Withdraw c n) t is = absurd (cc (is))
   asks-calls (act.End c n writes choice) t is = absurd (cc (is))
   asks-calls (act.Change c ops) t is = absurd (cc (is))
   asks-calls (act.Install u ops) t is = absurd (cc (is))
@@ -133,6 +134,7 @@ module _ (f : File) (workable : IsWorkable f) where
   asked-type : (x : Act) (t : ℕ) → IsKnownAct (length f.types) f.cases x → asks x ≡ Some t → t < length f.types
   asked-type (act.Create d) t known is = subst (λ n. n < length f.types) (cc (is)) (declared-typed (length f.types) f.cases d workable.typed known)
   asked-type (act.Start d n) t known is = absurd (cc (is))
+  asked-type (act.Withdraw d n) t known is = absurd (cc (is))
   asked-type (act.End d n writes choice) t known is = absurd (cc (is))
   asked-type (act.Change d ops) t known is = absurd (cc (is))
   asked-type (act.Install u ops) t known is = absurd (cc (is))

@@ -16,7 +16,7 @@ use Rattle.line_readers.specs.Journals.{journal}
 use Rattle.line_readers.specs.Owed.{how_many}
 use Rattle.line_readers.specs.Readers.{Reader, and_then, ending, mapped}
 use Rattle.report_text.specs.Ends.{end_text}
-use Rattle.report_text.specs.Report.{case_head, cases_text, kinds_text, summary, type_head}
+use Rattle.report_text.specs.Report.{first_line, case_head, cases_text, kinds_text, summary, type_head}
 use Rattle.script_run.specs.Entries.{KindEntry}
 use Rattle.script_run.specs.Serial.{defined}
 use Rattle.script_run.specs.declared.runs.ClosedCase.{ClosedCase}
@@ -165,44 +165,44 @@ module _ (f : File) (phases : List (List Asked)) where
       subst (λ xs. CasesTaken (d ∷ ds) xs cs) (sym both.lines) (subst (CasesTaken (d ∷ ds) (both.front ++ both.rest)) (sym same) (more-cases d ds both.front both.rest both.value rest here more))
 
 -- ---- the whole report
-abbrev pub header : List Bytes
-header = ended (codes "adept report 1\n")
+abbrev pub header : File → List Bytes
+header f = ended (first_line f)
 
 pub record RunTaken (f : File) (ls : List Bytes) (r : Run) : Type 0 where
   pub kind_part : List Bytes
   pub case_part : List Bytes
   pub kinds : KindsTaken f 0 f.types kind_part r.kinds
   pub cases : CasesTaken f (asked_phases (telling r.kinds) f.phases) f.cases case_part r.cases
-  pub lines : ls ≡ ((header ++ kind_part) ++ case_part) ++ ended (summary f r)
+  pub lines : ls ≡ ((header f ++ kind_part) ++ case_part) ++ ended (summary f r)
 
 -- the types behind the header
 pub record TypesTaken (f : File) (ls : List Bytes) (ks : List ClosedKind) : Type 0 where
   pub part : List Bytes
   pub kinds : KindsTaken f 0 f.types part ks
-  pub lines : ls ≡ header ++ part
+  pub lines : ls ≡ header f ++ part
 
-pub types-of : (f : File) (ls : List Bytes) (ks : List ClosedKind) → Takes (and_then (given (codes "adept report 1\n") 0) (λ (n : ℕ). kinds_reader f 0 f.types)) ls ks → TypesTaken f ls ks
+pub types-of : (f : File) (ls : List Bytes) (ks : List ClosedKind) → Takes (and_then (given (first_line f) 0) (λ (n : ℕ). kinds_reader f 0 f.types)) ls ks → TypesTaken f ls ks
 types-of f ls ks is =
-    let both = takes-then (λ (n : ℕ). kinds_reader f 0 f.types) (given (codes "adept report 1\n") 0) ls ks is in
-    let (front_is, value) = takes-expected header 0 both.front both.value both.first in
+    let both = takes-then (λ (n : ℕ). kinds_reader f 0 f.types) (given (first_line f) 0) ls ks is in
+    let (front_is, value) = takes-expected (header f) 0 both.front both.value both.first in
     record { part = both.rest; kinds = kinds-of f 0 f.types both.rest ks both.second; lines = both.lines ∙ ap (λ xs. xs ++ both.rest) front_is }
 
 pub run-of : (f : File) (ls : List Bytes) (r : Run) → Takes (report_reader f) ls r → RunTaken f ls r
 run-of f ls r is =
-    let front = and_then (and_then (given (codes "adept report 1\n") 0) (λ (n : ℕ). kinds_reader f 0 f.types)) (cases_behind f) in
+    let front = and_then (and_then (given (first_line f) 0) (λ (n : ℕ). kinds_reader f 0 f.types)) (cases_behind f) in
     let all = takes-then (λ (x : Run). given (summary f x) x) front ls r is in
     let (last_is, value) = takes-expected (ended (summary f all.value)) all.value all.rest r all.second in
-    let inner = takes-then (cases_behind f) (and_then (given (codes "adept report 1\n") 0) (λ (n : ℕ). kinds_reader f 0 f.types)) all.front all.value all.first in
+    let inner = takes-then (cases_behind f) (and_then (given (first_line f) 0) (λ (n : ℕ). kinds_reader f 0 f.types)) all.front all.value all.first in
     let types = types-of f inner.front inner.value inner.first in
     let (cs, went, same) = takes-mapped (λ (cases : List ClosedCase). record { kinds = inner.value; cases = cases }) (cases_reader f (asked_phases (telling inner.value) f.phases) f.cases) inner.rest all.value inner.second in
     let cases = cases-of f (asked_phases (telling inner.value) f.phases) f.cases inner.rest cs went in
-    let lines : ls ≡ ((header ++ types.part) ++ inner.rest) ++ ended (summary f all.value) =
-    all.lines ∙ (ap (λ xs. xs ++ all.rest) inner.lines ∙ (ap (λ xs. (xs ++ inner.rest) ++ all.rest) types.lines ∙ ap (λ xs. ((header ++ types.part) ++ inner.rest) ++ xs) last_is)) in
-    let lines_r : ls ≡ ((header ++ types.part) ++ inner.rest) ++ ended (summary f r) = subst (λ (x : Run). ls ≡ ((header ++ types.part) ++ inner.rest) ++ ended (summary f x)) (sym value) lines in
+    let lines : ls ≡ ((header f ++ types.part) ++ inner.rest) ++ ended (summary f all.value) =
+    all.lines ∙ (ap (λ xs. xs ++ all.rest) inner.lines ∙ (ap (λ xs. (xs ++ inner.rest) ++ all.rest) types.lines ∙ ap (λ xs. ((header f ++ types.part) ++ inner.rest) ++ xs) last_is)) in
+    let lines_r : ls ≡ ((header f ++ types.part) ++ inner.rest) ++ ended (summary f r) = subst (λ (x : Run). ls ≡ ((header f ++ types.part) ++ inner.rest) ++ ended (summary f x)) (sym value) lines in
     whole inner.value cs types.part inner.rest types.kinds cases (value ∙ same) lines_r
   where
     whole : (ks : List ClosedKind) (cs : List ClosedCase) (kind_part case_part : List Bytes) → KindsTaken f 0 f.types kind_part ks → CasesTaken f (asked_phases (telling ks) f.phases) f.cases case_part cs → r ≡ record { kinds = ks; cases = cs }
-        → ls ≡ ((header ++ kind_part) ++ case_part) ++ ended (summary f r) → RunTaken f ls r
+        → ls ≡ ((header f ++ kind_part) ++ case_part) ++ ended (summary f r) → RunTaken f ls r
     whole ks cs kind_part case_part kinds cases same lines =
         let same_kinds : r.kinds ≡ ks = ap (λ (x : Run). x.kinds) same in
         let same_cases : r.cases ≡ cs = ap (λ (x : Run). x.cases) same in

@@ -2,7 +2,8 @@
 use Rattle.std.proofs.Common.{◌≡◌, ℕ, ◌+◌, ◌*◌, ◌≤◌, Bool, true, false, not, List, ◌++◌, length, length-append, ◌==◌, refl, arith, Option, Some, None, Result, Ok, Err}
 use Rattle.case_core.specs.Ages.{age, live_age, weight}
 use Rattle.case_core.specs.CaseModel.{CaseModel, LiveModel, created_on, is_finished, replay_of_case}
-use Rattle.case_core.specs.Machine.{next_case, event_on, start_on, end_on, start_refusal, end_refusal, repeats, when_reply, or_reply, with_live, with_trail, ended_trail, ended_reply, start_entry, reads_now, misfit, failed_at, changed, change_with, change_live, migrated, migrate_with, migrate_live, migrate_refusal}
+use Rattle.case_core.specs.Machine.{next_case, event_on, start_on, end_on, start_refusal, end_refusal, hold_refusal, withdraw_on, repeats, when_reply, or_reply, with_live, with_trail, ended_trail, ended_reply, start_entry, reads_now, misfit, failed_at, changed, change_with, change_live, migrated, migrate_with, migrate_live, migrate_refusal}
+use Rattle.wsm_trail.specs.Withdrawn.{withdrawn}
 use Rattle.case_writes.specs.Writes.{by_element}
 use Rattle.case_core.specs.declared.events.Event.{Event}
 use Rattle.case_core.specs.declared.events.Event.TheVariants as event
@@ -41,6 +42,10 @@ after_end l node user writes choice (Some c) =
     unless_refused l (with_trail l (ended_trail l node (by_element writes) choice (repeats c choice))) (end_refusal l c node user writes choice) (ended_reply (repeats c choice)) 1
     (rw (ended_next l node (by_element writes) choice (repeats c choice)) (omega arith))
 
+after_withdraw : (l : LiveModel) (node user : ℕ) (o : Option Card) → older l (withdraw_on l node user o).0 0
+after_withdraw l node user None = omega arith
+after_withdraw l node user (Some c) = unless_refused l (with_trail l (withdrawn node l.trail)) (hold_refusal l node user) reply.Withdrawn 0 (omega arith)
+
 change-with : (l : LiveModel) (ops : List Op) (o : Result SchemaModel Fault) → older l (change_with l ops o).0 (3 * length ops)
 change-with l ops (Err fault) = omega arith
 change-with l ops (Ok schema) =
@@ -78,11 +83,13 @@ age-next_case s e = go s.live e
         created false = omega arith
     go None (event.Start node user roles) = omega arith
     go None (event.End node user writes choice) = omega arith
+    go None (event.Withdraw node user) = omega arith
     go None (event.Change ops) = omega arith
     go None (event.Migrate version) = omega arith
     go (Some l) (event.Create version) = omega arith
     go (Some l) (event.Start node user roles) = after_start l node user roles (card_at node (flat_of l.schema).cards)
     go (Some l) (event.End node user writes choice) = after_end l node user writes choice (card_at node (flat_of l.schema).cards)
+    go (Some l) (event.Withdraw node user) = after_withdraw l node user (card_at node (flat_of l.schema).cards)
     go (Some l) (event.Change ops) = after_change l ops
     go (Some l) (event.Migrate version) =
         with-live (record { type_no = s.type_no; live = Some l }) l (when_reply (not (version.type_no == s.type_no)) reply.OtherType) (migrate_live l version) 0 refl (after_migrate l version)

@@ -5,7 +5,7 @@ use Rattle.case_core.specs.Ages.{age, live_age, weight}
 use Rattle.case_core.specs.CaseModel.{CaseModel, LiveModel, created_on, is_finished, not_created, replay_of_case}
 use Rattle.case_core.specs.Journals.{BringsChecked, IsShownWell, JournalsKeep, weights}
 use Rattle.case_core.specs.Kept.{Kept, KeptIn}
-use Rattle.case_core.specs.Machine.{case_after, change_live, change_with, changed, end_on, end_refusal, ended_reply, ended_trail, failed_at, migrate_live, migrate_refusal, migrate_with, migrated, misfit, next_case, or_reply, reads_now, repeats, start_entry, start_on, start_refusal, when_reply, with_live, with_trail}
+use Rattle.case_core.specs.Machine.{case_after, change_live, change_with, changed, end_on, end_refusal, ended_reply, ended_trail, failed_at, migrate_live, migrate_refusal, migrate_with, migrated, misfit, next_case, or_reply, reads_now, hold_refusal, repeats, start_entry, start_on, start_refusal, when_reply, with_live, with_trail, withdraw_on}
 use Rattle.case_core.specs.declared.events.Event.{Event}
 use Rattle.case_core.specs.declared.events.Event.TheVariants as event
 use Rattle.case_core.specs.declared.replies.Reply.{Reply}
@@ -13,7 +13,7 @@ use Rattle.case_core.specs.declared.replies.Reply.TheVariants as reply
 use Rattle.case_core.proofs.AgesOfSteps.{age-next_case}
 use Rattle.case_core.proofs.CheckedSchemas.{checked-made}
 use Rattle.case_core.proofs.Fairness.{fair, never-stuck}
-use Rattle.case_core.proofs.Keeping.{kept-created, kept-end, kept-on_schema, kept-repeat, kept-start}
+use Rattle.case_core.proofs.Keeping.{kept-created, kept-end, kept-on_schema, kept-repeat, kept-start, kept-withdrawn}
 use Rattle.case_core.proofs.TrailFacts.{last-writes}
 use Rattle.case_writes.specs.Writes.{by_element}
 use Rattle.wsm_lists.specs.Rows.{AllRows}
@@ -31,6 +31,7 @@ use Rattle.wsm_sound.specs.Flattened.{IsChecked}
 use Rattle.wsm_sound.specs.VersionModel.{VersionModel}
 use Rattle.wsm_sound.specs.declared.faults.Fault.{Fault}
 use Rattle.wsm_steps.specs.Whole.{is_whole}
+use Rattle.wsm_trail.specs.Withdrawn.{withdrawn}
 
 -- a step that is refused leaves a case as it is
 module _ {S : Type 0} (P : S → Type 0) where
@@ -54,6 +55,11 @@ module _ (l : LiveModel) (kept : Kept l) where
   end-keeps node user writes choice (Some c) at =
       unless-refused Kept (end_refusal l c node user writes choice) l (with_trail l (ended_trail l node (by_element writes) choice (repeats c choice)), ended_reply (repeats c choice)) kept
       (λ none. ended-keeps node user writes choice c at none (repeats c choice) refl)
+
+  withdraw-keeps : (node user : ℕ) (o : Option Card) → card_at node (cards_of l.schema) ≡ o → Kept (withdraw_on l node user o).0
+  withdraw-keeps node user None at = kept
+  withdraw-keeps node user (Some c) at =
+      unless-refused Kept (hold_refusal l node user) l (with_trail l (withdrawn node l.trail), reply.Withdrawn) kept (kept-withdrawn l kept node user c at)
 
   whole-where : (o : Outcome) → misfit l (failed_at o) ≡ None → is_whole o ≡ true
   whole-where (whole t) h = refl
@@ -97,11 +103,13 @@ step-keeps s e kept checked few = go s.live kept e checked few
         (with_live (not_created s.type_no) (created_on version, reply.Created)) tt (λ own. kept-created version checked)
     go None kept (event.Start node user roles) checked few = tt
     go None kept (event.End node user writes choice) checked few = tt
+    go None kept (event.Withdraw node user) checked few = tt
     go None kept (event.Change ops) checked few = tt
     go None kept (event.Migrate version) checked few = tt
     go (Some l) kept (event.Create version) checked few = kept
     go (Some l) kept (event.Start node user roles) checked few = start-keeps l kept node user roles (card_at node (flat_of l.schema).cards) refl
     go (Some l) kept (event.End node user writes choice) checked few = end-keeps l kept node user writes choice (card_at node (flat_of l.schema).cards) refl
+    go (Some l) kept (event.Withdraw node user) checked few = withdraw-keeps l kept node user (card_at node (flat_of l.schema).cards) refl
     go (Some l) kept (event.Change ops) checked few = change-keeps l kept ops few
     go (Some l) kept (event.Migrate version) checked few =
         unless-refused (λ (c : CaseModel). KeptIn c.live) (when_reply (not (version.type_no == s.type_no)) reply.OtherType) (record { type_no = s.type_no; live = Some l })

@@ -6,7 +6,8 @@ use Rattle.std.proofs.lemmas.Option.{same_Some}
 use Rattle.std.proofs.Math.Bool.{or-false}
 use Rattle.case_core.specs.CaseModel.{LiveModel, created_on, on_schema, replay_of_case, shown_after, state_of, value_now}
 use Rattle.case_core.specs.Kept.{Kept}
-use Rattle.case_core.specs.Machine.{start_refusal, end_refusal, start_entry, repeats, repeated_trail, with_trail, wrong_reply}
+use Rattle.case_core.proofs.Withdrawing.{agains-left, one-start}
+use Rattle.case_core.specs.Machine.{start_refusal, hold_refusal, end_refusal, start_entry, repeats, repeated_trail, with_trail, wrong_reply}
 use Rattle.case_writes.proofs.RightWrites.{right-writes}
 use Rattle.case_writes.specs.Writes.{number_key, wrong_elements, by_element}
 use Rattle.wsm_lists.proofs.Lists.{all_rows, rows-append}
@@ -14,6 +15,7 @@ use Rattle.wsm_lists.proofs.Rows.{lt_means, lt_from}
 use Rattle.wsm_lists.specs.Keys.{both}
 use Rattle.wsm_lists.specs.Rows.{AllRows, Ascends, key_lt}
 use Rattle.wsm_lists.specs.Values.{Written}
+use Rattle.wsm_marks.proofs.LastMarking.{WholeTrail, running-held, whole-trail}
 use Rattle.wsm_marks.proofs.NoFault.{no_either, no_when, not_false}
 use Rattle.wsm_marks.proofs.ReadyValues.{activated-values, running-begun}
 use Rattle.wsm_marks.proofs.Repeats.{loop-of_schema, repeat-whole}
@@ -49,6 +51,9 @@ use Rattle.wsm_steps.proofs.Positions.{rises-after, last-below}
 use Rattle.wsm_steps.specs.Whole.{is_whole}
 use Rattle.wsm_trail.proofs.Cutting.{rises_cut}
 use Rattle.wsm_trail.proofs.Rising.{rises_push}
+use Rattle.wsm_trail.proofs.Withdrawing.{rises-left}
+use Rattle.wsm_trail.specs.Withdrawn.{starts_of, withdrawn}
+use Rattle.wsm_walk.proofs.WithdrawnTrails.{withdrawn-whole}
 
 -- a replay that fails nowhere ends in a table
 pub table-of : (o : Outcome) → is_whole o ≡ true → (t : Spots) × (o ≡ whole t)
@@ -175,14 +180,40 @@ module _ (l : LiveModel) (kept : Kept l) (n user : ℕ) (c : Card) (at : card_at
       (next-whole (flat_of l.schema) es next (start_entry l c n user) kept.rises table.0 table.1
       (start-applies (flat_of l.schema) table.0 (λ d. value_below d next es) n user c at (state-in Activated (ready roles none)) (read-there_now roles none)))
 
+  -- a node that its user may end, or give back
+  module _ (none : hold_refusal l n user ≡ None) where
+    pub held-running : is_in_state (state_of l n) Running ≡ true
+    held-running = not_false _ (no_when _ _ (no_either _ _ none).0)
+
+    whole_trail : WholeTrail l.schema rank es table.0
+    whole_trail = whole-trail l.schema rank es table.0 is (rises-after 0 next es kept.rises) table.1
+
+    -- its Start is the only one
+    pub one-held : length (starts_of n es) ≡ 1
+    one-held =
+        let held = running-held l.schema rank es table.0 whole_trail n c at (state-in Running held-running) in
+        one-start n es _ whole_trail.orderly held.2
+
+    pub kept-withdrawn : Kept (with_trail l (withdrawn n l.trail))
+    kept-withdrawn =
+        let held = running-held l.schema rank es table.0 whole_trail n c at (state-in Running held-running) in
+        let left = withdrawn-whole (flat_of l.schema) rank is es table.0 (rises-after 0 next es kept.rises) table.1 n held.3 in
+        record {
+          checked = kept.checked;
+          own = kept.own;
+          few = kept.few;
+          replays = whole-is _ left.0 left.1;
+          rises = rises-left n 1 next es kept.rises;
+          once = agains-left n es ∙ kept.once;
+        }
+
   module _ (writes : Written) (choice : Option ℕ) (none : end_refusal l c n user writes choice ≡ None) where
     pub ended-running : is_in_state (state_of l n) Running ≡ true
-    ended-running = not_false _ (no_when _ _ (no_either _ _ none).0)
+    ended-running = held-running (no_either _ _ none).0
 
     behind : (wrong_elements l.schema.elements c.writes writes ≡ []) × ((fits_choice c choice || repeats c choice) ≡ true)
     behind =
-        let later = no_either _ _ (no_either _ _ none).1 in
-        let last = no_either _ _ later.1 in
+        let last = no_either _ _ (no_either _ _ none).1 in
         (no-wrong (wrong_elements l.schema.elements c.writes writes) last.0, not_false _ (no_when _ _ last.1))
       where
         no-wrong : (ds : List ℕ) → wrong_reply ds ≡ None → ds ≡ []

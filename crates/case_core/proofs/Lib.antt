@@ -1,5 +1,6 @@
 pub mod NoOverlap
 pub mod AgesOfSteps
+pub mod Withdrawing
 pub mod Keeping
 pub mod Marked
 pub mod ItemRows

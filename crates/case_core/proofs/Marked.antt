@@ -5,7 +5,7 @@ use Rattle.std.proofs.lemmas.Bool.{cases_Bool, both_ways, and_parts, eq-eqb}
 use Rattle.case_core.specs.CaseModel.{LiveModel, replay_of_case, shown_after, shown_spots}
 use Rattle.case_core.specs.Kept.{Kept, marks_in}
 use Rattle.case_core.specs.Machine.{end_refusal, failed_at, holder_of, repeats, user_of, with_trail}
-use Rattle.case_core.specs.Remarks.{AgainRemarks, EndRemarks, IsTimedOn, Remarks, RunsLoop, StartRemarks, started_in, user_at}
+use Rattle.case_core.specs.Remarks.{AgainRemarks, EndRemarks, IsTimedOn, Remarks, Runs, RunsLoop, StartRemarks, started_in, user_at}
 use Rattle.case_core.proofs.Keeping.{ended-running, loop-partner, state-is, table-of}
 use Rattle.wsm_lists.specs.ByNumber.{changed, item_at}
 use Rattle.wsm_lists.specs.Rows.{AllRows, put_row}
@@ -27,7 +27,7 @@ use Rattle.wsm_replay.proofs.OneEntryMore.{marking_of-spots}
 use Rattle.wsm_replay.proofs.Replays.{marking_of-same}
 use Rattle.wsm_schema.specs.SchemaModel.{SchemaModel}
 use Rattle.wsm_schema.specs.Trail.{TrailModel}
-use Rattle.wsm_settle.specs.Events.{EndsRight, RepeatsRight, StartsRight}
+use Rattle.wsm_settle.specs.Events.{EndsRight, RepeatsRight, StartsRight, WithdrawsRight}
 use Rattle.wsm_settle.specs.Timing.{IsTimed}
 use Rattle.wsm_settle.specs.declared.timing.TimedMarks.{TimedMarks}
 use Rattle.wsm_settle.specs.declared.timing.TimedMarks.TheVariants as timed
@@ -35,6 +35,7 @@ use Rattle.wsm_sound.proofs.NoFaults.{is_sound}
 use Rattle.wsm_sound.specs.Flattened.{IsChecked}
 use Rattle.wsm_steps.proofs.Markings.{spot-among}
 use Rattle.wsm_steps.specs.Whole.{is_whole}
+use Rattle.wsm_trail.specs.Withdrawn.{withdrawn}
 use Rattle.wsm_walk.specs.Current.{Current}
 use Rattle.wsm_walk.specs.Kept.{mark_or}
 use Rattle.wsm_walk.specs.MarkStates.{mark_spot}
@@ -112,6 +113,11 @@ module _ (l : LiveModel) (kept : Kept l) where
         let partner = loop-partner l.schema node runs.card runs.found runs.ends in
         let running = subst (λ y. is_in_state y Running ≡ true) (state-is l table.0 table.1 node runs.card runs.found) runs.running in
         ap (changed changes) (sym are) ∙ subst (λ q. RepeatsRight flat rank rows node q changes) p_is right l.schema l.trail.entries writes partner.0 runs.card flat_is current runs.found runs.ends partner.1 running
+
+    pub withdraw-remarks : (node : ℕ) → Runs l node → (changes : List (ℕ × Option Mark)) → WithdrawsRight rows node changes → Remarks l (withdrawn node l.trail) changes
+    withdraw-remarks node runs changes right =
+        let running = subst (λ y. is_in_state y Running ≡ true) (state-is l table.0 table.1 node runs.card runs.found) runs.running in
+        ap (changed changes) (sym are) ∙ right l.schema rank l.trail.entries l.trail.next runs.card current runs.found running
 
   module _ (rows : List (ℕ × Mark)) (are : rows ≡ marks_in l) where
     abbrev now : Current l.schema kept.checked.rank l.trail.entries l.trail.next rows

@@ -75,5 +75,6 @@ starts-filled s e kept = go s.live kept e
     go (Some l) kept (event.Create version) = tt
     go (Some l) kept (event.Start node user roles) = reads-all l kept node user roles
     go (Some l) kept (event.End node user writes choice) = tt
+    go (Some l) kept (event.Withdraw node user) = tt
     go (Some l) kept (event.Change ops) = tt
     go (Some l) kept (event.Migrate version) = tt

@@ -7,7 +7,7 @@ use Rattle.std.proofs.lemmas.Bool.{both_ways, and_parts, eqb-true, or_parts}
 use Rattle.std.proofs.lemmas.Option.{same_Some}
 use Rattle.case_core.specs.CaseModel.{CaseModel, LiveModel, is_finished, replay_of_case, state_of}
 use Rattle.case_core.specs.Kept.{IsOnceEach, Kept}
-use Rattle.case_core.specs.Machine.{change_live, change_with, changed, end_on, end_refusal, ended_reply, entry_or, failed_at, holder_of, migrate_live, migrate_refusal, migrate_with, migrated, misfit, next_case, or_reply, overlap_reply, overlap_with, repeats, start_on, start_refusal, taken, user_of, when_reply, wrong_reply}
+use Rattle.case_core.specs.Machine.{change_live, change_with, changed, end_on, end_refusal, ended_reply, entry_or, failed_at, hold_refusal, holder_of, migrate_live, migrate_refusal, migrate_with, migrated, misfit, next_case, or_reply, overlap_reply, overlap_with, repeats, start_on, start_refusal, taken, user_of, when_reply, withdraw_on, wrong_reply}
 use Rattle.case_core.specs.Promises.{AreLastWrites, HasStart, NamesEntry, NamesEntryIn, StartedWhereRunning}
 use Rattle.case_core.specs.Shown.{shown_live, shown_state_of}
 use Rattle.case_core.specs.declared.events.Event.{Event}
@@ -143,6 +143,13 @@ module _ (l : LiveModel) where
   start-named node user roles (Some c) =
       or-named (start_refusal l c node roles) l _ (either-named (when_reply (not (is_in_state (state_of l node) state.Activated)) _) _ (when-named _ _ tt) (when-named _ _ tt)) tt
 
+  hold-named : (node user : ℕ) → IsNamed (hold_refusal l node user)
+  hold-named node user = either-named (when_reply (not (is_in_state (state_of l node) state.Running)) _) _ (when-named _ _ tt) (when-named _ _ tt)
+
+  withdraw-named : (node user : ℕ) (o : Option Card) → NamesEntry l (withdraw_on l node user o).1
+  withdraw-named node user None = tt
+  withdraw-named node user (Some c) = or-named (hold_refusal l node user) l _ (hold-named node user) tt
+
   wrong-named : (ds : List ℕ) → IsNamed (wrong_reply ds)
   wrong-named [] = tt
   wrong-named (d ∷ ds) = tt
@@ -155,9 +162,8 @@ module _ (l : LiveModel) where
   end-named node user writes choice None = tt
   end-named node user writes choice (Some c) =
       or-named (end_refusal l c node user writes choice) l _
-      (either-named (when_reply (not (is_in_state (state_of l node) state.Running)) _) _ (when-named _ _ tt)
-      (either-named (when_reply (not (holder_of l node == user)) _) _ (when-named _ _ tt)
-      (either-named (wrong_reply (wrong_elements l.schema.elements c.writes writes)) _ (wrong-named (wrong_elements l.schema.elements c.writes writes)) (when-named _ _ tt))))
+      (either-named (hold_refusal l node user) _ (hold-named node user)
+      (either-named (wrong_reply (wrong_elements l.schema.elements c.writes writes)) _ (wrong-named (wrong_elements l.schema.elements c.writes writes)) (when-named _ _ tt)))
       (ended-named (repeats c choice))
 
   -- a replay fails at a position at which the trail has an entry
@@ -206,5 +212,6 @@ names-entry s e = go s.live e
     go (Some l) (event.Create version) = tt
     go (Some l) (event.Start node user roles) = start-named l node user roles (card_at node (flat_of l.schema).cards)
     go (Some l) (event.End node user writes choice) = end-named l node user writes choice (card_at node (flat_of l.schema).cards)
+    go (Some l) (event.Withdraw node user) = withdraw-named l node user (card_at node (flat_of l.schema).cards)
     go (Some l) (event.Change ops) = change-named l ops
     go (Some l) (event.Migrate version) = or-named l (when_reply (not (version.type_no == s.type_no)) reply.OtherType) _ _ (when-named l _ _ tt) (migrate-named l version)

@@ -27,6 +27,7 @@ use Rattle.wsm_sound.specs.Faults.{changed_by}
 use Rattle.wsm_sound.specs.VersionModel.{VersionModel}
 use Rattle.wsm_sound.specs.Versions.{ops_after}
 use Rattle.wsm_sound.specs.declared.faults.Fault.{Fault}
+use Rattle.wsm_trail.specs.Withdrawn.{withdrawn}
 use Rattle.wsm_trail.specs.EntryAt.{entry_at}
 
 abbrev pub when_reply : Bool → Reply → Option Reply
@@ -74,6 +75,12 @@ start_refusal l c node roles =
     option_or (when_reply (not (is_in_state (state_of l node) state.Activated)) (reply.NotReady (state_of l node)))
     (when_reply (not (may_work c.role roles)) (reply.NotAllowed c.role))
 
+-- the first refusal of who has a node in hand
+abbrev pub hold_refusal : LiveModel → ℕ → ℕ → Option Reply
+hold_refusal l node user =
+    option_or (when_reply (not (is_in_state (state_of l node) state.Running)) (reply.NotRunning (state_of l node)))
+    (when_reply (not (holder_of l node == user)) (reply.NotHolder (holder_of l node)))
+
 -- the first refusal of an end
 abbrev pub wrong_reply : List ℕ → Option Reply
 wrong_reply [] = None
@@ -81,10 +88,9 @@ wrong_reply (d ∷ ds) = Some (reply.WrongWrites (d ∷ ds))
 
 abbrev pub end_refusal : LiveModel → Card → ℕ → ℕ → Written → Option ℕ → Option Reply
 end_refusal l c node user writes choice =
-    option_or (when_reply (not (is_in_state (state_of l node) state.Running)) (reply.NotRunning (state_of l node)))
-    (option_or (when_reply (not (holder_of l node == user)) (reply.NotHolder (holder_of l node)))
+    option_or (hold_refusal l node user)
     (option_or (wrong_reply (wrong_elements l.schema.elements c.writes writes))
-    (when_reply (not (fits_choice c choice || repeats c choice)) (reply.NoBranch choice))))
+    (when_reply (not (fits_choice c choice || repeats c choice)) (reply.NoBranch choice)))
 
 abbrev pub start_entry : LiveModel → Card → ℕ → ℕ → Entry
 start_entry l c node user = entry.Start node user (reads_now l c)
@@ -114,11 +120,19 @@ end_on l node user writes choice (Some c) =
     or_reply (end_refusal l c node user writes choice) l
     (with_trail l (ended_trail l node (by_element writes) choice (repeats c choice)), ended_reply (repeats c choice))
 
+-- a running node is given back: its Start leaves the trail
+abbrev pub withdraw_on : LiveModel → ℕ → ℕ → Option Card → LiveModel × Reply
+withdraw_on l node user None = (l, reply.NoNode)
+withdraw_on l node user (Some c) = or_reply (hold_refusal l node user) l (with_trail l (withdrawn node l.trail), reply.Withdrawn)
+
 abbrev pub start_live : LiveModel → ℕ → ℕ → List ℕ → LiveModel × Reply
 start_live l node user roles = start_on l node user roles (card_at node (flat_of l.schema).cards)
 
 abbrev pub end_live : LiveModel → ℕ → ℕ → Written → Option ℕ → LiveModel × Reply
 end_live l node user writes choice = end_on l node user writes choice (card_at node (flat_of l.schema).cards)
+
+abbrev pub withdraw_live : LiveModel → ℕ → ℕ → LiveModel × Reply
+withdraw_live l node user = withdraw_on l node user (card_at node (flat_of l.schema).cards)
 
 -- the first entry that a replay refuses; a trail has an entry at each position at which its replay fails
 abbrev pub entry_or : Option Entry → Entry
@@ -191,11 +205,13 @@ abbrev pub event_on : CaseModel → Option LiveModel → Event → CaseModel × 
 event_on s None (event.Create version) = create_on s version
 event_on s None (event.Start node user roles) = (s, reply.NoCase)
 event_on s None (event.End node user writes choice) = (s, reply.NoCase)
+event_on s None (event.Withdraw node user) = (s, reply.NoCase)
 event_on s None (event.Change ops) = (s, reply.NoCase)
 event_on s None (event.Migrate version) = (s, reply.NoCase)
 event_on s (Some l) (event.Create version) = (s, reply.Already)
 event_on s (Some l) (event.Start node user roles) = with_live s (start_live l node user roles)
 event_on s (Some l) (event.End node user writes choice) = with_live s (end_live l node user writes choice)
+event_on s (Some l) (event.Withdraw node user) = with_live s (withdraw_live l node user)
 event_on s (Some l) (event.Change ops) = with_live s (change_live l ops)
 event_on s (Some l) (event.Migrate version) = migrate_on s l version
 

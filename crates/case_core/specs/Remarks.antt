@@ -41,6 +41,12 @@ EndRemarks l node choice changes =
 abbrev pub AgainRemarks : LiveModel → ℕ → List (ℕ × Option Mark) → Type 0
 AgainRemarks l node changes = (writes : Written) → Remarks l (repeated_trail l node writes) changes
 
+-- the schema has the node, and it is running
+pub record Runs (l : LiveModel) (node : ℕ) : Type 0 where
+  pub card : Card
+  pub found : card_at node (cards_of l.schema) ≡ Some card
+  pub running : is_in_state (state_of l node) Running ≡ true
+
 -- the node is the end of a loop, and is running
 pub record RunsLoop (l : LiveModel) (node : ℕ) : Type 0 where
   pub card : Card

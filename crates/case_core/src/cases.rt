@@ -93,6 +93,10 @@ impl Case {
                 None => both(alloc, Reply::NoCase),
                 Some(live) => live.end(alloc, *node, *user, writes, *choice),
             },
+            Event::Withdraw { node, user } => match &mut self.live {
+                None => both(alloc, Reply::NoCase),
+                Some(live) => live.withdraw(alloc, *node, *user),
+            },
             Event::Change(ops) => match &mut self.live {
                 None => both(alloc, Reply::NoCase),
                 Some(live) => live.change(alloc, ops),

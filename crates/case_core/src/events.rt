@@ -25,6 +25,11 @@ pub enum Event {
         writes: Writes,
         choice: Option<u16>,
     },
+    /// A user gives back a node that it started, which may then be started anew.
+    Withdraw {
+        node: u32,
+        user: u32,
+    },
     /// The case gets a schema of its own, which the operations make of the one that it has.
     Change(Ops),
     /// The case moves to this version of its type, with its own operations.
@@ -53,6 +58,10 @@ impl Event {
                 user: *user,
                 writes: writes.duplicate(alloc)?,
                 choice: *choice,
+            }),
+            Event::Withdraw { node, user } => Ok(Event::Withdraw {
+                node: *node,
+                user: *user,
             }),
             Event::Change(ops) => Ok(Event::Change(ops.copy(alloc)?)),
             Event::Migrate(version) => Ok(Event::Migrate(version.share()?)),

@@ -5,12 +5,13 @@ ghost use Rattle.case_core.specs.CaseModel.{created_on, on_schema, replay_of_cas
 ghost use Rattle.case_core.specs.Kept.{IsOnceEach, Kept, marks_in};
 ghost use Rattle.case_core.specs.Machine.{failed_at, holder_of, reads_now, repeated_trail, with_trail};
 ghost use Rattle.case_core.specs.Promises.{StartedWhereRunning};
-ghost use Rattle.case_core.specs.Remarks.{AgainRemarks, EndRemarks, Remarks, RunsLoop, StartRemarks};
+ghost use Rattle.case_core.specs.Remarks.{AgainRemarks, EndRemarks, Remarks, Runs, RunsLoop, StartRemarks};
 ghost use Rattle.case_core.specs.Shown.{is_finished, items_at, items_of, shown_spots};
 ghost use Rattle.wsm_ops.specs.Apply.{applied};
 ghost use Rattle.wsm_schema.specs.Flat.{flat_of, card_at, cards_of};
 ghost use Rattle.wsm_schema.specs.Rules.{spot_in};
 ghost use Rattle.wsm_schema.specs.Trail.{cut_by, pushed};
+ghost use Rattle.wsm_trail.specs.Withdrawn.{starts_of, withdrawn};
 
 use crate::spots::{spot_by, unmarked};
 use crate::timing::{Uncounted, started, starter, timed_on};
@@ -23,7 +24,7 @@ use wsm_rules::{Changes, Marks};
 use wsm_schema::{
     BySpot, Card, Entry, Marking, NoMemory, Nodes, ReadValues, Spot, State, Value, Writes,
 };
-use wsm_settle::{TimedMarks, after_again, after_end, after_start};
+use wsm_settle::{TimedMarks, after_again, after_end, after_start, after_withdraw};
 use wsm_sound::{Checked, Version};
 use wsm_trail::Trail;
 
@@ -250,6 +251,31 @@ impl Live {
             node,
             position,
         )
+    }
+
+    /// What it would change of the marks if the node were given back.
+    pub fn withdraw_changes(&self, alloc: Global, node: u32) -> Result<Changes, NoMemory>
+        requires { Runs self.now node }
+        ensures { IfOk result (Remarks self.now (withdrawn node self.now.trail)) }
+    {
+        let mut marks = Uncounted {
+            marks: self.marks(),
+        };
+        after_withdraw(alloc, &mut marks, node)
+    }
+
+    /// The case without the start of a node, with what that changes of the marks.
+    pub fn drop_start(&mut self, node: u32, changes: Changes) -> Result<(), NoMemory>
+        requires one { length (starts_of node self.old.trail.entries) ≡ 1 }
+        requires kept { Kept (with_trail self.old (withdrawn node self.old.trail)) }
+        requires marks { Remarks self.old (withdrawn node self.old.trail) changes }
+        ensures ok { OnOk result (self.new ≡ with_trail self.old (withdrawn node self.old.trail)) }
+        ensures err { OnErr result (self.new ≡ self.old) }
+    {
+        self.marks.reserve(changes.len())?;
+        self.trail.drop_start(node);
+        self.marks.take_in(changes);
+        Ok(())
     }
 
     /// One more entry, with what it changes of the marks.

@@ -17,6 +17,8 @@ pub enum Reply {
     Ended,
     /// The loop goes on once more.
     Repeated,
+    /// The node was given back.
+    Withdrawn,
     /// The case has a schema of its own.
     Changed,
     /// The case stands on the version with this number.
@@ -63,6 +65,7 @@ impl Reply {
             Reply::Started(reads) => Reply::Started(reads.duplicate(alloc)?),
             Reply::Ended => Reply::Ended,
             Reply::Repeated => Reply::Repeated,
+            Reply::Withdrawn => Reply::Withdrawn,
             Reply::Already => Reply::Already,
             Reply::NoCase => Reply::NoCase,
             Reply::NoNode => Reply::NoNode,

@@ -1,6 +1,6 @@
-// Starts and ends of nodes.
+// Starts and ends of nodes, and nodes that are given back.
 ghost use Rattle.std.specs.Prelude.{◌≡◌, ◌+◌, ◌<◌, ◌^◌, ◌||◌, IfOk, OnErr};
-ghost use Rattle.case_core.specs.Machine.{start_refusal, end_refusal, start_live, end_live, may_work, repeats, wrong_reply, ended_reply};
+ghost use Rattle.case_core.specs.Machine.{start_refusal, hold_refusal, end_refusal, start_live, end_live, withdraw_live, may_work, repeats, wrong_reply, ended_reply};
 ghost use Rattle.wsm_schema.specs.Replay.{fits_choice};
 
 use crate::live::Live;
@@ -105,13 +105,8 @@ impl Live {
     ) -> Result<Option<Reply>, NoMemory>
         ensures { IfOk result (λ refusal. refusal ≡ end_refusal self.now card.now node user writes.now choice) }
     {
-        let state = self.state(node);
-        if state != State::Running {
-            return Ok(Some(Reply::NotRunning(state)));
-        }
-        let holder = self.holder(node);
-        if holder != user {
-            return Ok(Some(Reply::NotHolder(holder)));
+        if let Some(refusal) = self.hold_refusal(node, user) {
+            return Ok(Some(refusal));
         }
         let wrong = wrong_elements(
             alloc,
@@ -126,6 +121,45 @@ impl Live {
             return Ok(Some(Reply::NoBranch(choice)));
         }
         Ok(None)
+    }
+
+    // Why the user has not the node in hand.
+    fn hold_refusal(&self, node: u32, user: u32) -> Option<Reply>
+        ensures { result ≡ hold_refusal self.now node user }
+    {
+        let state = self.state(node);
+        if state != State::Running {
+            return Some(Reply::NotRunning(state));
+        }
+        let holder = self.holder(node);
+        if holder != user {
+            return Some(Reply::NotHolder(holder));
+        }
+        None
+    }
+
+    /// A user gives the node back, which is activated again.
+    pub fn withdraw(
+        &mut self,
+        alloc: Global,
+        node: u32,
+        user: u32,
+    ) -> Result<(Reply, Reply), NoMemory>
+        ensures live { IfOk result (λ replies. self.new ≡ (withdraw_live self.old node user).0) }
+        ensures first { IfOk result (λ replies. replies.0 ≡ (withdraw_live self.old node user).1) }
+        ensures second { IfOk result (λ replies. replies.1 ≡ (withdraw_live self.old node user).1) }
+        ensures err { OnErr result (self.new ≡ self.old) }
+    {
+        let _ = match self.card(node) {
+            None => return both(alloc, Reply::NoNode),
+            Some(card) => card,
+        };
+        if let Some(refusal) = self.hold_refusal(node, user) {
+            return both(alloc, refusal);
+        }
+        let changes = self.withdraw_changes(alloc, node)?;
+        self.drop_start(node, changes)?;
+        Ok((Reply::Withdrawn, Reply::Withdrawn))
     }
 }
 

@@ -11,6 +11,8 @@ pub const USER: u32 = 1;
 #[derive(Clone, Copy)]
 pub enum Told {
     Start(u32),
+    /// The node is given back.
+    Withdraw(u32),
     /// The node is ended without a choice, and writes nothing.
     End(u32),
     /// A split or a loop's end is ended with a choice.
@@ -32,6 +34,7 @@ pub enum Answer {
     Read(Option<i64>),
     Ended,
     Repeated,
+    Withdrawn,
     Changed,
     Migrated(u32),
     NotReady(State),
@@ -76,6 +79,7 @@ fn exchange(alloc: Global, goes: u32, comes: u32, behind: u32) -> Result<Ops, No
 pub fn event_of(alloc: Global, told: Told) -> Result<Event, NoMemory> {
     match told {
         Told::Start(node) => Ok(start(alloc, node)),
+        Told::Withdraw(node) => Ok(Event::Withdraw { node, user: USER }),
         Told::End(node) => Ok(end(node, Writes::new(alloc), None)),
         Told::Choose(node, choice) => Ok(end(node, Writes::new(alloc), Some(choice))),
         Told::Write(node, number) => {
@@ -125,6 +129,7 @@ pub fn in_short(reply: &Reply) -> Answer {
         Reply::Started(reads) => read(reads.as_slice()),
         Reply::Ended => Answer::Ended,
         Reply::Repeated => Answer::Repeated,
+        Reply::Withdrawn => Answer::Withdrawn,
         Reply::Changed => Answer::Changed,
         Reply::Migrated(number) => Answer::Migrated(*number),
         Reply::NotReady(state) => Answer::NotReady(*state),

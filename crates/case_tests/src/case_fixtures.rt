@@ -23,7 +23,11 @@ fn is_light(event: &Event) -> bool
 {
     match event {
         Event::Change(ops) => ops.len() <= 1000,
-        Event::Create(_) | Event::Start { .. } | Event::End { .. } | Event::Migrate(_) => true,
+        Event::Create(_)
+        | Event::Start { .. }
+        | Event::End { .. }
+        | Event::Withdraw { .. }
+        | Event::Migrate(_) => true,
     }
 }
 

@@ -31,6 +31,23 @@ fn branch_not_chosen_is_skipped(rt: HostRuntime) -> Result<(), Fail> {
     Ok(())
 }
 
+// ---- a node that is given back is started anew
+
+const GIVEN_BACK: &[(Told, Answer)] = &[
+    (Told::Start(2), Answer::Started),
+    (Told::Withdraw(2), Answer::Withdrawn),
+    (Told::Start(2), Answer::Started),
+];
+
+#[test]
+fn node_is_given_back(rt: HostRuntime) -> Result<(), Fail> {
+    let alloc = rt.alloc();
+    let mut case = case_on(alloc, choosing(alloc, &[4], &[5])).ok_or("a case")?;
+    assert!(rt; answers(alloc, &mut case, GIVEN_BACK));
+    assert!(rt; has_positions(&case, &[2]));
+    Ok(())
+}
+
 // ---- a node waits for a sync edge until its source is decided
 
 const SOURCE_IS_SKIPPED: &[(Told, Answer)] = &[

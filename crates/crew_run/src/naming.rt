@@ -29,6 +29,7 @@ fn note_act(called: &mut CallFlags, act: &Act)
             called.note_case(*id);
         }
         Act::Start(id, _) => called.note_case(*id),
+        Act::Withdraw(id, _) => called.note_case(*id),
         Act::End(id, _, _, _) => called.note_case(*id),
         Act::Change(id, _) => called.note_case(*id),
         Act::Install(type_no, _) => called.note_kind(*type_no),

@@ -12,7 +12,7 @@ use Rattle.wsm_sound.specs.declared.versions.CaseId.{CaseId}
 use Rattle.file_words.specs.Lines.{Bytes}
 use Rattle.file_names.specs.Names.{place_of}
 use Rattle.file_forms.specs.PieceForms.{◌>>=◌}
-use Rattle.file_forms.specs.Forms.{Deed, to_create, to_start, to_end, to_change, to_install, to_migrate, ScriptLine, next_phase, a_deed}
+use Rattle.file_forms.specs.Forms.{Deed, to_create, to_start, to_withdraw, to_end, to_change, to_install, to_migrate, ScriptLine, next_phase, a_deed}
 use Rattle.file_forms.specs.Forms.{NamedGap, behind, at_head, OperationLine, insert, parallel, conditional, delete, move, sync, unsync, element, read, unread, write, unwrite, set_role, group_end}
 use Rattle.file_model.specs.Steps.{at_place, node_in, with_node, with_element}
 use Rattle.file_model.specs.Scripting.{case_in, actor_in, counted, line_of, with_line, with_group, changing, one_install, installing, migrating, with_elements, numbered, acted, with_phase, scripted}
@@ -151,6 +151,8 @@ acted-held : (d : Deed) (actor : ℕ) (lines : List Line) (at : ℕ) (c : Conten
 acted-held (to_create n) actor lines at c is h = found-held (case_in n c) _ c (λ id found. with_line-held lines at actor (act.Create id) c is (case-known n c id found) h)
 acted-held (to_start n node) actor lines at c is h =
     found-held (case_in n c) _ c (λ id found. with_line-held lines at actor (act.Start id (node_in node c)) (with_node node c) is (case-known n c id found) h)
+acted-held (to_withdraw n node) actor lines at c is h =
+    found-held (case_in n c) _ c (λ id found. with_line-held lines at actor (act.Withdraw id (node_in node c)) (with_node node c) is (case-known n c id found) h)
 acted-held (to_end n node choice writes) actor lines at c is h =
     let c1 = with_node node c in
     found-held (case_in n c) _ c (λ id found.

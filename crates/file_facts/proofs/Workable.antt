@@ -9,7 +9,7 @@ use Rattle.file_words.specs.Lines.{Bytes, lines_of, without_return}
 use Rattle.file_words.specs.Words.{words_of, is_skipped}
 use Rattle.file_words.specs.Lengths.{first_long}
 use Rattle.file_words.specs.declared.lengths.TooLong.{TooLong}
-use Rattle.file_forms.specs.DeclarationForms.{is_header, declaration_line}
+use Rattle.file_forms.specs.DeclarationForms.{header, declaration_line}
 use Rattle.file_forms.specs.TypeForms.{type_line}
 use Rattle.file_forms.specs.ScriptForms.{script_line}
 use Rattle.file_forms.specs.OperationForms.{operation_line}
@@ -18,7 +18,7 @@ use Rattle.file_model.specs.Declaring.{declared, outside}
 use Rattle.file_model.specs.Typing.{typed}
 use Rattle.file_model.specs.Scripting.{scripted}
 use Rattle.file_model.specs.Operating.{operated}
-use Rattle.file_model.specs.Reading.{unless_long, formed, fitting, unless_not_text, step_in, step_words, step, file_of, finished_in, finished, at_line, read_from, file}
+use Rattle.file_model.specs.Reading.{in_format, unless_long, formed, fitting, unless_not_text, step_in, step_words, step, file_of, finished_in, finished, at_line, read_from, file}
 use Rattle.file_model.specs.Sizes.{IsBounded}
 use Rattle.file_model.specs.declared.files.File.{File}
 use Rattle.file_model.specs.declared.files.Line.{Line}
@@ -51,14 +51,18 @@ text-held : (test : Bool) (c : Contents) (s : Step) → HeldStep s → HeldStep 
 text-held true c s h = h
 text-held false c s h = tt
 
+format-held : (o : Option ℕ) (c : Contents) → HeldIn section.Head c → HeldStep (in_format o c)
+format-held None c h = tt
+format-held (Some n) c h = h
+
 step_in-held : (p : Section) (at : ℕ) (line : Bytes) (ws : List Bytes) (c : Contents) → HeldIn p c → HeldStep (step_in p at line ws c)
-step_in-held section.Head at line ws c h = if-held (is_header ws) (Ok (outside c)) (refuse c why.Header) h tt
+step_in-held section.Head at line ws c h = format-held (header ws) c h
 step_in-held section.Outside at line ws c h =
     text-held (is_utf8 line) c _ (formed-held (declaration_line ws) ws (λ d. declared d c) c (λ d. declared-held d c h))
 step_in-held (section.InType d) at line ws c h =
     text-held (is_utf8 line) c _ (formed-held (fitting d (type_line ws)) ws (λ l. typed l d c) c (λ l. typed-held l d c h))
 step_in-held (section.InPhase lines) at line ws c h =
-    text-held (is_utf8 line) c _ (formed-held (script_line ws) ws (λ l. scripted l lines at c) c (λ l. scripted-held l lines at c h))
+    text-held (is_utf8 line) c _ (formed-held (script_line c.format ws) ws (λ l. scripted l lines at c) c (λ l. scripted-held l lines at c h))
 step_in-held (section.InGroup lines g) at line ws c h =
     text-held (is_utf8 line) c _ (formed-held (operation_line ws) ws (λ l. operated l g lines c) c (λ l. operated-held l g lines c h.0 h.1))
 

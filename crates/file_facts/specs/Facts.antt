@@ -39,6 +39,7 @@ IsDeclared c cases = list_any (has_id c) cases ≡ true
 abbrev pub IsKnownAct : ℕ → List CaseDecl → Act → Type 0
 IsKnownAct types cases (act.Create c) = IsDeclared c cases
 IsKnownAct types cases (act.Start c node) = IsDeclared c cases
+IsKnownAct types cases (act.Withdraw c node) = IsDeclared c cases
 IsKnownAct types cases (act.End c node writes choice) = IsDeclared c cases
 IsKnownAct types cases (act.Change c ops) = IsDeclared c cases × (length ops ≤ 256)
 IsKnownAct types cases (act.Install t ops) = (t < types) × (length ops ≤ 256)

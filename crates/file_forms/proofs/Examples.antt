@@ -3,19 +3,22 @@ use Rattle.std.specs.Prelude.{◌≡◌, pos, neg_ℤ, true, false, [], ◌∷�
 use Rattle.wsm_lists.specs.declared.values.ElementKind.TheVariants as kind
 use Rattle.wsm_lists.specs.declared.values.Value.TheVariants as value
 use Rattle.file_words.specs.Words.{words_of}
-use Rattle.file_forms.specs.Forms.{an_actor, a_case, first_phase, activity, opens_xor, opens_branch, an_element, a_read, to_end, to_create, a_deed, behind, at_head, insert, parallel, conditional, set_role, group_end}
-use Rattle.file_forms.specs.DeclarationForms.{is_header, declaration_line}
+use Rattle.file_forms.specs.Forms.{an_actor, a_case, first_phase, activity, opens_xor, opens_branch, an_element, a_read, to_withdraw, to_end, to_create, a_deed, behind, at_head, insert, parallel, conditional, set_role, group_end}
+use Rattle.file_forms.specs.DeclarationForms.{header, declaration_line}
 use Rattle.file_forms.specs.TypeForms.{type_line}
 use Rattle.file_forms.specs.ScriptForms.{script_line}
 use Rattle.file_forms.specs.OperationForms.{operation_line}
 
-header : is_header (words_of (codes "\tadept  1 ")) ≡ true
-header = refl
+first_format : header (words_of (codes "\tadept  1 ")) ≡ Some 1
+first_format = refl
 
-other_version : is_header (words_of (codes "adept 2")) ≡ false
-other_version = refl
+second_format : header (words_of (codes "adept 2")) ≡ Some 2
+second_format = refl
 
-three_words : is_header (words_of (codes "adept 1 x")) ≡ false
+other_format : header (words_of (codes "adept 3")) ≡ None
+other_format = refl
+
+three_words : header (words_of (codes "adept 1 x")) ≡ None
 three_words = refl
 
 actor_without_roles : declaration_line (words_of (codes "actor roles")) ≡ Some (an_actor (codes "roles") [])
@@ -60,14 +63,20 @@ mandatory_read = refl
 optional_read : type_line (words_of (codes "read A e optional")) ≡ Some (a_read (codes "A") (codes "e") false)
 optional_read = refl
 
-end_with_writes : script_line (words_of (codes "ann end c A choice 2 e=-7 f=\"a b\"")) ≡
+end_with_writes : script_line 1 (words_of (codes "ann end c A choice 2 e=-7 f=\"a b\"")) ≡
     Some (a_deed (codes "ann") (to_end (codes "c") (codes "A") (Some 2) ((codes "e", value.Int (neg_ℤ (pos 7))) ∷ (codes "f", value.Text (codes "a b")) ∷ [])))
 end_with_writes = refl
 
-choice_behind_a_write : script_line (words_of (codes "ann end c A e=7 choice 2")) ≡ None
+choice_behind_a_write : script_line 1 (words_of (codes "ann end c A e=7 choice 2")) ≡ None
 choice_behind_a_write = refl
 
-actor_called_phase : script_line (words_of (codes "phase create c")) ≡ Some (a_deed (codes "phase") (to_create (codes "c")))
+node_given_back : script_line 2 (words_of (codes "ann withdraw c A")) ≡ Some (a_deed (codes "ann") (to_withdraw (codes "c") (codes "A")))
+node_given_back = refl
+
+not_in_the_first_format : script_line 1 (words_of (codes "ann withdraw c A")) ≡ None
+not_in_the_first_format = refl
+
+actor_called_phase : script_line 1 (words_of (codes "phase create c")) ≡ Some (a_deed (codes "phase") (to_create (codes "c")))
 actor_called_phase = refl
 
 insert_at_head : operation_line (words_of (codes "insert N role 7 head s 2")) ≡ Some (insert (codes "N") 7 (at_head (codes "s") 2))

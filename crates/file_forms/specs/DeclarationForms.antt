@@ -1,5 +1,5 @@
 -- The first line, and lines outside of types and phases.
-use Rattle.std.specs.Prelude.{ℕ, Bool, false, ◌&&◌, nat_lt, List, [], ◌∷◌, length, Option, Some, None, option_map, if◌then◌else◌, codes}
+use Rattle.std.specs.Prelude.{ℕ, Bool, false, nat_lt, List, [], ◌∷◌, length, Option, Some, None, option_map, if◌then◌else◌, codes}
 use Rattle.file_words.specs.Lines.{Bytes}
 use Rattle.file_words.specs.Words.{is}
 use Rattle.file_words.specs.Numbers.{role}
@@ -12,9 +12,13 @@ is_only k [] = false
 is_only k (w ∷ []) = is k w
 is_only k (w ∷ v ∷ ws) = false
 
-abbrev pub is_header : List Bytes → Bool
-is_header [] = false
-is_header (k ∷ ws) = is (codes "adept") k && is_only (codes "1") ws
+-- the format that a file's first line names
+abbrev pub format_of : List Bytes → Option ℕ
+format_of ws = if is_only (codes "1") ws then Some 1 else (if is_only (codes "2") ws then Some 2 else None)
+
+abbrev pub header : List Bytes → Option ℕ
+header [] = None
+header (k ∷ ws) = if is (codes "adept") k then format_of ws else None
 
 abbrev pub roles : List Bytes → Option (List ℕ)
 roles [] = Some []

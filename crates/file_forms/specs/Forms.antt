@@ -29,6 +29,7 @@ pub data TypeLine : Type 0 where
 pub data Deed : Type 0 where
   to_create : (case : Bytes) → Deed
   to_start : (case node : Bytes) → Deed
+  to_withdraw : (case node : Bytes) → Deed
   to_end : (case node : Bytes) (choice : Option ℕ) (writes : List (Bytes × Value)) → Deed
   to_change : (case : Bytes) → Deed
   to_install : (kind : Bytes) → Deed

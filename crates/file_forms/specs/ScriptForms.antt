@@ -6,7 +6,7 @@ use Rattle.file_words.specs.Words.{is}
 use Rattle.file_words.specs.Names.{name}
 use Rattle.file_words.specs.Numbers.{code}
 use Rattle.file_words.specs.Pairs.{pair}
-use Rattle.file_forms.specs.Forms.{Deed, to_create, to_start, to_end, to_change, to_install, to_migrate, ScriptLine, next_phase, a_deed}
+use Rattle.file_forms.specs.Forms.{Deed, to_create, to_start, to_withdraw, to_end, to_change, to_install, to_migrate, ScriptLine, next_phase, a_deed}
 use Rattle.file_forms.specs.PieceForms.{◌>>=◌, one_name, two_names, two_names_ahead}
 
 abbrev pub pairs : List Bytes → Option (List (Bytes × Value))
@@ -45,23 +45,24 @@ named_deed k n =
     else (if is (codes "migrate") k then Some (to_migrate n)
     else None)))
 
--- what an actor does, but for an end
-abbrev pub plain_deed : Bytes → List Bytes → Option Deed
-plain_deed k ws =
+-- what an actor does, but for an end; a node is given back in format 2 alone
+abbrev pub plain_deed : ℕ → Bytes → List Bytes → Option Deed
+plain_deed format k ws =
     if is (codes "start") k then option_map (λ p. to_start p.0 p.1) (two_names ws)
-    else one_name ws >>= named_deed k
+    else (if is (codes "withdraw") k && format == 2 then option_map (λ p. to_withdraw p.0 p.1) (two_names ws)
+    else one_name ws >>= named_deed k)
 
-abbrev pub deed : List Bytes → Option Deed
-deed [] = None
-deed (k ∷ ws) = if is (codes "end") k then end_deed ws else plain_deed k ws
+abbrev pub deed : ℕ → List Bytes → Option Deed
+deed format [] = None
+deed format (k ∷ ws) = if is (codes "end") k then end_deed ws else plain_deed format k ws
 
-abbrev pub deed_line : Bytes → List Bytes → Option ScriptLine
-deed_line a ws = do
+abbrev pub deed_line : ℕ → Bytes → List Bytes → Option ScriptLine
+deed_line format a ws = do
   actor ← name a
-  d ← deed ws
+  d ← deed format ws
   Some (a_deed actor d)
 
--- an actor may be called `phase`
-abbrev pub script_line : List Bytes → Option ScriptLine
-script_line [] = None
-script_line (k ∷ ws) = if is (codes "phase") k && length ws == 0 then Some next_phase else deed_line k ws
+-- a line of a file of that format; an actor may be called `phase`
+abbrev pub script_line : ℕ → List Bytes → Option ScriptLine
+script_line format [] = None
+script_line format (k ∷ ws) = if is (codes "phase") k && length ws == 0 then Some next_phase else deed_line format k ws

@@ -66,6 +66,7 @@ shown_type_line type_line.TypeEnd = form.type_end
 abbrev pub shown_deed : Deed → form.Deed
 shown_deed (deed.Create case) = form.to_create case.bytes.now
 shown_deed (deed.Start case node) = form.to_start case.bytes.now node.bytes.now
+shown_deed (deed.Withdraw case node) = form.to_withdraw case.bytes.now node.bytes.now
 shown_deed (deed.End case node choice writes) = form.to_end case.bytes.now node.bytes.now choice (map shown_pair writes.items)
 shown_deed (deed.Change case) = form.to_change case.bytes.now
 shown_deed (deed.Install kind) = form.to_install kind.bytes.now

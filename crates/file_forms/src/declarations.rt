@@ -1,7 +1,7 @@
 // The first line, and lines outside of types and phases.
 ghost use Rattle.std.specs.Prelude.{◌≡◌, option_map, IfOk};
 ghost use Rattle.file_words.specs.Shown.{shown};
-ghost use Rattle.file_forms.specs.DeclarationForms.{is_only, is_header, roles, some_roles, roles_at_end, actor_line, plain_line, declaration_line};
+ghost use Rattle.file_forms.specs.DeclarationForms.{is_only, format_of, header, roles, some_roles, roles_at_end, actor_line, plain_line, declaration_line};
 ghost use Rattle.file_forms.specs.Shown.{shown_declaration};
 
 use crate::pieces::{name_ahead, one_name, two_names};
@@ -33,13 +33,31 @@ fn is_only(keyword: &[u8], words: &[&[u8]]) -> bool
     }
 }
 
-/// Whether the words are those of a file's first line.
-pub fn is_header(words: &[&[u8]]) -> bool
-    ensures { result ≡ is_header (shown words.now) }
+fn format_of(words: &[&[u8]]) -> Option<u32>
+    ensures { result ≡ format_of (shown words.now) }
+{
+    if is_only(b"1", words) {
+        Some(1)
+    } else if is_only(b"2", words) {
+        Some(2)
+    } else {
+        None
+    }
+}
+
+/// The format, 1 or 2, that a file's first line names. None where the words are no first line.
+pub fn header(words: &[&[u8]]) -> Option<u32>
+    ensures { result ≡ header (shown words.now) }
 {
     match words {
-        [] => false,
-        [word, rest @ ..] => *word == b"adept".as_slice() && is_only(b"1", rest),
+        [] => None,
+        [word, rest @ ..] => {
+            if *word == b"adept".as_slice() {
+                format_of(rest)
+            } else {
+                None
+            }
+        }
     }
 }
 

@@ -10,7 +10,7 @@ mod pieces;
 mod script_lines;
 mod type_lines;
 
-pub use declarations::{Declaration, declaration_line, is_header};
+pub use declarations::{Declaration, declaration_line, header};
 pub use operation_lines::{NamedGap, OperationLine, operation_line};
 pub use script_lines::{Deed, ScriptLine, WriteWords, script_line};
 pub use type_lines::{TypeLine, type_line};

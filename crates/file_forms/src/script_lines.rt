@@ -19,6 +19,10 @@ pub enum Deed<'a> {
         case: NameWord<'a>,
         node: NameWord<'a>,
     },
+    Withdraw {
+        case: NameWord<'a>,
+        node: NameWord<'a>,
+    },
     End {
         case: NameWord<'a>,
         node: NameWord<'a>,
@@ -130,20 +134,23 @@ fn named_deed<'a>(keyword: &[u8], name: NameWord<'a>) -> Option<Deed<'a>>
     }
 }
 
-/// What an actor does, but for an end.
-fn plain_deed<'a>(keyword: &[u8], words: &[&'a [u8]]) -> Option<Deed<'a>>
-    ensures { option_map shown_deed result ≡ plain_deed keyword.now (shown words.now) }
+/// What an actor does, but for an end. A node is given back in format 2 alone.
+fn plain_deed<'a>(format: u32, keyword: &[u8], words: &[&'a [u8]]) -> Option<Deed<'a>>
+    ensures { option_map shown_deed result ≡ plain_deed format keyword.now (shown words.now) }
 {
     if keyword == b"start".as_slice() {
         let (case, node) = two_names(words)?;
         Some(Deed::Start { case, node })
+    } else if keyword == b"withdraw".as_slice() && format == 2 {
+        let (case, node) = two_names(words)?;
+        Some(Deed::Withdraw { case, node })
     } else {
         named_deed(keyword, one_name(words)?)
     }
 }
 
-fn deed_of<'a>(alloc: Global, words: &[&'a [u8]]) -> Result<Option<Deed<'a>>, NoMemory>
-    ensures { IfOk result (λ found. option_map shown_deed found ≡ deed (shown words.now)) }
+fn deed_of<'a>(alloc: Global, format: u32, words: &[&'a [u8]]) -> Result<Option<Deed<'a>>, NoMemory>
+    ensures { IfOk result (λ found. option_map shown_deed found ≡ deed format (shown words.now)) }
 {
     match words {
         [] => Ok(None),
@@ -151,7 +158,7 @@ fn deed_of<'a>(alloc: Global, words: &[&'a [u8]]) -> Result<Option<Deed<'a>>, No
             if *keyword == b"end".as_slice() {
                 end_deed(alloc, rest)
             } else {
-                Ok(plain_deed(*keyword, rest))
+                Ok(plain_deed(format, *keyword, rest))
             }
         }
     }
@@ -159,26 +166,28 @@ fn deed_of<'a>(alloc: Global, words: &[&'a [u8]]) -> Result<Option<Deed<'a>>, No
 
 fn deed_line<'a>(
     alloc: Global,
+    format: u32,
     actor: &'a [u8],
     words: &[&'a [u8]],
 ) -> Result<Option<ScriptLine<'a>>, NoMemory>
-    ensures { IfOk result (λ line. option_map shown_script_line line ≡ deed_line actor.now (shown words.now)) }
+    ensures { IfOk result (λ line. option_map shown_script_line line ≡ deed_line format actor.now (shown words.now)) }
 {
     match NameWord::of(actor) {
         None => Ok(None),
-        Some(actor) => match deed_of(alloc, words)? {
+        Some(actor) => match deed_of(alloc, format, words)? {
             None => Ok(None),
             Some(deed) => Ok(Some(ScriptLine::Deed { actor, deed })),
         },
     }
 }
 
-/// The form of a line of a phase. An actor may be called `phase`.
+/// The form of a line of a phase, in a file of that format. An actor may be called `phase`.
 pub fn script_line<'a>(
     alloc: Global,
+    format: u32,
     words: &[&'a [u8]],
 ) -> Result<Option<ScriptLine<'a>>, NoMemory>
-    ensures { IfOk result (λ line. option_map shown_script_line line ≡ script_line (shown words.now)) }
+    ensures { IfOk result (λ line. option_map shown_script_line line ≡ script_line format (shown words.now)) }
 {
     match words {
         [] => Ok(None),
@@ -186,7 +195,7 @@ pub fn script_line<'a>(
             if *word == b"phase".as_slice() && rest.is_empty() {
                 Ok(Some(ScriptLine::Phase))
             } else {
-                deed_line(alloc, *word, rest)
+                deed_line(alloc, format, *word, rest)
             }
         }
     }

@@ -7,7 +7,7 @@ use Rattle.file_words.specs.Lines.{Bytes, lines_of, without_return}
 use Rattle.file_words.specs.Words.{words_of, is_skipped}
 use Rattle.file_words.specs.Lengths.{first_long}
 use Rattle.file_words.specs.declared.lengths.TooLong.{TooLong}
-use Rattle.file_forms.specs.DeclarationForms.{is_header, declaration_line}
+use Rattle.file_forms.specs.DeclarationForms.{header, declaration_line}
 use Rattle.file_forms.specs.TypeForms.{type_line}
 use Rattle.file_forms.specs.ScriptForms.{script_line}
 use Rattle.file_forms.specs.OperationForms.{operation_line}
@@ -16,7 +16,7 @@ use Rattle.file_model.specs.Declaring.{declared, outside}
 use Rattle.file_model.specs.Typing.{typed}
 use Rattle.file_model.specs.Scripting.{scripted}
 use Rattle.file_model.specs.Operating.{operated}
-use Rattle.file_model.specs.Reading.{unless_long, formed, fitting, unless_not_text, step_in, step_words, step, file_of, finished_in, finished, at_line, read_from, file}
+use Rattle.file_model.specs.Reading.{in_format, unless_long, formed, fitting, unless_not_text, step_in, step_words, step, file_of, finished_in, finished, at_line, read_from, file}
 use Rattle.file_model.specs.Sizes.{phase_effort, IsBounded}
 use Rattle.file_model.specs.declared.files.File.{File}
 use Rattle.file_model.specs.declared.files.Line.{Line}
@@ -46,14 +46,18 @@ text-kept : (test : Bool) (c : Contents) (s : Step) → KeptStep s → KeptStep 
 text-kept true c s h = h
 text-kept false c s h = tt
 
+format-kept : (o : Option ℕ) (c : Contents) → CountsKept c 0 → KeptStep (in_format o c)
+format-kept None c h = tt
+format-kept (Some n) c h = h
+
 step_in-kept : (p : Section) (at : ℕ) (line : Bytes) (ws : List Bytes) (c : Contents) → KeptIn p c → KeptStep (step_in p at line ws c)
-step_in-kept section.Head at line ws c h = if-kept (is_header ws) (Ok (outside c)) (refuse c why.Header) h tt
+step_in-kept section.Head at line ws c h = format-kept (header ws) c h
 step_in-kept section.Outside at line ws c h =
     text-kept (is_utf8 line) c _ (formed-kept (declaration_line ws) ws (λ d. declared d c) c (λ d. declared-kept d c h))
 step_in-kept (section.InType d) at line ws c h =
     text-kept (is_utf8 line) c _ (formed-kept (fitting d (type_line ws)) ws (λ l. typed l d c) c (λ l. typed-kept l d c h))
 step_in-kept (section.InPhase lines) at line ws c h =
-    text-kept (is_utf8 line) c _ (formed-kept (script_line ws) ws (λ l. scripted l lines at c) c (λ l. scripted-kept l lines at c h))
+    text-kept (is_utf8 line) c _ (formed-kept (script_line c.format ws) ws (λ l. scripted l lines at c) c (λ l. scripted-kept l lines at c h))
 step_in-kept (section.InGroup lines g) at line ws c h =
     text-kept (is_utf8 line) c _ (formed-kept (operation_line ws) ws (λ l. operated l g lines c) c (λ l. operated-kept l g lines c h.0 h.1))
 

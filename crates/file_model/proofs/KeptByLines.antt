@@ -11,7 +11,7 @@ use Rattle.wsm_sound.specs.declared.versions.CaseId.{CaseId}
 use Rattle.file_words.specs.Lines.{Bytes}
 use Rattle.file_names.specs.Names.{place_of}
 use Rattle.file_forms.specs.Forms.{Declaration, a_type, an_actor, a_case, first_phase, TypeLine, activity, opens_and, opens_xor, opens_branch, opens_loop, closes_block, a_sync, an_element, a_read, a_write, type_end}
-use Rattle.file_forms.specs.Forms.{Deed, to_create, to_start, to_end, to_change, to_install, to_migrate, ScriptLine, next_phase, a_deed}
+use Rattle.file_forms.specs.Forms.{Deed, to_create, to_start, to_withdraw, to_end, to_change, to_install, to_migrate, ScriptLine, next_phase, a_deed}
 use Rattle.file_forms.specs.Forms.{NamedGap, behind, at_head, OperationLine, insert, parallel, conditional, delete, move, sync, unsync, element, read, unread, write, unwrite, set_role, group_end}
 use Rattle.file_drafts.specs.Drafts.{whole}
 use Rattle.file_drafts.specs.declared.drafts.Draft.{Draft}
@@ -98,6 +98,8 @@ acted-kept : (d : Deed) (actor : ℕ) (lines : List Line) (at : ℕ) (c : Conten
 acted-kept (to_create n) actor lines at c h = known-kept (case_in n c) _ c (λ id. with_line-kept lines at actor (act.Create id) c refl h)
 acted-kept (to_start n node) actor lines at c h =
     known-kept (case_in n c) _ c (λ id. with_line-kept lines at actor (act.Start id (node_in node c)) (with_node node c) refl h)
+acted-kept (to_withdraw n node) actor lines at c h =
+    known-kept (case_in n c) _ c (λ id. with_line-kept lines at actor (act.Withdraw id (node_in node c)) (with_node node c) refl h)
 acted-kept (to_end n node choice writes) actor lines at c h =
     let c1 = with_node node c in
     known-kept (case_in n c) _ c (λ id.

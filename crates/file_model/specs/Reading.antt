@@ -7,7 +7,7 @@ use Rattle.file_words.specs.Lengths.{first_long}
 use Rattle.file_words.specs.declared.lengths.TooLong.{TooLong}
 use Rattle.file_words.specs.declared.lengths.TooLong.TheVariants as long
 use Rattle.file_forms.specs.Forms.{TypeLine}
-use Rattle.file_forms.specs.DeclarationForms.{is_header, declaration_line}
+use Rattle.file_forms.specs.DeclarationForms.{header, declaration_line}
 use Rattle.file_forms.specs.TypeForms.{type_line}
 use Rattle.file_forms.specs.ScriptForms.{script_line}
 use Rattle.file_forms.specs.OperationForms.{operation_line}
@@ -48,8 +48,12 @@ abbrev pub fitting : Draft → Option TypeLine → Option TypeLine
 fitting d None = None
 fitting d (Some l) = if fits_in (around d.frames) l then Some l else None
 
+abbrev pub in_format : Option ℕ → Contents → Step
+in_format None c = refuse c why.Header
+in_format (Some n) c = Ok (outside (record c { format = n }))
+
 abbrev pub headed : List Bytes → Contents → Step
-headed ws c = if is_header ws then Ok (outside c) else refuse c why.Header
+headed ws c = in_format (header ws) c
 
 abbrev pub unless_not_text : Bool → Contents → Step → Step
 unless_not_text true c s = s
@@ -63,7 +67,7 @@ step_in section.Outside at line ws c =
 step_in (section.InType d) at line ws c =
     unless_not_text (is_utf8 line) c (formed (fitting d (type_line ws)) ws (λ l. typed l d c) c)
 step_in (section.InPhase lines) at line ws c =
-    unless_not_text (is_utf8 line) c (formed (script_line ws) ws (λ l. scripted l lines at c) c)
+    unless_not_text (is_utf8 line) c (formed (script_line c.format ws) ws (λ l. scripted l lines at c) c)
 step_in (section.InGroup lines g) at line ws c =
     unless_not_text (is_utf8 line) c (formed (operation_line ws) ws (λ l. operated l g lines c) c)
 
@@ -75,6 +79,7 @@ step s at line = step_words s at line (words_of line)
 
 abbrev pub file_of : Contents → List (List Line) → File
 file_of c phases = record {
+  format = c.format;
   nodes = c.nodes;
   elements = c.elements;
   types = c.types.items;

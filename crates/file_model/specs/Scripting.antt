@@ -6,7 +6,7 @@ use Rattle.wsm_sound.specs.declared.versions.CaseId.{CaseId}
 use Rattle.file_words.specs.Lines.{Bytes}
 use Rattle.file_names.specs.Names.{place_of}
 use Rattle.file_forms.specs.PieceForms.{◌>>=◌}
-use Rattle.file_forms.specs.Forms.{Deed, to_create, to_start, to_end, to_change, to_install, to_migrate, ScriptLine, next_phase, a_deed}
+use Rattle.file_forms.specs.Forms.{Deed, to_create, to_start, to_withdraw, to_end, to_change, to_install, to_migrate, ScriptLine, next_phase, a_deed}
 use Rattle.file_model.specs.Steps.{State, Step, at_place, refuse, unless, over, node_in, with_node, element_in, with_element}
 use Rattle.file_model.specs.CaseCounts.{cases_of_type}
 use Rattle.file_model.specs.declared.files.Line.{Line}
@@ -80,6 +80,8 @@ abbrev pub acted : Deed → ℕ → List Line → ℕ → Contents → Step
 acted (to_create n) actor lines at c = if_known (case_in n c) (λ id. with_line lines at actor (act.Create id) c) c
 acted (to_start n node) actor lines at c =
     if_known (case_in n c) (λ id. with_line lines at actor (act.Start id (node_in node c)) (with_node node c)) c
+acted (to_withdraw n node) actor lines at c =
+    if_known (case_in n c) (λ id. with_line lines at actor (act.Withdraw id (node_in node c)) (with_node node c)) c
 acted (to_end n node choice writes) actor lines at c =
     if_known (case_in n c) (λ id.
     let c1 = with_node node c in

@@ -12,6 +12,7 @@ use Rattle.file_model.specs.declared.states.Section.TheVariants as section
 -- before the first line, `start` is node 0 and `finish` is node 1
 abbrev pub no_contents : Contents
 no_contents = record {
+  format = 1;
   nodes = codes "start" ∷ codes "finish" ∷ [];
   elements = [];
   types = record { names = []; items = [] };

@@ -48,6 +48,8 @@ pub enum Act {
     Create(CaseId),
     /// The node is started.
     Start(CaseId, u32),
+    /// The node is given back.
+    Withdraw(CaseId, u32),
     /// The node is ended with these writes, in the order given, and with a choice.
     End(CaseId, u32, Writes, Option<u16>),
     /// The case's schema is changed.
@@ -72,6 +74,8 @@ pub struct Line {
 /// and node 1 `finish`.
 #[derive(Drop)]
 pub struct File {
+    /// The format of the file and of its report: 1, or 2 where nodes may be given back.
+    pub format: u32,
     pub nodes: Names,
     pub elements: Names,
     pub types: TypeDecls,

@@ -51,6 +51,8 @@ pub struct Counts {
 /// What was read so far. The open phase is not among the phases.
 #[derive(Drop)]
 pub struct Contents {
+    /// The format that the header named, 1 before it.
+    pub format: u32,
     pub nodes: NameTable,
     pub elements: NameTable,
     pub types: DeclaredList<TypeDecl>,

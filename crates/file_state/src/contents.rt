@@ -29,6 +29,7 @@ pub fn no_contents(alloc: Global) -> Result<Contents, NoMemory>
     let nodes = NameTable::start_and_finish(alloc)?;
     let cases = CaseTable::new(alloc)?;
     Ok(Contents {
+        format: 1,
         nodes,
         elements: NameTable::new(alloc),
         types: DeclaredList::new(alloc),

@@ -10,7 +10,7 @@ ghost use Rattle.file_model.specs.Reading.{headed};
 
 use crate::contents::place_in;
 use file_drafts::Draft;
-use file_forms::{Declaration, is_header};
+use file_forms::{Declaration, header};
 use file_model::{ActorDecl, CaseDecl, Contents, FileLimit, Lines, Section, Stop, Why};
 use file_names::Name64;
 use file_words::NameWord;
@@ -32,10 +32,12 @@ pub fn headed(contents: &mut Contents, words: &[&[u8]]) -> Result<Section, Stop>
     ensures ok { IfOk result (λ place. headed (shown words.now) contents.old ≡ Ok (at_place place contents.new)) }
     ensures refused { IfErr result (λ stop. Stops (headed (shown words.now) contents.old) contents.new stop) }
 {
-    if is_header(words) {
-        Ok(Section::Outside)
-    } else {
-        Err(Stop::Refused(Why::Header))
+    match header(words) {
+        None => Err(Stop::Refused(Why::Header)),
+        Some(format) => {
+            contents.format = format;
+            Ok(Section::Outside)
+        }
     }
 }
 

@@ -2,7 +2,7 @@
 ghost use Rattle.std.specs.Prelude.{◌≡◌, ◌+◌, ◌<◌, [], ◌∷◌, ◌++◌, map, Ok, IfOk, IfErr, OnOk};
 ghost use Rattle.file_words.specs.Shown.{shown_literal, shown_pair};
 ghost use Rattle.file_forms.specs.Shown.{shown_deed, shown_script_line};
-ghost use Rattle.file_forms.specs.Forms.{to_create, to_start, to_end, to_change, to_install, to_migrate, next_phase, a_deed};
+ghost use Rattle.file_forms.specs.Forms.{to_create, to_start, to_withdraw, to_end, to_change, to_install, to_migrate, next_phase, a_deed};
 ghost use Rattle.file_model.specs.Outcomes.{Stops};
 ghost use Rattle.file_model.specs.Steps.{at_place, node_in, with_node};
 ghost use Rattle.file_model.specs.Scripting.{actor_in, if_known, case_in, with_line, line_of, counted, with_group, changing, one_install, installing, migrations_with, migrating, with_elements, numbered, acted, scripted};
@@ -158,6 +158,9 @@ fn acted(
     match deed {
         Deed::Create(case) => create_line(contents, at, lines, actor, case),
         Deed::Start { case, node } => start_line(contents, alloc, at, lines, actor, case, node),
+        Deed::Withdraw { case, node } => {
+            withdraw_line(contents, alloc, at, lines, actor, case, node)
+        }
         Deed::End {
             case,
             node,
@@ -220,6 +223,40 @@ fn start_node(
 {
     let node = node_number(contents, alloc, node)?;
     with_line(contents, at, lines, actor, Act::Start(id, node))
+}
+
+fn withdraw_line(
+    contents: &mut Contents,
+    alloc: Global,
+    at: u32,
+    lines: Lines,
+    actor: u32,
+    case: NameWord<'_>,
+    node: NameWord<'_>,
+) -> Result<Section, Stop>
+    ensures ok { IfOk result (λ place. acted (to_withdraw case.entry.bytes.now node.entry.bytes.now) actor lines at contents.old ≡ Ok (at_place place contents.new)) }
+    ensures refused { IfErr result (λ stop. Stops (acted (to_withdraw case.entry.bytes.now node.entry.bytes.now) actor lines at contents.old) contents.new stop) }
+{
+    match case_of(contents, case) {
+        None => Err(Stop::Refused(Why::Unknown)),
+        Some(id) => withdraw_node(contents, alloc, at, lines, actor, id, node),
+    }
+}
+
+fn withdraw_node(
+    contents: &mut Contents,
+    alloc: Global,
+    at: u32,
+    lines: Lines,
+    actor: u32,
+    id: CaseId,
+    node: NameWord<'_>,
+) -> Result<Section, Stop>
+    ensures ok { IfOk result (λ place. with_line lines at actor (Act.Withdraw id (node_in node.entry.bytes.now contents.old)) (with_node node.entry.bytes.now contents.old) ≡ Ok (at_place place contents.new)) }
+    ensures refused { IfErr result (λ stop. Stops (with_line lines at actor (Act.Withdraw id (node_in node.entry.bytes.now contents.old)) (with_node node.entry.bytes.now contents.old)) contents.new stop) }
+{
+    let node = node_number(contents, alloc, node)?;
+    with_line(contents, at, lines, actor, Act::Withdraw(id, node))
 }
 
 fn end_of_node(

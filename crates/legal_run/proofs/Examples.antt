@@ -45,6 +45,7 @@ start = record { at = 10; order = 2; actor = 2; act = act.Start the_case 2 }
 
 abbrev a_file : File
 a_file = record {
+  format = 1;
   nodes = codes "start" ∷ codes "finish" ∷ codes "A" ∷ [];
   elements = [];
   types = record { name = codes "t"; schema = schema } ∷ [];

@@ -17,6 +17,7 @@ module _ (many : ℕ → ℕ) (roles : List ℕ) (a : ℕ) where
   act_of_kind : (t : ℕ) (x : Act) (calls : List Call) → AreCallsOf many roles a x calls → length (calls_of_kind t calls) ≤ 1
   act_of_kind t (act.Create c) calls k = subst (λ (xs : List Call). length (calls_of_kind t xs) ≤ 1) (sym k.2) (one_if (eqb c.type_no t) _ [] refl)
   act_of_kind t (act.Start c n) calls k = subst (λ (xs : List Call). length (calls_of_kind t xs) ≤ 1) (sym k.1) (omega arith)
+  act_of_kind t (act.Withdraw c n) calls k = subst (λ (xs : List Call). length (calls_of_kind t xs) ≤ 1) (sym k.1) (omega arith)
   act_of_kind t (act.End c n writes choice) calls k = subst (λ (xs : List Call). length (calls_of_kind t xs) ≤ 1) (sym k.1) (omega arith)
   act_of_kind t (act.Change c ops) calls k = subst (λ (xs : List Call). length (calls_of_kind t xs) ≤ 1) (sym k.1) (omega arith)
   act_of_kind t (act.Install u ops) calls k = subst (λ (xs : List Call). length (calls_of_kind t xs) ≤ 1) (sym k.1) (one_if (eqb u t) _ [] refl)
@@ -25,6 +26,7 @@ module _ (many : ℕ → ℕ) (roles : List ℕ) (a : ℕ) where
   act_of_case : (c : CaseId) (x : Act) (calls : List Call) → AreCallsOf many roles a x calls → length (calls_of_case c calls) ≤ 1
   act_of_case c (act.Create d) calls k = subst (λ (xs : List Call). length (calls_of_case c xs) ≤ 1) (sym k.2) (one_if (is_case c d) _ [] refl)
   act_of_case c (act.Start d n) calls k = subst (λ (xs : List Call). length (calls_of_case c xs) ≤ 1) (sym k.1) (one_if (is_case c d) _ [] refl)
+  act_of_case c (act.Withdraw d n) calls k = subst (λ (xs : List Call). length (calls_of_case c xs) ≤ 1) (sym k.1) (one_if (is_case c d) _ [] refl)
   act_of_case c (act.End d n writes choice) calls k = subst (λ (xs : List Call). length (calls_of_case c xs) ≤ 1) (sym k.1) (one_if (is_case c d) _ [] refl)
   act_of_case c (act.Change d ops) calls k = subst (λ (xs : List Call). length (calls_of_case c xs) ≤ 1) (sym k.1) (one_if (is_case c d) _ [] refl)
   act_of_case c (act.Install u ops) calls k = subst (λ (xs : List Call). length (calls_of_case c xs) ≤ 1) (sym k.1) (omega arith)
@@ -34,6 +36,7 @@ module _ (many : ℕ → ℕ) (roles : List ℕ) (a : ℕ) where
   part_of_kind t (act.Create c) calls (inl k) = subst (λ (xs : List Call). length (calls_of_kind t xs) ≤ 1) (sym k) (omega arith)
   part_of_kind t (act.Create c) calls (inr k) = subst (λ (xs : List Call). length (calls_of_kind t xs) ≤ 1) (sym k.1) (one_if (eqb c.type_no t) _ [] refl)
   part_of_kind t (act.Start c n) calls k = subst (λ (xs : List Call). length (calls_of_kind t xs) ≤ 1) (sym k) (omega arith)
+  part_of_kind t (act.Withdraw c n) calls k = subst (λ (xs : List Call). length (calls_of_kind t xs) ≤ 1) (sym k) (omega arith)
   part_of_kind t (act.End c n writes choice) calls k = subst (λ (xs : List Call). length (calls_of_kind t xs) ≤ 1) (sym k) (omega arith)
   part_of_kind t (act.Change c ops) calls k = subst (λ (xs : List Call). length (calls_of_kind t xs) ≤ 1) (sym k) (omega arith)
   part_of_kind t (act.Install u ops) calls k = subst (λ (xs : List Call). length (calls_of_kind t xs) ≤ 1) (sym k) (omega arith)
@@ -44,6 +47,7 @@ module _ (many : ℕ → ℕ) (roles : List ℕ) (a : ℕ) where
   part_of_case c (act.Create d) calls (inl k) = subst (λ (xs : List Call). length (calls_of_case c xs) ≤ 1) (sym k) (omega arith)
   part_of_case c (act.Create d) calls (inr k) = subst (λ (xs : List Call). length (calls_of_case c xs) ≤ 1) (sym k.1) (omega arith)
   part_of_case c (act.Start d n) calls k = subst (λ (xs : List Call). length (calls_of_case c xs) ≤ 1) (sym k) (omega arith)
+  part_of_case c (act.Withdraw d n) calls k = subst (λ (xs : List Call). length (calls_of_case c xs) ≤ 1) (sym k) (omega arith)
   part_of_case c (act.End d n writes choice) calls k = subst (λ (xs : List Call). length (calls_of_case c xs) ≤ 1) (sym k) (omega arith)
   part_of_case c (act.Change d ops) calls k = subst (λ (xs : List Call). length (calls_of_case c xs) ≤ 1) (sym k) (omega arith)
   part_of_case c (act.Install u ops) calls k = subst (λ (xs : List Call). length (calls_of_case c xs) ≤ 1) (sym k) (omega arith)

@@ -5,7 +5,9 @@ ghost use Rattle.wsm_lists.specs.ByNumber.{item_at};
 use std::alloc::Global;
 use std::test::Fail;
 use wsm_schema::{Block, Flat, NoMemory, Rank, Schema};
-use wsm_settle::{Changes, Mark, MarkReads, Marks, after_again, after_end, after_start};
+use wsm_settle::{
+    Changes, Mark, MarkReads, Marks, after_again, after_end, after_start, after_withdraw,
+};
 
 // Marks that are read and not counted.
 #[derive(Drop)]
@@ -90,6 +92,15 @@ fn a_start_changes_its_own_mark(rt: HostRuntime) -> Result<(), Fail> {
     let flat = flat_of(alloc)?;
     let changes = after_start(alloc, &flat, &mut Reader { marks: &marks }, 2, 1)?;
     assert!(rt; are(&changes, &[(2, Some(begun(0, 1, None)))]));
+    Ok(())
+}
+
+#[test]
+fn a_node_that_is_given_back_loses_its_start(rt: HostRuntime) -> Result<(), Fail> {
+    let alloc = rt.alloc();
+    let marks = marks_of(alloc, &[(0, ready(0)), (2, begun(0, 1, None))])?;
+    let changes = after_withdraw(alloc, &mut Reader { marks: &marks }, 2)?;
+    assert!(rt; are(&changes, &[(2, Some(ready(0)))]));
     Ok(())
 }
 

@@ -12,6 +12,7 @@ pub fn file_of(contents: Contents, alloc: Global) -> Result<File, NoMemory>
     ensures { IfOk result (λ file. file ≡ file_of contents contents.phases) }
 {
     let Contents {
+        format,
         nodes,
         elements,
         types,
@@ -21,7 +22,7 @@ pub fn file_of(contents: Contents, alloc: Global) -> Result<File, NoMemory>
         ..
     } = contents;
     named(
-        nameless(types, actors, cases, phases, alloc),
+        nameless(format, types, actors, cases, phases, alloc),
         nodes,
         elements,
         alloc,
@@ -30,15 +31,17 @@ pub fn file_of(contents: Contents, alloc: Global) -> Result<File, NoMemory>
 
 // A file without the names of nodes and elements. To make it takes no memory.
 fn nameless(
+    format: u32,
     types: DeclaredList<TypeDecl>,
     actors: DeclaredList<ActorDecl>,
     cases: CaseTable,
     phases: Phases,
     alloc: Global,
 ) -> File
-    ensures { result ≡ record { nodes = []; elements = []; types = types.items; actors = actors.items; cases = cases.items; phases = phases } }
+    ensures { result ≡ record { format = format; nodes = []; elements = []; types = types.items; actors = actors.items; cases = cases.items; phases = phases } }
 {
     File {
+        format,
         nodes: Names::new(alloc),
         elements: Names::new(alloc),
         types: types.items,
@@ -53,6 +56,7 @@ fn named(file: File, nodes: NameTable, elements: NameTable, alloc: Global) -> Re
 {
     let (nodes, elements) = both_names(nodes, elements, alloc)?;
     Ok(File {
+        format: file.format,
         nodes,
         elements,
         types: file.types,

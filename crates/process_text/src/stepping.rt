@@ -59,14 +59,19 @@ fn type_form<'a>(draft: &Draft, line: &[u8], words: &[&'a [u8]]) -> Result<TypeL
     }
 }
 
-fn script_form<'a>(alloc: Global, line: &[u8], words: &[&'a [u8]]) -> Result<ScriptLine<'a>, Stop>
-    ensures ok { IfOk result (λ form. HasForm line.now (shown words.now) (script_line (shown words.now)) (shown_script_line form)) }
-    ensures refused { IfErr result (λ stop. LacksForm line.now (shown words.now) (script_line (shown words.now)) stop) }
+fn script_form<'a>(
+    alloc: Global,
+    format: u32,
+    line: &[u8],
+    words: &[&'a [u8]],
+) -> Result<ScriptLine<'a>, Stop>
+    ensures ok { IfOk result (λ form. HasForm line.now (shown words.now) (script_line format (shown words.now)) (shown_script_line form)) }
+    ensures refused { IfErr result (λ stop. LacksForm line.now (shown words.now) (script_line format (shown words.now)) stop) }
 {
     if !is_text(line) {
         return Err(Stop::Refused(Why::NotText));
     }
-    match script_line(alloc, words)? {
+    match script_line(alloc, format, words)? {
         None => Err(Stop::Refused(Why::Form)),
         Some(form) => match first_long(words) {
             Some(long) => Err(Stop::Refused(why_long(long))),
@@ -164,7 +169,7 @@ fn script_step(
     ensures ok { IfOk result (λ place. step_in (Section.InPhase lines) at line.now (shown words.now) contents.old ≡ Ok (at_place place contents.new)) }
     ensures refused { IfErr result (λ stop. Stops (step_in (Section.InPhase lines) at line.now (shown words.now) contents.old) contents.new stop) }
 {
-    match script_form(alloc, line, words) {
+    match script_form(alloc, contents.format, line, words) {
         Ok(form) => scripted(contents, alloc, at, lines, form),
         Err(stop) => Err(stop),
     }

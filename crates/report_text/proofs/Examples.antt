@@ -63,6 +63,7 @@ not_created = refl
 -- ---- what no file of this form reaches: values, choices, and refusals with data
 abbrev a_file : File
 a_file = record {
+  format = 1;
   nodes = codes "start" ∷ codes "finish" ∷ codes "A" ∷ [];
   elements = codes "d" ∷ [];
   types = record { name = codes "t"; schema = plain 0 1 nothing } ∷ [];

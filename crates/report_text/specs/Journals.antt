@@ -29,6 +29,7 @@ end_event_text f node writes choice = codes "end " ++ node_text f node ++ (choic
 abbrev pub event_text : File → Event → Bytes
 event_text f (event.Create version) = codes "create " ++ decimal version.number
 event_text f (event.Start node user roles) = codes "start " ++ node_text f node
+event_text f (event.Withdraw node user) = codes "withdraw " ++ node_text f node
 event_text f (event.End node user writes choice) = end_event_text f node writes choice
 event_text f (event.Change ops) = codes "change " ++ decimal (length ops)
 event_text f (event.Migrate version) = codes "migrate " ++ decimal version.number
@@ -38,6 +39,7 @@ reply_word reply.Created = codes "created"
 reply_word (reply.Started reads) = codes "started"
 reply_word reply.Ended = codes "ended"
 reply_word reply.Repeated = codes "repeated"
+reply_word reply.Withdrawn = codes "withdrawn"
 reply_word reply.Already = codes "already"
 reply_word reply.NoCase = codes "no-case"
 reply_word reply.NoNode = codes "no-node"

@@ -42,5 +42,9 @@ cases_text f cases closed = side_by_side (case_text f) cases closed
 abbrev pub summary : File → Run → Bytes
 summary f r = case_totals r.cases ++ migration_totals r.cases
 
+-- the first line, which tells the format
+abbrev pub first_line : File → Bytes
+first_line f = codes "adept report " ++ (decimal f.format ++ codes "\n")
+
 abbrev pub text : File → Run → Bytes
-text f r = codes "adept report 1\n" ++ (kinds_text f f.types r.kinds ++ (cases_text f f.cases r.cases ++ summary f r))
+text f r = first_line f ++ (kinds_text f f.types r.kinds ++ (cases_text f f.cases r.cases ++ summary f r))

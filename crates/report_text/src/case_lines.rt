@@ -58,6 +58,7 @@ fn put_event<K: Sink>(sink: &mut K, ok: bool, file: &File, event: &Event) -> boo
             )
         }
         Event::Start { node, .. } => put_of_node(sink, ok, b"start ", file, *node),
+        Event::Withdraw { node, .. } => put_of_node(sink, ok, b"withdraw ", file, *node),
         Event::End {
             node,
             writes,
@@ -120,6 +121,7 @@ fn reply_word(reply: &Reply) -> &'static [u8]
         Reply::Started(_) => b"started",
         Reply::Ended => b"ended",
         Reply::Repeated => b"repeated",
+        Reply::Withdrawn => b"withdrawn",
         Reply::Already => b"already",
         Reply::NoCase => b"no-case",
         Reply::NoNode => b"no-node",
@@ -161,6 +163,7 @@ fn put_reply_rest<K: Sink>(sink: &mut K, ok: bool, file: &File, reply: &Reply) -
         Reply::Created
         | Reply::Ended
         | Reply::Repeated
+        | Reply::Withdrawn
         | Reply::Already
         | Reply::NoCase
         | Reply::NoNode

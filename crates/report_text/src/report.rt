@@ -3,13 +3,14 @@ ghost use Rattle.std.specs.Prelude.{◌≡◌, ◌≤◌, ◌++◌, codes, OnErr
 ghost use Rattle.std.specs.Io.KnownBytes.{Appends};
 ghost use Rattle.adept_io.specs.Counts.{Rose};
 ghost use Rattle.adept_io.specs.Written.{AppendsPrefix, Gives};
-ghost use Rattle.report_text.specs.Report.{case_head, case_text, cases_text, kind_text, kinds_text, summary, text, type_head};
+ghost use Rattle.report_text.specs.Report.{case_head, case_text, cases_text, first_line, kind_text, kinds_text, summary, text, type_head};
 
 use crate::case_lines::put_case_journal;
 use crate::ends::put_end;
 use crate::kind_lines::put_kind_journal;
 use adept_io::{Failed, Sink, Text, put, put_pieces, write_gathered};
 use file_model::{CaseDecl, File, TypeDecl};
+use itoa::Buffer;
 use report_words::{put_case_totals, put_migration_totals, put_type};
 use script_run::{ClosedCase, ClosedKind, Run};
 
@@ -64,10 +65,26 @@ pub fn write_summary<K: Sink>(file: &File, run: &Run, sink: &mut K) -> Result<()
 fn put_report<K: Sink>(sink: &mut K, ok: bool, file: &File, run: &Run) -> bool
     ensures { Gives K.written K.faults ok result sink.old sink.new (text file.now run.now) }
 {
-    let ok = put(sink, ok, b"adept report 1\n");
+    let ok = put_first_line(sink, ok, file);
     let ok = put_all_kinds(sink, ok, file, run);
     let ok = put_all_cases(sink, ok, file, run);
     put_summary(sink, ok, file, run)
+}
+
+// The first line, which tells the format.
+fn put_first_line<K: Sink>(sink: &mut K, ok: bool, file: &File) -> bool
+    ensures { Gives K.written K.faults ok result sink.old sink.new (first_line file.now) }
+{
+    let mut number = Buffer::new();
+    put_pieces(
+        sink,
+        ok,
+        &[
+            b"adept report ",
+            number.format(file.format).as_bytes(),
+            b"\n",
+        ],
+    )
 }
 
 fn put_all_kinds<K: Sink>(sink: &mut K, ok: bool, file: &File, run: &Run) -> bool

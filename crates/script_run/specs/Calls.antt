@@ -102,6 +102,7 @@ migrated f caller t (Some v) r = on_each f caller t (event.Migrate v) r
 abbrev pub acted : File → ℕ → Act → Run → Run
 acted f caller (act.Create c) r = created f caller c (newest c.type_no r) (on_kind caller c.type_no kind_event.Newest r)
 acted f caller (act.Start c n) r = on_case f caller c (event.Start n caller (roles_of f caller)) r
+acted f caller (act.Withdraw c n) r = on_case f caller c (event.Withdraw n caller) r
 acted f caller (act.End c n writes choice) r = on_case f caller c (event.End n caller writes choice) r
 acted f caller (act.Change c ops) r = on_case f caller c (event.Change ops) r
 acted f caller (act.Install t ops) r = on_kind caller t (kind_event.Install ops) r

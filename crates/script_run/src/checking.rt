@@ -82,6 +82,7 @@ impl Judging {
             Act::Install(type_no, ops) => self.install(alloc, line.at, *type_no, ops),
             Act::Create(_)
             | Act::Start(_, _)
+            | Act::Withdraw(_, _)
             | Act::End(_, _, _, _)
             | Act::Change(_, _)
             | Act::Migrate(_) => Ok(()),

@@ -128,6 +128,13 @@ impl Working {
                 };
                 self.on_case(alloc, script, caller, *id, event)
             }
+            Act::Withdraw(id, node) => {
+                let event = Event::Withdraw {
+                    node: *node,
+                    user: caller,
+                };
+                self.on_case(alloc, script, caller, *id, event)
+            }
             Act::End(id, node, writes, choice) => {
                 let event = Event::End {
                     node: *node,

@@ -51,6 +51,8 @@ call_again caller (stored.Case c (event.Start node user roles)) rest number fit 
 call_again caller (stored.Case c (event.End node user writes choice)) rest number fit =
     again_arm (both_form id_form (both_form u32_form (both_form u32_form (both_form (list_form write_form) (option_form code_form))))) (λ x. stored.Case x.0 (event.End x.1.0 x.1.1.0 x.1.1.1.0 x.1.1.1.1)) 6 (λ b. refl)
     caller (c, (node, (user, (writes, choice)))) rest number (fit.0, (fit.1.0, (fit.1.1, (fit.1.2, fit.1.3))))
+call_again caller (stored.Case c (event.Withdraw node user)) rest number fit =
+    again_arm (both_form id_form (both_form u32_form u32_form)) (λ x. stored.Case x.0 (event.Withdraw x.1.0 x.1.1)) 9 (λ b. refl) caller (c, (node, user)) rest number (fit.0, (fit.1.0, fit.1.1))
 call_again caller (stored.Case c (event.Change ops)) rest number fit =
     again_arm (both_form id_form (list_form op_form)) (λ x. stored.Case x.0 (event.Change x.1)) 7 (λ b. refl) caller (c, ops) rest number (fit.0, fit.1)
 
@@ -85,7 +87,8 @@ behind_takes t caller bytes behind e rest front number got =
     or_else t 6 _ _ behind (e, rest) (arm (both_form id_form (both_form u32_form (both_form u32_form (both_form (list_form write_form) (option_form code_form))))) (λ x. stored.Case x.0 (event.End x.1.0 x.1.1.0 x.1.1.1.0 x.1.1.1.1)) 6 (λ c x fit. refl) (λ x fit. (fit.0, (fit.1.0, fit.1.1.0, fit.1.1.1.0, fit.1.1.1.1))) t caller bytes behind e rest front number) (
     or_else t 7 _ _ behind (e, rest) (arm (both_form id_form (list_form op_form)) (λ x. stored.Case x.0 (event.Change x.1)) 7 (λ c x fit. refl) (λ x fit. (fit.0, fit.1)) t caller bytes behind e rest front number) (
     or_else t 8 _ _ behind (e, rest) (arm (both_form id_form u32_form) (λ x. stored.Migrate x.0 x.1) 8 (λ c x fit. refl) (λ x fit. (fit.0, fit.1)) t caller bytes behind e rest front number) (
-    λ none. absurd cc)))))))) got
+    or_else t 9 _ _ behind (e, rest) (arm (both_form id_form (both_form u32_form u32_form)) (λ x. stored.Case x.0 (event.Withdraw x.1.0 x.1.1)) 9 (λ c x fit. refl) (λ x fit. (fit.0, (fit.1.0, fit.1.1))) t caller bytes behind e rest front number) (
+    λ none. absurd cc))))))))) got
 
 pub call_takes : (bytes : Bytes) (r : Recorded) (rest : Bytes) → IsBytes bytes → recorded_at bytes ≡ Some (r, rest) → IsCall bytes r rest
 unfolding recorded_at

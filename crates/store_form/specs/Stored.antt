@@ -105,6 +105,7 @@ FitsEvent (event.Migrate version) = ⊥
 FitsEvent (event.Start node user roles) = IsNumber node × IsNumber user × FitsEach IsNumber roles
 FitsEvent (event.End node user writes choice) =
     IsNumber node × IsNumber user × FitsEach (λ w. IsNumber w.0 × FitsValue w.1) writes × FitsOption IsCode choice
+FitsEvent (event.Withdraw node user) = IsNumber node × IsNumber user
 FitsEvent (event.Change ops) = FitsEach FitsOp ops
 
 abbrev pub FitsId : CaseId → Type 0

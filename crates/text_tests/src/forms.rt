@@ -26,7 +26,7 @@ fn ends_write_pairs(rt: HostRuntime) -> Result<(), Fail> {
         b"A".as_slice(),
         b"e=7".as_slice(),
     ];
-    match script_line(rt.alloc(), words.as_slice())? {
+    match script_line(rt.alloc(), 1, words.as_slice())? {
         Some(
             ScriptLine::Deed {
                 deed: Deed::End { writes, .. },

@@ -8,7 +8,7 @@ use std::thread::Threads;
 use turn_cell::OpenGate;
 
 const FILE: &[u8] = b"\
-adept 1
+adept 2
 type t
 element e int
 act A role 2
@@ -32,10 +32,12 @@ read D e
 end
 ann migrate t
 ann start c D
+ann withdraw c D
+ann start c D
 ";
 
 const REPORT: &[u8] = b"\
-adept report 1
+adept report 2
 type t
 1 - define -> defined
 2 ann newest -> is 1
@@ -48,6 +50,8 @@ case c t
 4 ann change 1 -> changed
 5 ann migrate 2 -> migrated 2
 6 ann start D -> started e=7
+7 ann withdraw D -> withdrawn
+8 ann start D -> started e=7
 state 2 running own=1
 marking start=C A=C D=R B=N C=N finish=N
 values e=7
@@ -55,7 +59,7 @@ items D:ann
 case d t
 1 ann migrate 2 -> no-case
 state none
-summary cases=2 finished=0 entries=7 migrated=1 blocked=0 overlap=0
+summary cases=2 finished=0 entries=9 migrated=1 blocked=0 overlap=0
 ";
 
 const VERDICTS: &[u8] = b"\

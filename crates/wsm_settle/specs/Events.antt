@@ -18,6 +18,7 @@ use Rattle.wsm_schema.specs.declared.states.State.TheVariants.{Running}
 use Rattle.wsm_marks.specs.Loops.{cut_entries}
 use Rattle.wsm_marks.specs.Schemas.{HasCard, Regular}
 use Rattle.wsm_marks.specs.Timed.{Entries}
+use Rattle.wsm_trail.specs.Withdrawn.{without_start}
 use Rattle.wsm_walk.specs.Current.{Current}
 use Rattle.wsm_walk.specs.RankPlaces.{Handed, rank_place}
 use Rattle.wsm_walk.specs.Spent.{reach_size}
@@ -36,6 +37,13 @@ EndsRight flat rank kept node p choice changes =
     (s : SchemaModel) (es : Entries) (writes : Written) (t : Spots) → flat ≡ flat_of s → Current s rank es p kept →
     replay_of (flat_of s) (es ++ (p, entry.End node writes choice) ∷ []) ≡ whole t →
     changed changes kept ≡ marks_of (flat_of s) (es ++ (p, entry.End node writes choice) ∷ [])
+
+-- a running node is given back
+abbrev pub WithdrawsRight : List (ℕ × Mark) → ℕ → List (ℕ × Option Mark) → Type 0
+WithdrawsRight kept node changes =
+    (s : SchemaModel) (rank : List ℕ) (es : Entries) (p : ℕ) (c : Card) → (now : Current s rank es p kept) →
+    card_at node (cards_of s) ≡ Some c → is_in_state (spot_in node now.marking).state Running ≡ true →
+    changed changes kept ≡ marks_of (flat_of s) (without_start node es)
 
 -- the trail that the cut by a loop leaves, with its repeat behind it
 abbrev pub repeated_by : SchemaModel → ℕ → ℕ → Written → Entries → Entries

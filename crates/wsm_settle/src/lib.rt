@@ -12,6 +12,6 @@ mod walks;
 
 pub use ends::after_end;
 pub use repeats::after_again;
-pub use starts::after_start;
+pub use starts::{after_start, after_withdraw};
 pub use timing::{TimedMarks, timed};
 pub use wsm_rules::{Changes, CountedMarks, Mark, MarkReads, Marks};

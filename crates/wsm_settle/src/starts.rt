@@ -1,6 +1,6 @@
-// What the start of a node does to marks.
+// What the start of a node does to marks, and what it does to give a node back.
 ghost use Rattle.std.specs.Prelude.{◌≡◌, ◌+◌, ◌≤◌, [], ◌∷◌, Some, IfOk};
-ghost use Rattle.wsm_settle.specs.Events.{StartsRight};
+ghost use Rattle.wsm_settle.specs.Events.{StartsRight, WithdrawsRight};
 
 use crate::overlays::or_blank;
 use std::alloc::Global;
@@ -27,6 +27,25 @@ pub fn after_start<M: MarkReads>(
         ..mark
     };
     one_change(alloc, node, started)
+}
+
+/// The changes after a running node is given back.
+pub fn after_withdraw<M: MarkReads>(
+    alloc: Global,
+    marks: &mut M,
+    node: u32,
+) -> Result<Changes, NoMemory>
+    ensures changes { IfOk result (λ changes. WithdrawsRight (M.kept marks.old) node changes) }
+    ensures same { M.kept marks.new ≡ M.kept marks.old }
+    ensures rises { M.reads marks.old ≤ M.reads marks.new }
+    ensures count { M.reads marks.new ≤ M.reads marks.old + 1 }
+{
+    let mark = or_blank(marks.get(node));
+    let withdrawn = Mark {
+        started: None,
+        ..mark
+    };
+    one_change(alloc, node, withdrawn)
 }
 
 // The node gets that mark.

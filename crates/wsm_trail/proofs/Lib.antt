@@ -1,3 +1,4 @@
 pub mod Rising
 pub mod LastWrite
 pub mod Cutting
+pub mod Withdrawing

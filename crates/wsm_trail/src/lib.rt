@@ -5,6 +5,7 @@ mod cuts;
 mod last_writes;
 mod lookups;
 mod trails;
+mod withdrawals;
 
 pub use last_writes::LastWrites;
 pub use trails::{Trail, written_by};

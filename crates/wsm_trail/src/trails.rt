@@ -8,10 +8,12 @@ ghost use Rattle.wsm_schema.specs.Trail.{no_trail, pushed, value_below, cut_by, 
 ghost use Rattle.wsm_trail.specs.EntryAt.{entry_at, written_to};
 ghost use Rattle.wsm_trail.specs.LastWrites.{noted_entries, values_at, write_of};
 ghost use Rattle.wsm_trail.specs.TrailWithRoom.{Rises};
+ghost use Rattle.wsm_trail.specs.Withdrawn.{starts_of, withdrawn};
 
 use crate::cuts::cut_entry;
 use crate::last_writes::LastWrites;
 use crate::lookups::find;
+use crate::withdrawals::start_place;
 use std::alloc::Global;
 use std::marker::Model;
 use wsm_schema::{Entry, NoMemory, Nodes, Value, Writes};
@@ -193,6 +195,18 @@ impl Trail {
             ensures { cut_entry nodes.entry.now row.entry.now.0 row.entry.now.1 ≡ (if result then Some row.exit.now else None) }
         { cut_entry(alloc, &mut row.1, nodes) };
         self.entries.retain_mut(stays);
+    }
+
+    /// The trail without the start of that node. Takes no memory.
+    pub fn drop_start(&mut self, node: u32)
+        requires one { length (starts_of node self.old.trail.entries) ≡ 1 }
+        ensures trail { self.new.trail ≡ withdrawn node self.old.trail }
+        ensures spare { self.old.spare ≤ self.new.spare }
+        ensures spare_writes { self.new.spare_writes ≡ self.old.spare_writes }
+    {
+        if let Some(place) = start_place(&self.entries, node) {
+            self.entries.remove(place);
+        }
     }
 }
 

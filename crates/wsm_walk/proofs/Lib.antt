@@ -23,3 +23,5 @@ pub mod Told
 pub mod KeptStates
 pub mod Blocked
 pub mod FoundAt
+pub mod WithdrawnTrails
+pub mod Withdrawals

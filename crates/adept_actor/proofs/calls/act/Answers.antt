@@ -1,6 +1,6 @@
 use Rattle.std.proofs.Common.{Ok, Err, sym, ◌∙◌, subst}
-use Rattle.adept_actor.proofs.Acts.{acts-fault, create-acts, start-acts, end-acts, change-acts, install-acts, migrate-acts, migrate-fails}
-use Rattle.adept_actor.proofs.Leaving.{create-leaves, start-leaves, end-leaves, change-leaves, install-leaves, migrate-leaves}
+use Rattle.adept_actor.proofs.Acts.{acts-fault, create-acts, start-acts, withdraw-acts, end-acts, change-acts, install-acts, migrate-acts, migrate-fails}
+use Rattle.adept_actor.proofs.Leaving.{create-leaves, start-leaves, withdraw-leaves, end-leaves, change-leaves, install-leaves, migrate-leaves}
 use Rattle.adept_actor.specs.Others.{LeavesOthers}
 use Rattle.adept_actor.specs.Work.{Acts}
 use Rattle.adept_server.specs.Desks.{desk_view}
@@ -30,12 +30,27 @@ returns-in_err-start-in-Start-clause-worked g c =
     acts-fault c.args.roles.now (act.Start c.in-Start.id c.in-Start.node) c.args.act.now v w f c.from_residual-in_err-start-in-Start.result c.in-Start.is c.from_residual-in_err-start-in-Start.ensures.1
     (start-acts c.args.roles.now v w c.requires.desk.desk c.in-Start.id c.in-Start.node (Err f) c.in_err-start-in-Start.ensures.called)
 
+pub returns-in_err-withdraw-in-Withdraw-clause-worked : goal.returns-in_err-withdraw-in-Withdraw-clause-worked
+returns-in_err-withdraw-in-Withdraw-clause-worked g c =
+    let v = desk_view c.args.desk.now in
+    let w = desk_view c.withdraw.new.desk in
+    let f = c.in_err-withdraw-in-Withdraw.field-0.0 in
+    acts-fault c.args.roles.now (act.Withdraw c.in-Withdraw.id c.in-Withdraw.node) c.args.act.now v w f c.from_residual-in_err-withdraw-in-Withdraw.result c.in-Withdraw.is c.from_residual-in_err-withdraw-in-Withdraw.ensures.1
+    (withdraw-acts c.args.roles.now v w c.requires.desk.desk c.in-Withdraw.id c.in-Withdraw.node (Err f) c.in_err-withdraw-in-Withdraw.ensures.called)
+
 pub returns-in_ok-start-in-Start-clause-worked : goal.returns-in_ok-start-in-Start-clause-worked
 returns-in_ok-start-in-Start-clause-worked g c =
     let v = desk_view c.args.desk.now in
     let w = desk_view c.start.new.desk in
     subst (λ x. Acts {A = Unit {0}} c.args.roles.now x (Ok tt) v w) (sym c.in-Start.is)
     (start-acts c.args.roles.now v w c.requires.desk.desk c.in-Start.id c.in-Start.node (Ok _) c.in_ok-start-in-Start.ensures.called)
+
+pub returns-in_ok-withdraw-in-Withdraw-clause-worked : goal.returns-in_ok-withdraw-in-Withdraw-clause-worked
+returns-in_ok-withdraw-in-Withdraw-clause-worked g c =
+    let v = desk_view c.args.desk.now in
+    let w = desk_view c.withdraw.new.desk in
+    subst (λ x. Acts {A = Unit {0}} c.args.roles.now x (Ok tt) v w) (sym c.in-Withdraw.is)
+    (withdraw-acts c.args.roles.now v w c.requires.desk.desk c.in-Withdraw.id c.in-Withdraw.node (Ok _) c.in_ok-withdraw-in-Withdraw.ensures.called)
 
 pub returns-in_err-end-in-End-clause-worked : goal.returns-in_err-end-in-End-clause-worked
 returns-in_err-end-in-End-clause-worked g c =
@@ -118,6 +133,12 @@ returns-in_err-start-in-Start-clause-others g c =
     let w = desk_view c.start.new.desk in
     subst (λ x. LeavesOthers x v w) (sym c.in-Start.is) (start-leaves v w c.in-Start.id c.in-Start.node _ _ c.in_err-start-in-Start.ensures.called)
 
+pub returns-in_err-withdraw-in-Withdraw-clause-others : goal.returns-in_err-withdraw-in-Withdraw-clause-others
+returns-in_err-withdraw-in-Withdraw-clause-others g c =
+    let v = desk_view c.args.desk.now in
+    let w = desk_view c.withdraw.new.desk in
+    subst (λ x. LeavesOthers x v w) (sym c.in-Withdraw.is) (withdraw-leaves v w c.in-Withdraw.id c.in-Withdraw.node _ _ c.in_err-withdraw-in-Withdraw.ensures.called)
+
 pub returns-in_err-end-in-End-clause-others : goal.returns-in_err-end-in-End-clause-others
 returns-in_err-end-in-End-clause-others g c =
     let v = desk_view c.args.desk.now in
@@ -147,6 +168,12 @@ returns-in_ok-start-in-Start-clause-others g c =
     let v = desk_view c.args.desk.now in
     let w = desk_view c.start.new.desk in
     subst (λ x. LeavesOthers x v w) (sym c.in-Start.is) (start-leaves v w c.in-Start.id c.in-Start.node _ _ c.in_ok-start-in-Start.ensures.called)
+
+pub returns-in_ok-withdraw-in-Withdraw-clause-others : goal.returns-in_ok-withdraw-in-Withdraw-clause-others
+returns-in_ok-withdraw-in-Withdraw-clause-others g c =
+    let v = desk_view c.args.desk.now in
+    let w = desk_view c.withdraw.new.desk in
+    subst (λ x. LeavesOthers x v w) (sym c.in-Withdraw.is) (withdraw-leaves v w c.in-Withdraw.id c.in-Withdraw.node _ _ c.in_ok-withdraw-in-Withdraw.ensures.called)
 
 pub returns-in_ok-end-in-End-clause-others : goal.returns-in_ok-end-in-End-clause-others
 returns-in_ok-end-in-End-clause-others g c =

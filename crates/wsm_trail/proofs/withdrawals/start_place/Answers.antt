@@ -1,0 +1,11 @@
+use Rattle.std.proofs.Common.{◌≡◌, ℕ, Option, Some, None, refl, rules}
+use Rattle.wsm_trail.specs.StartPlaces.{IsStartPlace}
+use Rattle.wsm_trail.proofs.Withdrawing.{none-starts, place-at}
+use Rattle.wsm_trail.proofs.withdrawals.start_place.Goals as goal
+
+pub returns : goal.returns
+returns c = go c.rposition.result refl
+  where
+    go : (o : Option ℕ) → c.rposition.result ≡ o → IsStartPlace c.args.node c.args.entries.now o
+    go None is = none-starts c.args.node c.args.entries.now (search rules)
+    go (Some i) is = place-at c.args.node c.args.entries.now i (search rules) (search rules)
