@@ -30,21 +30,9 @@ use Rattle.wsm_sound.specs.VersionModel.{VersionModel}
 use Rattle.wsm_sound.specs.declared.faults.Fault.{Fault}
 use Rattle.wsm_trail.specs.Withdrawn.{withdrawn, without_start}
 use Rattle.audit_facts.specs.Facts.{IsOneLineValue, IsOneLineWrite}
-use Rattle.audit_reader.proofs.OneLineTexts.{IsOneLineRead, ShowsOneLine, WritesValues}
+use Rattle.audit_reader.specs.Kept.{IsOneLineRead, KeptCase, KeptEntry, KeptLive, KeptTrail, ShowsOneLine, WritesValues}
 
 -- ---- trails
-abbrev pub KeptEntry : ℕ × Entry → Type 0
-KeptEntry e = AllRows IsOneLineWrite (written_by e.1)
-
-abbrev pub KeptTrail : TrailModel → Type 0
-KeptTrail t = AllRows KeptEntry t.entries
-
-abbrev pub KeptLive : LiveModel → Type 0
-KeptLive l = KeptTrail l.trail
-
-abbrev pub KeptCase : CaseModel → Type 0
-KeptCase s = IfSome s.live KeptLive
-
 value_in-one : (e : ℕ) (ws : Written) → AllRows IsOneLineWrite ws → IfSome (value_in e ws) IsOneLineValue
 value_in-one e [] all = tt
 value_in-one e (w ∷ ws) all = by (w.0 == e) (value_in-one e ws all.1)

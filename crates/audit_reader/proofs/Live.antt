@@ -47,9 +47,10 @@ use Rattle.audit_model.specs.Owed.{calls_case, calls_kind, owed_kind}
 use Rattle.audit_model.specs.Printed.{caller_in, case_shown, kind_shown}
 use Rattle.audit_model.specs.ReportReader.{case_journal, case_made, case_reader, cases_behind, cases_reader, defined_line, given, kind_behind, kind_journal, kind_reader, kinds_reader, report_reader, telling}
 use Rattle.audit_reader.proofs.Callers.{tells-callers}
-use Rattle.audit_reader.proofs.KeptValues.{KeptCase, case-kept, case-shows}
+use Rattle.audit_reader.specs.Kept.{KeptCase, WritesValues}
+use Rattle.audit_reader.proofs.KeptValues.{case-kept, case-shows}
 use Rattle.audit_reader.proofs.OneLine.{ended-one}
-use Rattle.audit_reader.proofs.OneLineTexts.{WritesValues, event-one, kind_event-one, kind_reply-one, line-one, reply-one}
+use Rattle.audit_reader.proofs.OneLineTexts.{event-one, kind_event-one, kind_reply-one, line-one, reply-one}
 use Rattle.audit_reader.proofs.Ready.{HasVersion, all-have}
 use Rattle.audit_reader.proofs.TakenParts.{KindTaken, kind-at, types-of}
 
@@ -71,16 +72,16 @@ filter-phases P Q p h xss all = rows-map (AllRows Q) (λ xs. filter p xs) xss (a
 
 module _ (f : File) (workable : IsWorkable f) (auditable : IsAuditable f) where
   -- ---- types
-  abbrev AnyKind : KindModel → Type 0
+  abbrev pub AnyKind : KindModel → Type 0
   AnyKind s = Unit {0}
 
-  abbrev AnyEvent : KindEvent → Type 0
+  abbrev pub AnyEvent : KindEvent → Type 0
   AnyEvent e = Unit {0}
 
-  kind-line-one : (k a : ℕ) (s : KindModel) (e : KindEvent) → IsActor f a → AnyKind s → AnyEvent e → IsOneLine (kind_shown f k (entry a e (kind_reply s e)))
+  pub kind-line-one : (k a : ℕ) (s : KindModel) (e : KindEvent) → IsActor f a → AnyKind s → AnyEvent e → IsOneLine (kind_shown f k (entry a e (kind_reply s e)))
   kind-line-one k a s e actor any some = line-one f auditable k a (kind_event_text e) (kind_reply_text f (kind_reply s e)) (kind_event-one f auditable e) (kind_reply-one f auditable (kind_reply s e))
 
-  tells-kind : (k : ℕ) (e : KindEntry) → IsActor f e.caller → caller_in f k (kind_shown f k e) ≡ Some e.caller
+  pub tells-kind : (k : ℕ) (e : KindEntry) → IsActor f e.caller → caller_in f k (kind_shown f k e) ≡ Some e.caller
   tells-kind k e actor = tells-callers f auditable k e.caller (kind_event_text e.event ++ (codes " -> " ++ kind_reply_text f e.reply)) actor
 
   abbrev GoodForKind : Line → Type 0
@@ -114,10 +115,10 @@ module _ (f : File) (workable : IsWorkable f) (auditable : IsAuditable f) where
       then-live go (kind_reader f n d) (kind-live n d) (λ ls k is. mapped-live (λ (ks : List ClosedKind). k ∷ ks) (kinds_reader f (n + 1) ds) (kinds-live (n + 1) ds))
 
   -- ---- cases
-  case-line-one : (k a : ℕ) (s : CaseModel) (e : Event) → IsActor f a → KeptCase s → WritesValues e → IsOneLine (case_shown f k (entry a e (case_reply s e)))
+  pub case-line-one : (k a : ℕ) (s : CaseModel) (e : Event) → IsActor f a → KeptCase s → WritesValues e → IsOneLine (case_shown f k (entry a e (case_reply s e)))
   case-line-one k a s e actor kept good = line-one f auditable k a (event_text f e) (reply_text f (case_reply s e)) (event-one f auditable e good) (reply-one f auditable (case_reply s e) (case-shows s e kept good))
 
-  tells-case : (k : ℕ) (e : CaseEntry) → IsActor f e.caller → caller_in f k (case_shown f k e) ≡ Some e.caller
+  pub tells-case : (k : ℕ) (e : CaseEntry) → IsActor f e.caller → caller_in f k (case_shown f k e) ≡ Some e.caller
   tells-case k e actor = tells-callers f auditable k e.caller (event_text f e.event ++ (codes " -> " ++ reply_text f e.reply)) actor
 
   abbrev GoodForCase : Asked → Type 0

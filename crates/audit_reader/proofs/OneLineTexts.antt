@@ -39,6 +39,7 @@ use Rattle.wsm_sound.specs.declared.faults.Fault.{Fault}
 use Rattle.wsm_sound.specs.declared.faults.Fault.TheVariants as fault
 use Rattle.audit_model.specs.Printed.{shown_line}
 use Rattle.audit_facts.specs.Facts.{IsAuditable, IsNamed, IsOneLineValue, IsOneLineWrite}
+use Rattle.audit_reader.specs.Kept.{IsOneLineRead, ShowsOneLine, WritesValues}
 use Rattle.audit_reader.proofs.OneLine.{decimal-one, is-one, name-one, named-one, one-all, one-append, value-one}
 
 -- ---- given words
@@ -95,19 +96,6 @@ letter-one state.Skipped = is-one (codes "S") refl
 -- a given word in front
 said-first : (word bs : Bytes) → IsOneLine word → IsOneLine bs → IsOneLine (word ++ bs)
 said-first word bs one two = one-append word bs one two
-
--- what a reply shows of values
-abbrev pub IsOneLineRead : ℕ × Option Value → Type 0
-IsOneLineRead r = IfSome r.1 IsOneLineValue
-
-abbrev pub ShowsOneLine : Reply → Type 0
-ShowsOneLine (reply.Started reads) = AllRows IsOneLineRead reads
-ShowsOneLine _ = Unit {0}
-
--- an event writes values in one line
-abbrev pub WritesValues : Event → Type 0
-WritesValues (event.End n user writes choice) = AllRows IsOneLineWrite writes
-WritesValues _ = Unit {0}
 
 module _ (f : File) (auditable : IsAuditable f) where
   node-one : (n : ℕ) → IsOneLine (node_text f n)
@@ -286,7 +274,7 @@ module _ (f : File) (auditable : IsAuditable f) where
   kind_reply-one (kind_reply.Unsound x) = said-first (codes "unsound") _ (is-one (codes "unsound") refl) (fault-one x)
 
   -- ---- lines
-  start-one : (k a : ℕ) → IsOneLine (line_start f k a)
+  pub start-one : (k a : ℕ) → IsOneLine (line_start f k a)
   start-one k a = one-append (decimal k) _ (decimal-one k) (refl, one-append (caller_text f a) (codes " ") (caller-one a) (refl, tt))
 
   pub line-one : (k a : ℕ) (e r : Bytes) → IsOneLine e → IsOneLine r → IsOneLine (shown_line f k a e r)

@@ -23,7 +23,8 @@ pub fn put_kind_journal<K: Sink>(sink: &mut K, ok: bool, file: &File, journal: &
     well
 }
 
-fn put_kind_line<K: Sink>(
+/// A line of the journal: its place in it, its caller, its event, and the reply.
+pub fn put_kind_line<K: Sink>(
     sink: &mut K,
     ok: bool,
     file: &File,

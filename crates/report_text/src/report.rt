@@ -71,8 +71,8 @@ fn put_report<K: Sink>(sink: &mut K, ok: bool, file: &File, run: &Run) -> bool
     put_summary(sink, ok, file, run)
 }
 
-// The first line, which tells the format.
-fn put_first_line<K: Sink>(sink: &mut K, ok: bool, file: &File) -> bool
+/// The first line, which tells the format.
+pub fn put_first_line<K: Sink>(sink: &mut K, ok: bool, file: &File) -> bool
     ensures { Gives K.written K.faults ok result sink.old sink.new (first_line file.now) }
 {
     let mut number = Buffer::new();
@@ -123,7 +123,8 @@ fn put_kind<K: Sink>(
     put_kind_journal(sink, ok, file, kind.journal.as_slice())
 }
 
-fn put_type_head<K: Sink>(sink: &mut K, ok: bool, decl: &TypeDecl) -> bool
+/// The line of a type.
+pub fn put_type_head<K: Sink>(sink: &mut K, ok: bool, decl: &TypeDecl) -> bool
     ensures { Gives K.written K.faults ok result sink.old sink.new (type_head decl.now) }
 {
     put_pieces(sink, ok, &[b"type ", decl.name.bytes(), b"\n"])
@@ -166,7 +167,8 @@ fn put_case<K: Sink>(
     put_end(sink, ok, file, case.machine.live())
 }
 
-fn put_case_head<K: Sink>(sink: &mut K, ok: bool, file: &File, decl: &CaseDecl) -> bool
+/// The line of a case.
+pub fn put_case_head<K: Sink>(sink: &mut K, ok: bool, file: &File, decl: &CaseDecl) -> bool
     ensures { Gives K.written K.faults ok result sink.old sink.new (case_head file.now decl.now) }
 {
     let ok = put(sink, ok, b"case ");
