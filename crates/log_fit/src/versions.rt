@@ -56,6 +56,7 @@ fn install_line(kind: &mut Kind, alloc: Global, number: u32, line: &Line) -> Res
         }
         Act::Create(_)
         | Act::Start(_, _)
+        | Act::Withdraw(_, _)
         | Act::End(_, _, _, _)
         | Act::Change(_, _)
         | Act::Migrate(_) => Ok(()),
