@@ -1,5 +1,5 @@
 -- The text of a report.
-use Rattle.std.specs.Prelude.{List, [], ◌∷◌, ◌++◌, codes}
+use Rattle.std.specs.Prelude.{List, [], ◌∷◌, ◌++◌, codes, decimal}
 use Rattle.file_words.specs.Lines.{Bytes}
 use Rattle.file_model.specs.declared.files.CaseDecl.{CaseDecl}
 use Rattle.file_model.specs.declared.files.File.{File}
