@@ -1,16 +1,19 @@
 -- Calls are read as what was written: reading payloads is exact.
-use Rattle.std.proofs.Common.{◌≡◌, ℕ, [], ◌∷◌, ◌++◌, Option, Some, None, refl, sym, ap, subst, ◌∙◌, append_assoc, append-nil}
+use Rattle.std.proofs.Common.{◌≡◌, ℕ, ◌<◌, ◌≤◌, [], ◌∷◌, ◌++◌, length, Option, Some, None, refl, sym, ap, subst, ◌∙◌, append_assoc, append-nil, arith}
 use Rattle.case_core.specs.declared.events.Event.TheVariants as event
+use Rattle.store_form.specs.Given.{Fails}
 use Rattle.store_form.specs.Payload.{Bytes, u32, id_bytes, value_bytes, payload, Reads}
 use Rattle.store_form.specs.Stored.{IsNumber, FitsId, FitsValue, Fits, case_of}
 use Rattle.store_form.specs.Reading.{Reader, ◌>>=◌, as_at, u32_at, id_at, write_at, stored_behind, recorded_at, whole_of, recorded_of}
+use Rattle.store_form.specs.declared.fields.ReadFault.{ReadFault}
+use Rattle.store_form.specs.declared.fields.ReadFault.TheVariants as fault
 use Rattle.store_form.specs.declared.stored.Recorded.{Recorded}
 use Rattle.store_form.specs.declared.stored.Stored.{Stored}
 use Rattle.store_form.specs.declared.stored.Stored.TheVariants as stored
 use Rattle.store_form.proofs.Forms.{IsBytes, IsBytes-rest, Takes, IsForm, takes-then, bind_some, some_is, both_form, as_again, as_takes, or_else, made_form, list_form, option_form, code_form, u32_form}
-use Rattle.store_form.proofs.Operations.{op_form}
-use Rattle.store_form.proofs.Schemas.{schema_form}
-use Rattle.store_form.proofs.Values.{value_form}
+use Rattle.store_form.proofs.OperationForms.{op_form}
+use Rattle.store_form.proofs.SchemaForms.{schema_form}
+use Rattle.store_form.proofs.ValueForms.{value_form}
 
 id_form : IsForm FitsId id_bytes id_at
 id_form = made_form (both_form u32_form u32_form) (λ x. case_of x.0 x.1) (λ c. (c.type_no, c.place)) FitsId id_bytes (λ c fit. ((fit.0, fit.1), refl, refl)) (λ x fit. ((fit.0, fit.1), refl))
@@ -121,3 +124,16 @@ reads-exactly bytes are = cases (recorded_of bytes) refl
     cases None e = λ caller x is.
         none_whole (recorded_at bytes) (told caller x) e
         (ap recorded_at (sym is.same ∙ sym (append-nil (payload caller x))) ∙ call_again caller x [] is.number is.fits)
+
+-- what stands behind a call
+pub whole-fails : {A : Type 0} (e : ReadFault) (f : Option (A × Bytes)) → Fails e f → Fails e (whole_of f)
+whole-fails fault.NoMemory f failed = tt
+whole-fails fault.Malformed f failed = ap whole_of failed
+
+pub whole-left : {A : Type 0} (f : Option (A × Bytes)) (x : A) (rest : Bytes) → f ≡ Some (x, rest) → 0 < length rest → whole_of f ≡ None
+whole-left f x [] read more = absurd (omega (arith, more))
+whole-left f x (b ∷ rest) read more = ap whole_of read
+
+pub whole-done : {A : Type 0} (f : Option (A × Bytes)) (x : A) (rest : Bytes) → f ≡ Some (x, rest) → length rest ≤ 0 → whole_of f ≡ Some x
+whole-done f x [] read none = ap whole_of read
+whole-done f x (b ∷ rest) read none = absurd (omega (arith, none))

@@ -23,6 +23,10 @@ IsBytes-take n bytes h i =
       | inr le ↦ rw (get_or_past (take n bytes) i 0 (omega (arith, length-take n bytes))) (omega arith)
     ]
 
+pub all_bytes : (bytes : Bytes) → IsBytes bytes → AllByRecursion (λ b. b < 256) bytes
+all_bytes [] are = tt
+all_bytes (b ∷ bytes) are = (are 0, all_bytes bytes (λ i. are (suc i)))
+
 pub IsBytes-rest : (b : ℕ) (bytes : Bytes) → IsBytes (b ∷ bytes) → IsBytes bytes
 IsBytes-rest b bytes h i = h (suc i)
 

@@ -2,7 +2,11 @@ mod Calls
 mod Examples
 mod ExamplesOther
 mod Forms
-mod Operations
-mod Schemas
-mod Trees
-mod Values
+mod Loops
+mod OperationForms
+mod Puts
+mod RoleRows
+mod SchemaForms
+mod Tags
+mod TreeForms
+mod ValueForms

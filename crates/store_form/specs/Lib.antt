@@ -1,3 +1,4 @@
+pub mod Given
 pub mod Payload
 pub mod Reading
 pub mod Stored

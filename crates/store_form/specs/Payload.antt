@@ -93,13 +93,18 @@ abbrev mutual
 abbrev pub body_bytes : Parts → Bytes
 body_bytes ps = u32 (part_count ps) ++ parts_bytes ps
 
+-- branches behind their number
+abbrev pub branches_bytes : Lanes → Bytes
+branches_bytes ls = u32 (lane_count ls) ++ lanes_bytes ls
+
+abbrev pub edges_bytes : SchemaModel → Bytes
+edges_bytes s = listed (λ r. u32 r.0 ++ (u32 r.1 ++ flag r.2)) s.reads ++ (listed u32_u32 s.writes ++ listed u32_u32 s.roles)
+
+abbrev pub tables_bytes : SchemaModel → Bytes
+tables_bytes s = listed u32_u32 s.syncs ++ (listed (λ e. u32 e.0 ++ kind_bytes e.1) s.elements ++ edges_bytes s)
+
 abbrev pub schema_bytes : SchemaModel → Bytes
-schema_bytes s =
-    u32 s.start ++ (u32 s.finish ++ (body_bytes s.body
-    ++ (listed u32_u32 s.syncs
-    ++ (listed (λ e. u32 e.0 ++ kind_bytes e.1) s.elements
-    ++ (listed (λ r. u32 r.0 ++ (u32 r.1 ++ flag r.2)) s.reads
-    ++ (listed u32_u32 s.writes ++ listed u32_u32 s.roles))))))
+schema_bytes s = u32 s.start ++ (u32 s.finish ++ (body_bytes s.body ++ tables_bytes s))
 
 -- an event of a case: its tag, the caller, the case, and its fields. A version is stored by its number, as a call of its own
 abbrev pub id_bytes : CaseId → Bytes

@@ -1,5 +1,5 @@
 -- Which events have a payload.
-use Rattle.std.specs.Prelude.{ℕ, ◌<◌, ◌≤◌, ◌^◌, List, length, Option, Some, None, FitsSigned}
+use Rattle.std.specs.Prelude.{ℕ, ◌<◌, ◌≤◌, ◌^◌, nat_lt, nat_le, Bool, true, ◌&&◌, List, length, Option, Some, None, FitsSigned}
 use Rattle.std.specs.Int.{w64}
 use Rattle.std.specs.List.{AllByRecursion}
 use Rattle.wsm_lists.specs.Rows.{Ascends}
@@ -83,16 +83,27 @@ abbrev mutual
   FitsLanes no_lane = Unit {0}
   FitsLanes (lane code ps ls) = IsCode code × (part_count ps < 2 ^ 32) × FitsParts ps × FitsLanes ls
 
+-- items, and branches, with so few in each row that their number has four bytes
+abbrev pub FitsItems : Parts → Type 0
+FitsItems ps = (part_count ps < 2 ^ 32) × FitsParts ps
+
+abbrev pub FitsBranches : Lanes → Type 0
+FitsBranches ls = (lane_count ls < 2 ^ 32) × FitsLanes ls
+
 -- lists as a schema keeps them: rows ascend, and no role is 0
+abbrev pub FitsEdges : SchemaModel → Type 0
+FitsEdges s =
+    (FitsEach (λ r. IsNumber r.0 × IsNumber r.1) s.reads × Ascends first_two s.reads)
+    × (FitsEach FitsPair s.writes × Ascends both s.writes) × (FitsEach FitsPair s.roles × HasRoles s.roles)
+
+abbrev pub FitsTables : SchemaModel → Type 0
+FitsTables s = (FitsEach FitsPair s.syncs × Ascends both s.syncs) × (FitsEach (λ e. IsNumber e.0) s.elements × Ascends first s.elements) × FitsEdges s
+
 pub record FitsSchema (s : SchemaModel) : Type 0 where
   pub ends : IsNumber s.start × IsNumber s.finish
-  pub tree : (part_count s.body < 2 ^ 32) × FitsParts s.body
+  pub tree : FitsItems s.body
   pub deep : parts_depth s.body ≤ 64
-  pub syncs : FitsEach FitsPair s.syncs × Ascends both s.syncs
-  pub elements : FitsEach (λ e. IsNumber e.0) s.elements × Ascends first s.elements
-  pub reads : FitsEach (λ r. IsNumber r.0 × IsNumber r.1) s.reads × Ascends first_two s.reads
-  pub writes : FitsEach FitsPair s.writes × Ascends both s.writes
-  pub roles : FitsEach FitsPair s.roles × HasRoles s.roles
+  pub tables : FitsTables s
 
 abbrev pub FitsOption : {X : Type 0} → (X → Type 0) → Option X → Type 0
 FitsOption P None = Unit {0}
@@ -118,3 +129,64 @@ Fits (stored.Newest t) = IsNumber t
 Fits (stored.Create c number) = FitsId c × IsNumber number
 Fits (stored.Migrate c number) = FitsId c × IsNumber number
 Fits (stored.Case c e) = FitsId c × FitsEvent e
+
+-- whether a list has so few items that their number has four bytes, and whether each row of a tree has
+abbrev pub is_short : {X : Type 0} → List X → Bool
+is_short xs = nat_lt (length xs) (2 ^ 32)
+
+abbrev mutual
+  pub few_in_part : Part → Bool
+  few_in_part (act node) = true
+  few_in_part (gate kind split join ls) = nat_lt (lane_count ls) (2 ^ 32) && few_in_lanes ls
+  few_in_part (loop start end body) = nat_lt (part_count body) (2 ^ 32) && few_in_parts body
+
+  pub few_in_parts : Parts → Bool
+  few_in_parts nothing = true
+  few_in_parts (part p ps) = few_in_part p && few_in_parts ps
+
+  pub few_in_lanes : Lanes → Bool
+  few_in_lanes no_lane = true
+  few_in_lanes (lane code ps ls) = (nat_lt (part_count ps) (2 ^ 32) && few_in_parts ps) && few_in_lanes ls
+
+abbrev pub few_items : Parts → Bool
+few_items ps = nat_lt (part_count ps) (2 ^ 32) && few_in_parts ps
+
+abbrev pub few_branches : Lanes → Bool
+few_branches ls = nat_lt (lane_count ls) (2 ^ 32) && few_in_lanes ls
+
+abbrev pub few_in_edges : SchemaModel → Bool
+few_in_edges s = is_short s.reads && (is_short s.writes && is_short s.roles)
+
+abbrev pub few_in_tables : SchemaModel → Bool
+few_in_tables s = is_short s.syncs && (is_short s.elements && few_in_edges s)
+
+abbrev pub few_in_schema : SchemaModel → Bool
+few_in_schema s = few_items s.body && few_in_tables s
+
+abbrev pub few_in_event : Event → Bool
+few_in_event (event.Start node user roles) = is_short roles
+few_in_event (event.End node user writes choice) = is_short writes
+few_in_event (event.Change ops) = is_short ops
+few_in_event _ = true
+
+-- whether each list of an event is so short
+abbrev pub has_short_lists : Stored → Bool
+has_short_lists (stored.Define t s) = few_in_schema s
+has_short_lists (stored.Install t ops) = is_short ops
+has_short_lists (stored.Case c e) = few_in_event e
+has_short_lists _ = true
+
+-- whether the blocks of a new type stand at most 64 deep one inside another
+abbrev pub is_shallow : Stored → Bool
+is_shallow (stored.Define t s) = nat_le (parts_depth s.body) 64
+is_shallow _ = true
+
+-- an event of a case that is none of a version's
+abbrev pub IsPlain : Event → Type 0
+IsPlain (event.Create version) = ⊥
+IsPlain (event.Migrate version) = ⊥
+IsPlain _ = Unit {0}
+
+abbrev pub HasNoVersion : Stored → Type 0
+HasNoVersion (stored.Case c e) = IsPlain e
+HasNoVersion _ = Unit {0}

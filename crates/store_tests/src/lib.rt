@@ -3,3 +3,7 @@
 
 #[cfg(test)]
 mod disks;
+#[cfg(test)]
+mod opening;
+#[cfg(test)]
+mod payloads;

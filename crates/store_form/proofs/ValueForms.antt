@@ -1,7 +1,6 @@
 -- Kinds, values, gaps and operations are read as what was written.
-use Rattle.std.proofs.Common.{◌≡◌, ℕ, suc, ◌<◌, ◌≤◌, ℤ, Bool, true, false, [], ◌∷◌, ◌++◌, length, take, drop, Option, Some, None, refl, sym, ap, subst, ◌∙◌, append_assoc, arith}
+use Rattle.std.proofs.Common.{◌≡◌, ℕ, ◌≤◌, ℤ, Bool, true, false, [], ◌∷◌, ◌++◌, length, take, drop, Option, Some, None, refl, sym, ap, subst, ◌∙◌, append_assoc, arith}
 use Rattle.std.specs.Prelude.{if◌then◌else◌, nat_lt, nat_le, FitsSigned}
-use Rattle.std.specs.List.{AllByRecursion}
 use Rattle.std.specs.Int.{w64, to_be_bytes, cast_signed, cast_unsigned}
 use Rattle.std.proofs.lemmas.Bool.{ltb-false, le-ltb, leb-true, le-leb}
 use Rattle.std.proofs.lemmas.Int.{of_z-to_z, to_z-of_z}
@@ -16,7 +15,7 @@ use Rattle.wsm_ops.specs.declared.operations.Gap.TheVariants as gap
 use Rattle.store_form.specs.Payload.{Bytes, u32, flag, kind_bytes, value_bytes, gap_bytes}
 use Rattle.store_form.specs.Stored.{FitsValue, FitsGap}
 use Rattle.store_form.specs.Reading.{Reader, ◌>>=◌, both_at, as_at, code_at, u32_at, flag_at, kind_of_flag, kind_at, text_at, int_at, value_at, gap_at}
-use Rattle.store_form.proofs.Forms.{IsBytes, IsBytes-drop, IsBytes-take, Takes, takes-then, IsForm, bind_some, some_is, both_form, made_form, arm_takes, as_again, flag_form, code_form, u32_form, u64_form}
+use Rattle.store_form.proofs.Forms.{IsBytes, all_bytes, IsBytes-drop, IsBytes-take, Takes, takes-then, IsForm, bind_some, some_is, both_form, made_form, arm_takes, as_again, flag_form, code_form, u32_form, u64_form}
 
 abbrev is_text : ElementKind → Bool
 is_text kind.Int = false
@@ -46,10 +45,6 @@ flagged {P = P} one other bytes z are here there e =
     chosen false rest front got = there rest front got
 
 -- texts
-all_bytes : (bytes : Bytes) → IsBytes bytes → AllByRecursion (λ b. b < 256) bytes
-all_bytes [] are = tt
-all_bytes (b ∷ bytes) are = (are 0, all_bytes bytes (λ i. are (suc i)))
-
 kept_within : {A : Type 0} (t u : Bool) (x y : A) → (if t then None else (if u then Some x else None)) ≡ Some y → (t ≡ false) × (u ≡ true) × (x ≡ y)
 kept_within true u x y e = absurd cc
 kept_within false true x y e = (refl, refl, some_is x y e)

@@ -11,8 +11,8 @@ use Rattle.store_form.specs.Payload.{Bytes, u32, u32_u32, flag, listed, kind_byt
 use Rattle.store_form.specs.Stored.{IsNumber, FitsEach, FitsPair, FitsSchema}
 use Rattle.store_form.specs.Reading.{Reader, where_at, rises_from, rises, table_at, pair_at, element_at, read_at, schema_at}
 use Rattle.store_form.proofs.Forms.{IsForm, both_form, where_form, list_form, made_form, flag_form, u32_form}
-use Rattle.store_form.proofs.Trees.{tree_form}
-use Rattle.store_form.proofs.Values.{kind_form}
+use Rattle.store_form.proofs.TreeForms.{tree_form}
+use Rattle.store_form.proofs.ValueForms.{kind_form}
 
 and_split : (a b : Bool) → a && b ≡ true → (a ≡ true) × (b ≡ true)
 and_split true b e = (refl, e)
@@ -69,7 +69,7 @@ join_each : {X : Type 0} (P Q : X → Type 0) (xs : List X) → AllByRecursion P
 join_each P Q [] ps qs = tt
 join_each P Q (x ∷ xs) ps qs = ((ps.0, qs.0), join_each P Q xs ps.1 qs.1)
 
-only_first : {X : Type 0} (P : X → Type 0) (xs : List X) → AllByRecursion (λ x. P x × Unit {0}) xs → AllByRecursion P xs
+pub only_first : {X : Type 0} (P : X → Type 0) (xs : List X) → AllByRecursion (λ x. P x × Unit {0}) xs → AllByRecursion P xs
 only_first P [] all = tt
 only_first P (x ∷ xs) all = (all.0.0, only_first P xs all.1)
 
@@ -93,14 +93,14 @@ schema_form = made_form (both_form u32_form (both_form u32_form (both_form tree_
           (
             (fit.tree.0, fit.tree.1, fit.deep),
             (
-              fit.syncs,
+              fit.tables.0,
               (
-                ((fit.elements.0.0, with_unit element_fits s.elements fit.elements.0.1), fit.elements.1),
+                ((fit.tables.1.0.0, with_unit element_fits s.elements fit.tables.1.0.1), fit.tables.1.1),
                 (
-                  fit.reads,
+                  fit.tables.2.0,
                   (
-                    fit.writes,
-                    ((fit.roles.0.0, join_each FitsPair (λ r. 0 < r.1) s.roles fit.roles.0.1 fit.roles.1.1), fit.roles.1.0),
+                    fit.tables.2.1,
+                    ((fit.tables.2.2.0.0, join_each FitsPair (λ r. 0 < r.1) s.roles fit.tables.2.2.0.1 fit.tables.2.2.1.1), fit.tables.2.2.1.0),
                   ),
                 ),
               ),
@@ -117,11 +117,11 @@ schema_form = made_form (both_form u32_form (both_form u32_form (both_form tree_
         ends = (fit.0, fit.1.0);
         tree = (fit.1.1.0.0, fit.1.1.0.1);
         deep = fit.1.1.0.2;
-        syncs = fit.1.1.1.0;
-        elements = ((fit.1.1.1.1.0.0.0, only_first element_fits x.1.1.1.1.0 fit.1.1.1.1.0.0.1), fit.1.1.1.1.0.1);
-        reads = fit.1.1.1.1.1.0;
-        writes = fit.1.1.1.1.1.1.0;
-        roles = ((fit.1.1.1.1.1.1.1.0.0, roles.0), (fit.1.1.1.1.1.1.1.1, roles.1));
+        tables = (
+          fit.1.1.1.0,
+          ((fit.1.1.1.1.0.0.0, only_first element_fits x.1.1.1.1.0 fit.1.1.1.1.0.0.1), fit.1.1.1.1.0.1),
+          (fit.1.1.1.1.1.0, fit.1.1.1.1.1.1.0, ((fit.1.1.1.1.1.1.1.0.0, roles.0), (fit.1.1.1.1.1.1.1.1, roles.1))),
+        );
       },
       refl,
     ))
