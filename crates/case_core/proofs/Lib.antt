@@ -9,3 +9,4 @@ pub mod Starts
 pub mod TrailFacts
 pub mod CheckedSchemas
 pub mod Journals
+pub mod RoundStarts

@@ -87,7 +87,7 @@ module _ (l : LiveModel) (kept : Kept l) where
   spot-none n none = sym (ap (spot_in n) shown-is ∙ spot-missing n (marking_of cards table.0) (others-marked n table.0 cards [] none tt))
 
   module _ (rank : List ℕ) (ranked : IsRank (cards_of l.schema) rank) (rows : List (ℕ × Mark)) (are : rows ≡ marks_in l) where
-    abbrev current : Current l.schema rank l.trail.entries l.trail.next rows
+    abbrev pub current : Current l.schema rank l.trail.entries l.trail.next rows
     current = record {
       regular = sound-regular l.schema (is_sound l.schema kept.checked.sound).blocks;
       ranked = ranked;

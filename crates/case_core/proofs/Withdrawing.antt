@@ -1,5 +1,5 @@
 -- A trail from which the Start of a node is taken.
-use Rattle.std.proofs.Common.{◌≡◌, ℕ, ◌≤◌, Bool, true, false, ◌||◌, not, List, [], ◌∷◌, length, refl, ap, sym, ◌∙◌, subst, inl, inr, arith, Option, Some, None}
+use Rattle.std.proofs.Common.{◌≡◌, ℕ, ◌≤◌, true, false, ◌||◌, not, List, [], ◌∷◌, length, refl, ap, sym, ◌∙◌, inl, inr, arith, Option, Some, None}
 use Rattle.std.proofs.lemmas.Bool.{cases_Bool, both_ways, ltb-true, eqb-true}
 use Rattle.std.proofs.lemmas.Option.{same_Some}
 use Rattle.wsm_lists.specs.Rows.{AllRows}

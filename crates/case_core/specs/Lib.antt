@@ -7,3 +7,4 @@ pub mod Ages
 pub mod Kept
 pub mod Promises
 pub mod Journals
+pub mod Rounds

@@ -7,6 +7,7 @@ mod events;
 mod items;
 mod live;
 mod replies;
+mod rounds;
 mod showing;
 mod spots;
 mod timing;

@@ -11,8 +11,10 @@ ghost use Rattle.wsm_ops.specs.Apply.{applied};
 ghost use Rattle.wsm_schema.specs.Flat.{flat_of, card_at, cards_of};
 ghost use Rattle.wsm_schema.specs.Rules.{spot_in};
 ghost use Rattle.wsm_schema.specs.Trail.{cut_by, pushed};
+ghost use Rattle.wsm_trail.specs.Cuts.{StaysBelow};
 ghost use Rattle.wsm_trail.specs.Withdrawn.{starts_of, withdrawn};
 
+use crate::rounds::first_seen;
 use crate::spots::{spot_by, unmarked};
 use crate::timing::{Uncounted, started, starter, timed_on};
 use std::alloc::Global;
@@ -329,26 +331,37 @@ impl Live {
         ensures err { OnErr result (self.new ≡ self.old) }
     {
         let body = self.checked().flat().loop_body(alloc, node)?;
+        let first = self.first_seen(body.as_slice());
         let changes = self.again_changes(alloc, node)?;
-        self.cut_and_append(&body, Entry::Again { node, writes }, changes)
+        self.cut_and_append(&body, first, Entry::Again { node, writes }, changes)
     }
 
-    // One more entry behind the trail that is cut by a loop, with what both change of the marks.
+    // The position below which no entry is of these nodes.
+    fn first_seen(&self, nodes: &[u32]) -> u32
+        ensures { StaysBelow result nodes.now self.now.trail.entries }
+    {
+        first_seen(self.marks(), nodes, self.trail().next())
+    }
+
+    // One more entry behind the trail that is cut by a loop, with what both change of the marks. No entry below `first` is
+    // of the loop.
     fn cut_and_append(
         &mut self,
         body: &Nodes,
+        first: u32,
         entry: Entry,
         changes: Changes,
     ) -> Result<(), NoMemory>
         requires position { self.old.trail.next + 1 < 2 ^ 32 }
         requires kept { Kept (with_trail self.old (pushed entry (cut_by body.now self.old.trail))) }
         requires marks { Remarks self.old (pushed entry (cut_by body.now self.old.trail)) changes }
+        requires stays { StaysBelow first body.now self.old.trail.entries }
         ensures ok { OnOk result (self.new ≡ with_trail self.old (pushed entry (cut_by body.now self.old.trail))) }
         ensures err { OnErr result (self.new ≡ self.old) }
     {
         self.trail.reserve_for(&entry)?;
         self.marks.reserve(changes.len())?;
-        self.trail.cut(body);
+        self.trail.cut_from(first, body);
         self.trail.push(entry);
         self.marks.take_in(changes);
         Ok(())

@@ -1,9 +1,9 @@
-// A replay, one entry more, and the marks that a replay leaves.
+// A replay, and the marks that a replay leaves.
 use crate::versions::row_of;
 use std::alloc::Global;
 use std::test::Fail;
-use wsm_replay::{Replayed, advance, extend, replay, spot_in};
-use wsm_schema::{Entry, Mark, Marking, NoMemory, ReadValues, State, Writes};
+use wsm_replay::{Replayed, replay, spot_in};
+use wsm_schema::{Entry, Mark, NoMemory, ReadValues, State, Writes};
 use wsm_settle::{TimedMarks, timed};
 use wsm_sound::{Checked, check};
 use wsm_trail::Trail;
@@ -21,6 +21,7 @@ fn state(replayed: &Replayed, node: u32) -> Option<State> {
     }
 }
 
+// Node 2 was started.
 fn started(alloc: Global) -> Result<Trail, NoMemory> {
     let mut trail = Trail::new(alloc);
     trail.reserve(1)?;
@@ -32,71 +33,46 @@ fn started(alloc: Global) -> Result<Trail, NoMemory> {
     Ok(trail)
 }
 
-fn end(alloc: Global) -> Entry {
-    Entry::End {
+// Node 2 was started and ended.
+fn ended(alloc: Global) -> Result<Trail, NoMemory> {
+    let mut trail = Trail::new(alloc);
+    trail.reserve(2)?;
+    trail.push(Entry::Start {
+        node: 2,
+        user: 7,
+        reads: ReadValues::new(alloc),
+    });
+    trail.push(Entry::End {
         node: 2,
         writes: Writes::new(alloc),
         choice: None,
-    }
+    });
+    Ok(trail)
 }
 
-// The replay of a trail, and of the trail with one entry more.
-fn replayed(
+// The state of a node behind a trail, where that replays whole.
+fn state_behind(
     alloc: Global,
     checked: &Checked,
     trail: &Trail,
-    entry: &Entry,
-) -> Result<(Replayed, Replayed), NoMemory> {
-    let (flat, rank) = (checked.flat(), checked.rank());
-    let before = replay(alloc, flat, rank, trail)?;
-    let behind = extend(alloc, flat, rank, trail, &before, entry)?;
-    Ok((before, behind))
+    node: u32,
+) -> Result<Option<State>, NoMemory> {
+    let replayed = replay(alloc, checked.flat(), checked.rank(), trail)?;
+    Ok(state(&replayed, node))
 }
 
-// The state of node 2 behind one entry more.
-fn advanced(
-    alloc: Global,
-    checked: &Checked,
-    now: &Marking,
-    entry: &Entry,
-) -> Result<State, NoMemory> {
-    let marking = advance(alloc, checked.flat(), checked.rank(), now, entry)?;
-    Ok(spot_in(&marking, 2).state)
-}
-
-fn state_advanced(
-    alloc: Global,
-    checked: &Checked,
-    before: &Replayed,
-    entry: &Entry,
-) -> Option<State> {
-    match before {
-        Replayed::Whole(now) => advanced(alloc, checked, now, entry).ok(),
-        Replayed::Fails { .. } => None,
-    }
-}
-
-// The state of node 2 at its start, that of the finish node behind the end of node 2, and that of node 2 there.
-fn states(
-    alloc: Global,
-    checked: &Checked,
-    trail: &Trail,
-    end: &Entry,
-) -> Result<[Option<State>; 3], NoMemory> {
-    let (before, behind) = replayed(alloc, checked, trail, end)?;
+// The state of node 2 at its start, and those of it and of the finish node behind its end.
+fn states(alloc: Global, checked: &Checked) -> Result<[Option<State>; 3], NoMemory> {
+    let (before, behind) = (started(alloc)?, ended(alloc)?);
     Ok([
-        state(&before, 2),
-        state(&behind, 1),
-        state_advanced(alloc, checked, &before, end),
+        state_behind(alloc, checked, &before, 2)?,
+        state_behind(alloc, checked, &behind, 2)?,
+        state_behind(alloc, checked, &behind, 1)?,
     ])
 }
 
-fn states_of_trail(alloc: Global, checked: &Checked) -> Result<[Option<State>; 3], NoMemory> {
-    states(alloc, checked, &started(alloc)?, &end(alloc))
-}
-
 fn states_of_activity(alloc: Global) -> Option<[Option<State>; 3]> {
-    states_of_trail(alloc, &one_activity(alloc)?).ok()
+    states(alloc, &one_activity(alloc)?).ok()
 }
 
 const EXPECTED: [Option<State>; 3] = [

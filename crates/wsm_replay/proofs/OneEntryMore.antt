@@ -1,30 +1,24 @@
 -- The replay of a trail with one entry more.
-use Rattle.std.proofs.Common.{◌≡◌, ℕ, ◌+◌, ◌≤◌, true, false, eqb, List, [], ◌∷◌, ◌++◌, append-nil, fold, refl, ap, sym, ◌∙◌, subst, inl, inr, ◌⊎◌, Option, arith}
+use Rattle.std.proofs.Common.{◌≡◌, ℕ, ◌+◌, ◌≤◌, true, false, eqb, List, [], ◌∷◌, ◌++◌, fold, refl, ap, ◌∙◌, inl, inr, ◌⊎◌, Option, arith}
 use Rattle.std.specs.Option.{is_some}
 use Rattle.std.specs.Bool.{if◌then◌else◌}
 use Rattle.std.proofs.lemmas.Bool.{cases_Bool, both_ways, eqb-true, le-ltb}
 use Rattle.wsm_lists.specs.Rows.{AllRows, put_row}
 use Rattle.wsm_lists.specs.declared.values.Value.{Value}
 use Rattle.wsm_schema.specs.Flat.{FlatModel, card_at}
-use Rattle.wsm_schema.specs.Rank.{IsRank}
 use Rattle.wsm_schema.specs.Replay.{Outcome, whole, fails, applicable, after, replay_from, replay_of}
 use Rattle.wsm_schema.specs.Rules.{Spots, spot_in, by_node, marking_of}
 use Rattle.wsm_schema.specs.Trail.{value_below}
 use Rattle.wsm_schema.specs.declared.cards.Card.{Card}
 use Rattle.wsm_schema.specs.declared.entries.Entry.{Entry}
 use Rattle.wsm_schema.specs.declared.states.Spot.{Spot}
-use Rattle.wsm_trail.specs.EntryAt.{value_noted}
-use Rattle.wsm_trail.specs.LastWrites.{noted_entries}
 use Rattle.wsm_trail.specs.TrailWithRoom.{Rises}
 use Rattle.wsm_schema.proofs.Rounds.{node_of-spot_in}
-use Rattle.wsm_trail.proofs.LastWrite.{value_before, below-append}
+use Rattle.wsm_trail.proofs.LastWrite.{below-append}
 use Rattle.wsm_lists.proofs.ByNumber.{row_at-put}
 use Rattle.wsm_trail.proofs.Rising.{rises-le}
-use Rattle.wsm_replay.specs.Answer.{answer}
 use Rattle.wsm_replay.specs.SameSpots.{SameSpots}
-use Rattle.wsm_replay.specs.declared.Replayed.TheVariants as replayed
-use Rattle.wsm_replay.proofs.Agreement.{spot_in-rows, after-same}
-use Rattle.wsm_replay.proofs.Replays.{applicable-same, marking_of-same}
+use Rattle.wsm_replay.proofs.Agreement.{spot_in-rows}
 
 -- ---- a marking has the spots that it was made from
 
@@ -95,44 +89,3 @@ module _ (f : FlatModel) (es : List (ℕ × Entry)) (next : ℕ) (e : Entry) (ri
 
   pub replay_of-append : replay_of f (es ++ (next, e) ∷ []) ≡ extended f values (next, e) (replay_of f es)
   replay_of-append = replay_from-append f _ _ es (next, e) _ (values_stay 1 next e es es rises)
-
-  noted : values ≡ value_noted es (noted_entries es)
-  noted = λ i d. (value-append d next next e es (omega arith) ∙ told d) i
-    where
-      told : (d : ℕ) → value_below d next es ≡ value_noted es (noted_entries es) d
-      told d = subst (λ l. value_below d next l ≡ value_noted l (noted_entries es) d) (append-nil es) (value_before d next next es [] rises (omega arith))
-
-  module _ (rank : List ℕ) (is : IsRank f.cards rank) where
-    -- an entry that is applicable to the marking
-    pub extends_whole : (now : Spots) → replayed.Whole now ≡ answer f.cards (replay_of f es) → applicable f now (value_noted es (noted_entries es)) e ≡ true →
-        replayed.Whole (marking_of f.cards (after f.cards e now)) ≡ answer f.cards (replay_of f (es ++ (next, e) ∷ []))
-    extends_whole now is_whole fits = go (replay_of f es) is_whole ∙ sym (ap (answer f.cards) replay_of-append)
-      where
-        go : (o : Outcome) → replayed.Whole now ≡ answer f.cards o → replayed.Whole (marking_of f.cards (after f.cards e now)) ≡ answer f.cards (extended f values (next, e) o)
-        go (fails p) h = cc
-        go (whole t) h =
-            let now_is : now ≡ marking_of f.cards t = cc in
-            let same : SameSpots f.cards now t = subst (λ m. SameSpots f.cards m t) (sym now_is) (marking_of-spots f.cards t) in
-            let here : applicable f t values e ≡ true = sym (applicable-same f now t same values e) ∙ ap (λ v. applicable f now v e) noted ∙ fits in
-            rw here (ap replayed.Whole (marking_of-same f.cards (after f.cards e now) (after f.cards e t) (after-same f.cards rank is e now t same)))
-
-    -- one that is not
-    pub extends_misfit : (now : Spots) → replayed.Whole now ≡ answer f.cards (replay_of f es) → applicable f now (value_noted es (noted_entries es)) e ≡ false →
-        replayed.Fails next ≡ answer f.cards (replay_of f (es ++ (next, e) ∷ []))
-    extends_misfit now is_whole misfits = go (replay_of f es) is_whole ∙ sym (ap (answer f.cards) replay_of-append)
-      where
-        go : (o : Outcome) → replayed.Whole now ≡ answer f.cards o → replayed.Fails next ≡ answer f.cards (extended f values (next, e) o)
-        go (fails p) h = cc
-        go (whole t) h =
-            let now_is : now ≡ marking_of f.cards t = cc in
-            let same : SameSpots f.cards now t = subst (λ m. SameSpots f.cards m t) (sym now_is) (marking_of-spots f.cards t) in
-            let here : applicable f t values e ≡ false = sym (applicable-same f now t same values e) ∙ ap (λ v. applicable f now v e) noted ∙ misfits in
-            rw here refl
-
-  -- a trail that fails before
-  pub extends_failed : (p : ℕ) → replayed.Fails p ≡ answer f.cards (replay_of f es) → replayed.Fails p ≡ answer f.cards (replay_of f (es ++ (next, e) ∷ []))
-  extends_failed p failed = go (replay_of f es) failed ∙ sym (ap (answer f.cards) replay_of-append)
-    where
-      go : (o : Outcome) → replayed.Fails p ≡ answer f.cards o → replayed.Fails p ≡ answer f.cards (extended f values (next, e) o)
-      go (fails q) h = h
-      go (whole t) h = cc

@@ -1,22 +1,18 @@
 //! The replay of a trail on a schema, which gives a case its marking.
 #![tactic(auto)]
 
-mod extending;
 mod fits;
 mod settling;
 mod spots;
 
 ghost use Rattle.std.specs.Prelude.{◌≡◌, IfOk, OnOk};
 ghost use Rattle.wsm_schema.specs.Rank.{IsRank};
-ghost use Rattle.wsm_schema.specs.Replay.{after, replay_of};
-ghost use Rattle.wsm_schema.specs.Rules.{marking_of};
+ghost use Rattle.wsm_schema.specs.Replay.{replay_of};
 ghost use Rattle.wsm_trail.specs.LastWrites.{noted_entry};
 ghost use Rattle.wsm_replay.specs.Answer.{answer};
 
 use crate::fits::applicable;
-use crate::settling::{after, given, settled};
-use crate::spots::{marking, spot_of};
-pub use extending::extend;
+use crate::settling::{after, settled};
 pub use fits::fits_choice;
 pub use spots::spot_in;
 use std::alloc::Global;
@@ -47,23 +43,6 @@ pub fn replay(alloc: Global, flat: &Flat, rank: &Rank, trail: &Trail) -> Result<
         note(&mut before, *position, entry)?;
     }
     Ok(Replayed::Whole(table))
-}
-
-/// The marking after one more entry, which is applicable, where `now` is the marking before it. So a replay need not begin anew.
-pub fn advance(
-    alloc: Global,
-    flat: &Flat,
-    rank: &Rank,
-    now: &Marking,
-    entry: &Entry,
-) -> Result<Marking, NoMemory>
-    requires { IsRank flat.now.cards rank.now }
-    ensures { IfOk result (λ new. new ≡ marking_of flat.now.cards (after flat.now.cards entry.now now.now)) }
-{
-    match spot_of(entry) {
-        None => marking(alloc, flat, now),
-        Some(spot) => given(alloc, flat, rank, now, spot),
-    }
 }
 
 // The last writes after that entry.

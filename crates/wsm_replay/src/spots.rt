@@ -1,10 +1,9 @@
 // Spots in a table.
-ghost use Rattle.std.specs.Prelude.{◌≡◌, IfOk};
-ghost use Rattle.wsm_schema.specs.Rules.{spot_in, marking_of};
+ghost use Rattle.std.specs.Prelude.{◌≡◌};
+ghost use Rattle.wsm_schema.specs.Rules.{spot_in};
 ghost use Rattle.wsm_replay.specs.SpotOf.{spot_of};
 
-use std::alloc::Global;
-use wsm_schema::{Entry, Flat, Marking, NoMemory, Spot, State};
+use wsm_schema::{Entry, Marking, Spot, State};
 
 /// The spot of a node, which is NotActivated where there is none.
 pub fn spot_in(table: &Marking, node: u32) -> Spot
@@ -37,15 +36,4 @@ pub fn spot_of(entry: &Entry) -> Option<Spot>
         }),
         Entry::Again { .. } | Entry::Wrote { .. } => None,
     }
-}
-
-/// The spots of the cards' nodes.
-pub fn marking(alloc: Global, flat: &Flat, table: &Marking) -> Result<Marking, NoMemory>
-    ensures { IfOk result (λ marking. marking ≡ marking_of flat.now.cards table.now) }
-{
-    let mut all = Marking::new(alloc);
-    for card in flat.cards() {
-        all.set(spot_in(table, card.node))?;
-    }
-    Ok(all)
 }

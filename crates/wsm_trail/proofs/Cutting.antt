@@ -1,11 +1,17 @@
 -- A cut keeps positions, and what was written at them.
-use Rattle.std.proofs.Common.{◌≡◌, ℕ, ◌+◌, ◌≤◌, Bool, true, false, cond, List, [], ◌∷◌, ◌++◌, Option, Some, None, refl, sym, ◌∙◌, ap, subst, arith}
-use Rattle.std.specs.List.{fold, filter_map, cons_option}
-use Rattle.std.specs.List.Retain.{RetainsInTurn}
+use Rattle.std.proofs.Common.{◌≡◌, ℕ, ◌+◌, ◌<◌, ◌≤◌, Bool, true, false, cond, List, [], ◌∷◌, ◌++◌, take, drop, length, get_or, set, append_assoc, Option, Some, None, refl, sym, ◌∙◌, ap, arith}
+use Rattle.std.specs.List.{SwappedAt, fold, filter_map, cons_option}
+use Rattle.std.specs.Prelude.{nat_lt}
+use Rattle.std.proofs.lemmas.Bool.{ltb-true}
+use Rattle.std.proofs.lemmas.List.{drop-set-lt, drop_more, get_or-set_same, length-set, take-set-le, take_more}
+use Rattle.wsm_lists.proofs.ByNumber.{lt_number}
+use Rattle.wsm_lists.specs.Keys.{first}
+use Rattle.wsm_lists.specs.Rows.{key_lt, rows_below}
 use Rattle.wsm_schema.specs.Trail.{cut_entry, wrote, is_one_of, written_by}
 use Rattle.wsm_lists.specs.Values.{Written}
 use Rattle.wsm_schema.specs.declared.entries.Entry.{Entry}
 use Rattle.wsm_schema.specs.declared.entries.Entry.TheVariants as entry
+use Rattle.wsm_trail.specs.Cuts.{StaysBelow, cut_entries}
 use Rattle.wsm_trail.specs.LastWrites.{noted, noted_entry, noted_entries}
 use Rattle.wsm_trail.specs.TrailWithRoom.{Rises}
 use Rattle.wsm_trail.proofs.Rising.{rises_lower}
@@ -59,19 +65,69 @@ noted_entries-push p e es = go [] es
     go m [] = refl
     go m (x ∷ xs) = go (noted_entry m x) xs
 
--- the entries that are left in place are those that the cut leaves
-pub retained : {S : Type 0} (R : S → ℕ × Entry → Bool → S → ℕ × Entry → Type 0) (body : List ℕ) (s : S) →
-    ((x : ℕ × Entry) (b : Bool) (t : S) (y : ℕ × Entry) → R s x b t y → (cut_entry body x.0 x.1 ≡ cond b (Some y) None) × (t ≡ s)) →
-    (xs ys : List (ℕ × Entry)) → RetainsInTurn R s xs ys → ys ≡ filter_map (λ e. cut_entry body e.0 e.1) xs
-retained R body s step [] ys h = h
-retained {S} R body s step (x ∷ xs) ys h =
-    let b : Bool = h.0 in
-    let y : ℕ × Entry = h.2 in
-    let zs : List (ℕ × Entry) = h.4 in
-    let said = step x b h.1 y h.3 in
-    let rest : zs ≡ filter_map (λ e. cut_entry body e.0 e.1) xs = retained R body s step xs zs (subst (λ t. RetainsInTurn R t xs zs) said.1 h.5) in
-    h.6 ∙ put b y zs ∙ ap (λ l. cons_option (cond b (Some y) None) l) rest ∙ ap (λ o. cons_option o (filter_map (λ e. cut_entry body e.0 e.1) xs)) (sym said.0)
-  where
-    put : (b : Bool) (y : ℕ × Entry) (zs : List (ℕ × Entry)) → cond b (y ∷ zs) zs ≡ cons_option (cond b (Some y) None) zs
-    put true y zs = refl
-    put false y zs = refl
+-- ---- a cut in place, from one place on
+module _ {X : Type 0} (xs ys zs : List X) (k i : ℕ) (y : X) (le : k ≤ i) (lt : i < length xs) (changed : ys ≡ set xs i y) (swapped : SwappedAt ys zs k i) where
+  long : length ys ≡ length xs
+  long = ap length changed ∙ length-set xs i y
+
+  sets : zs ≡ set (set ys k (get_or ys i y)) i (get_or ys k y)
+  sets = swapped.3 y
+
+  front-kept : take (k + 1) zs ≡ take k xs ++ y ∷ []
+  front-kept =
+      let u : X = get_or ys i y in
+      let v : X = get_or ys k y in
+      let size : length zs ≡ length xs = ap length sets ∙ length-set (set ys k u) i v ∙ length-set ys k u ∙ long in
+      let front : take k zs ≡ take k xs = ap (take k) sets ∙ take-set-le k (set ys k u) i v le ∙ take-set-le k ys k u (omega arith) ∙ ap (take k) changed ∙ take-set-le k xs i y le in
+      let here : get_or zs k y ≡ y = swapped.0 y ∙ ap (λ l. get_or l i y) changed ∙ get_or-set_same xs i y y lt in
+      take_more zs k y (omega (arith, size, le, lt)) ∙ ap (λ l. l ++ get_or zs k y ∷ []) front ∙ ap (λ z. take k xs ++ z ∷ []) here
+
+  rest-kept : drop (i + 1) zs ≡ drop (i + 1) xs
+  rest-kept =
+      let u : X = get_or ys i y in
+      let v : X = get_or ys k y in
+      ap (drop (i + 1)) sets ∙ drop-set-lt (i + 1) (set ys k u) i v (omega arith) ∙ drop-set-lt (i + 1) ys k u (omega (arith, le)) ∙ ap (drop (i + 1)) changed ∙ drop-set-lt (i + 1) xs i y (omega arith)
+
+module _ (body : List ℕ) where
+  cut-first : (e : ℕ × Entry) (es : List (ℕ × Entry)) (o : Option (ℕ × Entry)) → cut_entry body e.0 e.1 ≡ o → cut_entries body (e ∷ es) ≡ cons_option o (cut_entries body es)
+  cut-first e es o h = ap (λ x. cons_option x (cut_entries body es)) h
+
+  -- an entry of which nothing is left
+  pub cut-dropped : (xs ys : List (ℕ × Entry)) (k i : ℕ) (d : ℕ × Entry) (y : ℕ × Entry) → k ≤ i → i < length xs → ys ≡ set xs i y → cut_entry body (get_or xs i d).0 (get_or xs i d).1 ≡ None →
+      take k ys ++ cut_entries body (drop (i + 1) ys) ≡ take k xs ++ cut_entries body (drop i xs)
+  cut-dropped xs ys k i d y le lt changed gone =
+      ap (λ l. take k l ++ cut_entries body (drop (i + 1) l)) changed
+      ∙ ap (λ l. l ++ cut_entries body (drop (i + 1) (set xs i y))) (take-set-le k xs i y le)
+      ∙ ap (λ l. take k xs ++ cut_entries body l) (drop-set-lt (i + 1) xs i y (omega arith))
+      ∙ ap (λ l. take k xs ++ l) (sym (ap (cut_entries body) (drop_more xs i d lt) ∙ cut-first (get_or xs i d) (drop (i + 1) xs) None gone))
+
+  -- an entry of which y is left, which goes to place k
+  pub cut-kept : (xs ys zs : List (ℕ × Entry)) (k i : ℕ) (d : ℕ × Entry) (y : ℕ × Entry) → k ≤ i → i < length xs → ys ≡ set xs i y → SwappedAt ys zs k i →
+      cut_entry body (get_or xs i d).0 (get_or xs i d).1 ≡ Some y → take (k + 1) zs ++ cut_entries body (drop (i + 1) zs) ≡ take k xs ++ cut_entries body (drop i xs)
+  cut-kept xs ys zs k i d y le lt changed swapped left =
+      ap (λ l. l ++ cut_entries body (drop (i + 1) zs)) (front-kept xs ys zs k i y le lt changed swapped)
+      ∙ ap (λ l. (take k xs ++ y ∷ []) ++ cut_entries body l) (rest-kept xs ys zs k i y le lt changed swapped)
+      ∙ append_assoc (take k xs) (y ∷ []) (cut_entries body (drop (i + 1) xs))
+      ∙ ap (λ l. take k xs ++ l) (sym (ap (cut_entries body) (drop_more xs i d lt) ∙ cut-first (get_or xs i d) (drop (i + 1) xs) (Some y) left))
+
+  -- what stands below a position stays
+  stays-first : (position : ℕ) (e : ℕ × Entry) (es : List (ℕ × Entry)) (b : Bool) → key_lt (first e) (position, 0) ≡ b → StaysBelow position body (e ∷ es) →
+      take (rows_below first (position, 0) es) es ++ cut_entries body (drop (rows_below first (position, 0) es) es) ≡ cut_entries body es →
+      take (rows_below first (position, 0) (e ∷ es)) (e ∷ es) ++ cut_entries body (drop (rows_below first (position, 0) (e ∷ es)) (e ∷ es)) ≡ cut_entries body (e ∷ es)
+  stays-first position e es true below stays rest =
+      let less : nat_lt e.0 position ≡ true = sym (lt_number e.0 position) ∙ below in
+      rw below (ap (λ l. e ∷ l) rest ∙ sym (cut-first e es (Some e) (stays.0 less)))
+  stays-first position e es false above stays rest = rw above refl
+
+  pub cut-above : (position : ℕ) (es : List (ℕ × Entry)) → StaysBelow position body es →
+      take (rows_below first (position, 0) es) es ++ cut_entries body (drop (rows_below first (position, 0) es) es) ≡ cut_entries body es
+  cut-above position [] stays = refl
+  cut-above position (e ∷ es) stays = stays-first position e es (key_lt (first e) (position, 0)) refl stays (cut-above position es stays.1)
+
+  -- and nothing stands below 0
+  pub none-below : (es : List (ℕ × Entry)) → StaysBelow 0 body es
+  none-below [] = tt
+  none-below (e ∷ es) = ((λ h. absurd (below-none e.0 h)), none-below es)
+    where
+      below-none : (p : ℕ) → nat_lt p 0 ≡ true → ⊥
+      below-none p h = let less : p < 0 = ltb-true p 0 h in omega (arith, less)

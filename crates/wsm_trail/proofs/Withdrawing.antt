@@ -1,7 +1,6 @@
 -- A trail without the one Start of a node.
-use Rattle.std.proofs.Common.{◌≡◌, ℕ, ◌+◌, ◌≤◌, Bool, true, false, cond, not, List, [], ◌∷◌, ◌++◌, length, refl, sym, ◌∙◌, ap, subst, inl, inr, arith}
-use Rattle.std.proofs.Common.{◌<◌, get_or, take, drop, Some, None, All, take-append-drop}
-use Rattle.std.specs.Prelude.{filter}
+use Rattle.std.proofs.Common.{◌≡◌, ℕ, ◌+◌, ◌≤◌, true, false, cond, List, [], ◌∷◌, ◌++◌, length, refl, sym, ◌∙◌, ap, subst, inl, inr, arith}
+use Rattle.std.proofs.Common.{◌<◌, get_or, take, drop, Some, All, take-append-drop}
 use Rattle.std.proofs.lemmas.List.{drop_more}
 use Rattle.std.proofs.lemmas.List.Elements.{All-head, All-tail}
 use Rattle.std.proofs.lemmas.Bool.{cases_Bool}
@@ -12,7 +11,7 @@ use Rattle.wsm_schema.specs.declared.entries.Entry.{Entry}
 use Rattle.wsm_schema.specs.declared.entries.Entry.TheVariants as entry
 use Rattle.wsm_trail.specs.LastWrites.{noted, noted_entry, noted_entries}
 use Rattle.wsm_trail.specs.TrailWithRoom.{Rises}
-use Rattle.wsm_trail.specs.StartPlaces.{IsStartPlace, StandsAt}
+use Rattle.wsm_trail.specs.StartPlaces.{IsStartPlace}
 use Rattle.wsm_trail.specs.Withdrawn.{starts_of, without_start}
 use Rattle.wsm_trail.proofs.Rising.{rises_lower}
 

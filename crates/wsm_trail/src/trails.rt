@@ -4,15 +4,16 @@ ghost use Rattle.std.specs.Option.{option_copied};
 ghost use Rattle.wsm_lists.specs.Keys.{first};
 ghost use Rattle.wsm_lists.specs.Rows.{Ascends};
 ghost use Rattle.wsm_lists.specs.Values.{value_in};
-ghost use Rattle.wsm_schema.specs.Trail.{no_trail, pushed, value_below, cut_by, cut_entry, written_by};
+ghost use Rattle.wsm_schema.specs.Trail.{no_trail, pushed, value_below, cut_by, written_by};
+ghost use Rattle.wsm_trail.specs.Cuts.{StaysBelow};
 ghost use Rattle.wsm_trail.specs.EntryAt.{entry_at, written_to};
 ghost use Rattle.wsm_trail.specs.LastWrites.{noted_entries, values_at, write_of};
 ghost use Rattle.wsm_trail.specs.TrailWithRoom.{Rises};
 ghost use Rattle.wsm_trail.specs.Withdrawn.{starts_of, withdrawn};
 
-use crate::cuts::cut_entry;
+use crate::cuts::cut_behind;
 use crate::last_writes::LastWrites;
-use crate::lookups::find;
+use crate::lookups::{find, place_of};
 use crate::withdrawals::start_place;
 use std::alloc::Global;
 use std::marker::Model;
@@ -189,12 +190,19 @@ impl Trail {
         ensures spare { self.old.spare ≤ self.new.spare }
         ensures spare_writes { self.new.spare_writes ≡ self.old.spare_writes }
     {
+        self.cut_from(0, body);
+    }
+
+    /// The same cut, by a look at the entries from a position on alone, where none below it is of the loop. Takes no memory.
+    pub fn cut_from(&mut self, position: u32, body: &Nodes)
+        requires { StaysBelow position body.now self.old.trail.entries }
+        ensures trail { self.new.trail ≡ cut_by body.now self.old.trail }
+        ensures spare { self.old.spare ≤ self.new.spare }
+        ensures spare_writes { self.new.spare_writes ≡ self.old.spare_writes }
+    {
         let alloc = *self.entries.allocator();
-        let nodes = body.as_slice();
-        let stays = |row: &mut (u32, Entry)| -> bool
-            ensures { cut_entry nodes.entry.now row.entry.now.0 row.entry.now.1 ≡ (if result then Some row.exit.now else None) }
-        { cut_entry(alloc, &mut row.1, nodes) };
-        self.entries.retain_mut(stays);
+        let place = place_of(&self.entries, position);
+        cut_behind(alloc, &mut self.entries, place, body.as_slice());
     }
 
     /// The trail without the start of that node. Takes no memory.

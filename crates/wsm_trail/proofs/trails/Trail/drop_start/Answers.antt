@@ -1,5 +1,4 @@
 use Rattle.std.proofs.Common.{◌≡◌, ℕ, ◌+◌, ◌++◌, List, length, take, drop, Some, sym, ◌∙◌, ap, subst, rules}
-use Rattle.wsm_schema.specs.Trail.{TrailModel}
 use Rattle.wsm_schema.specs.declared.entries.Entry.{Entry}
 use Rattle.wsm_trail.specs.LastWrites.{noted_entries}
 use Rattle.wsm_trail.specs.StartPlaces.{IsStartPlace}

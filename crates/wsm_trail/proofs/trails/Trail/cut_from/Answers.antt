@@ -1,0 +1,45 @@
+use Rattle.std.proofs.Common.{◌≡◌, ℕ, List, ◌++◌, take, drop, ap, sym, ◌∙◌, subst, rules}
+use Rattle.wsm_lists.specs.Keys.{first}
+use Rattle.wsm_lists.proofs.Rows.{rows_below_le}
+use Rattle.wsm_lists.specs.Rows.{Ascends, rows_below}
+use Rattle.wsm_schema.specs.Trail.{cut_by}
+use Rattle.wsm_schema.specs.declared.entries.Entry.{Entry}
+use Rattle.wsm_trail.specs.Cuts.{StaysBelow, cut_entries}
+use Rattle.wsm_trail.specs.LastWrites.{noted_entries}
+use Rattle.wsm_trail.specs.TrailWithRoom.{Rises, TrailWithRoom}
+use Rattle.wsm_trail.proofs.Cutting.{cut-above, noted_entries-cut, rises_cut}
+use Rattle.wsm_trail.proofs.Rising.{rises-ascends}
+use Rattle.wsm_trail.proofs.trails.Trail.cut_from.Goals as goal
+
+-- the entries that are left
+cut_list : (c : goal.After-cut_behind) → c.cut_behind.new.entries.items ≡ cut_entries c.args.body.now c.self.inside.entries.items
+cut_list c =
+    let body : List ℕ = c.args.body.now in
+    let es : List (ℕ × Entry) = c.self.inside.entries.items in
+    let stays : StaysBelow c.args.position body es = subst (λ (t : TrailWithRoom). StaysBelow c.args.position body t.trail.entries) (sym c.self.view_is) c.requires in
+    c.cut_behind.ensures.entries
+    ∙ ap (λ (b : List ℕ). take c.place_of-place.result es ++ cut_entries b (drop c.place_of-place.result es)) c.as_slice.ensures
+    ∙ ap (λ (n : ℕ). take n es ++ cut_entries body (drop n es)) (c.place_of-place.ensures ∙ ap (rows_below first (c.args.position, 0)) c.deref.ensures.value)
+    ∙ cut-above body c.args.position es stays
+
+pub place_of-place-requires : goal.place_of-place-requires
+place_of-place-requires c = subst (Ascends first) (sym c.deref.ensures.value) (rises-ascends 1 c.self.inside.next c.self.inside.entries.items c.self.invariant.0)
+
+pub cut_behind-requires : goal.cut_behind-requires
+cut_behind-requires c =
+    let es : List (ℕ × Entry) = c.self.inside.entries.items in
+    let at = c.place_of-place.ensures ∙ ap (rows_below first (c.args.position, 0)) c.deref.ensures.value in
+    let within = rows_below_le first (c.args.position, 0) es in
+    search rules
+
+pub invariant_of-self : goal.invariant_of-self
+invariant_of-self c =
+    let es : List (ℕ × Entry) = c.self.inside.entries.items in
+    let kept = c.self.invariant in
+    let left = sym (cut_list c) in (
+      subst (Rises 1 c.self.inside.next) left (rises_cut c.args.body.now 1 c.self.inside.next es kept.0),
+      kept.1 ∙ sym (noted_entries-cut c.args.body.now es) ∙ ap noted_entries left,
+    )
+
+pub returns-clause-trail : goal.returns-clause-trail
+returns-clause-trail c = rw (cut_list c) (ap (λ (k : TrailWithRoom). cut_by c.args.body.now k.trail) c.self.view_is)
