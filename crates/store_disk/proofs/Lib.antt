@@ -1,6 +1,6 @@
 mod ExamplesDisks
 mod ExamplesImages
-mod Framing
+pub mod Framing
 mod Gates
 mod Histories
 mod Moments

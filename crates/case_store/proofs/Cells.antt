@@ -1,0 +1,155 @@
+-- Where cases stand, and what types and cases are before any call.
+use Rattle.std.proofs.Common.{◌≡◌, ℕ, zero, suc, ◌+◌, ◌-◌, ◌<◌, ◌≤◌, Bool, true, false, List, [], ◌∷◌, ◌++◌, length, drop, set, Option, Some, None, refl, sym, ap, subst, ◌∙◌, append_assoc, arith, length-append}
+use Rattle.std.specs.Prelude.{if◌then◌else◌, nat_lt, slice_get, sum}
+use Rattle.std.specs.List.{AllByRecursion}
+use Rattle.std.specs.Prelude.{replicate}
+use Rattle.std.proofs.lemmas.Bool.{ltb-true}
+use Rattle.std.proofs.lemmas.List.{drop_more, length-replicate}
+use Rattle.std.proofs.lemmas.List.Sums.{sum_by-cons}
+use Rattle.case_core.specs.CaseModel.{not_created}
+use Rattle.case_core.specs.Ages.{age, weight}
+use Rattle.case_core.specs.Machine.{next_case}
+use Rattle.case_core.specs.declared.events.Event.{Event}
+use Rattle.case_core.specs.declared.events.Event.TheVariants as event
+use Rattle.case_core.specs.declared.replies.Reply.{Reply}
+use Rattle.script_run.proofs.Aging.{age-oldest, oldest-changed_at}
+use Rattle.script_run.specs.Calls.{call_case, changed_at, changed_where, put_back}
+use Rattle.script_run.specs.Oldest.{oldest}
+use Rattle.script_run.specs.declared.runs.ClosedCase.{ClosedCase}
+use Rattle.script_run.specs.declared.runs.ClosedKind.{ClosedKind}
+use Rattle.script_run.specs.declared.runs.Run.{Run}
+use Rattle.type_core.specs.KindModel.{not_defined}
+use Rattle.store_form.specs.Stored.{Fits, HasNoVersion}
+use Rattle.store_form.specs.declared.stored.Stored.{Stored}
+use Rattle.store_form.specs.declared.stored.Stored.TheVariants as stored
+use Rattle.wsm_sound.specs.declared.versions.CaseId.{CaseId}
+use Rattle.case_store.specs.Folding.{answer_of_case, case_answer, case_at, fresh_cases, fresh_kinds, on_case, place_between, place_of, starts_from}
+use Rattle.case_store.specs.Standing.{Held}
+use Rattle.case_store.specs.declared.replies.StoredReply.TheVariants as answer
+
+-- the cases of each type begin and end among all cases
+pub starts-within : (start : ℕ) (counts : List ℕ) (n : ℕ) → start + sum counts ≤ n → AllByRecursion (λ s. s ≤ n) (starts_from start counts)
+starts-within start [] n le = (omega (arith, le), tt)
+starts-within start (c ∷ cs) n le =
+    let more : sum (c ∷ cs) ≡ c + sum cs = sum_by-cons (λ n. n) c cs in
+    (omega (arith, le), starts-within (start + c) cs n (omega (arith, more, le)))
+
+abbrev kind_of : ℕ → ClosedKind
+kind_of t = record { machine = not_defined t; journal = [] }
+
+abbrev uncalled_of : ℕ → ClosedCase
+uncalled_of t = record { machine = not_created t; journal = [] }
+
+pub length-fresh : (t : ℕ) (counts : List ℕ) → length (fresh_cases t counts) ≡ sum counts
+length-fresh t [] = refl
+length-fresh t (c ∷ cs) =
+    let more : sum (c ∷ cs) ≡ c + sum cs = sum_by-cons (λ n. n) c cs in
+    let parts : length (fresh_cases t (c ∷ cs)) ≡ length (replicate c (uncalled_of t) ++ fresh_cases (t + 1) cs) = refl in
+    omega (arith, more, parts, length-append (replicate c (uncalled_of t)) (fresh_cases (t + 1) cs), length-replicate c (uncalled_of t), length-fresh (t + 1) cs)
+
+start-within : (starts : List ℕ) (i n s : ℕ) → AllByRecursion (λ x. x ≤ n) starts → slice_get starts i ≡ Some s → s ≤ n
+start-within [] i n s all is = absurd cc
+start-within (x ∷ xs) zero n s all is = let same : x ≡ s = cc in omega (arith, same, all.0)
+start-within (x ∷ xs) (suc i) n s all is = start-within xs i n s all.1 is
+
+pub place-within : (starts : List ℕ) (c : CaseId) (n p : ℕ) → AllByRecursion (λ s. s ≤ n) starts → place_of starts c ≡ Some p → p < n
+place-within starts c n p all is = between (slice_get starts c.type_no) (slice_get starts (c.type_no + 1)) refl is
+  where
+    kept : (start end : ℕ) → end ≤ n → (b : Bool) → nat_lt (start + c.place) end ≡ b → (if b then Some (start + c.place) else None) ≡ Some p → p < n
+    kept start end le true lt same = let place : start + c.place ≡ p = cc in omega (arith, place, ltb-true (start + c.place) end lt, le)
+    kept start end le false lt same = absurd cc
+
+    between : (one two : Option ℕ) → slice_get starts (c.type_no + 1) ≡ two → place_between c.place one two ≡ Some p → p < n
+    between (Some start) (Some end) at got = kept start end (start-within starts (c.type_no + 1) n end all at) (nat_lt (start + c.place) end) refl got
+    between (Some start) None at got = absurd cc
+    between None two at got = absurd cc
+
+-- nobody has called a case
+replicate-young : (n t : ℕ) (cs : List ClosedCase) → oldest cs ≡ 0 → oldest (replicate n (uncalled_of t) ++ cs) ≡ 0
+unfolding oldest
+replicate-young zero t cs young = young
+replicate-young (suc n) t cs young = let more = replicate-young n t cs young in omega (arith, more)
+
+pub fresh-young : (t : ℕ) (counts : List ℕ) → oldest (fresh_cases t counts) ≡ 0
+unfolding oldest
+fresh-young t [] = refl
+fresh-young t (c ∷ cs) = replicate-young c t (fresh_cases (t + 1) cs) (fresh-young (t + 1) cs)
+
+-- what nobody has called
+same-kind : (k : ClosedKind) (t : ℕ) → k.machine ≡ not_defined t → k.journal ≡ [] → k ≡ kind_of t
+same-kind k t machine journal =
+    let one : k ≡ record k { machine = not_defined t } = ap (λ m. record k { machine = m }) machine in
+    let two : record k { machine = not_defined t } ≡ kind_of t = ap (λ j. record (kind_of t) { journal = j }) journal in
+    one ∙ two
+
+same-case : (k : ClosedCase) (t : ℕ) → k.machine ≡ not_created t → k.journal ≡ [] → k ≡ uncalled_of t
+same-case k t machine journal =
+    let one : k ≡ record k { machine = not_created t } = ap (λ m. record k { machine = m }) machine in
+    let two : record k { machine = not_created t } ≡ uncalled_of t = ap (λ j. record (uncalled_of t) { journal = j }) journal in
+    one ∙ two
+
+-- one type more
+pub kinds-next : (counts : List ℕ) {k : ClosedKind} (out new total : List ClosedKind) (t : ℕ) → new ≡ out ++ k ∷ [] → k.machine ≡ not_defined t → k.journal ≡ [] → t < length counts
+    → out ++ fresh_kinds t (drop t counts) ≡ total → new ++ fresh_kinds (t + 1) (drop (t + 1) counts) ≡ total
+kinds-next counts {k} out new total t pushed machine journal lt so_far =
+    let rest = fresh_kinds (t + 1) (drop (t + 1) counts) in
+    let same : k ≡ kind_of t = same-kind k t machine journal in
+    ap (λ n. n ++ rest) pushed ∙ append_assoc out (k ∷ []) rest ∙ ap (λ q. out ++ q ∷ rest) same ∙ ap (λ cs. out ++ fresh_kinds t cs) (sym (drop_more counts t 0 lt)) ∙ so_far
+
+-- one case more of a type
+pub cases-next : {k : ClosedCase} (out new total : List ClosedCase) (count i t : ℕ) → new ≡ out ++ k ∷ [] → k.machine ≡ not_created t → k.journal ≡ [] → i < count
+    → out ++ replicate (count - i) (uncalled_of t) ≡ total → new ++ replicate (count - (i + 1)) (uncalled_of t) ≡ total
+cases-next {k} out new total count i t pushed machine journal lt so_far =
+    let left : count - i ≡ suc (count - (i + 1)) = omega arith in
+    let rest = replicate (count - (i + 1)) (uncalled_of t) in
+    let same : k ≡ uncalled_of t = same-case k t machine journal in
+    ap (λ n. n ++ rest) pushed ∙ append_assoc out (k ∷ []) rest ∙ ap (λ q. out ++ q ∷ rest) same ∙ ap (λ n. out ++ replicate n (uncalled_of t)) (sym left) ∙ so_far
+
+-- the case at a place, called
+set-is-called : (f : ClosedCase → ClosedCase) (cases : List ClosedCase) (i : ℕ) (old new : ClosedCase) → slice_get cases i ≡ Some old → new ≡ f old → set cases i new ≡ changed_at f i cases
+set-is-called f cases i old new is made = ap (set cases i) made ∙ ap (put_back f i cases) (sym is)
+
+abbrev held_of : List ℕ → List ClosedKind → List ClosedCase → Held
+held_of starts kinds cases = record { starts = starts; run = record { kinds = kinds; cases = cases } }
+
+abbrev with_cases : Held → List ClosedCase → Held
+with_cases h cases = record h { run = record { kinds = h.run.kinds; cases = cases } }
+
+pub case-called : (now : Held) (starts : List ℕ) (kinds : List ClosedKind) (cases : List ClosedCase) (caller : ℕ) (c : CaseId) (e : Event) (i : ℕ) (old new : ClosedCase)
+    → held_of starts kinds cases ≡ now → place_of now.starts c ≡ Some i → slice_get cases i ≡ Some old → new ≡ call_case caller e old
+    → held_of starts kinds (set cases i new) ≡ record now { run = on_case now.starts caller c e now.run }
+case-called now starts kinds cases caller c e i old new view at is made =
+    let f = call_case caller e in
+    let called : set cases i new ≡ changed_where f (place_of now.starts c) cases = set-is-called f cases i old new is made ∙ ap (λ p. changed_where f p cases) (sym at) in
+    ap (held_of starts kinds) called
+    ∙ ap (λ h. with_cases h (changed_where f (place_of now.starts c) h.run.cases)) view
+
+pub case-answers : (starts : List ℕ) (run : Run) (cases : List ClosedCase) (c : CaseId) (e : Event) (i : ℕ) (old : ClosedCase) (reply : Reply) → cases ≡ run.cases → place_of starts c ≡ Some i
+    → slice_get cases i ≡ Some old → reply ≡ (next_case old.machine e).1 → answer_of_case starts c run e ≡ Some (answer.Case reply)
+case-answers starts run cases c e i old reply same at is made =
+    ap (λ p. case_answer e (case_at run p)) at ∙ ap (λ cs. case_answer e (slice_get cs i)) (sym same) ∙ ap (case_answer e) is ∙ ap (λ r. Some (answer.Case r)) (sym made)
+
+pub case-older : (run : Run) (cases : List ClosedCase) (caller : ℕ) (e : Event) (i : ℕ) (old new : ClosedCase) → cases ≡ run.cases → slice_get cases i ≡ Some old → new ≡ call_case caller e old
+    → oldest (set cases i new) ≤ oldest run.cases + weight e
+case-older run cases caller e i old new same is made =
+    let changed : oldest (changed_at (call_case caller e) i cases) ≤ oldest cases + weight e = oldest-changed_at caller e i cases in
+    subst (λ cs. oldest (set cases i new) ≤ oldest cs + weight e) same
+    (subst (λ cs. oldest cs ≤ oldest cases + weight e) (sym (set-is-called (call_case caller e) cases i old new is made)) changed)
+
+pub case-young : (run : Run) (cases : List ClosedCase) (e : Event) (i : ℕ) (old : ClosedCase) → cases ≡ run.cases → slice_get cases i ≡ Some old → oldest run.cases + weight e ≤ 4000000000
+    → age old.machine + weight e ≤ 4000000000
+case-young run cases e i old same is young = omega (arith, age-oldest cases i old is, ap oldest same, young)
+
+-- what has a payload has no version in it
+pub fits-plain : (e : Stored) → Fits e → HasNoVersion e
+fits-plain (stored.Define t s) fit = tt
+fits-plain (stored.Install t ops) fit = tt
+fits-plain (stored.Newest t) fit = tt
+fits-plain (stored.Create c number) fit = tt
+fits-plain (stored.Migrate c number) fit = tt
+fits-plain (stored.Case c (event.Create version)) fit = fit.1
+fits-plain (stored.Case c (event.Migrate version)) fit = fit.1
+fits-plain (stored.Case c (event.Start node user roles)) fit = tt
+fits-plain (stored.Case c (event.End node user writes choice)) fit = tt
+fits-plain (stored.Case c (event.Withdraw node user)) fit = tt
+fits-plain (stored.Case c (event.Change ops)) fit = tt

@@ -1,0 +1,272 @@
+-- Records that are taken in one after another.
+use Rattle.std.proofs.Common.{◌≡◌, ◌≢◌, inl, inr, ℕ, ◌+◌, ◌<◌, ◌≤◌, ◌^◌, false, true, List, [], ◌∷◌, ◌++◌, length, map, take, drop, refl, sym, ap, subst, ◌∙◌, append_assoc, arith, length-append}
+use Rattle.std.specs.Prelude.{fold}
+use Rattle.std.specs.List.{AllByRecursion}
+use Rattle.std.proofs.lemmas.List.{append-nil, length-drop, length-take-le, map_push}
+use Rattle.std.proofs.lemmas.List.Sums.{fold_push}
+use Rattle.script_run.specs.Oldest.{oldest}
+use Rattle.script_run.specs.declared.runs.Run.{Run}
+use Rattle.store_disk.specs.Disk.{IsSettled, LeavesOnly, Only}
+use Rattle.store_disk.specs.Image.{all_framed, closed, damaged, frame, frames, frames_from, frames_of, framed}
+use Rattle.store_disk.specs.Opening.{IsFrame, with_gate}
+use Rattle.store_disk.specs.Rest.{EndsAt, IsAtRest, IsBeforeOrAfter}
+use Rattle.store_disk.specs.declared.frames.Frame.TheVariants as front
+use Rattle.store_disk.proofs.Framing.{all_short, frames_at, one_framed}
+use Rattle.store_form.specs.Payload.{Bytes, IsPayloadOf, payload}
+use Rattle.store_form.specs.Stored.{has_short_lists}
+use Rattle.store_form.specs.declared.stored.Recorded.{Recorded}
+use Rattle.store_form.specs.declared.stored.Stored.{Stored}
+use Rattle.case_store.specs.Damage.{IsDamaged, IsDamagedFrom, IsRefused, IsTaken, Says, TakesIn, TellsDamage}
+use Rattle.case_store.specs.Faults.{refused}
+use Rattle.case_store.specs.Folding.{called, fresh, has, payload_of, starts_of, stored_weight}
+use Rattle.case_store.specs.Standing.{AreCalls, Held, IsFoldOf, IsStore, Opens, Passes, StoreState}
+use Rattle.case_store.specs.declared.refusals.ImageFault.{ImageFault}
+use Rattle.case_store.specs.declared.refusals.ImageFault.TheVariants as fault
+use Rattle.case_store.proofs.Cells.{fresh-young}
+use Rattle.case_store.proofs.Weights.{weight-below}
+
+-- one call more
+calls-more : (starts : List ℕ) (run : Run) (rs : List Recorded) (r : Recorded) → AreCalls starts run rs → has starts (fold (called starts) run rs) r.event ≡ true
+    → IsPayloadOf (payload_of r) r.caller r.event → AreCalls starts run (rs ++ r ∷ [])
+calls-more starts run [] r are there pays = (there, pays, tt)
+calls-more starts run (q ∷ rs) r are there pays = (are.0, are.1, calls-more starts (called starts run q) rs r are.2 there pays)
+
+-- of bytes that are the payload of a call
+own-payload : (bytes : Bytes) (r : Recorded) → IsPayloadOf bytes r.caller r.event → IsPayloadOf (payload_of r) r.caller r.event
+own-payload bytes r pays = record { number = pays.number; fits = pays.fits; same = refl }
+
+pub fold-more : (counts : List ℕ) (old new : Held) (rs : List Recorded) (r : Recorded) (bytes : Bytes) → IsFoldOf counts old rs → IsTaken old.starts old.run bytes r
+    → new ≡ record old { run = called old.starts old.run r } → IsFoldOf counts new (rs ++ r ∷ [])
+fold-more counts old new rs r bytes f taken made =
+    subst (λ h. IsFoldOf counts h (rs ++ r ∷ [])) (sym made)
+    (record {
+      starts = f.starts;
+      run =
+          ap (λ s. called s old.run r) f.starts ∙ ap (λ run. called (starts_of counts) run r) f.run
+          ∙ sym (fold_push (called (starts_of counts)) (fresh counts) rs r);
+      calls = calls-more (starts_of counts) (fresh counts) rs r f.calls
+          (subst (λ run. has (starts_of counts) run r.event ≡ true) f.run (subst (λ s. has s old.run r.event ≡ true) f.starts taken.1))
+          (own-payload bytes r taken.0);
+    })
+
+-- the bytes of one record more
+pub framed-more : (ps : List Bytes) (p : Bytes) → all_framed (ps ++ p ∷ []) ≡ all_framed ps ++ framed p
+framed-more [] p = append-nil (framed p)
+framed-more (q ∷ ps) p = ap (λ l. framed q ++ l) (framed-more ps p) ∙ sym (append_assoc (framed q) (all_framed ps) (framed p))
+
+-- how far an image has been taken in
+pub record Reached (counts image : List ℕ) (held : Held) (rest : List ℕ) (place : ℕ) : Type 0 where
+  pub records : List Recorded
+  pub fold : IsFoldOf counts held records
+  pub parts : image ≡ all_framed (map payload_of records) ++ rest
+  pub stands : place ≡ length (all_framed (map payload_of records))
+  pub short : AllByRecursion (λ p. length p < 2 ^ 32) (map payload_of records)
+  pub young : oldest held.run.cases ≤ place
+  -- where the rest is damaged, the image is
+  pub damage : (p : ℕ) → IsDamagedFrom (starts_of counts) held.run (frames_from place 0 rest) p → IsDamagedFrom (starts_of counts) (fresh counts) (frames_from 0 0 image) p
+
+pub begins : (counts image : List ℕ) (held : Held) → IsFoldOf counts held [] → oldest held.run.cases ≡ 0 → Reached counts image held image 0
+begins counts image held fold young = record {
+  records = [];
+  fold = fold;
+  parts = refl;
+  stands = refl;
+  short = tt;
+  young = omega (arith, young);
+  damage = λ p d. subst (λ run. IsDamagedFrom (starts_of counts) run (frames_from 0 0 image) p) fold.run d;
+}
+
+module _ (counts image : List ℕ) (held new : Held) (rest after : List ℕ) (place : ℕ) (p : Bytes) (so_far : Reached counts image held rest place)
+    (short : length p < 2 ^ 32) (split : rest ≡ framed p ++ after) where
+  first : frames_from place 0 rest ≡ frame place p (frames_from (place + (5 + length p)) 0 after)
+  first = ap (frames_from place 0) split ∙ one_framed p after place short
+
+  -- a record that is refused is the damage
+  pub stops : IsRefused held.starts held.run p → IsDamagedFrom (starts_of counts) (fresh counts) (frames_from 0 0 image) place
+  stops refused =
+      so_far.damage place
+      (subst (λ f. IsDamagedFrom (starts_of counts) held.run f place) (sym first)
+      (inl (subst (λ s. IsRefused s held.run p) so_far.fold.starts refused, refl)))
+
+  -- a record that is taken in is one more
+  pub goes_on : (r : Recorded) → IsTaken held.starts held.run p r → new ≡ record held { run = called held.starts held.run r }
+      → oldest new.run.cases ≤ oldest held.run.cases + length p → Reached counts image new after (place + (5 + length p))
+  goes_on r taken made older =
+      let same : payload_of r ≡ p = taken.0.same in
+      let ps = map payload_of so_far.records in
+      let more : map payload_of (so_far.records ++ r ∷ []) ≡ ps ++ p ∷ [] = map_push payload_of so_far.records r ∙ ap (λ q. ps ++ q ∷ []) same in
+      let bytes : all_framed (map payload_of (so_far.records ++ r ∷ [])) ≡ all_framed ps ++ framed p = ap all_framed more ∙ framed-more ps p in
+      record {
+        records = so_far.records ++ r ∷ [];
+        fold = fold-more counts held new so_far.records r p so_far.fold taken made;
+        parts = so_far.parts ∙ ap (λ l. all_framed ps ++ l) split ∙ sym (append_assoc (all_framed ps) (framed p) after) ∙ ap (λ l. l ++ after) (sym bytes);
+        stands = omega (arith, so_far.stands, ap length bytes, length-append (all_framed ps) (framed p));
+        short = subst (AllByRecursion (λ q. length q < 2 ^ 32)) (sym more) (all_short ps p so_far.short short);
+        young = omega (arith, so_far.young, older);
+        damage = λ q d.
+            so_far.damage q
+            (subst (λ f. IsDamagedFrom (starts_of counts) held.run f q) (sym first)
+            (inr (
+              r,
+              subst (λ s. IsTaken s held.run p r) so_far.fold.starts taken,
+              subst (λ run. IsDamagedFrom (starts_of counts) run (frames_from (place + (5 + length p)) 0 after) q)
+                  (ap (λ h. h.run) made ∙ ap (λ s. called s held.run r) so_far.fold.starts) d,
+            )));
+      }
+
+-- bytes of an image that was looked at as a disk with a gate are framed from their front
+frames-whole : (image : List ℕ) → with_gate image ≡ image → frames_from 0 0 image ≡ frames image
+frames-whole [] gate = absurd cc
+frames-whole (b ∷ []) gate = let is : b ≡ 0 = cc in subst (λ x. frames_from 0 0 (x ∷ []) ≡ closed 0) (sym is) refl
+frames-whole (b ∷ c ∷ rest) gate = refl
+
+-- where the records of an image end
+module _ (counts image : List ℕ) (held : Held) (rest : List ℕ) (place : ℕ) (so_far : Reached counts image held rest place) where
+  pub ends-here : (gate : ℕ) (behind : List ℕ) → gate ≢ 1 → rest ≡ gate ∷ behind
+      → (records : List Recorded) × IsFoldOf counts held records × EndsAt image (map payload_of records) place
+  ends-here gate behind shut is = (
+    so_far.records,
+    so_far.fold,
+    record {
+      gate = gate;
+      behind = behind;
+      shut = shut;
+      stands = so_far.stands;
+      short = so_far.short;
+      bytes = so_far.parts ∙ ap (λ l. all_framed (map payload_of so_far.records) ++ l) is;
+    },
+  )
+
+  pub is-cut : with_gate image ≡ image → frames_from place 0 rest ≡ damaged place → IsDamaged counts image place
+  is-cut gate cut =
+      subst (λ f. IsDamagedFrom (starts_of counts) (fresh counts) f place) (frames-whole image gate)
+      (so_far.damage place (subst (λ f. IsDamagedFrom (starts_of counts) held.run f place) (sym cut) refl))
+
+  pub is-refused : (p after : List ℕ) → with_gate image ≡ image → length p < 2 ^ 32 → rest ≡ framed p ++ after → IsRefused held.starts held.run p → IsDamaged counts image place
+  is-refused p after gate short split refused =
+      subst (λ f. IsDamagedFrom (starts_of counts) (fresh counts) f place) (frames-whole image gate)
+      (stops counts image held held rest after place p so_far short split refused)
+
+-- a record of an image that was taken in, and one that was refused; p is where its payload stands, and after what stands behind it
+pub goes-further : (counts image : List ℕ) (held new : Held) (rest after : List ℕ) (place len here : ℕ) (p : Bytes) → Reached counts image held rest place → IsFrame rest (front.Record len)
+    → p ≡ take len (drop 5 rest) → after ≡ drop (5 + len) rest → here ≡ place + (5 + len) → TakesIn held p true new → oldest new.run.cases ≤ oldest held.run.cases + length p
+    → Reached counts image new after here
+goes-further counts image held new rest after place len here p so_far (long, short, split) bytes behind at (r, taken, made) older =
+    let size : length p ≡ len = ap length bytes ∙ length-take-le len (drop 5 rest) (omega (arith, length-drop 5 rest, long)) in
+    let cut : rest ≡ framed p ++ after = split ∙ ap (λ q. framed q ++ drop (5 + len) rest) (sym bytes) ∙ ap (λ a. framed p ++ a) (sym behind) in
+    subst (Reached counts image new after) (omega (arith, size, at))
+    (goes_on counts image held new rest after place p so_far (omega (arith, size, short)) cut r taken made older)
+
+pub refused-here : (counts image : List ℕ) (held new : Held) (rest : List ℕ) (place len : ℕ) (p : Bytes) → Reached counts image held rest place → with_gate image ≡ image
+    → IsFrame rest (front.Record len) → p ≡ take len (drop 5 rest) → TakesIn held p false new → IsDamaged counts image place
+refused-here counts image held new rest place len p so_far gate (long, short, split) bytes (refused, kept) =
+    let size : length p ≡ len = ap length bytes ∙ length-take-le len (drop 5 rest) (omega (arith, length-drop 5 rest, long)) in
+    is-refused counts image held rest place so_far p (drop (5 + len) rest) gate (omega (arith, size, short))
+    (split ∙ ap (λ q. framed q ++ drop (5 + len) rest) (sym bytes)) refused
+
+-- a call that finds room does not pass the limit
+pub not-passing : (gate caller : ℕ) (e : Stored) (p : Bytes) → has_short_lists e ≡ true → payload caller e ≡ p → gate + (6 + length p) ≤ 2 ^ 30 → Passes gate caller e → ⊥
+not-passing gate caller e p short same fits (inl long) = absurd cc
+not-passing gate caller e p short same fits (inr over) = omega (arith, ap length same, fits, over)
+
+-- types and cases that nobody has called are the run of no records
+pub fresh-fold : (counts cases : List ℕ) (held : Held) → cases ≡ counts → held ≡ record { starts = starts_of cases; run = fresh cases } → IsFoldOf counts held []
+fresh-fold counts cases held same is = record {
+  starts = ap (λ h. h.starts) is ∙ ap starts_of same;
+  run = ap (λ h. h.run) is ∙ ap fresh same;
+  calls = tt;
+}
+
+pub fresh-old : (cases : List ℕ) (held : Held) → held ≡ record { starts = starts_of cases; run = fresh cases } → oldest held.run.cases ≡ 0
+fresh-old cases held is = ap (λ h. oldest h.run.cases) is ∙ fresh-young 0 cases
+
+-- there is room in each machine for what finds room on the disk
+pub room : (caller : ℕ) (e : Stored) (p : Bytes) (gate old : ℕ) → payload caller e ≡ p → old ≤ gate → gate + (6 + length p) ≤ 2 ^ 30 → old + stored_weight e ≤ 4000000000
+room caller e p gate old same young fits = omega (arith, weight-below caller e, ap length same, young, fits)
+
+pub room-for : (caller : ℕ) (e : Stored) (p : Bytes) (old : ℕ) → payload caller e ≡ p → old + length p ≤ 2 ^ 30 → old + stored_weight e ≤ 4000000000
+room-for caller e p old same fits = omega (arith, weight-below caller e, ap length same, fits)
+
+pub no-older : (caller : ℕ) (e : Stored) (p : Bytes) (old new : ℕ) → payload caller e ≡ p → new ≤ old + stored_weight e → new ≤ old + length p
+no-older caller e p old new same le = omega (arith, weight-below caller e, ap length same, le)
+
+-- a step: one record more, on the disk and in the run
+module _ {D : Type 0} (content : D → List ℕ) (may_leave : D → List ℕ → Type 0) (counts : List ℕ) where
+  pub one-step : (old new : StoreState D) (rs : List Recorded) (r : Recorded) (p : Bytes) → IsStore content may_leave counts old rs → IsTaken old.held.starts old.held.run p r
+      → new.held ≡ record old.held { run = called old.held.starts old.held.run r } → IsAtRest content may_leave new.disk (map payload_of rs ++ p ∷ []) new.gate
+      → new.gate ≡ old.gate + (5 + length p) → old.gate + (6 + length p) ≤ 2 ^ 30 → oldest new.held.run.cases ≤ oldest old.held.run.cases + stored_weight r.event
+      → IsStore content may_leave counts new (rs ++ r ∷ [])
+  one-step old new rs r p store taken made at_rest next room older =
+      let more : map payload_of (rs ++ r ∷ []) ≡ map payload_of rs ++ p ∷ [] = map_push payload_of rs r ∙ ap (λ q. map payload_of rs ++ q ∷ []) taken.0.same in
+      let light : stored_weight r.event ≤ length p = subst (λ q. stored_weight r.event ≤ length q) taken.0.same (weight-below r.caller r.event) in
+      record {
+        rest = subst (λ ps. IsAtRest content may_leave new.disk ps new.gate) (sym more) at_rest;
+        fold = fold-more counts old.held new.held rs r p store.fold taken made;
+        short = omega (arith, next, room);
+        young = omega (arith, store.young, next, older, light);
+      }
+
+-- a gate that is put on a short disk
+gate-frames : (c : List ℕ) → frames (with_gate c) ≡ frames c
+gate-frames [] = refl
+gate-frames (b ∷ []) = refl
+gate-frames (b ∷ d ∷ rest) = refl
+
+gate-length : (c : List ℕ) → length c ≤ length (with_gate c)
+gate-length [] = omega arith
+gate-length (b ∷ []) = omega arith
+gate-length (b ∷ d ∷ rest) = omega arith
+
+gate-stays : (c : List ℕ) → with_gate (with_gate c) ≡ with_gate c
+gate-stays [] = refl
+gate-stays (b ∷ []) = refl
+gate-stays (b ∷ d ∷ rest) = refl
+
+pub gate-there : (c image : List ℕ) → image ≡ with_gate c → with_gate image ≡ image
+gate-there c image is = ap with_gate is ∙ gate-stays c ∙ sym is
+
+pub short-disk : (c image : List ℕ) → image ≡ with_gate c → length image ≤ 2 ^ 30 → length c ≤ 2 ^ 30
+short-disk c image is within = omega (arith, gate-length c, ap length is, within)
+
+-- what a fault of an image says of the disk that it was read from
+pub says : {D : Type 0} (counts c image : List ℕ) (e : ImageFault) (disk : D) → image ≡ with_gate c → length image ≤ 2 ^ 30 → TellsDamage counts image e → Says counts c (refused e disk)
+says counts c image fault.Disk disk is within told = tt
+says counts c image fault.TooLong disk is within told = absurd told
+says counts c image (fault.Damaged place) disk is within told = (
+  short-disk c image is within,
+  subst (λ f. IsDamagedFrom (starts_of counts) (fresh counts) f place) (ap frames is ∙ gate-frames c) told,
+)
+says counts c image fault.NoMemory disk is within told = short-disk c image is within
+
+-- an opened store
+module _ {D : Type 0} (content : D → List ℕ) (may_leave : D → List ℕ → Type 0) (counts : List ℕ) where
+  pub opens : (old new : D) (image : List ℕ) (held : Held) (gate : ℕ) → IsSettled content may_leave new image → image ≡ with_gate (content old) → length image ≤ 2 ^ 30
+      → (records : List Recorded) × IsFoldOf counts held records × EndsAt image (map payload_of records) gate → oldest held.run.cases ≤ gate
+      → Opens content may_leave counts (content old) (record { disk = new; gate = gate; held = held; is_broken = false })
+  opens old new image held gate settled is within (records, folded, ends) young =
+      let ps : List Bytes = map payload_of records in
+      let list : frames image ≡ frames_of 0 ps = ap frames ends.bytes ∙ frames_at ps ends.gate ends.behind ends.shut ends.short in
+      let long : length image ≡ length (all_framed ps) + ℕ.suc (length ends.behind) = ap length ends.bytes ∙ length-append (all_framed ps) (ends.gate ∷ ends.behind) in (
+        records,
+        sym (ap frames is ∙ gate-frames (content old)) ∙ list,
+        record {
+          rest = record {
+            ends = subst (λ b. EndsAt b ps gate) (sym settled.gives) ends;
+            durable = subst (λ b. Only b (may_leave new)) (sym settled.gives) settled.leaves;
+          };
+          fold = folded;
+          short = omega (arith, ends.stands, long, within);
+          young = young;
+        },
+      )
+
+-- a step that did not come to the disk
+pub stays : {D : Type 0} (content : D → List ℕ) (may_leave : D → List ℕ → Type 0) (moment : D → ℕ) (left_since : D → ℕ → List ℕ → Type 0) (disk : D) (ps : List Bytes) (p : Bytes) (place : ℕ)
+    → ((c : List ℕ) → left_since disk (moment disk) c → may_leave disk c) → IsAtRest content may_leave disk ps place → LeavesOnly moment left_since disk disk (IsBeforeOrAfter ps p)
+stays content may_leave moment left_since disk ps p place only_now rest =
+    let e = rest.ends in
+    record {
+      later = omega arith;
+      each = λ c left. inl (ap frames (rest.durable c (only_now c left) ∙ e.bytes) ∙ frames_at ps e.gate e.behind e.shut e.short);
+      before = λ t c le left. inl left;
+    }

@@ -1,0 +1,4 @@
+pub mod Damage
+pub mod Faults
+pub mod Folding
+pub mod Standing
