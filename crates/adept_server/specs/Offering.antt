@@ -6,8 +6,8 @@ use Rattle.adept_server.specs.declared.worklists.Offer.{Offer}
 use Rattle.case_core.specs.CaseModel.{not_created}
 use Rattle.case_core.specs.Machine.{case_after, case_reply}
 use Rattle.case_core.specs.Shown.{shown}
-use Rattle.case_core.specs.declared.items.Item.{Item}
-use Rattle.case_core.specs.declared.items.Item.TheVariants as item
+use Rattle.wsm_items.specs.declared.work_items.Item.{Item}
+use Rattle.wsm_items.specs.declared.work_items.Item.TheVariants as item
 use Rattle.case_core.specs.declared.views.View.{View}
 use Rattle.case_core.specs.declared.views.View.TheVariants as view
 use Rattle.turn_cell.specs.History.{state_after}

@@ -6,8 +6,8 @@ use Rattle.case_core.specs.CaseModel.{LiveModel, replay_of_case, shown_after, sh
 use Rattle.case_core.specs.Kept.{Kept}
 use Rattle.case_core.specs.Shown.{item_in, item_of, items_of, values_of, shown_live}
 use Rattle.case_core.specs.Promises.{has_work, goes_on, is_held, IsFilled, IsFair}
-use Rattle.case_core.specs.declared.items.Item.{Item}
-use Rattle.case_core.specs.declared.items.Item.TheVariants as item
+use Rattle.wsm_items.specs.declared.work_items.Item.{Item}
+use Rattle.wsm_items.specs.declared.work_items.Item.TheVariants as item
 use Rattle.case_core.proofs.Keeping.{table-of, state-is}
 use Rattle.wsm_lists.specs.Rows.{AllRows}
 use Rattle.wsm_lists.specs.Values.{value_in}

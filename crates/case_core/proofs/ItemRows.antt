@@ -1,27 +1,24 @@
--- The work items of a case are those of the nodes that have marks.
+-- The work items of a case are those of the nodes that have one.
 use Rattle.std.proofs.Common.{◌≡◌, ℕ, Bool, true, false, ◌||◌, eqb, List, [], ◌∷◌, ◌++◌, fold, flat_map, refl, ap, sym, ◌∙◌, subst, inl, inr, Option, Some, None}
 use Rattle.std.specs.Prelude.{if◌then◌else◌}
 use Rattle.std.specs.List.{list_any}
 use Rattle.std.proofs.lemmas.Bool.{cases_Bool, eqb-true, or_parts}
 use Rattle.case_core.specs.CaseModel.{LiveModel, shown_after, shown_spots}
-use Rattle.case_core.specs.Kept.{Kept, marks_in}
+use Rattle.case_core.specs.Kept.{Kept}
 use Rattle.case_core.specs.Shown.{item_of, items_at, items_of}
-use Rattle.case_core.proofs.Marked.{shown-spot, spot-missing, spot-unknown, table}
+use Rattle.case_core.proofs.Marked.{shown-spot, spot-missing, table}
 use Rattle.wsm_lists.specs.ByNumber.{item_at}
 use Rattle.wsm_lists.specs.Keys.{first}
 use Rattle.wsm_lists.specs.Rows.{AllRows, Ascends, key_lt, put_row}
 use Rattle.wsm_lists.proofs.ByNumber.{items-same}
 use Rattle.wsm_lists.proofs.Lists.{all-rows-map}
 use Rattle.wsm_lists.proofs.Rows.{ascends_put}
-use Rattle.wsm_schema.specs.Flat.{card_at, cards_of, flat_of}
+use Rattle.wsm_schema.specs.Flat.{card_at, cards_of}
 use Rattle.wsm_schema.specs.Kinds.{worked_on}
 use Rattle.wsm_schema.specs.Rules.{Spots, by_node, marking_of, spot, spot_in}
-use Rattle.wsm_schema.specs.Marks.{mark_of}
 use Rattle.wsm_schema.specs.declared.cards.Card.{Card}
-use Rattle.wsm_schema.specs.declared.marks.Mark.{Mark}
 use Rattle.wsm_schema.specs.declared.states.Spot.{Spot}
 use Rattle.wsm_schema.specs.declared.states.State.TheVariants.{NotActivated}
-use Rattle.wsm_walk.proofs.Listed.{ascends-listed}
 use Rattle.wsm_steps.proofs.Markings.{IsSpotOf, marking-rows}
 
 -- ---- what a function gives at the numbers of rows that ascend
@@ -107,15 +104,15 @@ ascends-marked : (t : Spots) (cs : List Card) (m : Spots) → Ascends by_node m 
 ascends-marked t [] m h = h
 ascends-marked t (c ∷ cs) m h = ascends-marked t cs (put_row by_node (spot_in c.node t) m) (ascends_put by_node (spot_in c.node t) m h)
 
-none-any : {X : Type 0} (test : X → Bool) (xs : List X) → list_any test xs ≡ false → AllRows (λ x. test x ≡ false) xs
+pub none-any : {X : Type 0} (test : X → Bool) (xs : List X) → list_any test xs ≡ false → AllRows (λ x. test x ≡ false) xs
 none-any test [] h = tt
 none-any test (x ∷ xs) h = let p = or_parts (test x) (list_any test xs) h in (p.0, none-any test xs p.1)
 
-no-item : {A : Type 0} (n : ℕ) (rows : List (ℕ × A)) → AllRows (λ r. eqb r.0 n ≡ false) rows → item_at n rows ≡ None
+pub no-item : {A : Type 0} (n : ℕ) (rows : List (ℕ × A)) → AllRows (λ r. eqb r.0 n ≡ false) rows → item_at n rows ≡ None
 no-item n [] h = refl
 no-item n (r ∷ rs) h = rw h.0 (no-item n rs h.1)
 
-flat_map-rows : {X A : Type 0} (f g : X → List A) (xs : List X) → AllRows (λ x. f x ≡ g x) xs → flat_map f xs ≡ flat_map g xs
+pub flat_map-rows : {X A : Type 0} (f g : X → List A) (xs : List X) → AllRows (λ x. f x ≡ g x) xs → flat_map f xs ≡ flat_map g xs
 flat_map-rows f g [] h = refl
 flat_map-rows f g (x ∷ xs) h = ap (λ l. l ++ flat_map f xs) h.0 ∙ ap (λ l. g x ++ l) (flat_map-rows f g xs h.1)
 
@@ -129,9 +126,6 @@ module _ (l : LiveModel) (kept : Kept l) where
 
   abbrev t : Spots
   t = (table l kept).0
-
-  abbrev rows : List (ℕ × Mark)
-  rows = marks_in l
 
   shown-is : shown_spots l ≡ marking_of cards t
   shown-is = ap (shown_after cards) (table l kept).1
@@ -149,15 +143,9 @@ module _ (l : LiveModel) (kept : Kept l) where
   not-shown : (n : ℕ) → list_any (λ (s : Spot). eqb s.node n) (shown_spots l) ≡ false → items_at l n ≡ []
   not-shown n none = idle-item l n _ (card_at n cards) (spot-missing n (shown_spots l) (none-any (λ (s : Spot). eqb s.node n) (shown_spots l) none))
 
-  not-marked : (n : ℕ) → list_any (λ (r : ℕ × Mark). eqb r.0 n) rows ≡ false → items_at l n ≡ []
-  not-marked n none = go (card_at n cards) refl
-    where
-      go : (o : Option Card) → card_at n cards ≡ o → item_of l (spot_in n (shown_spots l)) o ≡ []
-      go None at = refl
-      go (Some c) at = idle-item l n _ (Some c) (spot-unknown l kept rows refl n c at (no-item n rows (none-any (λ (r : ℕ × Mark). eqb r.0 n) rows none)))
-
-  pub items-marked : items_of l ≡ flat_map (λ r. items_at l r.0) rows
-  items-marked =
+  -- the work items are those that rows give which have all nodes with an item
+  pub items-kept : {A : Type 0} (rows : List (ℕ × A)) → Ascends first rows → ((n : ℕ) → list_any (λ (r : ℕ × A). eqb r.0 n) rows ≡ false → items_at l n ≡ []) → items_of l ≡ flat_map (λ (r : ℕ × A). items_at l r.0) rows
+  items-kept {A} rows up none =
       flat_map-rows (λ (s : Spot). item_of l s (card_at s.node cards)) (λ (s : Spot). items_at l s.node) (shown_spots l)
       (subst (AllRows (λ (s : Spot). item_of l s (card_at s.node cards) ≡ items_at l s.node)) (sym shown-is) (all-rows-map (IsSpotOf t) (λ (s : Spot). item_of l s (card_at s.node cards) ≡ items_at l s.node) own-item (marking_of cards t) (marking-rows cards t)))
-      ∙ same-given (λ (s : Spot). s.node) (λ (r : ℕ × Mark). r.0) (items_at l) (shown_spots l) rows shown-ascend (ascends-listed (mark_of (flat_of l.schema) l.trail.entries) cards) not-shown not-marked
+      ∙ same-given (λ (s : Spot). s.node) (λ (r : ℕ × A). r.0) (items_at l) (shown_spots l) rows shown-ascend up not-shown none

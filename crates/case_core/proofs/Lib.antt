@@ -10,3 +10,5 @@ pub mod TrailFacts
 pub mod CheckedSchemas
 pub mod Journals
 pub mod RoundStarts
+pub mod KeptItems
+pub mod ItemLoops

@@ -8,3 +8,4 @@ pub mod Kept
 pub mod Promises
 pub mod Journals
 pub mod Rounds
+pub mod KeptItems

@@ -4,8 +4,8 @@ use Rattle.std.specs.List.{list_any}
 use Rattle.case_core.specs.CaseModel.{CaseModel, LiveModel, state_of, value_now}
 use Rattle.case_core.specs.declared.events.Event.{Event}
 use Rattle.case_core.specs.declared.events.Event.TheVariants as event
-use Rattle.case_core.specs.declared.items.Item.{Item}
-use Rattle.case_core.specs.declared.items.Item.TheVariants as item
+use Rattle.wsm_items.specs.declared.work_items.Item.{Item}
+use Rattle.wsm_items.specs.declared.work_items.Item.TheVariants as item
 use Rattle.case_core.specs.declared.replies.Reply.{Reply}
 use Rattle.case_core.specs.declared.replies.Reply.TheVariants as reply
 use Rattle.case_core.specs.declared.views.View.{View}

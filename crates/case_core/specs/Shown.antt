@@ -7,8 +7,8 @@ use Rattle.case_core.specs.declared.views.View.{View}
 use Rattle.case_core.specs.declared.views.View.TheVariants as view
 use Rattle.wsm_lists.specs.Values.{Written}
 use Rattle.wsm_trail.specs.LastWrites.{noted_entries, values_at}
-use Rattle.case_core.specs.declared.items.Item.{Item}
-use Rattle.case_core.specs.declared.items.Item.TheVariants as item
+use Rattle.wsm_items.specs.declared.work_items.Item.{Item}
+use Rattle.wsm_items.specs.declared.work_items.Item.TheVariants as item
 use Rattle.wsm_schema.specs.Flat.{cards_of, card_at}
 use Rattle.wsm_schema.specs.Kinds.{worked_on}
 use Rattle.wsm_schema.specs.Rules.{spot_in}

@@ -235,10 +235,7 @@ impl Case {
     {
         match &self.live {
             None => None,
-            Some(live) => match self.state(node) {
-                Some(State::Running) => Some(live.holder(node)),
-                _ => None,
-            },
+            Some(live) => live.holder(node),
         }
     }
 }

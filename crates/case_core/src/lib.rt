@@ -4,7 +4,7 @@
 mod cases;
 mod changes;
 mod events;
-mod items;
+mod item_changes;
 mod live;
 mod replies;
 mod rounds;
@@ -16,8 +16,8 @@ mod work;
 
 pub use cases::Case;
 pub use events::Event;
-pub use items::{Item, ItemList};
 pub use live::Live;
 pub use replies::Reply;
 pub use views::View;
+pub use wsm_items::{Item, ItemList};
 pub use wsm_sound::CaseId;

@@ -1,12 +1,17 @@
 // A case that was created.
-ghost use Rattle.std.specs.Prelude.{◌≡◌, ◌+◌, ◌<◌, ◌^◌, Ok, is_some, length, flat_map, IfOk, OnOk, OnErr, if◌then◌else◌};
+ghost use Rattle.std.specs.Prelude.{◌≡◌, ℕ, ◌+◌, ◌<◌, ◌^◌, Ok, Some, is_some, length, IfOk, OnOk, OnErr, if◌then◌else◌};
 ghost use Rattle.std.specs.Option.{option_copied};
 ghost use Rattle.case_core.specs.CaseModel.{created_on, on_schema, replay_of_case, state_of, value_now};
 ghost use Rattle.case_core.specs.Kept.{IsOnceEach, Kept, marks_in};
-ghost use Rattle.case_core.specs.Machine.{failed_at, holder_of, reads_now, repeated_trail, with_trail};
-ghost use Rattle.case_core.specs.Promises.{StartedWhereRunning};
+ghost use Rattle.case_core.specs.Machine.{failed_at, reads_now, repeated_trail, with_trail};
+ghost use Rattle.case_core.specs.KeptItems.{ChangesItems, entries_with, held_in};
+ghost use Rattle.case_core.specs.Promises.{HolderStarted};
 ghost use Rattle.case_core.specs.Remarks.{AgainRemarks, EndRemarks, Remarks, Runs, RunsLoop, StartRemarks};
-ghost use Rattle.case_core.specs.Shown.{is_finished, items_at, items_of, shown_spots};
+ghost use Rattle.case_core.specs.Shown.{is_finished, items_of, shown_holder, shown_spots};
+ghost use Rattle.wsm_items.specs.WorkItems.{AreByNode, items_in};
+ghost use Rattle.wsm_lists.specs.ByNumber.{item_at};
+ghost use Rattle.wsm_lists.specs.Keys.{first};
+ghost use Rattle.wsm_lists.specs.Rows.{Ascends};
 ghost use Rattle.wsm_ops.specs.Apply.{applied};
 ghost use Rattle.wsm_schema.specs.Flat.{flat_of, card_at, cards_of};
 ghost use Rattle.wsm_schema.specs.Rules.{spot_in};
@@ -14,12 +19,14 @@ ghost use Rattle.wsm_schema.specs.Trail.{cut_by, pushed};
 ghost use Rattle.wsm_trail.specs.Cuts.{StaysBelow};
 ghost use Rattle.wsm_trail.specs.Withdrawn.{starts_of, withdrawn};
 
+use crate::item_changes::{changed_items, items_on};
 use crate::rounds::first_seen;
 use crate::spots::{spot_by, unmarked};
-use crate::timing::{Uncounted, started, starter, timed_on};
+use crate::timing::{Uncounted, timed_on};
 use std::alloc::Global;
 use std::marker::Model;
 use std::sync::Arc;
+use wsm_items::{Item, ItemChanges, Items};
 use wsm_lists::{GrowingTable, copy_option};
 use wsm_ops::Ops;
 use wsm_rules::{Changes, Marks};
@@ -30,7 +37,7 @@ use wsm_settle::{TimedMarks, after_again, after_end, after_start, after_withdraw
 use wsm_sound::{Checked, Version};
 use wsm_trail::Trail;
 
-/// A case that was created: its version, its own operations, its schema, its trail, and the marks of the trail on the schema.
+/// A case that was created: its version, its own operations, its schema, its trail, and the marks and the work items of the trail on the schema.
 #[derive(Drop)]
 pub struct Live {
     base: Version,
@@ -38,13 +45,14 @@ pub struct Live {
     schema: Arc<Checked>,
     trail: Trail,
     marks: Marks,
+    items: Items,
 }
 
 impl Model for Live {
     ghost use Rattle.std.specs.Prelude.{◌≡◌};
     ghost use Rattle.case_core.specs.CaseModel.{LiveModel};
     ghost use Rattle.case_core.specs.Codes.{live_code};
-    ghost use Rattle.wsm_schema.specs.Flat.{flat_of};
+    ghost use Rattle.wsm_schema.specs.Flat.{cards_of, flat_of};
     ghost use Rattle.wsm_schema.specs.Marks.{marks_of};
 
     ghost Value = { LiveModel };
@@ -52,10 +60,11 @@ impl Model for Live {
     ghost coded = { live_code };
 
     ghost use Rattle.case_core.specs.Kept.{Kept};
+    ghost use Rattle.case_core.specs.KeptItems.{TellsItems};
 
     ghost view = { λ a. record { base = a.base; own = a.own; schema = a.schema.value; trail = a.trail.trail } };
 
-    ghost invariant = { λ a. Kept (record { base = a.base; own = a.own; schema = a.schema.value; trail = a.trail.trail }) × (a.marks.rows ≡ marks_of (flat_of a.schema.value) a.trail.trail.entries) };
+    ghost invariant = { λ a. Kept (record { base = a.base; own = a.own; schema = a.schema.value; trail = a.trail.trail }) × ((a.marks.rows ≡ marks_of (flat_of a.schema.value) a.trail.trail.entries) × TellsItems (cards_of a.schema.value) a.trail.trail.entries a.marks.rows a.items.rows) };
 }
 
 impl Live {
@@ -67,13 +76,17 @@ impl Live {
         let trail = Trail::new(alloc);
         match timed_on(alloc, &schema, &trail)? {
             TimedMarks::Fails { .. } => unreachable!(),
-            TimedMarks::Whole(marks) => Ok(Live {
-                base: version.share()?,
-                own: Ops::new(alloc),
-                schema,
-                trail,
-                marks,
-            }),
+            TimedMarks::Whole(marks) => {
+                let items = items_on(alloc, &schema, &trail, &marks)?;
+                Ok(Live {
+                    base: version.share()?,
+                    own: Ops::new(alloc),
+                    schema,
+                    trail,
+                    marks,
+                    items,
+                })
+            }
         }
     }
 
@@ -133,13 +146,21 @@ impl Live {
         }
     }
 
-    /// The marks of the nodes of which something is known. Each node with a work item is one of them.
-    pub fn marks(&self) -> &Marks
+    // The marks of the nodes of which something is known.
+    fn marks(&self) -> &Marks
         ensures rows { result.now.rows ≡ marks_in self.now }
-        ensures items { items_of self.now ≡ flat_map (λ r. items_at self.now r.0) result.now.rows }
         ensures kept { Kept self.now }
     {
         &self.marks
+    }
+
+    /// The work items, by node.
+    pub fn items(&self) -> &Items
+        ensures items { items_in result.now.rows ≡ items_of self.now }
+        ensures held { (node : ℕ) → held_in (item_at node result.now.rows) ≡ shown_holder (Some self.now) node }
+    {
+        let _ = self.items.as_slice();
+        &self.items
     }
 
     // The cards of the schema's nodes.
@@ -175,12 +196,18 @@ impl Live {
         self.trail.value(element)
     }
 
-    /// The user who started a node last, or 0. The trail has the Start of a node that is running.
-    pub fn holder(&self, node: u32) -> u32
-        ensures holder { result ≡ holder_of self.now node }
-        ensures started { StartedWhereRunning self.now node result }
+    /// The user who holds a running node. None where the node is not running.
+    pub fn holder(&self, node: u32) -> Option<u32>
+        ensures holder { result ≡ shown_holder (Some self.now) node }
+
+        // The trail has the Start of who holds the node.
+        ensures started { HolderStarted (Some self.now) node result }
     {
-        starter(self.trail(), started(self.marks(), node))
+        let _ = self.base();
+        match self.items().get(node) {
+            Some(Item::Held { user, .. }) => Some(*user),
+            Some(Item::Offered { .. }) | None => None,
+        }
     }
 
     /// The values that a start of the node would read.
@@ -266,32 +293,52 @@ impl Live {
         after_withdraw(alloc, &mut marks, node)
     }
 
+    // What becomes of the work items where the marks change so and the trail gets that entry, or none.
+    fn changed_items(
+        &self,
+        alloc: Global,
+        entry: Option<&Entry>,
+        changes: &Changes,
+    ) -> Result<ItemChanges, NoMemory>
+        ensures items { IfOk result (ChangesItems (cards_of self.now.schema) (entries_with self.now.trail (option_copied entry.entry)) changes.now) }
+        ensures nodes { IfOk result AreByNode }
+        ensures ascends { Ascends first changes.now }
+    {
+        changed_items(alloc, self.checked(), self.trail(), entry, changes)
+    }
+
     /// The case without the start of a node, with what that changes of the marks.
-    pub fn drop_start(&mut self, node: u32, changes: Changes) -> Result<(), NoMemory>
+    pub fn drop_start(&mut self, alloc: Global, node: u32, changes: Changes) -> Result<(), NoMemory>
         requires one { length (starts_of node self.old.trail.entries) ≡ 1 }
         requires kept { Kept (with_trail self.old (withdrawn node self.old.trail)) }
         requires marks { Remarks self.old (withdrawn node self.old.trail) changes }
         ensures ok { OnOk result (self.new ≡ with_trail self.old (withdrawn node self.old.trail)) }
         ensures err { OnErr result (self.new ≡ self.old) }
     {
+        let items = self.changed_items(alloc, None, &changes)?;
         self.marks.reserve(changes.len())?;
+        self.items.reserve(items.len())?;
         self.trail.drop_start(node);
         self.marks.take_in(changes);
+        self.items.take_in(items);
         Ok(())
     }
 
     /// One more entry, with what it changes of the marks.
-    pub fn append(&mut self, entry: Entry, changes: Changes) -> Result<(), NoMemory>
+    pub fn append(&mut self, alloc: Global, entry: Entry, changes: Changes) -> Result<(), NoMemory>
         requires position { self.old.trail.next + 1 < 2 ^ 32 }
         requires kept { Kept (with_trail self.old (pushed entry self.old.trail)) }
         requires marks { Remarks self.old (pushed entry self.old.trail) changes }
         ensures ok { OnOk result (self.new ≡ with_trail self.old (pushed entry self.old.trail)) }
         ensures err { OnErr result (self.new ≡ self.old) }
     {
+        let items = self.changed_items(alloc, Some(&entry), &changes)?;
         self.trail.reserve_for(&entry)?;
         self.marks.reserve(changes.len())?;
+        self.items.reserve(items.len())?;
         self.trail.push(entry);
         self.marks.take_in(changes);
+        self.items.take_in(items);
         Ok(())
     }
 
@@ -313,10 +360,12 @@ impl Live {
         match timed_on(alloc, &schema, &self.trail)? {
             TimedMarks::Fails { position } => Ok(Some(position)),
             TimedMarks::Whole(marks) => {
+                let items = items_on(alloc, &schema, &self.trail, &marks)?;
                 self.base = base;
                 self.own = own;
                 self.schema = schema;
                 self.marks = marks;
+                self.items = items;
                 Ok(None)
             }
         }
@@ -333,7 +382,7 @@ impl Live {
         let body = self.checked().flat().loop_body(alloc, node)?;
         let first = self.first_seen(body.as_slice());
         let changes = self.again_changes(alloc, node)?;
-        self.cut_and_append(&body, first, Entry::Again { node, writes }, changes)
+        self.cut_and_append(alloc, &body, first, Entry::Again { node, writes }, changes)
     }
 
     // The position below which no entry is of these nodes.
@@ -347,6 +396,7 @@ impl Live {
     // of the loop.
     fn cut_and_append(
         &mut self,
+        alloc: Global,
         body: &Nodes,
         first: u32,
         entry: Entry,
@@ -359,11 +409,14 @@ impl Live {
         ensures ok { OnOk result (self.new ≡ with_trail self.old (pushed entry (cut_by body.now self.old.trail))) }
         ensures err { OnErr result (self.new ≡ self.old) }
     {
+        let items = self.changed_items(alloc, Some(&entry), &changes)?;
         self.trail.reserve_for(&entry)?;
         self.marks.reserve(changes.len())?;
+        self.items.reserve(items.len())?;
         self.trail.cut_from(first, body);
         self.trail.push(entry);
         self.marks.take_in(changes);
+        self.items.take_in(items);
         Ok(())
     }
 }

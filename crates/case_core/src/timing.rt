@@ -1,7 +1,7 @@
 // The marks of a case's trail, and who started a node.
 ghost use Rattle.std.specs.Prelude.{◌≡◌, Some, IfOk};
 ghost use Rattle.case_core.specs.Machine.{user_of};
-ghost use Rattle.case_core.specs.Remarks.{IsTimedOn, started_in, user_at};
+ghost use Rattle.case_core.specs.Remarks.{IsTimedOn, user_at};
 ghost use Rattle.wsm_sound.specs.Flattened.{IsChecked};
 
 use std::alloc::Global;
@@ -35,16 +35,6 @@ pub fn timed_on(alloc: Global, checked: &Checked, trail: &Trail) -> Result<Timed
     timed(alloc, checked.flat(), checked.rank(), trail)
 }
 
-/// Where a node was started, by its mark.
-pub fn started(marks: &Marks, node: u32) -> Option<u32>
-    ensures { result ≡ started_in marks.now.rows node }
-{
-    match marks.get(node) {
-        None => None,
-        Some(mark) => mark.started,
-    }
-}
-
 /// The user of the Start at a position, else 0.
 pub fn starter(trail: &Trail, position: Option<u32>) -> u32
     ensures { result ≡ user_at trail.now.trail.entries position }
@@ -58,8 +48,8 @@ pub fn starter(trail: &Trail, position: Option<u32>) -> u32
     }
 }
 
-// The user of a Start, else 0.
-fn user_of(entry: &Entry) -> u32
+/// The user of a Start, else 0.
+pub fn user_of(entry: &Entry) -> u32
     ensures { result ≡ user_of (Some (0, entry.now)) }
 {
     match entry {

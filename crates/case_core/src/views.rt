@@ -1,5 +1,5 @@
 // What a case shows.
-use crate::items::ItemList;
+use wsm_items::ItemList;
 use wsm_schema::{Marking, Writes};
 
 /// What a case shows.

@@ -1,6 +1,7 @@
 // Starts and ends of nodes, and nodes that are given back.
-ghost use Rattle.std.specs.Prelude.{◌≡◌, ◌+◌, ◌<◌, ◌^◌, ◌||◌, IfOk, OnErr};
-ghost use Rattle.case_core.specs.Machine.{start_refusal, hold_refusal, end_refusal, start_live, end_live, withdraw_live, may_work, repeats, wrong_reply, ended_reply};
+ghost use Rattle.std.specs.Prelude.{◌≡◌, ◌==◌, ◌+◌, ◌<◌, ◌^◌, ◌||◌, not, IfOk, OnErr};
+ghost use Rattle.case_core.specs.Machine.{start_refusal, hold_refusal, end_refusal, start_live, end_live, withdraw_live, may_work, repeats, when_reply, wrong_reply, ended_reply};
+ghost use Rattle.case_core.specs.declared.replies.Reply.TheVariants as reply;
 ghost use Rattle.wsm_schema.specs.Replay.{fits_choice};
 
 use crate::live::Live;
@@ -35,7 +36,7 @@ impl Live {
         let reads = self.reads(alloc, card)?;
         let replies = both(alloc, Reply::Started(reads.duplicate(alloc)?))?;
         let changes = self.start_changes(alloc, node)?;
-        self.append(Entry::Start { node, user, reads }, changes)?;
+        self.append(alloc, Entry::Start { node, user, reads }, changes)?;
         Ok(replies)
     }
 
@@ -83,6 +84,7 @@ impl Live {
         }
         let changes = self.end_changes(alloc, node, choice)?;
         self.append(
+            alloc,
             Entry::End {
                 node,
                 writes,
@@ -127,15 +129,11 @@ impl Live {
     fn hold_refusal(&self, node: u32, user: u32) -> Option<Reply>
         ensures { result ≡ hold_refusal self.now node user }
     {
-        let state = self.state(node);
-        if state != State::Running {
-            return Some(Reply::NotRunning(state));
+        let _ = self.base();
+        match self.holder(node) {
+            None => Some(Reply::NotRunning(self.state(node))),
+            Some(holder) => not_holder(holder, user),
         }
-        let holder = self.holder(node);
-        if holder != user {
-            return Some(Reply::NotHolder(holder));
-        }
-        None
     }
 
     /// A user gives the node back, which is activated again.
@@ -158,8 +156,19 @@ impl Live {
             return both(alloc, refusal);
         }
         let changes = self.withdraw_changes(alloc, node)?;
-        self.drop_start(node, changes)?;
+        self.drop_start(alloc, node, changes)?;
         Ok((Reply::Withdrawn, Reply::Withdrawn))
+    }
+}
+
+// The refusal of another user than the holder.
+fn not_holder(holder: u32, user: u32) -> Option<Reply>
+    ensures { result ≡ when_reply (not (holder == user)) (reply.NotHolder holder) }
+{
+    if holder == user {
+        None
+    } else {
+        Some(Reply::NotHolder(holder))
     }
 }
 

@@ -1,9 +1,9 @@
 -- How a case ended.
 use Rattle.std.specs.Prelude.{ℕ, Bool, [], ◌++◌, flat_map, length, Option, Some, None, if◌then◌else◌, codes, decimal}
 use Rattle.case_core.specs.CaseModel.{LiveModel, state_of, value_now}
-use Rattle.case_core.specs.Shown.{is_finished, items_at, items_of}
-use Rattle.case_core.specs.declared.items.Item.{Item}
-use Rattle.case_core.specs.declared.items.Item.TheVariants as item
+use Rattle.case_core.specs.Shown.{is_finished, items_of}
+use Rattle.wsm_items.specs.declared.work_items.Item.{Item}
+use Rattle.wsm_items.specs.declared.work_items.Item.TheVariants as item
 use Rattle.file_words.specs.Lines.{Bytes}
 use Rattle.file_model.specs.declared.files.File.{File}
 use Rattle.report_words.specs.Words.{node_then, caller_text, assigned, letter}
@@ -41,10 +41,6 @@ values_line f l = codes "values" ++ (flat_map (value_now_text f l) l.schema.elem
 abbrev pub item_text : File → Item → Bytes
 item_text f (item.Offered node role) = node_then f node (codes "@") ++ decimal role
 item_text f (item.Held node user) = node_then f node (codes ":") ++ caller_text f user
-
--- the work item of a node, where it has one
-abbrev pub node_text : File → LiveModel → ℕ → Bytes
-node_text f l n = flat_map (item_text f) (items_at l n)
 
 abbrev pub items_line : File → LiveModel → Bytes
 items_line f l = codes "items" ++ (flat_map (item_text f) (items_of l) ++ codes "\n")

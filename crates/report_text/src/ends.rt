@@ -2,17 +2,16 @@
 ghost use Rattle.std.specs.Prelude.{◌≡◌, ℕ, ◌++◌, flat_map, codes};
 ghost use Rattle.std.specs.Option.{option_copied};
 ghost use Rattle.adept_io.specs.Written.{Gives};
-ghost use Rattle.case_core.specs.declared.items.Item.TheVariants as item;
-ghost use Rattle.case_core.specs.Shown.{is_finished, item_in};
-ghost use Rattle.report_text.specs.Ends.{end_text, item_text, items_line, live_text, mark_text, marking_line, node_text, progress, state_line, value_now_text, values_line};
+ghost use Rattle.wsm_items.specs.declared.work_items.Item.TheVariants as item;
+ghost use Rattle.case_core.specs.Shown.{is_finished};
+ghost use Rattle.report_text.specs.Ends.{end_text, item_text, items_line, live_text, mark_text, marking_line, progress, state_line, value_now_text, values_line};
 ghost use Rattle.wsm_schema.specs.Flat.{cards_of};
 
 use adept_io::{Sink, put, put_number, put_pieces};
-use case_core::Live;
+use case_core::{Item, Live};
 use file_model::File;
 use itoa::Buffer;
 use report_words::{caller_word, letter, put_assigned, put_node};
-use wsm_rules::{Mark, is_worked_on};
 use wsm_schema::{Card, ElementKind, State};
 
 /// The lines that say how a case ended: one where it was not created, and else four.
@@ -130,56 +129,26 @@ fn put_items_line<K: Sink>(sink: &mut K, ok: bool, file: &File, live: &Live) -> 
     ensures { Gives K.written K.faults ok result sink.old sink.new (items_line file.now live.now) }
 {
     let ok = put(sink, ok, b"items");
-    let ok = put_items(sink, ok, file, live, live.marks().as_slice());
+    let ok = put_items(sink, ok, file, live.items().as_slice());
     put(sink, ok, b"\n")
 }
 
-fn put_items<K: Sink>(
-    sink: &mut K,
-    ok: bool,
-    file: &File,
-    live: &Live,
-    marks: &[(u32, Mark)],
-) -> bool
-    ensures { Gives K.written K.faults ok result sink.old sink.new (flat_map (λ m. node_text file.now live.now m.0) marks.now) }
+fn put_items<K: Sink>(sink: &mut K, ok: bool, file: &File, items: &[(u32, Item)]) -> bool
+    ensures { Gives K.written K.faults ok result sink.old sink.new (flat_map (λ r. item_text file.now r.1) items.now) }
 {
     let mut well = ok;
-    for mark in marks {
-        well = put_item(sink, well, file, live, mark.0);
+    for row in items {
+        well = put_item(sink, well, file, row.1);
     }
     well
 }
 
-// The work item of a node, where it has one.
-#[tactic(auto, using(adept_io::proofs::Sent::gives_nothing))]
-fn put_item<K: Sink>(sink: &mut K, ok: bool, file: &File, live: &Live, node: u32) -> bool
-    ensures { Gives K.written K.faults ok result sink.old sink.new (node_text file.now live.now node) }
+fn put_item<K: Sink>(sink: &mut K, ok: bool, file: &File, item: Item) -> bool
+    ensures { Gives K.written K.faults ok result sink.old sink.new (item_text file.now item) }
 {
-    let Some(card) = live.card(node) else {
-        return ok;
-    };
-    if is_worked_on(card.kind) {
-        put_work(sink, ok, file, live, card, live.state(node))
-    } else {
-        ok
-    }
-}
-
-#[tactic(auto, using(adept_io::proofs::Sent::gives_nothing))]
-fn put_work<K: Sink>(
-    sink: &mut K,
-    ok: bool,
-    file: &File,
-    live: &Live,
-    card: &Card,
-    state: State,
-) -> bool
-    ensures { Gives K.written K.faults ok result sink.old sink.new (flat_map (item_text file.now) (item_in live.now card.now state)) }
-{
-    match state {
-        State::Activated => put_offered(sink, ok, file, card.node, card.role),
-        State::Running => put_held(sink, ok, file, card.node, live.holder(card.node)),
-        State::NotActivated | State::Completed | State::Skipped => ok,
+    match item {
+        Item::Offered { node, role } => put_offered(sink, ok, file, node, role),
+        Item::Held { node, user } => put_held(sink, ok, file, node, user),
     }
 }
 

@@ -1,14 +1,24 @@
-use Rattle.std.proofs.Common.{◌≡◌, ℕ, List, [], ◌++◌, flat_map, ap, ◌∙◌, sym, rules}
+use Rattle.std.proofs.Common.{subst}
+use Rattle.case_core.proofs.KeptItems.{held-are, items-are, keeps-of}
 use Rattle.case_core.specs.CaseModel.{LiveModel}
-use Rattle.case_core.specs.Shown.{items_at}
-use Rattle.case_core.specs.declared.items.Item.{Item}
-use Rattle.wsm_schema.specs.declared.marks.Mark.{Mark}
+use Rattle.case_core.specs.Kept.{Kept}
+use Rattle.case_core.specs.KeptItems.{KeepsItems}
+use Rattle.wsm_lists.specs.Keys.{first}
+use Rattle.wsm_lists.specs.Rows.{Ascends}
 use Rattle.case_core.proofs.live.Live.items.Goals as goal
 
-pub loop-row-init : goal.loop-row-init
-loop-row-init c =
+pub returns-clause-items : goal.returns-clause-items
+returns-clause-items c =
     let l : LiveModel = c.args.self.now in
-    let none : c.new-items.result.items ≡ [] = search rules in
-    ap (λ (is : List Item). is ++ flat_map (λ (r : ℕ × Mark). items_at l r.0) c.as_slice-row-items.result.now) none
-    ∙ ap (flat_map (λ (r : ℕ × Mark). items_at l r.0)) c.as_slice-row-items.ensures.rows
-    ∙ sym c.marks.ensures.items
+    let kept : Kept l = subst Kept c.self.view_is c.self.invariant.0 in
+    let k : LiveModel = record { base = c.self.inside.base; own = c.self.inside.own; schema = c.self.inside.schema.value; trail = c.self.inside.trail.trail } in
+    let keeps : KeepsItems l c.self.inside.items.rows = keeps-of k l c.self.view_is c.self.inside.marks.rows c.self.invariant.1.0 c.self.inside.items.rows c.self.invariant.1.1 in
+    items-are l kept c.self.inside.items.rows keeps (subst (Ascends first) c.as_slice.ensures.rows c.as_slice.ensures.ascends)
+
+pub returns-clause-held : goal.returns-clause-held
+returns-clause-held c =
+    let l : LiveModel = c.args.self.now in
+    let kept : Kept l = subst Kept c.self.view_is c.self.invariant.0 in
+    let k : LiveModel = record { base = c.self.inside.base; own = c.self.inside.own; schema = c.self.inside.schema.value; trail = c.self.inside.trail.trail } in
+    let keeps : KeepsItems l c.self.inside.items.rows = keeps-of k l c.self.view_is c.self.inside.marks.rows c.self.invariant.1.0 c.self.inside.items.rows c.self.invariant.1.1 in
+    held-are l kept c.self.inside.items.rows keeps

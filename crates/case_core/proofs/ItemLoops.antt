@@ -1,0 +1,150 @@
+-- Work items that are made while rows are gone over.
+use Rattle.std.proofs.Common.{◌≡◌, ℕ, zero, suc, ◌+◌, ◌<◌, ◌≢◌, true, false, cond, eqb, List, [], ◌∷◌, ◌++◌, arith, drop, get_or, length, refl, ap, sym, ◌∙◌, subst, inl, inr, Option, Some, None}
+use Rattle.std.specs.Prelude.{option_map}
+use Rattle.std.proofs.lemmas.Bool.{cases_Bool, eq-eqb, eqb-true, ne_eqb}
+use Rattle.std.proofs.lemmas.List.{drop_more}
+use Rattle.case_core.specs.KeptItems.{entries_with, item_by, item_for, with_item, work_item}
+use Rattle.case_core.specs.Machine.{user_of}
+use Rattle.case_core.specs.Remarks.{user_at}
+use Rattle.wsm_items.specs.WorkItems.{AreByNode, IsOfNode, item_node}
+use Rattle.wsm_items.specs.declared.work_items.Item.{Item}
+use Rattle.wsm_lists.specs.ByNumber.{item_at}
+use Rattle.wsm_lists.specs.Keys.{first}
+use Rattle.wsm_lists.specs.Rows.{Ascends, put_row}
+use Rattle.wsm_lists.proofs.ByNumber.{item_at-above, item_at-put}
+use Rattle.wsm_lists.proofs.Rows.{all_put}
+use Rattle.wsm_schema.specs.Flat.{card_at}
+use Rattle.wsm_schema.specs.Kinds.{worked_on}
+use Rattle.wsm_schema.specs.Trail.{TrailModel}
+use Rattle.wsm_schema.specs.declared.cards.Card.{Card}
+use Rattle.wsm_schema.specs.declared.entries.Entry.{Entry}
+use Rattle.wsm_schema.specs.declared.marks.Mark.{Mark}
+use Rattle.wsm_schema.specs.declared.states.State.{State}
+use Rattle.wsm_schema.specs.declared.states.State.TheVariants as state
+use Rattle.wsm_trail.specs.EntryAt.{entry_at}
+use Rattle.wsm_trail.specs.TrailWithRoom.{Rises}
+use Rattle.wsm_trail.proofs.Rising.{rises-le}
+use Rattle.wsm_walk.specs.Kept.{mark_or, no_mark}
+use Rattle.wsm_walk.specs.MarkStates.{mark_spot}
+
+-- ---- what is held of a number while rows are gone over: nothing as long as its row is ahead
+abbrev pub Held : {M I : Type 0} → (Option M → Option I) → Option M → Option I → Option M → Type 0
+Held f (Some m) held all = (held ≡ None) × (all ≡ Some m)
+Held f None held all = held ≡ f all
+
+ascends-behind : {M : Type 0} (i : ℕ) (xs : List (ℕ × M)) → Ascends first xs → Ascends first (drop i xs)
+ascends-behind zero xs up = up
+ascends-behind (suc i) [] up = tt
+ascends-behind (suc i) (x ∷ xs) up = ascends-behind i xs up.1
+
+module _ {M I : Type 0} (f : Option M → Option I) where
+  pub held-first : f None ≡ None → (all : Option M) → Held f all None all
+  held-first none None = sym none
+  held-first none (Some m) = (refl, refl)
+
+  pub held-next : (xs : List (ℕ × M)) → Ascends first xs → (i : ℕ) (d : ℕ × M) → i < length xs → (n : ℕ) (held held' : Option I) (all : Option M) →
+      (eqb (get_or xs i d).0 n ≡ true → held ≡ None → held' ≡ f (Some (get_or xs i d).1)) → (eqb (get_or xs i d).0 n ≡ false → held' ≡ held) → Held f (item_at n (drop i xs)) held all → Held f (item_at n (drop (i + 1) xs)) held' all
+  held-next xs up i d lt n held held' all same other h =
+      let c : ℕ × M = get_or xs i d in
+      let rest : List (ℕ × M) = drop (i + 1) xs in
+      let split : drop i xs ≡ c ∷ rest = drop_more xs i d lt in
+      let ascends : Ascends first (c ∷ rest) = subst (Ascends first) split (ascends-behind i xs up) in
+      let before : Held f (item_at n (c ∷ rest)) held all = subst (λ l. Held f (item_at n l) held all) split h in
+      elim (cases_Bool (eqb c.0 n)) [
+        | inl here ↦
+            let none : item_at n rest ≡ None = item_at-above n c rest ascends.0 here in
+            let now : Held f (Some c.1) held all = rw here at before in
+            subst (λ o. Held f o held' all) (sym none) (same here now.0 ∙ ap f (sym now.1))
+        | inr away ↦
+            let now : Held f (item_at n rest) held all = rw away at before in
+            subst (λ x. Held f (item_at n rest) x all) (sym (other away)) now
+      ]
+
+-- ---- each item is of its node
+of-state : (n role user : ℕ) (s : State) → IsOfNode n (work_item n role s user)
+of-state n role user state.NotActivated = tt
+of-state n role user state.Activated = refl
+of-state n role user state.Running = refl
+of-state n role user state.Completed = tt
+of-state n role user state.Skipped = tt
+
+of-card : (n : ℕ) (o : Option Card) (m : Mark) (user : ℕ) → IsOfNode n (item_by o n m user)
+of-card n None m user = tt
+of-card n (Some c) m user =
+    elim (cases_Bool (worked_on c.kind)) [
+      | inl works ↦ rw works (of-state n c.role user (mark_spot c.kind n m).state)
+      | inr silent ↦ rw silent tt
+    ]
+
+pub of-node : (cards : List Card) (es : List (ℕ × Entry)) (n : ℕ) (m : Option Mark) → IsOfNode n (item_for cards es n m)
+of-node cards es n m = of-card n (card_at n cards) (mark_or m) (user_at es (mark_or m).started)
+
+-- a node with no mark has none
+unmarked-card : (n : ℕ) (o : Option Card) (user : ℕ) → item_by o n no_mark user ≡ None
+unmarked-card n None user = refl
+unmarked-card n (Some c) user = elim (cases_Bool (worked_on c.kind)) [ inl works ↦ rw works refl | inr silent ↦ rw silent refl ]
+
+pub unmarked-none : (cards : List Card) (es : List (ℕ × Entry)) (n : ℕ) → item_for cards es n None ≡ None
+unmarked-none cards es n = unmarked-card n (card_at n cards) (user_at es None)
+
+-- ---- one more item
+pub with-own : (n : ℕ) (o : Option Item) (rows : List (ℕ × Item)) → IsOfNode n o → item_at n rows ≡ None → item_at n (with_item o rows) ≡ o
+with-own n None rows of none = none
+with-own n (Some i) rows of none =
+    item_at-put n (item_node i, i) rows ∙ ap (λ b. cond b (Some i) (item_at n rows)) (eq-eqb (item_node i) n (sym of))
+
+pub with-other : (k n : ℕ) (o : Option Item) (rows : List (ℕ × Item)) → IsOfNode k o → eqb k n ≡ false → item_at n (with_item o rows) ≡ item_at n rows
+with-other k n None rows of away = refl
+with-other k n (Some i) rows of away =
+    item_at-put n (item_node i, i) rows ∙ ap (λ b. cond b (Some i) (item_at n rows)) (ap (λ j. eqb j n) (sym of) ∙ away)
+
+-- ---- the next row
+pub item-next : (cards : List Card) (es : List (ℕ × Entry)) (marks : List (ℕ × Mark)) → Ascends first marks → (i : ℕ) (d : ℕ × Mark) → i < length marks → (now new : List (ℕ × Item)) →
+    new ≡ with_item (item_for cards es (get_or marks i d).0 (Some (get_or marks i d).1)) now → (n : ℕ) → Held (item_for cards es n) (item_at n (drop i marks)) (item_at n now) (item_at n marks) → Held (item_for cards es n) (item_at n (drop (i + 1) marks)) (item_at n new) (item_at n marks)
+item-next cards es marks up i d lt now new put n h =
+    let c : ℕ × Mark = get_or marks i d in
+    let o : Option Item = item_for cards es c.0 (Some c.1) in
+    held-next (item_for cards es n) marks up i d lt n (item_at n now) (item_at n new) (item_at n marks)
+    (λ here none. ap (item_at n) put ∙ with-own n o now (subst (λ k. IsOfNode k o) (eqb-true c.0 n here) (of-node cards es c.0 (Some c.1))) none ∙ ap (λ k. item_for cards es k (Some c.1)) (eqb-true c.0 n here))
+    (λ away. ap (item_at n) put ∙ with-other c.0 n o now (of-node cards es c.0 (Some c.1)) away) h
+
+pub change-next : (cards : List Card) (es : List (ℕ × Entry)) (changes : List (ℕ × Option Mark)) → Ascends first changes → (i : ℕ) (d : ℕ × Option Mark) → i < length changes → (now new : List (ℕ × Option Item)) (o : Option Item) →
+    o ≡ item_for cards es (get_or changes i d).0 (get_or changes i d).1 → new ≡ put_row first ((get_or changes i d).0, o) now → (n : ℕ) → Held (option_map (item_for cards es n)) (item_at n (drop i changes)) (item_at n now) (item_at n changes) →
+    Held (option_map (item_for cards es n)) (item_at n (drop (i + 1) changes)) (item_at n new) (item_at n changes)
+change-next cards es changes up i d lt now new o is put n h =
+    let c : ℕ × Option Mark = get_or changes i d in
+    let at : item_at n new ≡ cond (eqb c.0 n) (Some o) (item_at n now) = ap (item_at n) put ∙ item_at-put n (c.0, o) now in
+    held-next (option_map (item_for cards es n)) changes up i d lt n (item_at n now) (item_at n new) (item_at n changes)
+    (λ here none. at ∙ ap (λ b. cond b (Some o) (item_at n now)) here ∙ ap Some is ∙ ap (λ k. Some (item_for cards es k c.1)) (eqb-true c.0 n here))
+    (λ away. at ∙ ap (λ b. cond b (Some o) (item_at n now)) away) h
+
+-- each item that is put is of its node
+pub nodes-next : (cards : List Card) (es : List (ℕ × Entry)) (changes : List (ℕ × Option Mark)) (i : ℕ) (d : ℕ × Option Mark) (now new : List (ℕ × Option Item)) (o : Option Item) →
+    o ≡ item_for cards es (get_or changes i d).0 (get_or changes i d).1 → new ≡ put_row first ((get_or changes i d).0, o) now → AreByNode now → AreByNode new
+nodes-next cards es changes i d now new o is put nodes =
+    let c : ℕ × Option Mark = get_or changes i d in
+    subst AreByNode (sym put) (all_put first (λ (r : ℕ × Option Item). IsOfNode r.0 r.1) (c.0, o) now (subst (IsOfNode c.0) (sym is) (of-node cards es c.0 c.1)) nodes)
+
+-- ---- who stands at a position of a trail with one entry more
+last-here : (low next : ℕ) (e : Entry) (es : List (ℕ × Entry)) → Rises low next es → entry_at next (es ++ (next, e) ∷ []) ≡ Some e
+last-here low next e [] rises = rw (eq-eqb next next refl) refl
+last-here low next e (x ∷ xs) rises =
+    let le = rises-le (x.0 + 1) next xs rises.1 in
+    let apart : eqb x.0 next ≡ false = ne_eqb x.0 next (omega (arith, le)) in
+    rw apart (last-here (x.0 + 1) next e xs rises.1)
+
+others-here : (p next : ℕ) (e : Entry) (es : List (ℕ × Entry)) → eqb next p ≡ false → entry_at p (es ++ (next, e) ∷ []) ≡ entry_at p es
+others-here p next e [] apart = rw apart refl
+others-here p next e (x ∷ xs) apart =
+    elim (cases_Bool (eqb x.0 p)) [
+      | inl here ↦ rw here refl
+      | inr away ↦ rw away (others-here p next e xs apart)
+    ]
+
+pub user-of_next : (t : TrailModel) (e : Entry) (p : ℕ) → Rises 1 t.next t.entries → p ≡ t.next → user_of (Some (0, e)) ≡ user_at (entries_with t (Some e)) (Some p)
+user-of_next t e p rises same =
+    ap (λ o. user_of (option_map (λ x. (p, x)) o)) (sym (ap (λ q. entry_at q (t.entries ++ (t.next, e) ∷ [])) same ∙ last-here 1 t.next e t.entries rises))
+
+pub user-of_other : (t : TrailModel) (e : Entry) (p : ℕ) → p ≢ t.next → user_at t.entries (Some p) ≡ user_at (entries_with t (Some e)) (Some p)
+user-of_other t e p other =
+    ap (λ o. user_of (option_map (λ x. (p, x)) o)) (sym (others-here p t.next e t.entries (ne_eqb t.next p (λ same. other (sym same)))))

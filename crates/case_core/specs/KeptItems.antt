@@ -1,0 +1,62 @@
+-- The work items of a case, told by its marks and its trail, and what an event makes of them.
+use Rattle.std.specs.Prelude.{◌≡◌, ℕ, List, Option, Some, None, option_map, if◌then◌else◌}
+use Rattle.case_core.specs.CaseModel.{LiveModel}
+use Rattle.case_core.specs.Kept.{marks_in}
+use Rattle.case_core.specs.Remarks.{user_at}
+use Rattle.wsm_items.specs.WorkItems.{item_node}
+use Rattle.wsm_items.specs.declared.work_items.Item.{Item}
+use Rattle.wsm_items.specs.declared.work_items.Item.TheVariants as item
+use Rattle.wsm_lists.specs.ByNumber.{item_at}
+use Rattle.wsm_lists.specs.Keys.{first}
+use Rattle.wsm_lists.specs.Rows.{put_row}
+use Rattle.wsm_schema.specs.Flat.{card_at, cards_of}
+use Rattle.wsm_schema.specs.Kinds.{worked_on}
+use Rattle.wsm_schema.specs.Trail.{TrailModel, pushed}
+use Rattle.wsm_schema.specs.declared.cards.Card.{Card}
+use Rattle.wsm_schema.specs.declared.entries.Entry.{Entry}
+use Rattle.wsm_schema.specs.declared.marks.Mark.{Mark}
+use Rattle.wsm_schema.specs.declared.states.State.{State}
+use Rattle.wsm_schema.specs.declared.states.State.TheVariants as state
+use Rattle.wsm_walk.specs.Kept.{mark_or}
+use Rattle.wsm_walk.specs.MarkStates.{mark_spot}
+
+-- the work item of a node with that role in that state, where the user started it
+abbrev pub work_item : ℕ → ℕ → State → ℕ → Option Item
+work_item n role state.Activated user = Some (item.Offered n role)
+work_item n role state.Running user = Some (item.Held n user)
+work_item n role _ user = None
+
+-- by its card and its mark
+abbrev pub item_by : Option Card → ℕ → Mark → ℕ → Option Item
+item_by None n m user = None
+item_by (Some c) n m user = if worked_on c.kind then work_item n c.role (mark_spot c.kind n m).state user else None
+
+-- where it has a mark or none, and these are the entries of the trail
+abbrev pub item_for : List Card → List (ℕ × Entry) → ℕ → Option Mark → Option Item
+item_for cards es n m = item_by (card_at n cards) n (mark_or m) (user_at es (mark_or m).started)
+
+-- the work item of each node that has one
+abbrev pub TellsItems : List Card → List (ℕ × Entry) → List (ℕ × Mark) → List (ℕ × Item) → Type 0
+TellsItems cards es marks items = (n : ℕ) → item_at n items ≡ item_for cards es n (item_at n marks)
+
+abbrev pub KeepsItems : LiveModel → List (ℕ × Item) → Type 0
+KeepsItems l items = TellsItems (cards_of l.schema) l.trail.entries (marks_in l) items
+
+-- what becomes of the work items of the nodes whose marks change
+abbrev pub ChangesItems : List Card → List (ℕ × Entry) → List (ℕ × Option Mark) → List (ℕ × Option Item) → Type 0
+ChangesItems cards es changes items = (n : ℕ) → item_at n items ≡ option_map (item_for cards es n) (item_at n changes)
+
+-- the entries of a trail that gets one more, or none
+abbrev pub entries_with : TrailModel → Option Entry → List (ℕ × Entry)
+entries_with t None = t.entries
+entries_with t (Some e) = (pushed e t).entries
+
+-- rows with one more item, where there is one
+abbrev pub with_item : Option Item → List (ℕ × Item) → List (ℕ × Item)
+with_item None rows = rows
+with_item (Some i) rows = put_row first (item_node i, i) rows
+
+-- who holds an item
+abbrev pub held_in : Option Item → Option ℕ
+held_in (Some (item.Held n user)) = Some user
+held_in _ = None
