@@ -1,0 +1,2 @@
+mod EqualCards
+mod Touching

@@ -1,0 +1,2 @@
+pub mod SameCards
+pub mod TouchedNodes

@@ -1,0 +1,35 @@
+// Whether two cards are one.
+ghost use Rattle.std.specs.Prelude.{◌≡◌};
+ghost use Rattle.wsm_touch.specs.SameCards.{same_card, same_data, same_edges, same_place};
+
+use wsm_schema::Card;
+
+/// Whether two cards are equal.
+pub fn same_card(one: &Card, other: &Card) -> bool
+    ensures { result ≡ same_card one.now other.now }
+{
+    same_place(one, other) && same_edges(one, other) && same_data(one, other)
+}
+
+fn same_place(one: &Card, other: &Card) -> bool
+    ensures { result ≡ same_place one.now other.now }
+{
+    one.node == other.node && one.kind == other.kind && one.partner == other.partner
+}
+
+fn same_edges(one: &Card, other: &Card) -> bool
+    ensures { result ≡ same_edges one.now other.now }
+{
+    *one.ins.as_slice() == *other.ins.as_slice()
+        && *one.outs.as_slice() == *other.outs.as_slice()
+        && *one.syncs_in.as_slice() == *other.syncs_in.as_slice()
+        && *one.syncs_out.as_slice() == *other.syncs_out.as_slice()
+}
+
+fn same_data(one: &Card, other: &Card) -> bool
+    ensures { result ≡ same_data one.now other.now }
+{
+    *one.reads.as_slice() == *other.reads.as_slice()
+        && *one.writes.as_slice() == *other.writes.as_slice()
+        && one.role == other.role
+}
