@@ -7,6 +7,7 @@ use Rattle.std.specs.declared.cmp.Ordering.TheVariants.{Less, Equal, Greater}
 use Rattle.std.specs.BTreeSet.{insert_key}
 use Rattle.std.proofs.lemmas.Bool.{cases_Bool, both_ways, eqb-true, eq-eqb}
 use Rattle.std.proofs.lemmas.Map.Lookups.{exact_unsigned}
+use Rattle.std.proofs.lemmas.Option.{same_Some}
 use Rattle.wsm_schema.specs.Trail.{is_one_of}
 use Rattle.wsm_walk.specs.RankPlaces.{AllWithin, Handed, rank_place}
 use Rattle.wsm_walk.proofs.Reached.{or-true}
@@ -42,6 +43,13 @@ module _ (rank : List ℕ) (low : ℕ) where
   -- at the end of a list nothing is left to be named
   pub handed-rest : {X : Type 0} (test : ℕ → X → Bool) (xs : List X) (i : ℕ) → length xs ≤ i → (old : List ℕ) → Handed rank (λ k. list_any (test k) (drop i xs)) low old old
   handed-rest test xs i past old = rw (drop_all xs i past) (handed-nothing old)
+
+  -- what became pending stays so
+  pub handed-again : (names : ℕ → Bool) (old new : List ℕ) → Handed rank names low old new → Handed rank names low new new
+  handed-again names old new h = record { stay = λ q there. there; come = h.come; only = λ q there. inl there }
+
+  pub handed-last : (node : ℕ) (old new : List ℕ) → Handed rank (λ k. eqb node k) low old new → (n : ℕ) → Some node ≡ Some n → Handed rank (λ k. eqb n k) low new new
+  handed-last node old new h n same = subst (λ m. Handed rank (λ k. eqb m k) low new new) (same_Some node n same) (handed-again (λ k. eqb node k) old new h)
 
   -- what one of two names, one after the other
   pub handed-both : (a b : ℕ → Bool) (old mid new : List ℕ) → Handed rank a low old mid → Handed rank b low mid new → Handed rank (λ k. a k || b k) low old new

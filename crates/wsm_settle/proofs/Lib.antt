@@ -1,5 +1,6 @@
 pub mod Results
 pub mod Handing
 pub mod Visits
+pub mod AllPlaces
 pub mod Begins
 pub mod TrailMarks

@@ -12,7 +12,7 @@ use Rattle.wsm_marks.specs.Fits.{RisesAfter}
 use Rattle.wsm_marks.specs.Timed.{Entries}
 use Rattle.wsm_replay.specs.Answer.{answer}
 use Rattle.wsm_walk.specs.Current.{mark_now}
-use Rattle.wsm_walk.specs.RankPlaces.{Handed, rank_place}
+use Rattle.wsm_walk.specs.RankPlaces.{rank_place}
 use Rattle.wsm_walk.specs.Told.{told_rows}
 use Rattle.wsm_walk.specs.Walk.{Walks}
 use Rattle.wsm_walk.proofs.Goals.{trail-aim}
@@ -42,7 +42,3 @@ failed-none (fails p) h = absurd (cc)
 pub failed-some : (o : Outcome) (p : ℕ) → failed_at o ≡ Some p → o ≡ fails p
 failed-some (whole t) p h = absurd (cc)
 failed-some (fails q) p h = ap fails (some-one q p h)
-
--- where all nodes of the rank are handed, all are pending
-pub all-pending : (rank nodes old new : List ℕ) → nodes ≡ rank → old ≡ [] → Handed rank (λ k. is_one_of k nodes) 0 old new → Handed rank (λ k. is_one_of k rank) 0 [] new
-all-pending rank nodes old new are none handed = subst (λ ns. Handed rank (λ k. is_one_of k ns) 0 [] new) are (subst (λ l. Handed rank (λ k. is_one_of k nodes) 0 l new) none handed)

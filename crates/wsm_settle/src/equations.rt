@@ -1,22 +1,53 @@
 // The equation of a node over marks: since when it is ready or skipped.
-ghost use Rattle.std.specs.Prelude.{◌≡◌, ◌+◌, ◌≤◌, None, IfOk, length, map};
-ghost use Rattle.wsm_marks.specs.Timed.{awaited, ended_signal, eq_of, flow, greater, latest, sig_of, time, timed_by};
+ghost use Rattle.std.specs.Prelude.{◌≡◌, ◌+◌, ◌≤◌, [], ◌∷◌, None, IfOk, IfSome, length, map};
+ghost use Rattle.wsm_marks.specs.Timed.{awaited, eq_of, flow, greater, latest, time, timed_by};
 ghost use Rattle.wsm_settle.specs.Signals.{signal_by};
 ghost use Rattle.wsm_walk.specs.Walk.{time_by};
-ghost use Rattle.wsm_walk.specs.Kept.{timed_of};
 ghost use Rattle.wsm_walk.specs.Listed.{seen};
 
-use crate::overlays::{Overlay, mark_at};
+use crate::overlays::Overlay;
+use crate::sources::{Timed, read_source, source_at};
 use std::alloc::Global;
 use wsm_lists::NoMemory;
-use wsm_rules::{Flow, Mark, MarkReads, Verdict, is_worked_on, judge};
-use wsm_schema::{Card, Flat, NodeKind};
-
-/// A position, and what holds from then on: of a node that it is ready or skipped, of an edge what it signals.
-pub type Timed = Option<(u32, Flow)>;
+use wsm_rules::{Flow, MarkReads, Verdict, judge};
+use wsm_schema::{Card, End, Flat, NodeKind};
 
 /// Since when a node is ready or skipped, by what its edges signal over these marks. It reads at most one mark for each edge.
 pub fn equation<M: MarkReads>(
+    alloc: Global,
+    flat: &Flat,
+    marks: &mut M,
+    changes: &Overlay,
+    card: &Card,
+) -> Result<Timed, NoMemory>
+    ensures timed { IfOk result (λ timed. timed ≡ time_by flat.now.cards (seen (M.kept marks.old) changes.now) card.now) }
+    ensures same { M.kept marks.new ≡ M.kept marks.old }
+    ensures rises { M.reads marks.old ≤ M.reads marks.new }
+    ensures count { M.reads marks.new ≤ M.reads marks.old + (length card.now.ins + length card.now.syncs_in) }
+{
+    match only_edge(card) {
+        None => equation_of_all(alloc, flat, marks, changes, card),
+        Some(end) => {
+            let source = read_source(flat, marks, changes, end.node);
+            Ok(equation_of_one(card, source.signal(end.label)))
+        }
+    }
+}
+
+// The control edge into a node, where no other edge enters it.
+fn only_edge(card: &Card) -> Option<&End>
+    ensures { IfSome result (λ end. (card.now.ins ≡ end.now ∷ []) × (card.now.syncs_in ≡ [])) }
+{
+    let (end, others) = card.ins.as_slice().split_first()?;
+    if others.is_empty() && card.syncs_in.is_empty() {
+        Some(end)
+    } else {
+        None
+    }
+}
+
+// The equation of a node, by all of its edges.
+fn equation_of_all<M: MarkReads>(
     alloc: Global,
     flat: &Flat,
     marks: &mut M,
@@ -33,19 +64,6 @@ pub fn equation<M: MarkReads>(
     equation_of(alloc, card, &control, &syncs)
 }
 
-/// Since when the mark says that its node is ready or skipped.
-pub fn time_of(mark: &Mark) -> Timed
-    ensures { result ≡ timed_of mark.now }
-{
-    match mark.skipped_at {
-        Some(position) => Some((position, Flow::No)),
-        None => match mark.ready_at {
-            Some(position) => Some((position, Flow::Yes)),
-            None => None,
-        },
-    }
-}
-
 fn control_signals<M: MarkReads>(
     alloc: Global,
     flat: &Flat,
@@ -59,9 +77,11 @@ fn control_signals<M: MarkReads>(
     ensures count { M.reads marks.new ≤ M.reads marks.old + length card.now.ins }
 {
     let mut all = Vec::new(alloc);
+    let mut known = None;
     for end in card.ins.as_slice() {
-        let signal = signal_from(flat, marks, changes, end.node, end.label);
-        all.push(signal)?;
+        let source = source_at(flat, marks, changes, known, end.node);
+        all.push(source.signal(end.label))?;
+        known = Some(source);
     }
     Ok(all)
 }
@@ -80,72 +100,18 @@ fn sync_signals<M: MarkReads>(
 {
     let mut all = Vec::new(alloc);
     for node in card.syncs_in.as_slice() {
-        let signal = signal_from(flat, marks, changes, *node, None);
-        all.push(signal)?;
+        let source = read_source(flat, marks, changes, *node);
+        all.push(source.signal(None))?;
     }
     Ok(all)
 }
 
-// What an edge from a node signals, and since when.
-fn signal_from<M: MarkReads>(
-    flat: &Flat,
-    marks: &mut M,
-    changes: &Overlay,
-    node: u32,
-    label: Option<u16>,
-) -> Timed
-    ensures signal { result ≡ signal_by flat.now.cards (seen (M.kept marks.old) changes.now) label node }
-    ensures same { M.kept marks.new ≡ M.kept marks.old }
-    ensures rises { M.reads marks.old ≤ M.reads marks.new }
-    ensures count { M.reads marks.new ≤ M.reads marks.old + 1 }
+// The node rule on the signal of the only edge.
+fn equation_of_one(card: &Card, signal: Timed) -> Timed
+    ensures { result ≡ eq_of card.now.kind (signal ∷ []) [] }
 {
-    match flat.card(node) {
-        None => None,
-        Some(card) => {
-            let mark = mark_at(marks, changes, node);
-            signal(card.kind, &mark, label)
-        }
-    }
-}
-
-// The signal of an edge with that label, by its source's kind and mark: a skip goes before an End.
-fn signal(kind: NodeKind, mark: &Mark, label: Option<u16>) -> Timed
-    ensures { result ≡ sig_of kind (timed_of mark.now) mark.now.ended mark.now.choice label }
-{
-    match time_of(mark) {
-        Some((position, Flow::No)) => Some((position, Flow::No)),
-        Some((position, Flow::Yes)) => {
-            if is_worked_on(kind) {
-                ended_signal(kind, mark, label)
-            } else {
-                Some((position, Flow::Yes))
-            }
-        }
-        None => {
-            if is_worked_on(kind) {
-                ended_signal(kind, mark, label)
-            } else {
-                None
-            }
-        }
-    }
-}
-
-// What a node that is worked on signals since its End.
-fn ended_signal(kind: NodeKind, mark: &Mark, label: Option<u16>) -> Timed
-    ensures { result ≡ ended_signal kind mark.now.ended mark.now.choice label }
-{
-    match mark.ended {
-        None => None,
-        Some(position) => {
-            let chosen = label.is_none() || label == mark.choice;
-            if kind == NodeKind::XorSplit && !chosen {
-                Some((position, Flow::No))
-            } else {
-                Some((position, Flow::Yes))
-            }
-        }
-    }
+    let verdict = judge(card, &[flow_of(signal)], &[]);
+    timed_by(verdict, awaited_latest(card.kind, &[signal]), 0)
 }
 
 // The node rule on the signals, with the latest of their positions.

@@ -6,6 +6,7 @@ mod equations;
 mod overlays;
 mod pending;
 mod repeats;
+mod sources;
 mod starts;
 mod timing;
 mod walks;

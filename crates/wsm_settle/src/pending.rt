@@ -2,7 +2,7 @@
 ghost use Rattle.std.specs.Prelude.{◌≡◌, ◌==◌, ◌≤◌, ◌↔◌, IsTrue, OnOk};
 ghost use Rattle.std.specs.List.{list_any};
 ghost use Rattle.wsm_schema.specs.Trail.{is_one_of};
-ghost use Rattle.wsm_settle.specs.Behind.{low_of};
+ghost use Rattle.wsm_settle.specs.Behind.{WasHanded, low_of};
 ghost use Rattle.wsm_walk.specs.RankPlaces.{Handed};
 ghost use Rattle.wsm_walk.specs.Targets.{leads_to};
 
@@ -50,10 +50,29 @@ fn hand_to_ends(
 ) -> Result<(), NoMemory>
     ensures handed { OnOk result (Handed rank.now (λ k. list_any (λ o. o.node == k) ends.now) (low_of from) pending.old.keys pending.new.keys) }
 {
+    let mut last = None;
     for end in ends {
-        hand_to_node(rank, end.node, from, pending)?;
+        hand_to_other(rank, end.node, last, from, pending)?;
+        last = Some(end.node);
     }
     Ok(())
+}
+
+// A node becomes pending, if it is not the one that became so last.
+fn hand_to_other(
+    rank: &Rank,
+    node: u32,
+    last: Option<u32>,
+    from: Option<usize>,
+    pending: &mut Pending,
+) -> Result<(), NoMemory>
+    requires { WasHanded rank.now (low_of from) last pending.old.keys }
+    ensures handed { OnOk result (Handed rank.now (λ k. node == k) (low_of from) pending.old.keys pending.new.keys) }
+{
+    if last == Some(node) {
+        return Ok(());
+    }
+    hand_to_node(rank, node, from, pending)
 }
 
 // A node becomes pending.

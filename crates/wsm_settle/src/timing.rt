@@ -10,10 +10,8 @@ ghost use Rattle.wsm_walk.specs.Listed.{seen};
 ghost use Rattle.wsm_walk.specs.Told.{node_of, tell, tell_row, told_rows};
 
 use crate::overlays::{Overlay, or_blank};
-use crate::pending::hand_to;
-use crate::walks::walk;
+use crate::walks::walk_all;
 use std::alloc::Global;
-use std::collections::BTreeSet;
 use wsm_lists::{GrowingTable, NoMemory};
 use wsm_replay::{Replayed, replay};
 use wsm_rules::{Changes, Mark, MarkReads, Marks};
@@ -57,6 +55,9 @@ fn failure(alloc: Global, flat: &Flat, rank: &Rank, trail: &Trail) -> Result<Opt
     requires { IsRank flat.now.cards rank.now }
     ensures { IfOk result (λ position. position ≡ failed_at (replay_of flat.now trail.now.trail.entries)) }
 {
+    if trail.entries().is_empty() {
+        return Ok(None);
+    }
     let replayed = replay(alloc, flat, rank, trail)?;
     Ok(position_of(&replayed))
 }
@@ -75,9 +76,7 @@ fn marks_of(alloc: Global, flat: &Flat, rank: &Rank, trail: &Trail) -> Result<Ma
     ensures { IfOk result (λ marks. MarksRight flat.now rank.now trail.now.trail.entries marks.rows) }
 {
     let mut changes = told_by(alloc, trail.entries())?;
-    let mut pending = BTreeSet::new(alloc);
-    hand_to(rank, rank.nodes(), None, &mut pending)?;
-    walk(alloc, flat, rank, &mut NoMarks, &mut changes, &mut pending)?;
+    walk_all(alloc, flat, rank, &mut NoMarks, &mut changes)?;
     taken_in(alloc, changes.into_table(alloc)?)
 }
 

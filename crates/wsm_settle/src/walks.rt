@@ -1,15 +1,17 @@
 // A walk over the nodes behind a change, the least pending place at a time.
 ghost use Rattle.std.specs.Prelude.{◌≡◌, ◌+◌, ◌<◌, ◌≤◌, ◌∷◌, [], length, get_or, IfOk, OnOk};
 ghost use Rattle.wsm_schema.specs.Flat.{card_at};
+ghost use Rattle.wsm_settle.specs.AllPlaces.{WalksOne, places_from};
 ghost use Rattle.wsm_settle.specs.Revised.{IsRevised};
 ghost use Rattle.wsm_walk.specs.Listed.{seen};
 ghost use Rattle.wsm_walk.specs.RankPlaces.{AllBehind, AllWithin};
 ghost use Rattle.wsm_walk.specs.Spent.{ReadsFew, Spends, visit_cost};
 ghost use Rattle.wsm_walk.specs.Walk.{Walks, with_time};
 
-use crate::equations::{Timed, equation, time_of};
+use crate::equations::equation;
 use crate::overlays::{Overlay, mark_at, said};
 use crate::pending::{Pending, hand_on};
+use crate::sources::{Timed, time_of};
 use std::alloc::Global;
 use wsm_lists::NoMemory;
 use wsm_rules::{Flow, Mark, MarkReads};
@@ -34,6 +36,45 @@ pub fn walk<M: MarkReads>(
         visit(alloc, flat, rank, marks, changes, pending, place)?;
     }
     Ok(())
+}
+
+/// All places of the rank are visited in their order, so that none has to be pending.
+pub fn walk_all<M: MarkReads>(
+    alloc: Global,
+    flat: &Flat,
+    rank: &Rank,
+    marks: &mut M,
+    changes: &mut Overlay,
+) -> Result<(), NoMemory>
+    ensures walked { OnOk result (Walks flat.now.cards rank.now (M.kept marks.old) (places_from 0 (length rank.now)) changes.old [] changes.new) }
+    ensures same { M.kept marks.new ≡ M.kept marks.old }
+{
+    for place in 0..rank.nodes().len() {
+        revise_at(alloc, flat, rank, marks, changes, place)?;
+    }
+    Ok(())
+}
+
+// The node at a place gets the time of its equation.
+fn revise_at<M: MarkReads>(
+    alloc: Global,
+    flat: &Flat,
+    rank: &Rank,
+    marks: &mut M,
+    changes: &mut Overlay,
+    place: usize,
+) -> Result<(), NoMemory>
+    requires { place < length rank.now }
+    ensures walked { OnOk result (WalksOne flat.now.cards rank.now (M.kept marks.old) place changes.old changes.new) }
+    ensures same { M.kept marks.new ≡ M.kept marks.old }
+{
+    match flat.card(rank.nodes()[place]) {
+        None => Ok(()),
+        Some(card) => match revised(alloc, flat, marks, changes, card)? {
+            None => Ok(()),
+            Some(mark) => changes.set((card.node, said(mark))),
+        },
+    }
 }
 
 // The node at a place gets the time of its equation; where that is another one, the nodes behind it become pending.

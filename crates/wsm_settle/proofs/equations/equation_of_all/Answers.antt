@@ -4,7 +4,7 @@ use Rattle.wsm_walk.specs.Listed.{seen}
 use Rattle.wsm_walk.specs.Walk.{time_by}
 use Rattle.wsm_settle.proofs.Results.{if_ok}
 use Rattle.wsm_settle.proofs.Visits.{equation-is}
-use Rattle.wsm_settle.proofs.equations.equation.Goals as goal
+use Rattle.wsm_settle.proofs.equations.equation_of_all.Goals as goal
 
 pub returns-clause-timed : goal.returns-clause-timed
 returns-clause-timed g c =
