@@ -3,6 +3,7 @@ use Rattle.std.specs.Prelude.{◌≡◌, ℕ, ◌≤◌, List, [], ◌∷◌, le
 use Rattle.adept_actor.specs.Growth.{DeskHasDone}
 use Rattle.adept_server.specs.Desks.{KindPass, CasePass, DeskView, IsDefinedFor, case_pass, has_case, has_kind}
 use Rattle.legal_run.specs.LineCalls.{Call, AreCallsOf, AreCallsOfLines, ArePartOf, AreBegun, lines_of}
+use Rattle.file_limits.specs.declared.TheConstants.{MAX_OPS}
 use Rattle.file_model.specs.declared.files.Act.{Act}
 use Rattle.file_model.specs.declared.files.Act.TheVariants as act
 use Rattle.file_model.specs.declared.files.Line.{Line}
@@ -22,8 +23,8 @@ CanAct v (act.Create c) = has_case v c × IsDefinedFor v c.type_no
 CanAct v (act.Start c node) = has_case v c
 CanAct v (act.Withdraw c node) = has_case v c
 CanAct v (act.End c node writes choice) = has_case v c
-CanAct v (act.Change c ops) = has_case v c × (length ops ≤ 256)
-CanAct v (act.Install t ops) = has_kind v t × (length ops ≤ 256)
+CanAct v (act.Change c ops) = has_case v c × (length ops ≤ MAX_OPS)
+CanAct v (act.Install t ops) = has_kind v t × (length ops ≤ MAX_OPS)
 CanAct v (act.Migrate t) = has_kind v t × IsDefinedFor v t
 
 -- those of the desk's own lines can

@@ -3,7 +3,8 @@ use Rattle.std.proofs.Common.{◌≡◌, ℕ, ◌≤◌, ◌⊎◌, inl, inr, Li
 use Rattle.std.proofs.lemmas.Bool.{le-ltb}
 use Rattle.adept_top.specs.Commands.{load_size, input}
 use Rattle.adept_top.specs.Endings.{OfFile, IsInputOf, EndsUnworked, Ends}
-use Rattle.adept_top.specs.Statuses.{is_end_status, most_bytes, status_of}
+use Rattle.adept_top.specs.Statuses.{is_end_status, status_of}
+use Rattle.file_limits.specs.declared.TheConstants.{MAX_FILE_BYTES}
 use Rattle.adept_top.specs.Works.{Works}
 use Rattle.adept_top.specs.declared.outcomes.Outcome.{Outcome}
 use Rattle.adept_top.specs.declared.words.Command.{Command}
@@ -11,13 +12,13 @@ use Rattle.file_model.specs.Reading.{file}
 use Rattle.file_model.specs.declared.files.File.{File}
 
 -- what holds of the file that was got holds of the file that the bytes stand for
-of-input : (bytes : Option (List ℕ)) (f : File) (P : File → Type 0) → IfSome bytes (λ b. (length b ≤ most_bytes) × (file b ≡ Ok f)) → P f → OfFile bytes P
+of-input : (bytes : Option (List ℕ)) (f : File) (P : File → Type 0) → IfSome bytes (λ b. (length b ≤ MAX_FILE_BYTES) × (file b ≡ Ok f)) → P f → OfFile bytes P
 of-input None f P read h = tt
 of-input (Some b) f P read h = (read.0, rw read.1 h)
 
 -- the bytes of a file ask for status 0
-status-file : (b : List ℕ) (f : File) → length b ≤ most_bytes → file b ≡ Ok f → status_of b ≡ 0
-status-file b f few read = rw (le-ltb most_bytes (length b) few, read) refl
+status-file : (b : List ℕ) (f : File) → length b ≤ MAX_FILE_BYTES → file b ≡ Ok f → status_of b ≡ 0
+status-file b f few read = rw (le-ltb MAX_FILE_BYTES (length b) few, read) refl
 
 -- a worked command ends with 0, 4 or 5
 worked-status : (n : ℕ) → (n ≡ 0) ⊎ (n ≡ 4) ⊎ (n ≡ 5) → IsTrue (is_end_status n)
@@ -30,7 +31,7 @@ not_worked : (n k : ℕ) → (n ≡ 0) ⊎ (n ≡ 4) ⊎ (n ≡ 5) → (k ≡ 1)
 not_worked n k s t e = grind arith
 
 -- the bytes decide how a worked command ends, or memory wants, or a write fails
-worked-exact : (bytes : Option (List ℕ)) (f : File) (n : ℕ) → IfSome bytes (λ b. (length b ≤ most_bytes) × (file b ≡ Ok f)) → (n ≡ 0) ⊎ (n ≡ 4) ⊎ (n ≡ 5)
+worked-exact : (bytes : Option (List ℕ)) (f : File) (n : ℕ) → IfSome bytes (λ b. (length b ≤ MAX_FILE_BYTES) × (file b ≡ Ok f)) → (n ≡ 0) ⊎ (n ≡ 4) ⊎ (n ≡ 5)
     → IfSome bytes (λ b. (n ≡ status_of b) ⊎ (n ≡ 5) ⊎ ((status_of b ≡ 0) × (n ≡ 4)))
 worked-exact None f n read s = tt
 worked-exact (Some b) f n read s =

@@ -3,6 +3,7 @@ use Rattle.std.specs.Prelude.{ℕ, ◌≡◌, ◌≤◌, Bool, ◌&&◌, nat_lt,
 use Rattle.adept_load.specs.Load.{load_text}
 use Rattle.adept_top.specs.declared.words.Command.{Command}
 use Rattle.adept_top.specs.declared.words.Command.TheVariants as command
+use Rattle.file_limits.specs.declared.TheConstants.{MAX_CASES}
 use Rattle.file_words.specs.Numbers.{are_digits, value_from}
 use Rattle.legal_run.specs.Legal.{Legal}
 use Rattle.file_model.specs.declared.files.File.{File}
@@ -18,9 +19,9 @@ command_word w =
     else (if bytes_eq w (codes "play") then Some command.Play
     else (if bytes_eq w (codes "check") then Some command.Check else None))
 
--- how many cases a word asks for: 1 to 4096, in at most four digits
+-- how many cases a word asks for: from 1, in at most four digits
 abbrev pub is_case_count : List ℕ → Bool
-is_case_count w = are_digits 4 w && nat_lt 0 (value_from 0 w) && nat_le (value_from 0 w) 4096
+is_case_count w = are_digits 4 w && nat_lt 0 (value_from 0 w) && nat_le (value_from 0 w) MAX_CASES
 
 abbrev pub case_count : List ℕ → Option ℕ
 case_count w = if is_case_count w then Some (value_from 0 w) else None

@@ -5,7 +5,8 @@ use Rattle.adept_io.specs.Counts.{Rose}
 use Rattle.adept_io.specs.Read.{ConsumesMany}
 use Rattle.adept_io.specs.Written.{AppendsPrefix}
 use Rattle.adept_top.specs.Commands.{IsRunOf, load_size, input, output}
-use Rattle.adept_top.specs.Statuses.{is_end_status, most_bytes, status_of}
+use Rattle.adept_top.specs.Statuses.{is_end_status, status_of}
+use Rattle.file_limits.specs.declared.TheConstants.{MAX_FILE_BYTES}
 use Rattle.adept_top.specs.declared.outcomes.Outcome.{Outcome}
 use Rattle.adept_top.specs.declared.words.Command.{Command}
 use Rattle.file_model.specs.Reading.{file}
@@ -14,16 +15,16 @@ use Rattle.file_model.specs.declared.refusals.Refused.{Refused}
 
 -- the bytes, where they are known, are not too many and stand for a file of which this holds
 abbrev pub OfFile : Option (List ℕ) → (File → Type 0) → Type 0
-OfFile bytes P = IfSome bytes (λ b. (length b ≤ most_bytes) × IsOkAnd (file b) P)
+OfFile bytes P = IfSome bytes (λ b. (length b ≤ MAX_FILE_BYTES) × IsOkAnd (file b) P)
 
 -- the bytes, where they are known, are not too many and stand for no file, of which this is the refusal
 abbrev pub IsRefused : Option (List ℕ) → Option Refused → Type 0
-IsRefused bytes place = IfSome bytes (λ b. (length b ≤ most_bytes) × IsErrAnd (file b) (λ refusal. place ≡ Some refusal))
+IsRefused bytes place = IfSome bytes (λ b. (length b ≤ MAX_FILE_BYTES) × IsErrAnd (file b) (λ refusal. place ≡ Some refusal))
 
 -- The file that a command works: its input stands for it, and was read to its end; a command that makes its file
 -- leaves the source as it was.
 pub record IsInputOf {S : Type 0} (left : S → Option (List ℕ)) (cases : Option ℕ) (from to : S) (f : File) : Type 0 where
-  pub file : IfSome (input cases (left from)) (λ b. (length b ≤ most_bytes) × (file b ≡ Ok f))
+  pub file : IfSome (input cases (left from)) (λ b. (length b ≤ MAX_FILE_BYTES) × (file b ≡ Ok f))
   pub whole : IfNone cases (IsAtEnd (left to))
   pub made : OnSome cases (to ≡ from)
 
@@ -33,7 +34,7 @@ pub record EndsUnworked {S : Type 0} (left : S → Option (List ℕ)) (faults : 
   pub statuses : (o.status ≡ 1) ⊎ (o.status ≡ 3) ⊎ (o.status ≡ 5) ⊎ (o.status ≡ 6)
   pub refused : o.status ≡ 1 → IsRefused (input cases (left from)) o.place × IfNone cases (IsAtEnd (left to))
   pub unread : o.status ≡ 3 → Rose (faults from) (faults to)
-  pub too_long : o.status ≡ 6 → ConsumesMany (left from) (left to) (most_bytes + 1)
+  pub too_long : o.status ≡ 6 → ConsumesMany (left from) (left to) (MAX_FILE_BYTES + 1)
   pub made : OnSome cases (to ≡ from)
   pub no_run : o.run ≡ None
   pub no_place : o.status ≢ 1 → o.place ≡ None
@@ -53,7 +54,7 @@ pub record Ends {S K : Type 0} (left : S → Option (List ℕ)) (read_faults : S
   pub whole : (o.status ≡ 0) ⊎ (o.status ≡ 1) ⊎ (o.status ≡ 4) → IfNone (load_size c) (IsAtEnd (left to))
   -- 3: a read failed; 6: there was one byte too many
   pub unread : o.status ≡ 3 → Rose (read_faults from) (read_faults to)
-  pub too_long : o.status ≡ 6 → ConsumesMany (left from) (left to) (most_bytes + 1)
+  pub too_long : o.status ≡ 6 → ConsumesMany (left from) (left to) (MAX_FILE_BYTES + 1)
   -- a command that makes its file leaves the source as it was; no other end than 0 and 4 touches the sink or has a run
   pub made : OnSome (load_size c) (to ≡ from)
   pub untouched : o.status ≢ 0 → o.status ≢ 4 → new ≡ old

@@ -8,6 +8,7 @@ use crate::reading::{made_process, read_process};
 use crate::words::Command;
 use crate::working::{check_file, play_file, run_file, summarize_file};
 use adept_io::{Sink, Source};
+use file_limits::MAX_CASES;
 use std::alloc::Global;
 use std::sync::Wait;
 use std::thread::Threads;
@@ -83,7 +84,7 @@ fn load<R: Threads + Wait + Sync, S: Source, K: Sink, G: Gate + Sync>(
     sink: &mut K,
     gate: &G,
 ) -> Outcome
-    requires { (1 ≤ cases) × (cases ≤ 4096) }
+    requires { (1 ≤ cases) × (cases ≤ MAX_CASES) }
     ensures { Ends S.left S.faults K.written K.faults (Command.Load cases) source.old source.new sink.old sink.new result }
 {
     match made_process(alloc, cases, source) {

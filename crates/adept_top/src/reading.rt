@@ -2,7 +2,7 @@
 ghost use Rattle.std.specs.Prelude.{◌≡◌, ◌≢◌, ◌⊎◌, ◌≤◌, length, IfOk, IfErr, Ok, Some, None};
 ghost use Rattle.adept_load.specs.Load.{load_text};
 ghost use Rattle.adept_top.specs.Endings.{EndsUnworked, IsInputOf, IsRefused};
-ghost use Rattle.adept_top.specs.Statuses.{most_bytes, status_of};
+ghost use Rattle.adept_top.specs.Statuses.{status_of};
 ghost use Rattle.file_facts.specs.Facts.{IsWorkable};
 ghost use Rattle.file_model.specs.Reading.{file};
 ghost use Rattle.file_model.specs.Sizes.{IsBounded};
@@ -10,11 +10,9 @@ ghost use Rattle.file_model.specs.Sizes.{IsBounded};
 use crate::outcomes::Outcome;
 use adept_io::{ReadRefusal, Source, read_to_limit};
 use adept_load::load_file;
+use file_limits::{MAX_CASES, MAX_FILE_BYTES};
 use process_text::{File, FileRefusal, read_workable};
 use std::alloc::Global;
-
-/// The most bytes that a process file may have.
-const MOST_BYTES: usize = 16777216;
 
 /// Reads the source to its end: the process file that its bytes stand for, or how the program ends without one.
 pub fn read_process<S: Source>(alloc: Global, source: &mut S) -> Result<File, Outcome>
@@ -23,7 +21,7 @@ pub fn read_process<S: Source>(alloc: Global, source: &mut S) -> Result<File, Ou
     ensures workable { IfOk result (λ read. IsWorkable read) }
     ensures err { IfErr result (λ end. EndsUnworked S.left S.faults None source.old source.new end) }
 {
-    match read_to_limit(alloc, source, MOST_BYTES) {
+    match read_to_limit(alloc, source, MAX_FILE_BYTES) {
         Ok(bytes) => file_of(alloc, bytes.as_slice()),
         Err(ReadRefusal::Failed) => Err(Outcome::of_status(3)),
         Err(ReadRefusal::NoMemory) => Err(Outcome::of_status(5)),
@@ -33,7 +31,7 @@ pub fn read_process<S: Source>(alloc: Global, source: &mut S) -> Result<File, Ou
 
 /// The process file that is made for so many cases, or how the program ends without one. The source is left as it is.
 pub fn made_process<S: Source>(alloc: Global, cases: u32, source: &mut S) -> Result<File, Outcome>
-    requires { (1 ≤ cases) × (cases ≤ 4096) }
+    requires { (1 ≤ cases) × (cases ≤ MAX_CASES) }
     ensures input { IfOk result (λ made. IsInputOf S.left (Some cases) source.old source.new made) }
     ensures workable { IfOk result (λ made. IsWorkable made) }
     ensures err { IfErr result (λ end. EndsUnworked S.left S.faults (Some cases) source.old source.new end) }
@@ -47,7 +45,7 @@ pub fn made_process<S: Source>(alloc: Global, cases: u32, source: &mut S) -> Res
 
 // The file of these bytes.
 fn file_of(alloc: Global, bytes: &[u8]) -> Result<File, Outcome>
-    requires { length bytes.now ≤ most_bytes }
+    requires { length bytes.now ≤ MAX_FILE_BYTES }
     ensures file { IfOk result (λ read. file bytes.now ≡ Ok read) }
     ensures bounded { IfOk result (λ read. IsBounded read) }
     ensures workable { IfOk result (λ read. IsWorkable read) }

@@ -2,6 +2,7 @@
 ghost use Rattle.std.specs.Prelude.{◌≡◌, ◌≤◌, map, string_bytes, IfSome};
 ghost use Rattle.adept_top.specs.Commands.{case_count, load_size, command_of, command_word, load_words};
 
+use file_limits::MAX_CASES;
 use file_words::code;
 
 /// What the program can be told to do.
@@ -21,7 +22,7 @@ impl Command {
     /// The command that the words stand for. None where they stand for none.
     pub fn of(words: &[String]) -> Option<Command>
         ensures command { result ≡ command_of (map string_bytes words.now) }
-        ensures cases { IfSome result (λ c. IfSome (load_size c) (λ n. (1 ≤ n) × (n ≤ 4096))) }
+        ensures cases { IfSome result (λ c. IfSome (load_size c) (λ n. (1 ≤ n) × (n ≤ MAX_CASES))) }
     {
         match words {
             [word] => Command::of_word(word.as_str()),

@@ -7,7 +7,7 @@ use Rattle.std.proofs.lemmas.Option.{slice_get_cases}
 use Rattle.case_core.specs.CaseModel.{not_created}
 use Rattle.case_core.specs.Machine.{case_after, case_reply}
 use Rattle.file_facts.proofs.Lists.{any-at}
-use Rattle.file_facts.specs.Facts.{IsDeclared, IsKnown, IsWorkable, has_id}
+use Rattle.file_facts.specs.Facts.{IsDeclared, IsKnown, IsWorkable}
 use Rattle.file_model.specs.declared.files.CaseDecl.{CaseDecl}
 use Rattle.file_model.specs.declared.files.File.{File}
 use Rattle.file_model.specs.declared.files.Line.{Line}
@@ -31,6 +31,7 @@ use Rattle.audit_model.proofs.KindRuns.{known-actors, rows-All}
 use Rattle.audit_model.specs.Asked.{Asked, Telling, asked_lines, asked_phases, asks, case_event_of, left_to_tell, owed_case, told_at, told_in}
 use Rattle.audit_model.specs.Owed.{calls_case}
 use Rattle.audit_model.specs.ReportReader.{journal_of, telling}
+use Rattle.file_model.specs.CaseCounts.{has_id}
 
 -- ---- lines with versions
 rows-asked : (P : Line → Type 0) (q : Telling) (ls : List Line) → AllRows P ls → AllRows (λ (x : Asked). P x.0) (asked_lines q ls)

@@ -12,8 +12,8 @@ use Rattle.case_core.specs.declared.events.Event.TheVariants as event
 use Rattle.case_core.specs.declared.replies.Reply.{Reply}
 use Rattle.file_facts.proofs.Cases.{declared-typed}
 use Rattle.file_facts.proofs.Lists.{any-at}
-use Rattle.file_facts.specs.Facts.{ArePlaced, IsDeclared, IsKnownAct, IsWorkable, has_id}
-use Rattle.file_model.specs.CaseCounts.{cases_of_type}
+use Rattle.file_facts.specs.Facts.{ArePlaced, IsDeclared, IsKnownAct, IsWorkable}
+use Rattle.file_model.specs.CaseCounts.{cases_of_type, has_id}
 use Rattle.file_model.specs.declared.files.Act.{Act}
 use Rattle.file_model.specs.declared.files.Act.TheVariants as act
 use Rattle.file_model.specs.declared.files.CaseDecl.{CaseDecl}

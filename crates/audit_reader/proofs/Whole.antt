@@ -8,7 +8,7 @@ use mathlib.Core.List.{IsPrefix}
 use Rattle.case_core.specs.CaseModel.{not_created}
 use Rattle.case_core.specs.Machine.{case_after, case_reply}
 use Rattle.file_facts.proofs.Cases.{declared-placed, ids-distinct, row-at}
-use Rattle.file_facts.specs.Facts.{IsDeclared, IsKnown, IsSound, IsWorkable, has_id}
+use Rattle.file_facts.specs.Facts.{IsDeclared, IsKnown, IsSound, IsWorkable}
 use Rattle.file_model.specs.declared.files.CaseDecl.{CaseDecl}
 use Rattle.file_model.specs.declared.files.File.{File}
 use Rattle.file_model.specs.declared.files.Line.{Line}
@@ -50,6 +50,7 @@ use Rattle.audit_reader.proofs.OwnLines.{OwnTelling, asked_own, own-owed_case, o
 use Rattle.audit_reader.proofs.Queues.{CaseQueues, KindQueues, cases-begin, cases_left, kinds-begin, kinds_left, same-id, take-traces_of, traces_of}
 use Rattle.audit_reader.proofs.Ready.{kind_queues, kinds-ready, whole-kind}
 use Rattle.audit_reader.proofs.TakenParts.{CaseTaken, CasesTaken, KindTaken, KindsTaken, kind-at, run-of}
+use Rattle.file_model.specs.CaseCounts.{has_id}
 
 -- ---- beginnings of one list that are equally long
 same-beginnings : {X : Type 0} (xs ys left more zs : List X) → xs ++ left ≡ zs → ys ++ more ≡ zs → length xs ≡ length ys → xs ≡ ys

@@ -7,8 +7,8 @@ use Rattle.adept_server.proofs.Rows.{there_at}
 use Rattle.adept_server.specs.Desks.{at_case, in_row}
 use Rattle.crew_run.specs.CaseCounts.{AreCounts}
 use Rattle.file_facts.proofs.Cases.{declared-typed, declared-placed}
-use Rattle.file_facts.specs.Facts.{IsDeclared, IsWorkable, has_id}
-use Rattle.file_model.specs.CaseCounts.{cases_of_type}
+use Rattle.file_facts.specs.Facts.{IsDeclared, IsWorkable}
+use Rattle.file_model.specs.CaseCounts.{cases_of_type, has_id}
 use Rattle.file_model.specs.declared.files.CaseDecl.{CaseDecl}
 use Rattle.file_model.specs.declared.files.File.{File}
 use Rattle.wsm_sound.specs.declared.versions.CaseId.{CaseId}

@@ -1,6 +1,7 @@
 -- The phases of a file, as a crew works them.
 use Rattle.std.specs.Prelude.{◌≡◌, ℕ, ◌+◌, ◌≤◌, ◌⊎◌, Bool, true, false, List, [], ◌∷◌, length, map, Option, Some, None, Result, Ok, Err}
 use Rattle.std.specs.List.{AllByRecursion}
+use Rattle.adept_actor.specs.Others.{LeavesUnnamed}
 use Rattle.adept_actor.specs.Work.{CanWork, WorksLines}
 use Rattle.adept_server.specs.Desks.{KindPass, CasePass, DeskView, IsDesk, IsDeskOf, desk_view}
 use Rattle.adept_server.specs.Opening.{IsFirstDesk}
@@ -17,6 +18,7 @@ use Rattle.crew_run.specs.Workers.{AreDesksOf, desks_of}
 use Rattle.crew_run.specs.declared.workers.Worker.{Worker}
 use Rattle.legal_run.specs.Legal.{declared_cases}
 use Rattle.legal_run.specs.LineCalls.{Call, AreBegun, lines_of}
+use Rattle.file_limits.specs.declared.TheConstants.{MAX_ACTORS}
 use Rattle.file_model.specs.declared.files.File.{File}
 use Rattle.file_model.specs.declared.files.Line.{Line}
 use Rattle.script_run.specs.Calls.{roles_of}
@@ -67,6 +69,10 @@ is_full_fault None = false
 -- a worker has worked its lines of a phase
 abbrev pub HasWorked : File → List Line → Worker → Worker → Type 0
 HasWorked f lines w x = WorksLines (roles_of f (desk_view w.desk).number) lines (ended x.fault) (desk_view w.desk) (desk_view x.desk)
+
+-- so has a worker at its own desk of a server, and no pass of a cell that no line names has changed
+abbrev pub HasWorkedLines : Server → File → List Line → Worker → Worker → Type 0
+HasWorkedLines s f lines w x = IsDeskOf s x.desk × HasWorked f lines w x × LeavesUnnamed lines (desk_view w.desk) (desk_view x.desk)
 
 -- the first desk of a new server has hired a crew for the actors of a file
 pub record IsBegun (f : File) (first : DeskView) (crew : List DeskView) : Type 0 where
@@ -124,4 +130,4 @@ pub record AreTogether (s : Server) (f : File) (first : Desk) (crew : List Worke
   pub first_number : (desk_view first).number ≡ 0
   pub made : (desk_view first).made ≡ length crew + 1
   pub taken : (desk_view first).taken ≡ 0
-  pub few : length crew ≤ 32
+  pub few : length crew ≤ MAX_ACTORS

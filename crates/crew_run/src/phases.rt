@@ -2,11 +2,10 @@
 ghost use Rattle.std.specs.Prelude.{◌≡◌, ◌<◌, length, is_some, true, false, IfErr, OnErr, OnOk, slice_index_or};
 ghost use Rattle.std.specs.List.{list_any};
 ghost use Rattle.std.specs.Thread.{IsSync};
-ghost use Rattle.adept_actor.specs.Others.{LeavesUnnamed};
-ghost use Rattle.adept_server.specs.Desks.{IsDeskOf, desk_view};
+ghost use Rattle.adept_server.specs.Desks.{desk_view};
 ghost use Rattle.adept_server.specs.Noting.{IsCalledOf, rows_of};
 ghost use Rattle.crew_run.specs.Crew.{PhaseDone, PhasesDone, AreCallsOfActor};
-ghost use Rattle.crew_run.specs.Phases.{HasWorked, IsCrew, IsReadyAt, PhasesTried, SeesMany, Tries, is_full_fault};
+ghost use Rattle.crew_run.specs.Phases.{HasWorkedLines, IsCrew, IsReadyAt, PhasesTried, SeesMany, Tries, is_full_fault};
 ghost use Rattle.crew_run.specs.Workers.{desks_of};
 ghost use Rattle.file_facts.specs.Facts.{IsKnown, IsWorkable};
 ghost use Rattle.wsm_lists.specs.Rows.{AllRows};
@@ -16,16 +15,14 @@ use crate::naming::note_lines;
 use crate::workers::Worker;
 use adept_actor::work;
 use adept_server::{CallFlags, Desk, Server};
+use file_limits::MAX_ACTORS;
 use file_model::{File, Lines};
 use std::alloc::Global;
 use std::sync::Wait;
 use std::thread::{Threads, for_each_mut};
 use turn_cell::{CallFault, Gate};
 
-/// So many threads work a phase at most: one for each actor that a file may have.
-const THREADS: usize = 32;
-
-/// AreCallsOfActor phases one after another, each in work of its own for each worker. Behind each of them all have met, at the cells that
+/// Works the phases one after another, each in a thread for each worker. Behind each of them all have met, at the cells that
 /// its lines name.
 pub fn work_phases<R: Threads + Wait + Sync, G: Gate + Sync>(
     rt: &R,
@@ -119,14 +116,14 @@ fn work_lines<R: Threads + Wait + Sync, G: Gate + Sync>(
 )
     requires actors { length crew.old ≡ length file.now.actors }
     requires ready { (i : _) (d : _) → i < length crew.old → IsReadyAt server.now lines.now i (slice_index_or crew.old i d) }
-    ensures { (i : _) (d : _) → i < length crew.old → IsDeskOf server.now (slice_index_or crew.new i d).desk × HasWorked file.now lines.now (slice_index_or crew.old i d) (slice_index_or crew.new i d) × LeavesUnnamed lines.now (desk_view (slice_index_or crew.old i d).desk) (desk_view (slice_index_or crew.new i d).desk) }
+    ensures { (i : _) (d : _) → i < length crew.old → HasWorkedLines server.now file.now lines.now (slice_index_or crew.old i d) (slice_index_or crew.new i d) }
 {
     let work_own = |index: usize, worker: &mut Worker|
         requires { IsSync R.row × IsSync G.row × (index < length file.now.actors) × IsReadyAt server.now lines.now index worker.now }
-        ensures { IsDeskOf server.entry.now worker.exit.now.desk × HasWorked file.entry.now lines.entry.now worker.entry.now worker.exit.now × LeavesUnnamed lines.entry.now (desk_view worker.entry.now.desk) (desk_view worker.exit.now.desk) }
+        ensures { HasWorkedLines server.entry.now file.entry.now lines.entry.now worker.entry.now worker.exit.now }
     {
         let roles = &file.actors.as_slice()[index].roles;
         worker.fault = work(rt, alloc, server, &mut worker.desk, roles, lines, gate).err();
     };
-    for_each_mut(rt, crew, THREADS, &work_own);
+    for_each_mut(rt, crew, MAX_ACTORS, &work_own);
 }

@@ -7,9 +7,9 @@ use Rattle.std.specs.Prelude.{slice_get, ◌==◌}
 use Rattle.std.specs.List.{list_any}
 use Rattle.wsm_lists.specs.Rows.{AllRows}
 use Rattle.wsm_sound.specs.declared.versions.CaseId.{CaseId}
-use Rattle.file_model.specs.CaseCounts.{cases_of_type}
+use Rattle.file_model.specs.CaseCounts.{cases_of_type, has_id}
 use Rattle.file_model.specs.declared.files.CaseDecl.{CaseDecl}
-use Rattle.file_facts.specs.Facts.{HasType, ArePlaced, has_id, IsDeclared}
+use Rattle.file_facts.specs.Facts.{HasType, ArePlaced, IsDeclared}
 
 -- ---- at an index
 pub row-at : {X : Type 0} (P : X → Type 0) (xs : List X) (k : ℕ) (x : X) → AllRows P xs → slice_get xs k ≡ Some x → P x

@@ -27,9 +27,10 @@ use Rattle.file_model.specs.declared.states.Group.{Group}
 use Rattle.file_model.specs.declared.states.Target.{Target}
 use Rattle.file_model.specs.declared.states.Target.TheVariants as target
 use Rattle.file_model.specs.declared.states.Section.TheVariants as section
-use Rattle.file_facts.specs.Facts.{has_id, IsDeclared, IsKnownAct}
+use Rattle.file_facts.specs.Facts.{IsDeclared, IsKnownAct}
 use Rattle.file_facts.proofs.Held.{Script, KnownIn, HeldState, HeldStep, unless-held, same-held, found-held, not_over, neither}
 use Rattle.file_facts.proofs.Lists.{any-at, place_within}
+use Rattle.file_model.specs.CaseCounts.{has_id}
 
 -- ---- what is found was declared
 own_id : (d : CaseDecl) → has_id d.id d ≡ true

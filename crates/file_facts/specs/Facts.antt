@@ -1,10 +1,11 @@
 -- What holds of each file that is read, for those who work its lines.
-use Rattle.std.specs.Prelude.{ℕ, ◌≡◌, ◌≤◌, ◌<◌, ◌==◌, ◌&&◌, Bool, true, List, length, take, slice_get, Some, None}
+use Rattle.std.specs.Prelude.{ℕ, ◌≡◌, ◌≤◌, ◌<◌, true, List, length, take, slice_get, Some, None}
 use Rattle.std.specs.List.{list_all, list_any, sum_by}
 use Rattle.wsm_lists.specs.Rows.{AllRows}
 use Rattle.wsm_sound.specs.Faults.{fault_of}
 use Rattle.wsm_sound.specs.declared.versions.CaseId.{CaseId}
-use Rattle.file_model.specs.CaseCounts.{cases_of_type}
+use Rattle.file_limits.specs.declared.TheConstants.{MAX_ACTORS, MAX_CASES, MAX_LINES, MAX_OPS, MAX_TYPES}
+use Rattle.file_model.specs.CaseCounts.{cases_of_type, has_id}
 use Rattle.file_model.specs.Sizes.{is_small}
 use Rattle.file_model.specs.declared.files.Act.{Act}
 use Rattle.file_model.specs.declared.files.Act.TheVariants as act
@@ -28,10 +29,6 @@ HasType types d = d.id.type_no < types
 abbrev pub ArePlaced : List CaseDecl → Type 0
 ArePlaced cases = (k : ℕ) (d : CaseDecl) → slice_get cases k ≡ Some d → d.id.place ≡ cases_of_type d.id.type_no (take k cases)
 
--- whether a case was declared with an id
-abbrev pub has_id : CaseId → CaseDecl → Bool
-has_id c d = d.id.type_no == c.type_no && d.id.place == c.place
-
 abbrev pub IsDeclared : CaseId → List CaseDecl → Type 0
 IsDeclared c cases = list_any (has_id c) cases ≡ true
 
@@ -41,8 +38,8 @@ IsKnownAct types cases (act.Create c) = IsDeclared c cases
 IsKnownAct types cases (act.Start c node) = IsDeclared c cases
 IsKnownAct types cases (act.Withdraw c node) = IsDeclared c cases
 IsKnownAct types cases (act.End c node writes choice) = IsDeclared c cases
-IsKnownAct types cases (act.Change c ops) = IsDeclared c cases × (length ops ≤ 256)
-IsKnownAct types cases (act.Install t ops) = (t < types) × (length ops ≤ 256)
+IsKnownAct types cases (act.Change c ops) = IsDeclared c cases × (length ops ≤ MAX_OPS)
+IsKnownAct types cases (act.Install t ops) = (t < types) × (length ops ≤ MAX_OPS)
 IsKnownAct types cases (act.Migrate t) = t < types
 
 -- a line of one of so many actors, on what was declared
@@ -53,10 +50,10 @@ pub record IsKnown (types actors : ℕ) (cases : List CaseDecl) (l : Line) : Typ
 
 -- what those who work a file need of it
 pub record IsWorkable (f : File) : Type 0 where
-  pub types : length f.types ≤ 64
-  pub actors : length f.actors ≤ 32
-  pub cases : length f.cases ≤ 4096
-  pub lines : lines_in f.phases ≤ 60000
+  pub types : length f.types ≤ MAX_TYPES
+  pub actors : length f.actors ≤ MAX_ACTORS
+  pub cases : length f.cases ≤ MAX_CASES
+  pub lines : lines_in f.phases ≤ MAX_LINES
   pub small : list_all is_small f.types ≡ true
   pub sound : AllRows IsSound f.types
   pub typed : AllRows (HasType (length f.types)) f.cases

@@ -1,7 +1,13 @@
--- How many cases of a type were declared.
-use Rattle.std.specs.Prelude.{ℕ, List, ◌≡◌, ◌==◌, count_by, slice_index}
+-- Cases by their ids and their types.
+use Rattle.std.specs.Prelude.{ℕ, Bool, ◌&&◌, List, ◌≡◌, ◌==◌, count_by, slice_index}
+use Rattle.wsm_sound.specs.declared.versions.CaseId.{CaseId}
 use Rattle.file_model.specs.declared.files.CaseDecl.{CaseDecl}
 
+-- whether a case was declared with an id
+abbrev pub has_id : CaseId → CaseDecl → Bool
+has_id c d = d.id.type_no == c.type_no && d.id.place == c.place
+
+-- how many cases of a type were declared
 abbrev pub cases_of_type : ℕ → List CaseDecl → ℕ
 cases_of_type t ds = count_by (λ d. d.id.type_no == t) ds
 

@@ -4,6 +4,7 @@ use Rattle.wsm_ops.specs.declared.operations.Op.{Op}
 use Rattle.wsm_ops.specs.declared.operations.Op.TheVariants as op
 use Rattle.wsm_ops.specs.declared.operations.Gap.{Gap}
 use Rattle.wsm_ops.specs.declared.operations.Gap.TheVariants as gap
+use Rattle.file_limits.specs.declared.TheConstants.{MAX_OPS}
 use Rattle.file_forms.specs.Forms.{NamedGap, behind, at_head, OperationLine, insert, parallel, conditional, delete, move, sync, unsync, element, read, unread, write, unwrite, set_role, group_end}
 use Rattle.file_model.specs.Steps.{Step, at_place, unless, over, node_in, with_node, element_in, with_element}
 use Rattle.file_model.specs.declared.files.Line.{Line}
@@ -79,7 +80,7 @@ with_op o g = record g { ops = g.ops ++ o ∷ [] }
 
 abbrev pub grouped : Option Op → Group → List Line → Contents → Step
 grouped None g lines c = Ok (at_place (section.InPhase (lines ++ line_of_group g ∷ [])) c)
-grouped (Some o) g lines c = unless (over (nat_le 256 (length g.ops)) limit.Ops) c (at_place (section.InGroup lines (with_op o g)) c)
+grouped (Some o) g lines c = unless (over (nat_le MAX_OPS (length g.ops)) limit.Ops) c (at_place (section.InGroup lines (with_op o g)) c)
 
 abbrev pub operated : OperationLine → Group → List Line → Contents → Step
 operated l g lines c = grouped (op_in l c) g lines (with_names l c)

@@ -1,8 +1,9 @@
 -- Lines of a phase.
-use Rattle.std.specs.Prelude.{ℕ, ◌+◌, List, [], ◌∷◌, ◌++◌, length, nat_lt, nat_le, slice_get, Option, Some, None, option_map}
+use Rattle.std.specs.Prelude.{ℕ, ◌+◌, ◌-◌, List, [], ◌∷◌, ◌++◌, length, nat_lt, nat_le, slice_get, Option, Some, None, option_map}
 use Rattle.std.specs.Option.{option_or}
 use Rattle.wsm_lists.specs.declared.values.Value.{Value}
 use Rattle.wsm_sound.specs.declared.versions.CaseId.{CaseId}
+use Rattle.file_limits.specs.declared.TheConstants.{MAX_INSTALLS, MAX_LINES, MAX_MIGRATIONS, MAX_PHASES}
 use Rattle.file_words.specs.Lines.{Bytes}
 use Rattle.file_names.specs.Names.{place_of}
 use Rattle.file_forms.specs.PieceForms.{◌>>=◌}
@@ -33,7 +34,7 @@ line_of at actor a c = record { at = at; order = c.counts.lines + 1; actor = act
 -- a script line of its own behind others of its phase
 abbrev pub with_line : List Line → ℕ → ℕ → Act → Contents → Step
 with_line lines at actor a c =
-    unless (over (nat_le 60000 c.counts.lines) limit.Lines) c
+    unless (over (nat_le MAX_LINES c.counts.lines) limit.Lines) c
     (at_place (section.InPhase (lines ++ line_of at actor a c ∷ [])) (counted c))
 
 -- the state in which the operations of a group are read
@@ -43,14 +44,14 @@ with_group lines at actor t c =
 
 abbrev pub changing : List Line → ℕ → ℕ → CaseId → Contents → Step
 changing lines at actor id c =
-    unless (over (nat_le 60000 c.counts.lines) limit.Lines) c (with_group lines at actor (target.Case id) c)
+    unless (over (nat_le MAX_LINES c.counts.lines) limit.Lines) c (with_group lines at actor (target.Case id) c)
 
 abbrev pub one_install : Contents → Contents
 one_install c = record c { counts = record c.counts { installs = c.counts.installs + 1 } }
 
 abbrev pub installing : List Line → ℕ → ℕ → ℕ → Contents → Step
 installing lines at actor t c =
-    unless (option_or (over (nat_le 60000 c.counts.lines) limit.Lines) (over (nat_le 1024 c.counts.installs) limit.Installs)) c
+    unless (option_or (over (nat_le MAX_LINES c.counts.lines) limit.Lines) (over (nat_le MAX_INSTALLS c.counts.installs) limit.Installs)) c
     (with_group lines at actor (target.«Type» t) (one_install c))
 
 -- the migrations so far with those of a type
@@ -59,7 +60,7 @@ migrations_with t c = c.counts.migrations + cases_of_type t c.cases.items
 
 abbrev pub migrating : List Line → ℕ → ℕ → ℕ → Contents → Step
 migrating lines at actor t c =
-    unless (option_or (over (nat_le 60000 c.counts.lines) limit.Lines) (over (nat_lt 65536 (migrations_with t c)) limit.Migrations)) c
+    unless (option_or (over (nat_le MAX_LINES c.counts.lines) limit.Lines) (over (nat_lt MAX_MIGRATIONS (migrations_with t c)) limit.Migrations)) c
     (at_place (section.InPhase (lines ++ line_of at actor (act.Migrate t) c ∷ []))
     (counted (record c { counts = record c.counts { migrations = migrations_with t c } })))
 
@@ -90,6 +91,10 @@ acted (to_change n) actor lines at c = if_known (case_in n c) (λ id. changing l
 acted (to_install n) actor lines at c = if_known (place_of c.types.names n) (λ t. installing lines at actor t c) c
 acted (to_migrate n) actor lines at c = if_known (place_of c.types.names n) (λ t. migrating lines at actor t c) c
 
+-- the act of an actor that was declared
+abbrev pub acted_by : Option ℕ → Deed → List Line → ℕ → Contents → Step
+acted_by found d lines at c = if_known found (λ actor. acted d actor lines at c) c
+
 -- actors are numbered from 1
 abbrev pub actor_in : Bytes → Contents → Option ℕ
 actor_in a c = option_map (λ i. i + 1) (place_of c.actors.names a)
@@ -99,5 +104,5 @@ with_phase lines c = record c { phases = c.phases ++ lines ∷ [] }
 
 abbrev pub scripted : ScriptLine → List Line → ℕ → Contents → Step
 scripted next_phase lines at c =
-    unless (over (nat_le 255 (length c.phases)) limit.Phases) c (at_place (section.InPhase []) (with_phase lines c))
-scripted (a_deed a d) lines at c = if_known (actor_in a c) (λ actor. acted d actor lines at c) c
+    unless (over (nat_le (MAX_PHASES - 1) (length c.phases)) limit.Phases) c (at_place (section.InPhase []) (with_phase lines c))
+scripted (a_deed a d) lines at c = acted_by (actor_in a c) d lines at c

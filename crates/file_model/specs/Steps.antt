@@ -63,3 +63,16 @@ element_in e c = number_of (noted c.elements e) e
 
 abbrev pub with_element : Bytes → Contents → Contents
 with_element e c = record c { elements = noted c.elements e }
+
+-- the number of a node or an element behind a node in its line, and the contents with both
+abbrev pub node_behind : Bytes → Bytes → Contents → ℕ
+node_behind a b c = node_in b (with_node a c)
+
+abbrev pub with_nodes : Bytes → Bytes → Contents → Contents
+with_nodes a b c = with_node b (with_node a c)
+
+abbrev pub element_behind : Bytes → Bytes → Contents → ℕ
+element_behind n e c = element_in e (with_node n c)
+
+abbrev pub with_node_and_element : Bytes → Bytes → Contents → Contents
+with_node_and_element n e c = with_element e (with_node n c)

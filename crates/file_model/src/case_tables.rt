@@ -4,14 +4,12 @@ ghost use Rattle.file_names.specs.Names.{noted};
 ghost use Rattle.file_model.specs.CaseCounts.{cases_of_type};
 
 use crate::files::{CaseDecl, CaseDecls};
+use file_limits::MAX_TYPES;
 use file_names::{DeclaredList, NameTable};
 use file_words::NameWord;
 use std::alloc::{AllocError, Global};
 use std::marker::Model;
 use wsm_lists::NoMemory;
-
-/// How many types a file may have.
-const MAX_TYPES: usize = 64;
 
 /// Cases in order of declaration, found by their names and counted by their types.
 #[derive(Drop)]

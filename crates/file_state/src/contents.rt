@@ -3,7 +3,7 @@ ghost use Rattle.std.specs.Prelude.{◌≡◌, Err, IfOk, OnOk};
 ghost use Rattle.file_names.specs.Names.{place_of};
 ghost use Rattle.file_model.specs.Outcomes.{Tells};
 ghost use Rattle.file_model.specs.Reading.{refused};
-ghost use Rattle.file_model.specs.Steps.{no_contents, node_in, with_node, element_in, with_element};
+ghost use Rattle.file_model.specs.Steps.{no_contents, node_in, with_node, element_in, with_element, node_behind, with_nodes, element_behind, with_node_and_element};
 
 use crate::texts::text_of;
 use file_model::{CaseTable, Contents, Counts, FileRefusal, Phases, Refused, Why};
@@ -89,8 +89,8 @@ pub fn node_numbers(
     a: NameWord<'_>,
     b: NameWord<'_>,
 ) -> Result<(u32, u32), NoMemory>
-    ensures noted { OnOk result (contents.new ≡ with_node b.entry.bytes.now (with_node a.entry.bytes.now contents.old)) }
-    ensures numbers { IfOk result (λ p. p ≡ (node_in a.entry.bytes.now contents.old, node_in b.entry.bytes.now (with_node a.entry.bytes.now contents.old))) }
+    ensures noted { OnOk result (contents.new ≡ with_nodes a.entry.bytes.now b.entry.bytes.now contents.old) }
+    ensures numbers { IfOk result (λ p. p ≡ (node_in a.entry.bytes.now contents.old, node_behind a.entry.bytes.now b.entry.bytes.now contents.old)) }
 {
     let first = node_number(contents, alloc, a)?;
     let second = node_number(contents, alloc, b)?;
@@ -104,8 +104,8 @@ pub fn node_and_element_numbers(
     node: NameWord<'_>,
     element: NameWord<'_>,
 ) -> Result<(u32, u32), NoMemory>
-    ensures noted { OnOk result (contents.new ≡ with_element element.entry.bytes.now (with_node node.entry.bytes.now contents.old)) }
-    ensures numbers { IfOk result (λ p. p ≡ (node_in node.entry.bytes.now contents.old, element_in element.entry.bytes.now (with_node node.entry.bytes.now contents.old))) }
+    ensures noted { OnOk result (contents.new ≡ with_node_and_element node.entry.bytes.now element.entry.bytes.now contents.old) }
+    ensures numbers { IfOk result (λ p. p ≡ (node_in node.entry.bytes.now contents.old, element_behind node.entry.bytes.now element.entry.bytes.now contents.old)) }
 {
     let first = node_number(contents, alloc, node)?;
     let second = element_number(contents, alloc, element)?;

@@ -11,21 +11,13 @@ ghost use Rattle.file_model.specs.Reading.{headed};
 use crate::contents::place_in;
 use file_drafts::Draft;
 use file_forms::{Declaration, header};
+use file_limits::{MAX_ACTORS, MAX_CASES, MAX_ROLES, MAX_TYPES};
 use file_model::{ActorDecl, CaseDecl, Contents, FileLimit, Lines, Section, Stop, Why};
 use file_names::Name64;
 use file_words::NameWord;
 use std::alloc::Global;
 use wsm_lists::{NoMemory, RoleList};
 use wsm_sound::CaseId;
-
-/// How many types, actors and cases a file may have, and roles an actor.
-const MAX_TYPES: usize = 64;
-
-const MAX_ACTORS: usize = 32;
-
-const MAX_CASES: usize = 4096;
-
-const MAX_ROLES: usize = 32;
 
 /// A file's first line.
 pub fn headed(contents: &mut Contents, words: &[&[u8]]) -> Result<Section, Stop>

@@ -1,21 +1,19 @@
 // Lines of a group of operations.
 ghost use Rattle.std.specs.Prelude.{◌≡◌, [], ◌∷◌, ◌++◌, Ok, Some, IfOk, IfErr, OnOk};
 ghost use Rattle.file_forms.specs.Shown.{shown_place, shown_operation};
-ghost use Rattle.file_forms.specs.Forms.{insert, parallel, conditional, delete, move, sync, unsync, element, read, unread, write, unwrite, set_role};
+ghost use Rattle.file_forms.specs.Forms.{insert, delete, move, sync, unsync, element, read, unread, write, unwrite, set_role};
 ghost use Rattle.file_model.specs.Outcomes.{Stops};
 ghost use Rattle.file_model.specs.Steps.{at_place, node_in, with_node};
 ghost use Rattle.file_model.specs.Operating.{gap_in, with_place, op_in, with_names, line_of_group, grouped, operated};
 
 use crate::contents::{element_number, node_and_element_numbers, node_number, node_numbers};
 use file_forms::{NamedGap, OperationLine};
+use file_limits::MAX_OPS;
 use file_model::{Act, Contents, FileLimit, Group, Line, Lines, Section, Stop, Target, Why};
 use file_words::NameWord;
 use std::alloc::Global;
 use wsm_lists::{ElementKind, NoMemory};
 use wsm_ops::{Gap, Op};
-
-/// How many operations a group may have.
-const MAX_OPS: usize = 256;
 
 // The script line of a group that has ended.
 fn line_of_group(group: Group) -> Line
@@ -170,8 +168,8 @@ fn parallel_insertion(
     first: NameWord<'_>,
     last: NameWord<'_>,
 ) -> Result<Option<Op>, NoMemory>
-    ensures noted { OnOk result (contents.new ≡ with_names (parallel node.entry.bytes.now role split.entry.bytes.now join.entry.bytes.now first.entry.bytes.now last.entry.bytes.now) contents.old) }
-    ensures op { IfOk result (λ found. found ≡ op_in (parallel node.entry.bytes.now role split.entry.bytes.now join.entry.bytes.now first.entry.bytes.now last.entry.bytes.now) contents.old) }
+    ensures noted { OnOk result (contents.new ≡ with_names (shown_operation (OperationLine.Parallel node.entry role split.entry join.entry first.entry last.entry)) contents.old) }
+    ensures op { IfOk result (λ found. found ≡ op_in (shown_operation (OperationLine.Parallel node.entry role split.entry join.entry first.entry last.entry)) contents.old) }
 {
     let node = node_number(contents, alloc, node)?;
     let (split, join) = node_numbers(contents, alloc, split, join)?;
@@ -195,8 +193,8 @@ fn conditional_insertion(
     join: NameWord<'_>,
     place: NamedGap<'_>,
 ) -> Result<Option<Op>, NoMemory>
-    ensures noted { OnOk result (contents.new ≡ with_names (conditional node.entry.bytes.now role split.entry.bytes.now join.entry.bytes.now (shown_place place.entry)) contents.old) }
-    ensures op { IfOk result (λ found. found ≡ op_in (conditional node.entry.bytes.now role split.entry.bytes.now join.entry.bytes.now (shown_place place.entry)) contents.old) }
+    ensures noted { OnOk result (contents.new ≡ with_names (shown_operation (OperationLine.Conditional node.entry role split.entry join.entry place.entry)) contents.old) }
+    ensures op { IfOk result (λ found. found ≡ op_in (shown_operation (OperationLine.Conditional node.entry role split.entry join.entry place.entry)) contents.old) }
 {
     let node = node_number(contents, alloc, node)?;
     let (split, join) = node_numbers(contents, alloc, split, join)?;

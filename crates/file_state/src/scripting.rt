@@ -1,29 +1,22 @@
 // Lines of a phase.
-ghost use Rattle.std.specs.Prelude.{◌≡◌, ◌+◌, ◌<◌, [], ◌∷◌, ◌++◌, map, Ok, IfOk, IfErr, OnOk};
+ghost use Rattle.std.specs.Prelude.{◌≡◌, ◌+◌, ◌<◌, [], ◌∷◌, ◌++◌, map, Ok, Some, IfOk, IfErr, OnOk};
 ghost use Rattle.file_words.specs.Shown.{shown_literal, shown_pair};
 ghost use Rattle.file_forms.specs.Shown.{shown_deed, shown_script_line};
-ghost use Rattle.file_forms.specs.Forms.{to_create, to_start, to_withdraw, to_end, to_change, to_install, to_migrate, next_phase, a_deed};
+ghost use Rattle.file_forms.specs.Forms.{to_create, to_change, to_install, to_migrate, next_phase, a_deed};
 ghost use Rattle.file_model.specs.Outcomes.{Stops};
 ghost use Rattle.file_model.specs.Steps.{at_place, node_in, with_node};
-ghost use Rattle.file_model.specs.Scripting.{actor_in, if_known, case_in, with_line, line_of, counted, with_group, changing, one_install, installing, migrations_with, migrating, with_elements, numbered, acted, scripted};
+ghost use Rattle.file_state.specs.Unknown.{StopsUnknown};
+ghost use Rattle.file_model.specs.Scripting.{actor_in, if_known, case_in, with_line, line_of, counted, with_group, changing, one_install, installing, migrations_with, migrating, with_elements, numbered, acted, acted_by, scripted};
 
 use crate::contents::{element_number, node_number, place_in};
 use file_forms::{Deed, ScriptLine, WriteWords};
+use file_limits::{MAX_INSTALLS, MAX_LINES, MAX_MIGRATIONS, MAX_PHASES};
 use file_model::{Act, Contents, FileLimit, Group, Line, Lines, Section, Stop, Target, Why};
 use file_words::{Literal, NameWord};
 use std::alloc::{AllocError, Global};
 use wsm_lists::{NoMemory, ShortText, Value, Writes};
 use wsm_ops::Ops;
 use wsm_sound::CaseId;
-
-/// How many phases and script lines a file may have, how many of them that install, and how many migrations of cases.
-const MAX_PHASES: usize = 256;
-
-const MAX_LINES: u32 = 60_000;
-
-const MAX_INSTALLS: u32 = 1024;
-
-const MAX_MIGRATIONS: u64 = 65_536;
 
 // The value of a literal. The reader refuses a line with a longer text first; here it counts as want of memory.
 fn value_of(alloc: Global, literal: &Literal) -> Result<Value, NoMemory>
@@ -135,8 +128,8 @@ fn acted_by(
     found: Option<u32>,
     deed: Deed<'_>,
 ) -> Result<Section, Stop>
-    ensures ok { IfOk result (λ place. if_known found (λ actor. acted (shown_deed deed.entry) actor lines at contents.old) contents.old ≡ Ok (at_place place contents.new)) }
-    ensures refused { IfErr result (λ stop. Stops (if_known found (λ actor. acted (shown_deed deed.entry) actor lines at contents.old) contents.old) contents.new stop) }
+    ensures ok { IfOk result (λ place. acted_by found (shown_deed deed.entry) lines at contents.old ≡ Ok (at_place place contents.new)) }
+    ensures refused { IfErr result (λ stop. Stops (acted_by found (shown_deed deed.entry) lines at contents.old) contents.new stop) }
 {
     match found {
         None => Err(Stop::Refused(Why::Unknown)),
@@ -166,7 +159,7 @@ fn acted(
             node,
             choice,
             writes,
-        } => end_of_node(
+        } => end_line(
             contents, alloc, at, lines, actor, case, node, choice, writes,
         ),
         Deed::Change(case) => change_line(contents, alloc, at, lines, actor, case),
@@ -191,6 +184,24 @@ fn create_line(
     }
 }
 
+// The case and the number of a node, which gets the next one where it has none. An unknown case is refused first.
+fn case_and_node(
+    contents: &mut Contents,
+    alloc: Global,
+    case: NameWord<'_>,
+    node: NameWord<'_>,
+) -> Result<(CaseId, u32), Stop>
+    ensures case { IfOk result (λ found. case_in case.entry.bytes.now contents.old ≡ Some found.0) }
+    ensures node { IfOk result (λ found. found.1 ≡ node_in node.entry.bytes.now contents.old) }
+    ensures noted { OnOk result (contents.new ≡ with_node node.entry.bytes.now contents.old) }
+    ensures refused { IfErr result (λ stop. StopsUnknown (case_in case.entry.bytes.now contents.old) contents.old contents.new stop) }
+{
+    match case_of(contents, case) {
+        None => Err(Stop::Refused(Why::Unknown)),
+        Some(id) => Ok((id, node_number(contents, alloc, node)?)),
+    }
+}
+
 fn start_line(
     contents: &mut Contents,
     alloc: Global,
@@ -200,28 +211,10 @@ fn start_line(
     case: NameWord<'_>,
     node: NameWord<'_>,
 ) -> Result<Section, Stop>
-    ensures ok { IfOk result (λ place. acted (to_start case.entry.bytes.now node.entry.bytes.now) actor lines at contents.old ≡ Ok (at_place place contents.new)) }
-    ensures refused { IfErr result (λ stop. Stops (acted (to_start case.entry.bytes.now node.entry.bytes.now) actor lines at contents.old) contents.new stop) }
+    ensures ok { IfOk result (λ place. acted (shown_deed (Deed.Start case.entry node.entry)) actor lines at contents.old ≡ Ok (at_place place contents.new)) }
+    ensures refused { IfErr result (λ stop. Stops (acted (shown_deed (Deed.Start case.entry node.entry)) actor lines at contents.old) contents.new stop) }
 {
-    match case_of(contents, case) {
-        None => Err(Stop::Refused(Why::Unknown)),
-        Some(id) => start_node(contents, alloc, at, lines, actor, id, node),
-    }
-}
-
-fn start_node(
-    contents: &mut Contents,
-    alloc: Global,
-    at: u32,
-    lines: Lines,
-    actor: u32,
-    id: CaseId,
-    node: NameWord<'_>,
-) -> Result<Section, Stop>
-    ensures ok { IfOk result (λ place. with_line lines at actor (Act.Start id (node_in node.entry.bytes.now contents.old)) (with_node node.entry.bytes.now contents.old) ≡ Ok (at_place place contents.new)) }
-    ensures refused { IfErr result (λ stop. Stops (with_line lines at actor (Act.Start id (node_in node.entry.bytes.now contents.old)) (with_node node.entry.bytes.now contents.old)) contents.new stop) }
-{
-    let node = node_number(contents, alloc, node)?;
+    let (id, node) = case_and_node(contents, alloc, case, node)?;
     with_line(contents, at, lines, actor, Act::Start(id, node))
 }
 
@@ -234,32 +227,14 @@ fn withdraw_line(
     case: NameWord<'_>,
     node: NameWord<'_>,
 ) -> Result<Section, Stop>
-    ensures ok { IfOk result (λ place. acted (to_withdraw case.entry.bytes.now node.entry.bytes.now) actor lines at contents.old ≡ Ok (at_place place contents.new)) }
-    ensures refused { IfErr result (λ stop. Stops (acted (to_withdraw case.entry.bytes.now node.entry.bytes.now) actor lines at contents.old) contents.new stop) }
+    ensures ok { IfOk result (λ place. acted (shown_deed (Deed.Withdraw case.entry node.entry)) actor lines at contents.old ≡ Ok (at_place place contents.new)) }
+    ensures refused { IfErr result (λ stop. Stops (acted (shown_deed (Deed.Withdraw case.entry node.entry)) actor lines at contents.old) contents.new stop) }
 {
-    match case_of(contents, case) {
-        None => Err(Stop::Refused(Why::Unknown)),
-        Some(id) => withdraw_node(contents, alloc, at, lines, actor, id, node),
-    }
-}
-
-fn withdraw_node(
-    contents: &mut Contents,
-    alloc: Global,
-    at: u32,
-    lines: Lines,
-    actor: u32,
-    id: CaseId,
-    node: NameWord<'_>,
-) -> Result<Section, Stop>
-    ensures ok { IfOk result (λ place. with_line lines at actor (Act.Withdraw id (node_in node.entry.bytes.now contents.old)) (with_node node.entry.bytes.now contents.old) ≡ Ok (at_place place contents.new)) }
-    ensures refused { IfErr result (λ stop. Stops (with_line lines at actor (Act.Withdraw id (node_in node.entry.bytes.now contents.old)) (with_node node.entry.bytes.now contents.old)) contents.new stop) }
-{
-    let node = node_number(contents, alloc, node)?;
+    let (id, node) = case_and_node(contents, alloc, case, node)?;
     with_line(contents, at, lines, actor, Act::Withdraw(id, node))
 }
 
-fn end_of_node(
+fn end_line(
     contents: &mut Contents,
     alloc: Global,
     at: u32,
@@ -270,31 +245,11 @@ fn end_of_node(
     choice: Option<u16>,
     writes: WriteWords<'_>,
 ) -> Result<Section, Stop>
-    ensures ok { IfOk result (λ place. acted (to_end case.entry.bytes.now node.entry.bytes.now choice (map shown_pair writes.entry.items)) actor lines at contents.old ≡ Ok (at_place place contents.new)) }
-    ensures refused { IfErr result (λ stop. Stops (acted (to_end case.entry.bytes.now node.entry.bytes.now choice (map shown_pair writes.entry.items)) actor lines at contents.old) contents.new stop) }
+    ensures ok { IfOk result (λ place. acted (shown_deed (Deed.End case.entry node.entry choice writes.entry)) actor lines at contents.old ≡ Ok (at_place place contents.new)) }
+    ensures refused { IfErr result (λ stop. Stops (acted (shown_deed (Deed.End case.entry node.entry choice writes.entry)) actor lines at contents.old) contents.new stop) }
 {
-    match case_of(contents, case) {
-        None => Err(Stop::Refused(Why::Unknown)),
-        Some(id) => end_node(contents, alloc, at, lines, actor, id, node, choice, writes),
-    }
-}
-
-fn end_node(
-    contents: &mut Contents,
-    alloc: Global,
-    at: u32,
-    lines: Lines,
-    actor: u32,
-    id: CaseId,
-    node: NameWord<'_>,
-    choice: Option<u16>,
-    words: WriteWords<'_>,
-) -> Result<Section, Stop>
-    ensures ok { IfOk result (λ place. with_line lines at actor (Act.End id (node_in node.entry.bytes.now contents.old) (numbered (map shown_pair words.entry.items) (with_node node.entry.bytes.now contents.old)) choice) (with_elements (map shown_pair words.entry.items) (with_node node.entry.bytes.now contents.old)) ≡ Ok (at_place place contents.new)) }
-    ensures refused { IfErr result (λ stop. Stops (with_line lines at actor (Act.End id (node_in node.entry.bytes.now contents.old) (numbered (map shown_pair words.entry.items) (with_node node.entry.bytes.now contents.old)) choice) (with_elements (map shown_pair words.entry.items) (with_node node.entry.bytes.now contents.old))) contents.new stop) }
-{
-    let node = node_number(contents, alloc, node)?;
-    let writes = numbered_writes(contents, alloc, &words)?;
+    let (id, node) = case_and_node(contents, alloc, case, node)?;
+    let writes = numbered_writes(contents, alloc, &writes)?;
     with_line(
         contents,
         at,
@@ -465,7 +420,7 @@ fn push_line(
     actor: u32,
     act: Act,
 ) -> Result<Lines, NoMemory>
-    requires { contents.old.counts.lines < 60000 }
+    requires { contents.old.counts.lines < MAX_LINES }
     ensures counted { OnOk result (contents.new ≡ counted contents.old) }
     ensures lines { IfOk result (λ all. all ≡ lines ++ line_of at actor act contents.old ∷ []) }
 {
@@ -489,7 +444,7 @@ fn with_group(
     actor: u32,
     target: Target,
 ) -> Section
-    requires { contents.old.counts.lines < 60000 }
+    requires { contents.old.counts.lines < MAX_LINES }
     ensures { at_place result contents.new ≡ with_group lines at actor target contents.old }
 {
     contents.counts.lines += 1;

@@ -1,30 +1,24 @@
 // Lines of a type.
 ghost use Rattle.std.specs.Prelude.{◌≡◌, not, Ok, IfOk, IfErr, OnOk, if◌then◌else◌};
-ghost use Rattle.std.specs.Option.{is_some};
-ghost use Rattle.wsm_lists.specs.Rows.{row_at};
-ghost use Rattle.wsm_lists.specs.Keys.{both, first, first_two};
 ghost use Rattle.file_forms.specs.Shown.{shown_type_line};
 ghost use Rattle.file_forms.specs.Forms.{activity, opens_and, opens_xor, opens_branch, opens_loop, closes_block, a_sync, an_element, a_read, a_write, type_end};
-ghost use Rattle.file_drafts.specs.Drafts.{with_role, with_activity, gate_opened, loop_opened, closed, branched, with_sync, with_read, with_write, whole};
-ghost use Rattle.file_drafts.specs.Drafts as draft_specs;
+ghost use Rattle.file_drafts.specs.Drafts.{closed, branched, whole};
 ghost use Rattle.file_model.specs.Outcomes.{Stops};
-ghost use Rattle.file_model.specs.Steps.{at_place, node_in, with_node, element_in, with_element};
+ghost use Rattle.file_model.specs.Steps.{at_place, with_node, with_element, with_nodes, with_node_and_element};
 ghost use Rattle.file_model.specs.Declaring.{with_type};
-ghost use Rattle.file_model.specs.Typing.{takes_blocks, takes_branch, is_outside, fits_in, typed};
+ghost use Rattle.file_model.specs.Typing.{takes_blocks, takes_branch, is_outside, fits_in, typed, with_role_of, with_and, with_xor, with_loop, has_sync, put_sync, has_element, put_element, has_read, put_read, has_write, put_write};
 ghost use Rattle.file_state.specs.Taken.{Taken};
 
 use crate::contents::{element_number, node_and_element_numbers, node_number, node_numbers};
 use file_drafts::{Around, Draft, GateKind};
 use file_forms::TypeLine;
+use file_limits::MAX_DEPTH;
 use file_model::{Contents, FileLimit, Section, Stop, TypeDecl, Why};
 use file_names::Name64;
 use file_words::NameWord;
 use std::alloc::Global;
 use wsm_lists::{ElementKind, NoMemory};
 use wsm_sound::{Checked, SoundRefusal, check};
-
-/// How many blocks may be open.
-const MAX_DEPTH: usize = 64;
 
 fn takes_blocks(around: Around) -> bool
     ensures { result ≡ takes_blocks around }
@@ -300,7 +294,7 @@ fn add_activity(
     role: u32,
 ) -> Result<(), NoMemory>
     ensures noted { OnOk result (contents.new ≡ with_node node.entry.bytes.now contents.old) }
-    ensures draft { OnOk result (draft.new ≡ with_role (node_in node.entry.bytes.now contents.old) role (with_activity (node_in node.entry.bytes.now contents.old) draft.old)) }
+    ensures draft { OnOk result (draft.new ≡ with_role_of node.entry.bytes.now role draft.old contents.old) }
 {
     let node = node_number(contents, alloc, node)?;
     draft.push_activity(node)?;
@@ -314,8 +308,8 @@ fn open_and(
     split: NameWord<'_>,
     join: NameWord<'_>,
 ) -> Result<(), NoMemory>
-    ensures noted { OnOk result (contents.new ≡ with_node join.entry.bytes.now (with_node split.entry.bytes.now contents.old)) }
-    ensures draft { OnOk result (draft.new ≡ gate_opened GateKind.And (node_in split.entry.bytes.now contents.old) (node_in join.entry.bytes.now (with_node split.entry.bytes.now contents.old)) draft.old) }
+    ensures noted { OnOk result (contents.new ≡ with_nodes split.entry.bytes.now join.entry.bytes.now contents.old) }
+    ensures draft { OnOk result (draft.new ≡ with_and split.entry.bytes.now join.entry.bytes.now draft.old contents.old) }
 {
     let (split, join) = node_numbers(contents, alloc, split, join)?;
     draft.open_gate(alloc, GateKind::And, split, join)
@@ -329,8 +323,8 @@ fn open_xor(
     join: NameWord<'_>,
     role: u32,
 ) -> Result<(), NoMemory>
-    ensures noted { OnOk result (contents.new ≡ with_node join.entry.bytes.now (with_node split.entry.bytes.now contents.old)) }
-    ensures draft { OnOk result (draft.new ≡ with_role (node_in split.entry.bytes.now contents.old) role (gate_opened GateKind.Xor (node_in split.entry.bytes.now contents.old) (node_in join.entry.bytes.now (with_node split.entry.bytes.now contents.old)) draft.old)) }
+    ensures noted { OnOk result (contents.new ≡ with_nodes split.entry.bytes.now join.entry.bytes.now contents.old) }
+    ensures draft { OnOk result (draft.new ≡ with_xor split.entry.bytes.now join.entry.bytes.now role draft.old contents.old) }
 {
     let (split, join) = node_numbers(contents, alloc, split, join)?;
     draft.open_gate(alloc, GateKind::Xor, split, join)?;
@@ -345,8 +339,8 @@ fn open_loop(
     end: NameWord<'_>,
     role: u32,
 ) -> Result<(), NoMemory>
-    ensures noted { OnOk result (contents.new ≡ with_node end.entry.bytes.now (with_node start.entry.bytes.now contents.old)) }
-    ensures draft { OnOk result (draft.new ≡ with_role (node_in end.entry.bytes.now (with_node start.entry.bytes.now contents.old)) role (loop_opened (node_in start.entry.bytes.now contents.old) (node_in end.entry.bytes.now (with_node start.entry.bytes.now contents.old)) draft.old)) }
+    ensures noted { OnOk result (contents.new ≡ with_nodes start.entry.bytes.now end.entry.bytes.now contents.old) }
+    ensures draft { OnOk result (draft.new ≡ with_loop start.entry.bytes.now end.entry.bytes.now role draft.old contents.old) }
 {
     let (start, end) = node_numbers(contents, alloc, start, end)?;
     draft.open_loop(alloc, start, end)?;
@@ -360,9 +354,9 @@ fn put_sync(
     source: NameWord<'_>,
     target: NameWord<'_>,
 ) -> Result<bool, NoMemory>
-    ensures noted { OnOk result (contents.new ≡ with_node target.entry.bytes.now (with_node source.entry.bytes.now contents.old)) }
-    ensures added { IfOk result (λ added. added ≡ not (is_some (row_at both (node_in source.entry.bytes.now contents.old, node_in target.entry.bytes.now (with_node source.entry.bytes.now contents.old)) draft.old.schema.syncs))) }
-    ensures rows { IfOk result (λ added. draft.new ≡ (if added then with_sync (node_in source.entry.bytes.now contents.old) (node_in target.entry.bytes.now (with_node source.entry.bytes.now contents.old)) draft.old else draft.old)) }
+    ensures noted { OnOk result (contents.new ≡ with_nodes source.entry.bytes.now target.entry.bytes.now contents.old) }
+    ensures added { IfOk result (λ added. added ≡ not (has_sync source.entry.bytes.now target.entry.bytes.now draft.old contents.old)) }
+    ensures rows { IfOk result (λ added. draft.new ≡ (if added then put_sync source.entry.bytes.now target.entry.bytes.now draft.old contents.old else draft.old)) }
 {
     let (source, target) = node_numbers(contents, alloc, source, target)?;
     draft.put_sync(source, target)
@@ -376,8 +370,8 @@ fn put_element(
     kind: ElementKind,
 ) -> Result<bool, NoMemory>
     ensures noted { OnOk result (contents.new ≡ with_element element.entry.bytes.now contents.old) }
-    ensures added { IfOk result (λ added. added ≡ not (is_some (row_at first (element_in element.entry.bytes.now contents.old, 0) draft.old.schema.elements))) }
-    ensures rows { IfOk result (λ added. draft.new ≡ (if added then draft_specs.with_element (element_in element.entry.bytes.now contents.old) kind draft.old else draft.old)) }
+    ensures added { IfOk result (λ added. added ≡ not (has_element element.entry.bytes.now draft.old contents.old)) }
+    ensures rows { IfOk result (λ added. draft.new ≡ (if added then put_element element.entry.bytes.now kind draft.old contents.old else draft.old)) }
 {
     let element = element_number(contents, alloc, element)?;
     draft.put_element(element, kind)
@@ -391,9 +385,9 @@ fn put_read(
     element: NameWord<'_>,
     mandatory: bool,
 ) -> Result<bool, NoMemory>
-    ensures noted { OnOk result (contents.new ≡ with_element element.entry.bytes.now (with_node node.entry.bytes.now contents.old)) }
-    ensures added { IfOk result (λ added. added ≡ not (is_some (row_at first_two (node_in node.entry.bytes.now contents.old, element_in element.entry.bytes.now (with_node node.entry.bytes.now contents.old)) draft.old.schema.reads))) }
-    ensures rows { IfOk result (λ added. draft.new ≡ (if added then with_read (node_in node.entry.bytes.now contents.old) (element_in element.entry.bytes.now (with_node node.entry.bytes.now contents.old)) mandatory draft.old else draft.old)) }
+    ensures noted { OnOk result (contents.new ≡ with_node_and_element node.entry.bytes.now element.entry.bytes.now contents.old) }
+    ensures added { IfOk result (λ added. added ≡ not (has_read node.entry.bytes.now element.entry.bytes.now draft.old contents.old)) }
+    ensures rows { IfOk result (λ added. draft.new ≡ (if added then put_read node.entry.bytes.now element.entry.bytes.now mandatory draft.old contents.old else draft.old)) }
 {
     let (node, element) = node_and_element_numbers(contents, alloc, node, element)?;
     draft.put_read(node, element, mandatory)
@@ -406,9 +400,9 @@ fn put_write(
     node: NameWord<'_>,
     element: NameWord<'_>,
 ) -> Result<bool, NoMemory>
-    ensures noted { OnOk result (contents.new ≡ with_element element.entry.bytes.now (with_node node.entry.bytes.now contents.old)) }
-    ensures added { IfOk result (λ added. added ≡ not (is_some (row_at both (node_in node.entry.bytes.now contents.old, element_in element.entry.bytes.now (with_node node.entry.bytes.now contents.old)) draft.old.schema.writes))) }
-    ensures rows { IfOk result (λ added. draft.new ≡ (if added then with_write (node_in node.entry.bytes.now contents.old) (element_in element.entry.bytes.now (with_node node.entry.bytes.now contents.old)) draft.old else draft.old)) }
+    ensures noted { OnOk result (contents.new ≡ with_node_and_element node.entry.bytes.now element.entry.bytes.now contents.old) }
+    ensures added { IfOk result (λ added. added ≡ not (has_write node.entry.bytes.now element.entry.bytes.now draft.old contents.old)) }
+    ensures rows { IfOk result (λ added. draft.new ≡ (if added then put_write node.entry.bytes.now element.entry.bytes.now draft.old contents.old else draft.old)) }
 {
     let (node, element) = node_and_element_numbers(contents, alloc, node, element)?;
     draft.put_write(node, element)

@@ -21,13 +21,13 @@ use Rattle.legal_run.proofs.Places.{one-becomes, some_one, there-as}
 use Rattle.legal_run.proofs.Told.{each-all, each-kind, entry_if, some-at, some-other}
 use Rattle.legal_run.specs.Legal.{declared_cases}
 use Rattle.legal_run.specs.LineCalls.{AreCallsOf, Call, asked, is_case, of_kind, calls_of_case, calls_of_kind, told, told_each}
-use Rattle.file_model.specs.CaseCounts.{cases_of_type as counted}
+use Rattle.file_model.specs.CaseCounts.{cases_of_type as counted, has_id}
 use Rattle.file_model.specs.declared.files.Act.{Act}
 use Rattle.file_model.specs.declared.files.Act.TheVariants as act
 use Rattle.file_model.specs.declared.files.CaseDecl.{CaseDecl}
 use Rattle.file_model.specs.declared.files.File.{File}
 use Rattle.script_run.proofs.Places.{position-from_0}
-use Rattle.script_run.specs.Calls.{acted, call_case, call_kind, changed_where, created, each_of, if_of_type, is_of, migrated, newest, newest_in, on_case as case_called, on_each as each_called, on_kind as kind_called, place_of, put_back, roles_of, answered_version}
+use Rattle.script_run.specs.Calls.{acted, call_case, call_kind, changed_where, created, each_of, if_of_type, migrated, newest, newest_in, on_case as case_called, on_each as each_called, on_kind as kind_called, place_of, put_back, roles_of, answered_version}
 use Rattle.script_run.specs.declared.runs.ClosedCase.{ClosedCase}
 use Rattle.script_run.specs.declared.runs.ClosedKind.{ClosedKind}
 use Rattle.script_run.specs.declared.runs.Run.{Run}
@@ -103,10 +103,10 @@ first-place p n (x ∷ xs) some = elim (cases_Bool (p x)) [
 -- a declared case has its place
 place-declared : (f : File) (c : CaseId) → IsDeclared c f.cases → (i : ℕ) × (d : CaseDecl) × (place_of f c ≡ Some i) × (slice_get f.cases i ≡ Some d) × (d.id ≡ c)
 place-declared f c declared =
-    let (i, from) = first-place (is_of c) 0 f.cases declared in
-    let place : place_of f c ≡ Some i = sym (position-from_0 (is_of c) f.cases) ∙ from in
+    let (i, from) = first-place (has_id c) 0 f.cases declared in
+    let place : place_of f c ≡ Some i = sym (position-from_0 (has_id c) f.cases) ∙ from in
     let other : CaseDecl = record { name = []; id = c } in
-    let found = position-Some (is_of c) f.cases i other place in
+    let found = position-Some (has_id c) f.cases i other place in
     (i, get_or f.cases i other, place, slice_get-get_or f.cases i other found.0, case-same c (get_or f.cases i other).id found.1)
 
 -- no other case has its id

@@ -8,6 +8,7 @@ ghost use Rattle.process_text.specs.Ends.{MayEnd, MayNotEnd};
 
 use crate::files::file_of;
 use crate::stepping::step_in;
+use file_limits::MAX_FILE_BYTES;
 use file_model::{Contents, File, FileRefusal, Lines, Section, Stop, Why};
 use file_state::{no_contents, refusal};
 use file_words::{first_line, is_skipped, without_return, words_of};
@@ -55,7 +56,7 @@ fn end_lines(
 // where a line is refused would make the proof dear.
 fn read_lines(contents: &mut Contents, alloc: Global, bytes: &[u8]) -> Result<(), FileRefusal>
     requires begun { contents.old ≡ no_contents }
-    requires size { length bytes.now ≤ 16777216 }
+    requires size { length bytes.now ≤ MAX_FILE_BYTES }
     ensures ok { OnOk result (file bytes.now ≡ Ok (file_of contents.new contents.new.phases)) }
     ensures refused { IfErr result (λ refusal. Tells (file bytes.now) refusal) }
 {
@@ -91,7 +92,7 @@ fn given_up(_contents: Contents, refusal: FileRefusal) -> Result<File, FileRefus
 
 /// Reads a process file, or gives its first refusal.
 pub fn read_file(alloc: Global, bytes: &[u8]) -> Result<File, FileRefusal>
-    requires { length bytes.now ≤ 16777216 }
+    requires { length bytes.now ≤ MAX_FILE_BYTES }
     ensures file { IfOk result (λ read. file bytes.now ≡ Ok read) }
     ensures bounded { IfOk result (λ read. IsBounded read) }
     ensures refused { IfErr result (λ refusal. Tells (file bytes.now) refusal) }

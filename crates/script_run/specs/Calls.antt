@@ -1,8 +1,9 @@
 -- The calls of script lines.
-use Rattle.std.specs.Prelude.{ℕ, ◌-◌, Bool, ◌&&◌, ◌==◌, List, [], ◌∷◌, ◌++◌, slice_get, slice_set, position, Option, Some, None, if◌then◌else◌}
+use Rattle.std.specs.Prelude.{ℕ, ◌-◌, ◌==◌, List, [], ◌∷◌, ◌++◌, slice_get, slice_set, position, Option, Some, None, if◌then◌else◌}
 use Rattle.case_core.specs.Machine.{next_case}
 use Rattle.case_core.specs.declared.events.Event.{Event}
 use Rattle.case_core.specs.declared.events.Event.TheVariants as event
+use Rattle.file_model.specs.CaseCounts.{has_id}
 use Rattle.file_model.specs.declared.files.Act.{Act}
 use Rattle.file_model.specs.declared.files.Act.TheVariants as act
 use Rattle.file_model.specs.declared.files.ActorDecl.{ActorDecl}
@@ -44,11 +45,8 @@ changed_where f None xs = xs
 changed_where f (Some i) xs = changed_at f i xs
 
 -- where a case was declared
-abbrev pub is_of : CaseId → CaseDecl → Bool
-is_of c d = d.id.type_no == c.type_no && d.id.place == c.place
-
 abbrev pub place_of : File → CaseId → Option ℕ
-place_of f c = position (is_of c) f.cases
+place_of f c = position (has_id c) f.cases
 
 -- the roles of the actor with a number, from 1
 abbrev pub roles_in : Option ActorDecl → List ℕ

@@ -2,12 +2,12 @@
 use Rattle.std.specs.Prelude.{◌≡◌, ℕ, Bool, ◌&&◌, ◌==◌, List, position}
 use Rattle.std.specs.Map.{lookup}
 use Rattle.file_model.specs.declared.files.CaseDecl.{CaseDecl}
-use Rattle.script_run.specs.Calls.{is_of}
 use Rattle.wsm_sound.specs.declared.versions.CaseId.{CaseId}
+use Rattle.file_model.specs.CaseCounts.{has_id}
 
 -- a case is found by its type and its place among the cases of the type
 abbrev pub is_key : CaseId → ℕ × ℕ → Bool
 is_key c k = c.type_no == k.0 && c.place == k.1
 
 abbrev pub Indexes : List ((ℕ × ℕ) × ℕ) → List CaseDecl → Type 0
-Indexes entries ds = (c : CaseId) → lookup (is_key c) entries ≡ position (is_of c) ds
+Indexes entries ds = (c : CaseId) → lookup (is_key c) entries ≡ position (has_id c) ds

@@ -19,9 +19,13 @@ pub record Checking : Type 0 where
 abbrev pub stepped : KindEvent → KindModel → KindModel
 stepped e k = (next_kind k e).0
 
+-- a type behind its definition
+abbrev pub defined_kind : ℕ → TypeDecl → KindModel
+defined_kind t d = stepped (kind_event.Define d.schema) (not_defined t)
+
 abbrev pub defined_from : ℕ → List TypeDecl → List KindModel
 defined_from t [] = []
-defined_from t (d ∷ ds) = stepped (kind_event.Define d.schema) (not_defined t) ∷ defined_from (t + 1) ds
+defined_from t (d ∷ ds) = defined_kind t d ∷ defined_from (t + 1) ds
 
 -- what the type with this number answers, where it is there
 abbrev pub judged_by : ℕ → ℕ → KindEvent → Checking → Option KindModel → Checking

@@ -3,8 +3,7 @@ ghost use Rattle.std.specs.Prelude.{◌≡◌, ◌+◌, ◌*◌, ◌≤◌, true
 ghost use Rattle.std.specs.List.{list_all};
 ghost use Rattle.file_model.specs.Sizes.{IsBounded, is_small, line_effort, phase_effort};
 ghost use Rattle.script_run.specs.Parts.{checking_of};
-ghost use Rattle.script_run.specs.Verdicts.{defined_from, judged, judged_line, judged_phase, stepped, verdicts};
-ghost use Rattle.type_core.specs.KindModel.{not_defined};
+ghost use Rattle.script_run.specs.Verdicts.{defined_from, defined_kind, judged, judged_line, judged_phase, verdicts};
 ghost use Rattle.type_core.specs.Machine.{weight};
 ghost use Rattle.wsm_schema.specs.Flat.{cards_of};
 
@@ -46,15 +45,15 @@ fn defined_kinds(alloc: Global, types: &[TypeDecl]) -> Result<Vec<Kind>, NoMemor
 {
     let mut kinds = Vec::new(alloc);
     for (index, decl) in types.iter().enumerate() {
-        kinds.push(defined(alloc, number_at(index)?, decl)?)?;
+        kinds.push(defined_kind(alloc, number_at(index)?, decl)?)?;
     }
     Ok(kinds)
 }
 
-// A type behind its definition.
-fn defined(alloc: Global, number: u32, decl: &TypeDecl) -> Result<Kind, NoMemory>
+/// A type behind its definition.
+pub fn defined_kind(alloc: Global, number: u32, decl: &TypeDecl) -> Result<Kind, NoMemory>
     requires { length (cards_of decl.now.schema) ≤ 1024 }
-    ensures { IfOk result (λ kind. kind ≡ stepped (KindEvent.Define decl.now.schema) (not_defined number)) }
+    ensures { IfOk result (λ kind. kind ≡ defined_kind number decl.now) }
 {
     let mut kind = Kind::new(alloc, number);
     let _ = kind.step(alloc, &KindEvent::Define(decl.schema.copy(alloc)?))?;

@@ -9,7 +9,7 @@ mod runs;
 mod scripts;
 mod serial;
 
-pub use checking::verdicts;
+pub use checking::{defined_kind, verdicts};
 pub use runs::{
     CaseEntry, CaseJournal, ClosedCase, ClosedCases, ClosedKind, ClosedKinds, KindEntry,
     KindJournal, Run, Verdict, Verdicts,

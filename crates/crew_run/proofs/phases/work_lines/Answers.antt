@@ -7,7 +7,7 @@ use Rattle.adept_actor.specs.Others.{LeavesUnnamed}
 use Rattle.adept_server.specs.Desks.{IsDeskOf, desk_view}
 use Rattle.case_core.proofs.replies.Reply.TheSendSync as reply
 use Rattle.crew_run.proofs.Sent.{closed-sync, kind-send, kind-sync, kind_event-send, kind_event-sync, kind_reply-send, kind_reply-sync, line-sync, schema-sync, worker-send}
-use Rattle.crew_run.specs.Phases.{HasWorked}
+use Rattle.crew_run.specs.Phases.{HasWorked, HasWorkedLines}
 use Rattle.turn_cell.proofs.cell.Cell.TheSendSync as cell
 use Rattle.crew_run.proofs.phases.work_lines.Goals as goal
 
@@ -26,7 +26,7 @@ returns g c = λ i d low.
     let f = c.args.file.now in
     let lines = c.args.lines.now in
     let k = (c.for_each_mut.ensures i d low).1 in
-    let call : IsDeskOf s k.after_call.now.desk × HasWorked f lines k.argument.now k.after_call.now × LeavesUnnamed lines (desk_view k.argument.now.desk) (desk_view k.after_call.now.desk) = k.call in
+    let call : HasWorkedLines s f lines k.argument.now k.after_call.now = k.call in
     let new = get_or c.for_each_mut.new.s i d in (
       subst (λ w. IsDeskOf s w.desk) k.left call.0,
       subst (λ w. HasWorked f lines w new) k.argument_is (subst (λ w. HasWorked f lines k.argument.now w) k.left call.1),

@@ -1,10 +1,10 @@
 use Rattle.std.proofs.Common.{◌≡◌, drop}
 use Rattle.std.specs.List.{position_from}
 use Rattle.std.specs.Map.{lookup}
-use Rattle.script_run.specs.Calls.{is_of}
 use Rattle.script_run.specs.Places.{is_key}
 use Rattle.wsm_sound.specs.declared.versions.CaseId.{CaseId}
 use Rattle.script_run.proofs.scripts.places_of.Given as goal
+use Rattle.file_model.specs.CaseCounts.{has_id}
 
 abbrev pub invariant-loop-place : goal.invariant-loop-place
-invariant-loop-place l = (c : CaseId) → lookup (is_key c) l.places.entries ≡ position_from (is_of c) l.place (drop l.place l.decls)
+invariant-loop-place l = (c : CaseId) → lookup (is_key c) l.places.entries ≡ position_from (has_id c) l.place (drop l.place l.decls)
