@@ -28,11 +28,11 @@ impl Live {
         if self.is_finished() {
             return both(alloc, Reply::Finished);
         }
-        match change(alloc, self.checked(), ops) {
-            Ok(checked) => {
+        match changed(alloc, self.checked(), ops) {
+            Ok(schema) => {
                 let base = self.base().share()?;
                 let own = joined(alloc, self.own(), ops)?;
-                self.take(alloc, base, own, shared(alloc, checked)?, Reply::Changed)
+                self.take(alloc, base, own, schema, Reply::Changed)
             }
             Err(refusal) => both(alloc, Reply::Unsound(refusal.fault()?)),
         }
@@ -97,8 +97,7 @@ impl Live {
         if self.own().is_empty() {
             return Ok(version.share_schema()?);
         }
-        let checked = change(alloc, version.checked(), self.own())?;
-        Ok(shared(alloc, checked)?)
+        changed(alloc, version.checked(), self.own())
     }
 
     // The case on another schema, where its trail replays on it; else the first entry that fails is named.
@@ -163,6 +162,16 @@ fn append(all: &mut Vec<Op>, ops: &Ops) -> Result<(), NoMemory>
 {
     all.extend_from_slice(ops.as_slice())?;
     Ok(())
+}
+
+// What the operations make of a schema, to be shared.
+fn changed(alloc: Global, checked: &Checked, ops: &Ops) -> Result<Arc<Checked>, SoundRefusal>
+    requires { length ops.now < 2 ^ 32 }
+    ensures ok { IfOk result (λ schema. changed_by checked.now ops.now ≡ Ok schema.value) }
+    ensures fault { IfErr result (λ refusal. IsRefusal (changed_by checked.now ops.now) refusal) }
+{
+    let checked = change(alloc, checked, ops)?;
+    Ok(shared(alloc, checked)?)
 }
 
 // The schema, to be shared.
