@@ -1,6 +1,5 @@
 -- Whose call a line shows is seen at its beginning, whatever stands behind the line.
-use Rattle.std.proofs.Common.{◌≡◌, ℕ, suc, ◌+◌, ◌==◌, ◌&&◌, eq-eqb, eqb-true, Bool, true, false, List, [], ◌∷◌, ◌++◌, length, take, Option, Some, None, append_assoc, refl, sym, ap, ◌∙◌, subst, if◌then◌else◌}
-use Rattle.std.specs.Prelude.{bytes_eq}
+use Rattle.std.proofs.Common.{◌≡◌, ℕ, ◌+◌, ◌==◌, ◌&&◌, eq-eqb, eqb-true, Bool, true, false, List, [], ◌∷◌, ◌++◌, Some, append_assoc, refl, sym, ap, ◌∙◌, if◌then◌else◌}
 use Rattle.audit_facts.specs.Facts.{IsAuditable}
 use Rattle.audit_model.specs.Printed.{begins, caller_from, caller_in}
 use Rattle.audit_reader.proofs.OneLineTexts.{start-one}

@@ -1,5 +1,5 @@
 -- Texts of several lines that are followed as one piece.
-use Rattle.std.proofs.Common.{◌≡◌, ◌==◌, true, false, length, Some, None, sym, subst}
+use Rattle.std.proofs.Common.{true, false, Some, None, sym, subst}
 use Rattle.audit_model.proofs.Texts.{EndsLine}
 use Rattle.audit_model.specs.ReportReader.{given}
 use Rattle.file_words.specs.Lines.{Bytes}

@@ -1,5 +1,5 @@
 -- A line of a type's journal, right or wrong.
-use Rattle.std.proofs.Common.{◌≡◌, ℕ, suc, ◌+◌, ◌-◌, ◌<◌, ◌≤◌, ◌==◌, Bool, true, false, List, [], ◌∷◌, ◌++◌, length, map, Option, Some, None, length-append, refl, sym, ap, ◌∙◌, subst, arith, if◌then◌else◌}
+use Rattle.std.proofs.Common.{◌≡◌, ℕ, ◌+◌, ◌<◌, ◌≤◌, ◌==◌, Bool, true, false, List, [], ◌∷◌, ◌++◌, length, map, Option, Some, None, length-append, refl, sym, ap, ◌∙◌, subst, arith, if◌then◌else◌}
 use Rattle.audit_facts.specs.Facts.{IsAuditable}
 use Rattle.audit_model.proofs.Texts.{kind-line}
 use Rattle.audit_model.specs.Asked.{Asked, kind_event_of}
@@ -14,7 +14,7 @@ use Rattle.legal_run.specs.Legal.{IsActor}
 use Rattle.line_followers.proofs.JournalLines.{caller-none, event-none, first-none}
 use Rattle.line_followers.proofs.Rests.{rest-differs, rest-line, rest-wrong}
 use Rattle.line_followers.proofs.Turns.{IsTurn, turn-none, turn-taken}
-use Rattle.line_followers.specs.Follows.{Follows, Reaches, left_of}
+use Rattle.line_followers.specs.Follows.{Reaches, left_of}
 use Rattle.line_followers.specs.Rests.{rest_journal, with_entries}
 use Rattle.line_followers.specs.Turns.{AreTurns, one_taken, queue_of}
 use Rattle.line_readers.specs.FirstWrong.{ended}

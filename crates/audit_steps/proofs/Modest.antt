@@ -1,14 +1,14 @@
 -- Lines that ask little: what their events weigh, and how old a case is behind them.
-use Rattle.std.proofs.Common.{◌≡◌, ℕ, zero, suc, ◌+◌, ◌*◌, ◌<◌, ◌≤◌, ◌==◌, Bool, true, false, List, [], ◌∷◌, ◌++◌, length, length-append, map, slice_get, Option, Some, None, refl, sym, ap, ◌∙◌, subst, arith, if◌then◌else◌}
+use Rattle.std.proofs.Common.{◌≡◌, ℕ, zero, suc, ◌+◌, ◌<◌, ◌≤◌, ◌==◌, Bool, true, false, List, [], ◌∷◌, ◌++◌, length, length-append, map, Option, Some, None, refl, sym, ap, ◌∙◌, subst, arith, if◌then◌else◌}
 use Rattle.std.proofs.lemmas.List.Sums.{sum_by-cons}
 use Rattle.std.specs.Prelude.{filter, slice_set}
 use Rattle.audit_facts.specs.Facts.{IsAuditable, WritesOneLine}
-use Rattle.audit_model.specs.Asked.{Asked, Telling, asked_lines, asked_phases, asks, case_event_in, case_event_of, created_by, kind_event_in, left_to_tell, migrated_by, owed_case, told_at, version_for}
-use Rattle.audit_model.specs.Owed.{calls_case, calls_kind, owed_kind}
+use Rattle.audit_model.specs.Asked.{Asked, Telling, asked_lines, asked_phases, asks, case_event_in, case_event_of, created_by, kind_event_in, left_to_tell, migrated_by, told_at, version_for}
+use Rattle.audit_model.specs.Owed.{calls_kind, owed_kind}
 use Rattle.audit_reader.proofs.KeptValues.{case-kept}
 use Rattle.audit_reader.specs.Kept.{KeptCase, WritesValues}
 use Rattle.case_core.proofs.AgesOfSteps.{age-next_case}
-use Rattle.case_core.specs.Ages.{age, weight}
+use Rattle.case_core.specs.Ages.{weight}
 use Rattle.case_core.specs.CaseModel.{not_created}
 use Rattle.case_core.specs.Machine.{case_after}
 use Rattle.case_core.specs.declared.events.Event.{Event}
@@ -22,8 +22,8 @@ use Rattle.file_model.specs.declared.files.File.{File}
 use Rattle.file_model.specs.declared.files.Line.{Line}
 use Rattle.line_followers.proofs.Dues.{filled-many}
 use Rattle.line_followers.specs.Filled.{filled}
-use Rattle.line_followers.specs.Turns.{AreTurns, behind_front, one_taken, queue_in, queue_of}
-use Rattle.line_readers.specs.Owed.{how_many, lines_by}
+use Rattle.line_followers.specs.Turns.{AreTurns, behind_front, one_taken, queue_of}
+use Rattle.line_readers.specs.Owed.{how_many}
 use Rattle.script_run.specs.Entries.{CaseEntry}
 use Rattle.script_run.specs.declared.runs.ClosedCase.{ClosedCase}
 use Rattle.type_core.specs.Machine.{weight as kind_weight}
@@ -31,7 +31,6 @@ use Rattle.type_core.specs.declared.events.KindEvent.{KindEvent}
 use Rattle.type_core.specs.declared.events.KindEvent.TheVariants as kind_event
 use Rattle.wsm_lists.specs.Rows.{AllRows}
 use Rattle.wsm_sound.specs.VersionModel.{VersionModel}
-use Rattle.wsm_sound.specs.declared.versions.CaseId.{CaseId}
 use Rattle.audit_steps.specs.Cases.{IsSteady}
 use Rattle.audit_steps.specs.Lines.{IsModest, actor_of, line_of}
 

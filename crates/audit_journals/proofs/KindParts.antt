@@ -1,0 +1,51 @@
+-- A type's part of a report: its line and its definition, then its journal.
+use Rattle.std.proofs.Common.{◌≡◌, ℕ, ◌+◌, true, false, List, ◌++◌, length, Some, None, refl, subst}
+use Rattle.audit_model.proofs.Texts.{EndsLine, ends-behind, kind-line}
+use Rattle.audit_model.specs.Owed.{owed_kind}
+use Rattle.audit_model.specs.Printed.{kind_shown}
+use Rattle.audit_model.specs.ReportReader.{defined_line, kind_journal, kind_reader}
+use Rattle.audit_steps.proofs.Fronts.{given-then, given-wrong}
+use Rattle.audit_steps.proofs.KindPhases.{kind-stopped, kind-whole}
+use Rattle.audit_steps.specs.Judging.{FollowedBy}
+use Rattle.audit_steps.specs.Kinds.{GrowsTo, StopsAt}
+use Rattle.file_model.specs.declared.files.File.{File}
+use Rattle.file_model.specs.declared.files.Line.{Line}
+use Rattle.file_model.specs.declared.files.TypeDecl.{TypeDecl}
+use Rattle.file_words.specs.Lines.{Bytes}
+use Rattle.line_followers.specs.Filled.{filled}
+use Rattle.line_followers.specs.Follows.{Follows}
+use Rattle.report_text.specs.Report.{type_head}
+use Rattle.script_run.specs.Entries.{KindEntry}
+use Rattle.script_run.specs.Serial.{defined, program}
+use Rattle.script_run.specs.declared.runs.ClosedKind.{ClosedKind}
+use Rattle.text_follower.specs.Followed.{Followed}
+use Rattle.turn_cell.specs.History.{entry}
+use Rattle.type_core.specs.KindModel.{not_defined}
+use Rattle.type_core.specs.Machine.{kind_reply}
+use Rattle.type_core.specs.declared.events.KindEvent.TheVariants as kind_event
+
+module _ (f : File) (t : ℕ) (d : TypeDecl) where
+  abbrev front_of : ClosedKind → Bytes
+  front_of k = type_head d ++ defined_line f k
+
+  abbrev definition : KindEntry
+  definition = entry program (kind_event.Define d.schema) (kind_reply (not_defined t) (kind_event.Define d.schema))
+
+  front-ends : EndsLine (front_of (defined t d))
+  front-ends = ends-behind (type_head d) (defined_line f (defined t d)) (record { before = kind_shown f 1 definition; is = kind-line f 1 definition })
+
+  pub front-wrong : (k : ClosedKind) (old new : Followed) → k ≡ defined t d → FollowedBy (front_of k) old new false → Follows (kind_reader f t d) old new None
+  front-wrong k old new is front =
+      given-wrong (front_of (defined t d)) (defined t d) (kind_journal f t) old new front-ends (subst (λ j. FollowedBy (front_of j) old new false) is front)
+
+  pub journal-wrong : (k : ClosedKind) (old mid new : Followed) (owed : List (List Line)) → k ≡ defined t d → FollowedBy (front_of k) old mid true → owed ≡ filled (owed_kind f t)
+      → StopsAt f k mid new (λ later. owed ++ later) → Follows (kind_reader f t d) old new None
+  journal-wrong k old mid new owed is front same stop =
+      given-then (front_of (defined t d)) (defined t d) (kind_journal f t) old mid new None front-ends (subst (λ j. FollowedBy (front_of j) old mid true) is front)
+      (kind-stopped f t (defined t d) mid new owed refl same (subst (λ j. StopsAt f j mid new (λ later. owed ++ later)) is stop))
+
+  pub kind-right : (k to : ClosedKind) (old mid new : Followed) (owed : List (List Line)) → k ≡ defined t d → FollowedBy (front_of k) old mid true → owed ≡ filled (owed_kind f t)
+      → GrowsTo f k mid to new (λ later. owed ++ later) (λ later. later) → Follows (kind_reader f t d) old new (Some to)
+  kind-right k to old mid new owed is front same grown =
+      given-then (front_of (defined t d)) (defined t d) (kind_journal f t) old mid new (Some to) front-ends (subst (λ j. FollowedBy (front_of j) old mid true) is front)
+      (kind-whole f t (defined t d) to mid new owed refl same (subst (λ j. GrowsTo f j mid to new (λ later. owed ++ later) (λ later. later)) is grown))

@@ -1,0 +1,15 @@
+use Rattle.std.proofs.Common.{◌+◌, ◌≤◌, length}
+use Rattle.audit_journals.specs.Queues.{queues_of}
+use Rattle.audit_owed.specs.Asking.{asked_in}
+use Rattle.audit_steps.specs.Cases.{InPhase, IsSteady}
+use Rattle.audit_steps.specs.Lines.{IsModest}
+use Rattle.wsm_lists.specs.Rows.{AllRows}
+use Rattle.audit_journals.proofs.cases.judge_phase.Given as goal
+
+abbrev pub invariant-loop-judged : goal.invariant-loop-judged
+invariant-loop-judged l = record {
+  judged : InPhase l.file l.fn.case l.fn.report l.case l.report (queues_of l.turns) (asked_in l.calls) l._judged;
+  modest : AllRows (AllRows IsModest) (queues_of l.turns);
+  steady : IsSteady l.case;
+  longer : length l.case.journal ≤ length l.fn.case.journal + l._judged;
+}

@@ -1,0 +1,50 @@
+-- Lists in a list, of which one is changed.
+use Rattle.std.proofs.Common.{◌≡◌, ◌≢◌, ℕ, zero, suc, ◌+◌, ◌<◌, ◌≤◌, ◌==◌, eq-eqb, eqb-true, ne_eqb, Bool, true, false, List, [], ◌∷◌, ◌++◌, length, slice_get, Option, Some, None, refl, sym, ap, ◌∙◌, subst, arith}
+use Rattle.std.specs.Prelude.{slice_set}
+use Rattle.line_followers.proofs.Turns.{get-other, get-set, set-many}
+use Rattle.line_followers.specs.Turns.{behind_front, one_added, one_taken, queue_in, queue_of}
+
+pub past-none : {X : Type 0} (xs : List X) (i : ℕ) → length xs ≤ i → slice_get xs i ≡ None
+past-none [] i past = refl
+past-none (x ∷ xs) zero past = absurd (omega (arith, past))
+past-none (x ∷ xs) (suc i) past = past-none xs i (omega (arith, past))
+
+-- within the list, or behind it
+pub data At (n i : ℕ) : Type 0 where
+  within : i < n → At n i
+  behind : n ≤ i → At n i
+
+pub where-at : (n i : ℕ) → At n i
+where-at zero i = behind (omega arith)
+where-at (suc n) zero = within (omega arith)
+where-at (suc n) (suc i) = by (where-at n i)
+  where
+    by : At n i → At (suc n) (suc i)
+    by (within low) = within (omega (arith, low))
+    by (behind past) = behind (omega (arith, past))
+
+module _ {L : Type 0} where
+  pub set-own : (queues : List (List L)) (i : ℕ) (q : List L) → (length queues ≤ i → q ≡ []) → queue_of (slice_set queues i q) i ≡ q
+  set-own queues i q none = by (where-at (length queues) i)
+    where
+      by : At (length queues) i → queue_of (slice_set queues i q) i ≡ q
+      by (within low) = ap queue_in (get-set queues i q low)
+      by (behind past) = ap queue_in (past-none (slice_set queues i q) i (omega (arith, past, set-many queues i q))) ∙ sym (none past)
+
+  pub set-another : (queues : List (List L)) (i j : ℕ) (q : List L) → j ≢ i → queue_of (slice_set queues i q) j ≡ queue_of queues j
+  set-another queues i j q other = ap queue_in (get-other queues i j q other)
+
+  pub none-of : (queues : List (List L)) (i : ℕ) → length queues ≤ i → queue_of queues i ≡ []
+  none-of queues i past = ap queue_in (past-none queues i past)
+
+  pub taken-own : (queues : List (List L)) (a : ℕ) → queue_of (one_taken a queues) a ≡ behind_front (queue_of queues a)
+  taken-own queues a = set-own queues a (behind_front (queue_of queues a)) (λ past. ap behind_front (none-of queues a past))
+
+  pub taken-another : (queues : List (List L)) (a b : ℕ) → b ≢ a → queue_of (one_taken a queues) b ≡ queue_of queues b
+  taken-another queues a b other = set-another queues a b (behind_front (queue_of queues a)) other
+
+  pub added-own : (queues : List (List L)) (a : ℕ) (l : L) → a < length queues → queue_of (one_added a l queues) a ≡ queue_of queues a ++ l ∷ []
+  added-own queues a l low = ap queue_in (get-set queues a (queue_of queues a ++ l ∷ []) low)
+
+  pub added-another : (queues : List (List L)) (a b : ℕ) (l : L) → b ≢ a → queue_of (one_added a l queues) b ≡ queue_of queues b
+  added-another queues a b l other = set-another queues a b (queue_of queues a ++ l ∷ []) other

@@ -1,0 +1,25 @@
+-- The length of a process file in front of a report, line by line.
+use Rattle.std.proofs.Common.{◌≡◌, ℕ, suc, ◌+◌, List, [], ◌∷◌, ◌++◌, length, length-append, append_assoc, refl, sym, ap, ◌∙◌, arith, if◌then◌else◌}
+use Rattle.case_audit.specs.Parts.{before_report, begins_report, file_length}
+use Rattle.file_words.specs.Lines.{Bytes, CutLines, front_line, lines_of, one_left}
+use Rattle.line_readers.proofs.Lines.{cut-together}
+use Rattle.line_readers.specs.Readers.{ending}
+
+abbrev before : CutLines → ℕ
+before cut = before_report cut.ended cut.left
+
+pub line-length : (rest line more : Bytes) → lines_of rest ≡ front_line line (lines_of more) → file_length rest ≡ (if begins_report line then 0 else length line + suc (file_length more))
+line-length rest line more is = ap before is
+
+pub last-length : (rest : Bytes) → lines_of rest ≡ one_left rest → file_length rest ≡ (if begins_report rest then 0 else length rest)
+last-length rest is = ap before is
+
+-- the line, its line feed, and the rest
+pub line-and-rest : (rest line more : Bytes) → lines_of rest ≡ front_line line (lines_of more) → length rest ≡ length line + 1 + length more
+line-and-rest rest line more is =
+    let there : rest ≡ line ++ 10 ∷ more =
+    sym (cut-together rest) ∙ (ap (λ (cut : CutLines). ending cut.ended ++ cut.left) is ∙ append-behind) in
+    ap length there ∙ (length-append line (10 ∷ more) ∙ omega arith)
+  where
+    append-behind : (line ++ 10 ∷ ending (lines_of more).ended) ++ (lines_of more).left ≡ line ++ 10 ∷ more
+    append-behind = append_assoc line (10 ∷ ending (lines_of more).ended) (lines_of more).left ∙ ap (λ bs. line ++ 10 ∷ bs) (cut-together more)

@@ -1,0 +1,61 @@
+-- The verdict on a report that was gone along.
+use Rattle.std.proofs.Common.{◌≡◌, ℕ, zero, suc, ◌+◌, ◌<◌, ◌≤◌, ◌==◌, Bool, true, false, List, [], ◌∷◌, length, take, Some, None, refl, sym, ap, ◌∙◌, subst, arith, if◌then◌else◌}
+use Rattle.std.specs.Option.{is_some}
+use Rattle.std.specs.Prelude.{Option}
+use Rattle.audit_facts.specs.Facts.{IsAuditable}
+use Rattle.audit_model.specs.ReportReader.{report_reader}
+use Rattle.audit_model.specs.Reports.{IsReport}
+use Rattle.audit_reader.proofs.FirstWrongLine.{first-wrong-line}
+use Rattle.case_audit.specs.Verdicts.{IsJudged}
+use Rattle.file_facts.specs.Facts.{IsWorkable}
+use Rattle.file_model.specs.declared.files.File.{File}
+use Rattle.file_words.specs.Lines.{Bytes}
+use Rattle.line_followers.specs.Follows.{Follows, left_of, passed}
+use Rattle.line_readers.proofs.Walks.{goes-first_wrong, wrong_behind}
+use Rattle.line_readers.specs.FirstWrong.{IsFirstWrong, first_wrong}
+use Rattle.script_run.specs.declared.runs.Run.{Run}
+use Rattle.text_follower.specs.Followed.{Followed, feeds}
+
+pub feeds-taken : (n : ℕ) (bs : Bytes) → feeds (take n bs) ≤ length bs
+feeds-taken zero bs = omega arith
+feeds-taken (suc n) [] = omega arith
+feeds-taken (suc n) (b ∷ bs) = by (b == 10) (feeds-taken n bs)
+  where
+    by : (test : Bool) → feeds (take n bs) ≤ length bs → (if test then suc (feeds (take n bs)) else feeds (take n bs)) ≤ suc (length bs)
+    by true few = omega (arith, few)
+    by false few = omega (arith, few)
+
+-- something is left
+pub some-left : (n : ℕ) → (n == 0) ≡ false → 0 < n
+some-left zero none = absurd (cc (none))
+some-left (suc n) some = omega arith
+
+abbrev start : Bytes → Followed
+start report = record { text = report; at = 0 }
+
+module _ (f : File) (workable : IsWorkable f) (auditable : IsAuditable f) (report : Bytes) (end : Followed) where
+  first-is : (value : Option Run) → Follows (report_reader f) (start report) end value → IsFirstWrong (IsReport f) report (wrong_behind (left_of end) (passed end) value)
+  first-is value gone =
+      subst (IsFirstWrong (IsReport f) report) (goes-first_wrong (report_reader f) report (left_of end) (passed end) value gone.1) (first-wrong-line f workable auditable report)
+
+  pub legal-whole : IsJudged f (start report) end true → left_of end ≡ [] → IsFirstWrong (IsReport f) report None
+  legal-whole (value, stands, gone) none = by value stands (first-is value gone)
+    where
+      by : (o : Option Run) → true ≡ is_some o → IsFirstWrong (IsReport f) report (wrong_behind (left_of end) (passed end) o) → IsFirstWrong (IsReport f) report None
+      by None stands is = absurd (cc (stands))
+      by (Some r) stands is = subst (λ rest. IsFirstWrong (IsReport f) report (wrong_behind rest (passed end) (Some r))) none is
+
+  pub wrong-stopped : IsJudged f (start report) end false → IsFirstWrong (IsReport f) report (Some (passed end + 1))
+  wrong-stopped (value, stands, gone) = by value stands (first-is value gone)
+    where
+      by : (o : Option Run) → false ≡ is_some o → IsFirstWrong (IsReport f) report (wrong_behind (left_of end) (passed end) o) → IsFirstWrong (IsReport f) report (Some (passed end + 1))
+      by None stands is = is
+      by (Some r) stands is = absurd (cc (stands))
+
+  pub wrong-behind : IsJudged f (start report) end true → 0 < length (left_of end) → IsFirstWrong (IsReport f) report (Some (passed end + 1))
+  wrong-behind (value, stands, gone) some = by value (left_of end) refl some (first-is value gone)
+    where
+      by : (o : Option Run) (rest : Bytes) → left_of end ≡ rest → 0 < length (left_of end) → IsFirstWrong (IsReport f) report (wrong_behind (left_of end) (passed end) o) → IsFirstWrong (IsReport f) report (Some (passed end + 1))
+      by None rest at some is = is
+      by (Some r) [] at some is = let none = ap length at in absurd (omega (arith, none, some))
+      by (Some r) (b ∷ bs) at some is = subst (λ rest. IsFirstWrong (IsReport f) report (wrong_behind rest (passed end) (Some r))) at is

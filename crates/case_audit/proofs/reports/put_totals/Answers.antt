@@ -1,0 +1,9 @@
+use Rattle.std.proofs.Common.{true}
+use Rattle.adept_io.proofs.Sent.{gives_then}
+use Rattle.report_words.specs.Totals.{case_totals, migration_totals}
+use Rattle.case_audit.proofs.reports.put_totals.Goals as goal
+
+pub returns : goal.returns
+returns c =
+    let cases = c.args.cases.now in
+    gives_then _ _ true _ _ c.args.line.now _ _ (case_totals cases) (migration_totals cases) c.put_case_totals-ok.ensures c.put_migration_totals.ensures

@@ -1,0 +1,20 @@
+use Rattle.std.proofs.Common.{◌≡◌, ℕ, ◌+◌, List, length, slice_get, Some, Ok}
+use Rattle.std.specs.Vec.Iter.{into_iter_items, into_iter_len}
+use Rattle.audit_model.specs.Asked.{Asked}
+use Rattle.audit_owed.specs.Owing.{calls_decl, numbers}
+use Rattle.audit_owed.specs.Sharing.{given}
+use Rattle.audit_steps.specs.Cases.{InCases}
+use Rattle.case_audit.specs.Sections.{IsSection}
+use Rattle.case_audit.specs.declared.sections.Section.{Section}
+use Rattle.case_audit.proofs.sections.join_sections.Given as goal
+
+abbrev pub invariant-loop-section : goal.invariant-loop-section
+invariant-loop-section l =
+    let rest = into_iter_items l.section-iterator in
+    record {
+      left : into_iter_len l.section-iterator ≡ length rest;
+      many : length l.cases.items + length rest ≡ length l.file.cases;
+      text : l.report.text ≡ l.fn.report.text;
+      begun : (phases : List (List Asked)) → numbers l.owed ≡ given calls_decl l.file.cases phases → InCases l.file phases l.fn.report l.report l.cases.items (length l.cases.items);
+      sections : (i : ℕ) (s : Section) → slice_get rest i ≡ Some (Ok s) → IsSection l.file l.owed l.fn.report.text (length l.cases.items + i) s;
+    }

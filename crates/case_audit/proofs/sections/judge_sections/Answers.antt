@@ -1,0 +1,27 @@
+use Rattle.std.proofs.Common.{◌≡◌, ℕ, length, sym, subst, arith}
+use Rattle.std.proofs.Crossing.{crosses}
+use Rattle.std.proofs.lemmas.Result.{IfOk-weaker}
+use Rattle.std.specs.List.{AllZip, range_with_len}
+use Rattle.std.specs.Prelude.{IfOk}
+use denote.Param.Send.{sendable}
+use Rattle.case_audit.proofs.CaseSections.{sections-zipped}
+use Rattle.case_audit.proofs.Sent.{file-sync, line-sync, section-send, version-sync}
+use Rattle.case_audit.specs.Sections.{IsSection}
+use Rattle.case_audit.proofs.sections.judge_sections.Goals as goal
+
+pub each_below-requires-send-T : goal.each_below-requires-send-T
+each_below-requires-send-T g c κs = search (section-send, sendable, crosses) depth 40 fits 5000
+
+pub each_below-requires-send-F : goal.each_below-requires-send-F
+each_below-requires-send-F g c κs _ = search (file-sync, line-sync, version-sync, sendable, crosses) depth 40 fits 5000
+
+pub each_below-requires-sync-F : goal.each_below-requires-sync-F
+each_below-requires-sync-F g c κs _ = search (file-sync, line-sync, version-sync, sendable, crosses) depth 40 fits 5000
+
+pub returns : goal.returns
+returns g c =
+    let f = c.args.file.now in
+    let owed = c.args.owed.now in
+    let text = c.args.text.now in
+    IfOk-weaker c.each_below.result _ _ (λ v h.
+    sections-zipped f owed text v.items (subst (λ n. AllZip (λ i r. IfOk r (IsSection f owed text i)) (range_with_len 0 n) v.items) c.requires.starts h)) c.each_below.ensures

@@ -1,0 +1,4 @@
+pub mod Verdicts
+pub mod Parts
+pub mod Sections
+pub mod Endings

@@ -1,0 +1,42 @@
+-- The cases of a report, each from a place on.
+use Rattle.std.specs.Prelude.{◌≡◌, ℕ, ◌≤◌, List, length, slice_get, Option, Some, Result, Ok}
+use Rattle.audit_model.specs.Asked.{Asked}
+use Rattle.audit_model.specs.ReportReader.{case_reader}
+use Rattle.audit_owed.specs.Owing.{calls_decl, numbers, owed_of}
+use Rattle.audit_owed.specs.Sharing.{given}
+use Rattle.audit_owed.specs.declared.owed.Owed.{Owed}
+use Rattle.audit_steps.specs.Lines.{IsModest}
+use Rattle.case_audit.specs.declared.sections.Section.{Section}
+use Rattle.file_model.specs.declared.files.CaseDecl.{CaseDecl}
+use Rattle.file_model.specs.declared.files.File.{File}
+use Rattle.file_words.specs.Lines.{Bytes}
+use Rattle.line_followers.specs.Follows.{Follows}
+use Rattle.line_readers.specs.Owed.{how_many}
+use Rattle.script_run.specs.declared.runs.ClosedCase.{ClosedCase}
+use Rattle.text_follower.specs.Followed.{Followed}
+use Rattle.wsm_lists.specs.Rows.{AllRows}
+
+-- what is asked of what is owed: lines that are modest, and not too many
+abbrev pub IsModestOwed : Owed → Type 0
+IsModestOwed o = AllRows (AllRows IsModest) (owed_of o) × (how_many (owed_of o) ≤ 60000)
+
+abbrev pub AreModest : List Owed → Type 0
+AreModest owed = AllRows IsModestOwed owed
+
+-- from one place to another the case at an index is gone along, whichever script owes it this
+abbrev pub IsCaseAt : File → List Owed → ℕ → Followed → Followed → Option ClosedCase → Type 0
+IsCaseAt f owed i old new value = (phases : List (List Asked)) (d : CaseDecl) → numbers owed ≡ given calls_decl f.cases phases → slice_get f.cases i ≡ Some d → Follows (case_reader f phases d) old new value
+
+-- so a section is, of this text
+pub record IsSection (f : File) (owed : List Owed) (text : Bytes) (i : ℕ) (s : Section) : Type 0 where
+  pub start : s.start ≤ length text
+  pub end : s.end ≤ length text
+  pub case : IsCaseAt f owed i (record { text = text; at = s.start }) (record { text = text; at = s.end }) s.case
+
+-- one for each case, but where there was no memory
+abbrev pub AreSections : {E : Type 0} → File → List Owed → Bytes → List (Result Section E) → Type 0
+AreSections f owed text sections = (length sections ≡ length f.cases) × ((i : ℕ) (s : Section) → slice_get sections i ≡ Some (Ok s) → IsSection f owed text i s)
+
+-- some script owes the cases this
+abbrev pub HasScript : File → List Owed → Type 0
+HasScript f owed = (phases : List (List Asked)) × (numbers owed ≡ given calls_decl f.cases phases)

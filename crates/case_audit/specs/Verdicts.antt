@@ -1,0 +1,40 @@
+-- What a verdict says of a report.
+use Rattle.std.specs.Prelude.{◌≡◌, ℕ, ◌++◌, Bool, Option, Some, None, Ok, codes, decimal}
+use Rattle.std.specs.Option.{is_some}
+use Rattle.audit_model.specs.ReportReader.{report_reader}
+use Rattle.audit_model.specs.Reports.{IsReport}
+use Rattle.file_model.specs.Reading.{file}
+use Rattle.file_model.specs.declared.files.File.{File}
+use Rattle.file_words.specs.Lines.{Bytes}
+use Rattle.line_followers.specs.Follows.{Follows}
+use Rattle.line_readers.specs.FirstWrong.{IsFirstWrong}
+use Rattle.script_run.specs.declared.runs.Run.{Run}
+use Rattle.text_follower.specs.Followed.{Followed}
+use Rattle.case_audit.specs.declared.reports.Verdict.{Verdict}
+use Rattle.case_audit.specs.declared.reports.Verdict.TheVariants as verdict
+
+-- the report was gone along from one place to another: to its last line, or to the line that is wrong
+abbrev pub IsJudged : File → Followed → Followed → Bool → Type 0
+IsJudged f old new stands = (value : Option Run) × (stands ≡ is_some value) × Follows (report_reader f) old new value
+
+-- a file that some bytes are
+abbrev pub IsRead : File → Type 0
+IsRead f = (bytes : Bytes) × (file bytes ≡ Ok f)
+
+-- the line that a verdict names
+abbrev pub wrong_line : Verdict → Option ℕ
+wrong_line verdict.Legal = None
+wrong_line (verdict.Wrong line) = Some line
+
+-- A legal run has the report; or the line is the first with which no legal run's report goes on.
+abbrev pub IsVerdict : File → Bytes → Verdict → Type 0
+IsVerdict f report v = IsFirstWrong (IsReport f) report (wrong_line v)
+
+-- what is written of it, and the status that goes with it
+abbrev pub verdict_text : Verdict → Bytes
+verdict_text verdict.Legal = codes "legal\n"
+verdict_text (verdict.Wrong line) = codes "wrong line " ++ (decimal line ++ codes "\n")
+
+abbrev pub verdict_status : Verdict → ℕ
+verdict_status verdict.Legal = 0
+verdict_status (verdict.Wrong line) = 7
