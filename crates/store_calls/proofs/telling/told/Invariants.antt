@@ -1,0 +1,11 @@
+use Rattle.std.proofs.Common.{◌≡◌, ◌≤◌, drop, fold}
+use Rattle.std.specs.List.{sum_by}
+use Rattle.file_model.specs.Sizes.{phase_effort}
+use Rattle.store_calls.specs.Told.{told_file, told_of, told_phase}
+use Rattle.store_calls.proofs.telling.told.Given as goal
+
+abbrev pub invariant-loop-lines : goal.invariant-loop-lines
+invariant-loop-lines l = record {
+  told : fold (told_phase l.file) (told_of l.telling) (drop l.lines-index l.lines-items) ≡ told_file l.file;
+  effort : sum_by phase_effort (drop l.lines-index l.lines-items) ≤ 50000000;
+}

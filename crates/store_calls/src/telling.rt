@@ -1,0 +1,231 @@
+// The calls of a file, line by line. What versions the types have decides which calls a line makes, and no case does.
+ghost use Rattle.std.specs.Prelude.{◌≡◌, ◌*◌, ◌≤◌, true, fold, length, IfOk, OnOk};
+ghost use Rattle.std.specs.List.{AllByRecursion, list_all};
+ghost use Rattle.file_facts.specs.Facts.{IsWorkable};
+ghost use Rattle.file_model.specs.Sizes.{IsBounded, is_small, line_effort, phase_effort};
+ghost use Rattle.script_run.specs.Calls.{roles_of};
+ghost use Rattle.store_calls.specs.Calls.{IsPayable, calls};
+ghost use Rattle.store_calls.specs.Told.{newest_number, nothing_told, told_act, told_create, told_defined, told_file, told_install, told_line, told_migrate, told_migration, told_of, told_phase, told_types, with_call};
+ghost use Rattle.script_run.specs.Verdicts.{stepped};
+ghost use Rattle.type_core.specs.KindModel.{not_defined};
+ghost use Rattle.wsm_schema.specs.Flat.{cards_of};
+
+use case_core::Event;
+use file_model::{Act, CaseDecl, File, Line, TypeDecl};
+use std::alloc::Global;
+use store_form::{Recorded, Stored};
+use turn_cell::Machine;
+use type_core::{Kind, KindEvent};
+use wsm_lists::{NoMemory, RoleList};
+use wsm_ops::Ops;
+use wsm_schema::Schema;
+use wsm_sound::CaseId;
+
+/// The number of the program itself.
+const PROGRAM: u32 = 0;
+
+/// The calls so far, and the types behind them.
+#[derive(Drop)]
+pub struct Telling {
+    pub kinds: Vec<Kind>,
+    pub calls: Vec<Recorded>,
+}
+
+/// The calls of all lines in file order, behind the definition of each type.
+pub fn calls(alloc: Global, file: &File) -> Result<Vec<Recorded>, NoMemory>
+    requires bounded { IsBounded file.now }
+    requires workable { IsWorkable file.now }
+    ensures calls { IfOk result (λ told. told.items ≡ calls file.now) }
+    ensures payable { IfOk result (λ told. AllByRecursion IsPayable told.items) }
+{
+    let telling = told(alloc, file)?;
+    Ok(telling.calls)
+}
+
+// The calls of all lines, and the types behind them.
+fn told(alloc: Global, file: &File) -> Result<Telling, NoMemory>
+    requires bounded { IsBounded file.now }
+    requires few { length file.now.types ≤ 64 }
+    ensures { IfOk result (λ told. told_of told ≡ told_file file.now) }
+{
+    let mut telling = Telling::opening(alloc, file.types.as_slice())?;
+    for lines in file.phases.as_slice() {
+        telling.tell_phase(alloc, file, lines.as_slice())?;
+    }
+    Ok(telling)
+}
+
+impl Telling {
+    // The types behind their definitions, numbered from 0.
+    fn opening(alloc: Global, types: &[TypeDecl]) -> Result<Telling, NoMemory>
+        requires few { length types.now ≤ 64 }
+        requires small { list_all is_small types.now ≡ true }
+        ensures { IfOk result (λ new. told_of new ≡ told_types 0 types.now nothing_told) }
+    {
+        let mut telling = Telling {
+            kinds: Vec::new(alloc),
+            calls: Vec::new(alloc),
+        };
+        for type_no in 0..types.len() as u32 {
+            telling.define(alloc, type_no, &types[type_no as usize])?;
+        }
+        Ok(telling)
+    }
+
+    // A type and its definition.
+    fn define(&mut self, alloc: Global, type_no: u32, decl: &TypeDecl) -> Result<(), NoMemory>
+        requires { length (cards_of decl.now.schema) ≤ 1024 }
+        ensures { OnOk result (told_of self.new ≡ told_defined type_no decl.now (told_of self.old)) }
+    {
+        self.kinds.push(defined(alloc, type_no, &decl.schema)?)?;
+        self.note(PROGRAM, Stored::Define(type_no, decl.schema.copy(alloc)?))
+    }
+
+    // One call more.
+    fn note(&mut self, caller: u32, event: Stored) -> Result<(), NoMemory>
+        ensures { OnOk result (told_of self.new ≡ with_call caller event (told_of self.old)) }
+    {
+        self.calls.push(Recorded { caller, event })?;
+        Ok(())
+    }
+
+    // The calls of a phase, line by line.
+    fn tell_phase(&mut self, alloc: Global, file: &File, lines: &[Line]) -> Result<(), NoMemory>
+        requires { phase_effort lines.now ≤ 4000000000 }
+        ensures { OnOk result (told_of self.new ≡ told_phase file.now (told_of self.old) lines.now) }
+    {
+        for line in lines {
+            self.tell(alloc, file, line)?;
+        }
+        Ok(())
+    }
+
+    // The calls of a line.
+    fn tell(&mut self, alloc: Global, file: &File, line: &Line) -> Result<(), NoMemory>
+        requires { line_effort line.now ≤ 4000000000 }
+        ensures { OnOk result (told_of self.new ≡ told_line file.now (told_of self.old) line.now) }
+    {
+        let caller = line.actor;
+        match &line.act {
+            Act::Create(id) => self.create(caller, *id),
+            Act::Start(id, node) => {
+                let event = Event::Start {
+                    node: *node,
+                    user: caller,
+                    roles: roles_of(alloc, file, caller)?,
+                };
+                self.note(caller, Stored::Case(*id, event))
+            }
+            Act::Withdraw(id, node) => {
+                let event = Event::Withdraw {
+                    node: *node,
+                    user: caller,
+                };
+                self.note(caller, Stored::Case(*id, event))
+            }
+            Act::End(id, node, writes, choice) => {
+                let event = Event::End {
+                    node: *node,
+                    user: caller,
+                    writes: writes.duplicate(alloc)?,
+                    choice: *choice,
+                };
+                self.note(caller, Stored::Case(*id, event))
+            }
+            Act::Change(id, ops) => {
+                let event = Event::Change(ops.copy(alloc)?);
+                self.note(caller, Stored::Case(*id, event))
+            }
+            Act::Install(type_no, ops) => self.install(alloc, caller, *type_no, ops),
+            Act::Migrate(type_no) => self.migrate(caller, *type_no, file.cases.as_slice()),
+        }
+    }
+
+    // The type is asked for its newest version, and the case is created on it.
+    fn create(&mut self, caller: u32, id: CaseId) -> Result<(), NoMemory>
+        ensures { OnOk result (told_of self.new ≡ told_create caller id (told_of self.old)) }
+    {
+        let newest = self.newest_number(id.type_no);
+        self.note(caller, Stored::Newest(id.type_no))?;
+        match newest {
+            None => Ok(()),
+            Some(number) => self.note(caller, Stored::Create(id, number)),
+        }
+    }
+
+    // The type gets a new version, where the operations make a sound one.
+    fn install(
+        &mut self,
+        alloc: Global,
+        caller: u32,
+        type_no: u32,
+        ops: &Ops,
+    ) -> Result<(), NoMemory>
+        requires { 3 * length ops.now ≤ 4000000000 }
+        ensures { OnOk result (told_of self.new ≡ told_install caller type_no ops.now (told_of self.old)) }
+    {
+        if let Some(kind) = self.kinds.get_mut(type_no as usize) {
+            let _ = kind.step(alloc, &KindEvent::Install(ops.copy(alloc)?))?;
+        }
+        self.note(caller, Stored::Install(type_no, ops.copy(alloc)?))
+    }
+
+    // The type is asked for its newest version, and each of its cases is to move to it.
+    fn migrate(&mut self, caller: u32, type_no: u32, cases: &[CaseDecl]) -> Result<(), NoMemory>
+        ensures { OnOk result (told_of self.new ≡ told_migrate caller type_no cases.now (told_of self.old)) }
+    {
+        let newest = self.newest_number(type_no);
+        self.note(caller, Stored::Newest(type_no))?;
+        match newest {
+            None => Ok(()),
+            Some(number) => self.migrate_to(caller, type_no, number, cases),
+        }
+    }
+
+    // Each case of the type is to move to a version.
+    fn migrate_to(
+        &mut self,
+        caller: u32,
+        type_no: u32,
+        number: u32,
+        cases: &[CaseDecl],
+    ) -> Result<(), NoMemory>
+        ensures { OnOk result (told_of self.new ≡ fold (told_migration caller type_no number) (told_of self.old) cases.now) }
+    {
+        for decl in cases {
+            if decl.id.type_no == type_no {
+                self.note(caller, Stored::Migrate(decl.id, number))?;
+            }
+        }
+        Ok(())
+    }
+
+    // The number of a type's newest version, where there is one.
+    fn newest_number(&self, type_no: u32) -> Option<u32>
+        ensures { result ≡ newest_number type_no self.now.kinds.items }
+    {
+        let version = self.kinds.get(type_no as usize)?.newest()?;
+        Some(version.number())
+    }
+}
+
+// A type behind its definition.
+fn defined(alloc: Global, type_no: u32, schema: &Schema) -> Result<Kind, NoMemory>
+    requires { length (cards_of schema.now) ≤ 1024 }
+    ensures { IfOk result (λ kind. kind ≡ stepped (KindEvent.Define schema.now) (not_defined type_no)) }
+{
+    let mut kind = Kind::new(alloc, type_no);
+    let _ = kind.step(alloc, &KindEvent::Define(schema.copy(alloc)?))?;
+    Ok(kind)
+}
+
+// The roles of the actor with a number, from 1.
+fn roles_of(alloc: Global, file: &File, actor: u32) -> Result<RoleList, NoMemory>
+    ensures { IfOk result (λ roles. roles ≡ roles_of file.now actor) }
+{
+    let index = (actor as usize).saturating_sub(1);
+    match file.actors.get(index) {
+        None => Ok(RoleList::new(alloc)),
+        Some(decl) => decl.roles.copy(alloc),
+    }
+}

@@ -1,0 +1,57 @@
+-- Which payloads images hold.
+use Rattle.std.proofs.Common.{◌≡◌, ℕ, ◌+◌, List, [], ◌∷◌, ◌++◌, length, refl, sym, ap, subst, ◌∙◌, append_assoc}
+use Rattle.std.proofs.lemmas.List.{append-nil}
+use Rattle.store_disk.specs.Image.{frames, frames_of, HasList}
+use Rattle.store_disk.specs.Opening.{with_gate}
+use Rattle.store_disk.specs.Rest.{IsAtRest}
+use Rattle.store_disk.proofs.Framing.{frames_at}
+use Rattle.store_form.specs.Payload.{Bytes}
+use Rattle.store_keep.specs.Keeping.{Begins, held, HoldsBeginning, IsBegun, payloads_in}
+
+-- a list is held by its frames
+in-frames : (place : ℕ) (ps : List Bytes) → payloads_in (frames_of place ps) ≡ ps
+in-frames place [] = refl
+in-frames place (p ∷ ps) = ap (λ qs. p ∷ qs) (in-frames (place + (5 + length p)) ps)
+
+pub held-list : (ps : List Bytes) (image : List ℕ) → HasList ps image → held image ≡ ps
+held-list ps image list = ap payloads_in list ∙ in-frames 0 ps
+
+pub whole-list : (ps : List Bytes) (image : List ℕ) → HasList ps image → HasList (held image) image
+whole-list ps image list = subst (λ qs. HasList qs image) (sym (held-list ps image list)) list
+
+-- an image that holds a beginning which goes on from another
+pub beginning : (all least ps : List Bytes) (image : List ℕ) → HasList ps image → Begins ps all → Begins least ps → HoldsBeginning all least image
+beginning all least ps image list begins more = record {
+  begun = record { whole = whole-list ps image list; begins = subst (λ qs. Begins qs all) (sym (held-list ps image list)) begins };
+  no_less = subst (Begins least) (sym (held-list ps image list)) more;
+}
+
+pub begins-self : (ps : List Bytes) → Begins ps ps
+begins-self ps = ([], append-nil ps)
+
+pub begins-more : (least ps : List Bytes) (p : Bytes) → Begins least ps → Begins least (ps ++ p ∷ [])
+begins-more least ps p (rest, is) = (rest ++ p ∷ [], sym (append_assoc least rest (p ∷ [])) ∙ ap (λ qs. qs ++ p ∷ []) is)
+
+module _ {D : Type 0} (content : D → List ℕ) (may_leave : D → List ℕ → Type 0) where
+  -- at rest a disk, and each image of it, holds its list
+  pub rest-content : (disk : D) (ps : List Bytes) (place : ℕ) → IsAtRest content may_leave disk ps place → HasList ps (content disk)
+  rest-content disk ps place rest = let e = rest.ends in ap frames e.bytes ∙ frames_at ps e.gate e.behind e.shut e.short
+
+  pub rest-held : (disk : D) (ps : List Bytes) (place : ℕ) → IsAtRest content may_leave disk ps place → held (content disk) ≡ ps
+  rest-held disk ps place rest = held-list ps (content disk) (rest-content disk ps place rest)
+
+  pub rest-image : (disk : D) (ps : List Bytes) (place : ℕ) → IsAtRest content may_leave disk ps place → (c : List ℕ) → may_leave disk c → HasList ps c
+  rest-image disk ps place rest c left = ap frames (rest.durable c left) ∙ rest-content disk ps place rest
+
+  pub rest-again : (disk : D) (ps : List Bytes) (place : ℕ) → IsAtRest content may_leave disk ps place → IsAtRest content may_leave disk (held (content disk)) place
+  rest-again disk ps place rest = subst (λ qs. IsAtRest content may_leave disk qs place) (sym (rest-held disk ps place rest)) rest
+
+-- a gate that is put on a short disk changes no list
+pub gate-frames : (c : List ℕ) → frames (with_gate c) ≡ frames c
+gate-frames [] = refl
+gate-frames (b ∷ []) = refl
+gate-frames (b ∷ d ∷ rest) = refl
+
+-- an image whose frames are those of one that holds a beginning
+pub same-frames : (all : List Bytes) (image old : List ℕ) → frames image ≡ frames old → IsBegun all old → HoldsBeginning all (held old) image
+same-frames all image old same begun = beginning all (held old) (held old) image (same ∙ begun.whole) begun.begins (begins-self (held old))

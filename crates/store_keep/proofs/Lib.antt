@@ -1,0 +1,5 @@
+mod Additions
+mod Held
+mod Matching
+mod Moments
+mod Opened

@@ -1,0 +1,127 @@
+-- A disk that was opened, and what it turns out to hold of calls.
+use Rattle.std.proofs.Common.{◌≡◌, inl, inr, ℕ, zero, suc, ◌+◌, ◌<◌, ◌≤◌, ◌^◌, List, [], ◌∷◌, ◌++◌, length, map, take, drop, refl, sym, ap, subst, ◌∙◌, arith, length-append}
+use Rattle.std.specs.Prelude.{IfErr, IsErrOf, Result, Ok, Err}
+use Rattle.std.specs.List.{AllByRecursion}
+use Rattle.std.proofs.lemmas.List.{length-map, length-take-le}
+use Rattle.store_calls.specs.Calls.{payload_of}
+use Rattle.store_disk.specs.Disk.{IsSettled, LeavesOnly, Only}
+use Rattle.store_disk.specs.Image.{all_framed, frames, HasList}
+use Rattle.store_disk.specs.Opening.{HoldsAsBefore, with_gate}
+use Rattle.store_disk.specs.Rest.{EndsAt, IsAtRest}
+use Rattle.store_disk.proofs.Framing.{frames_at}
+use Rattle.store_form.specs.Payload.{Bytes}
+use Rattle.store_form.specs.declared.stored.Recorded.{Recorded}
+use Rattle.store_keep.specs.Finding.{finds}
+use Rattle.store_keep.specs.Keeping.{Begins, held, HoldsBeginning, IsBegun, IsLeft, IsStored, payloads_in}
+use Rattle.store_keep.specs.Refusals.{IsAddFault, Overflows, Tells}
+use Rattle.store_keep.specs.declared.faults.KeepFault.{KeepFault}
+use Rattle.store_keep.specs.declared.faults.KeepFault.TheVariants as fault
+use Rattle.store_keep.specs.declared.finding.Found.TheVariants as found
+use Rattle.store_keep.proofs.Held.{beginning, gate-frames, held-list, rest-again, rest-held, same-frames, whole-list}
+use Rattle.store_keep.proofs.Matching.{firsts}
+use Rattle.store_keep.proofs.Moments.{and_then, weaker}
+
+-- calls up to one, and those behind it
+split-map : (calls : List Recorded) (n : ℕ) → firsts calls n ++ map payload_of (drop n calls) ≡ map payload_of calls
+split-map [] zero = refl
+split-map [] (suc n) = refl
+split-map (c ∷ cs) zero = refl
+split-map (c ∷ cs) (suc n) = ap (λ ps. payload_of c ∷ ps) (split-map cs n)
+
+firsts-length : (calls : List Recorded) (n : ℕ) → n ≤ length calls → length (firsts calls n) ≡ n
+firsts-length calls n within = length-map (take n calls) payload_of ∙ length-take-le n calls within
+
+-- an image that is judged to hold something else had a gate before it was opened
+pub judged-differs : (ps : List Bytes) (c : List ℕ) (n : ℕ) → finds 0 ps (frames c) ≡ found.Differs n → with_gate c ≡ c
+judged-differs ps [] n is = absurd cc
+judged-differs ps (b ∷ []) n is = absurd cc
+judged-differs ps (b ∷ d ∷ rest) n is = refl
+
+pub judged-damaged : (ps : List Bytes) (c : List ℕ) (n : ℕ) → finds 0 ps (frames c) ≡ found.Damaged n → with_gate c ≡ c
+judged-damaged ps [] n is = absurd cc
+judged-damaged ps (b ∷ []) n is = absurd cc
+judged-damaged ps (b ∷ d ∷ rest) n is = refl
+
+module _ {D : Type 0} (content : D → List ℕ) (may_leave : D → List ℕ → Type 0) (moment : D → ℕ) (left_since : D → ℕ → List ℕ → Type 0) (old mid : D) (image : List ℕ) where
+  -- nothing else is left by a stop while the disk is opened
+  pub opening-leaves : (all : List Bytes) → Only (content old) (may_leave old) → LeavesOnly moment left_since old mid (HoldsAsBefore (may_leave old)) → IsBegun all (content old)
+      → LeavesOnly moment left_since old mid (HoldsBeginning all (held (content old)))
+  opening-leaves all only moments begun =
+      weaker moment left_since old mid (HoldsAsBefore (may_leave old)) (HoldsBeginning all (held (content old))) moments
+      (λ c h. same-frames all c (content old) (h.2 ∙ ap frames (only h.0 h.1)) begun)
+
+  module _ (settled : IsSettled content may_leave mid image) (is : image ≡ with_gate (content old)) where
+    pub image-frames : frames image ≡ frames (content old)
+    image-frames = ap frames is ∙ gate-frames (content old)
+
+    held-mid : held (content mid) ≡ held (content old)
+    held-mid = ap payloads_in (ap frames settled.gives ∙ image-frames)
+
+    -- a disk that is refused is left as it was
+    pub left-alone : ((d : D) → may_leave d (content d)) → with_gate (content old) ≡ content old → IsLeft content may_leave old mid
+    left-alone stays same =
+        let kept : image ≡ content old = is ∙ same in
+        record {
+          same = settled.gives ∙ kept;
+          images = λ c left. subst (may_leave old) (sym (settled.leaves c left ∙ kept)) (stays old);
+        }
+
+    module _ (calls : List Recorded) (count gate : ℕ) (within : count ≤ length calls) (ends : EndsAt image (firsts calls count) gate) where
+      list : HasList (firsts calls count) (content old)
+      list = sym image-frames ∙ ap frames ends.bytes ∙ frames_at (firsts calls count) ends.gate ends.behind ends.shut ends.short
+
+      held-old : held (content old) ≡ firsts calls count
+      held-old = held-list (firsts calls count) (content old) list
+
+      at-rest : IsAtRest content may_leave mid (firsts calls count) gate
+      at-rest = record {
+        ends = subst (λ b. EndsAt b (firsts calls count) gate) (sym settled.gives) ends;
+        durable = subst (λ b. Only b (may_leave mid)) (sym settled.gives) settled.leaves;
+      }
+
+      pub rest-mid : IsAtRest content may_leave mid (held (content mid)) gate
+      rest-mid = rest-again content may_leave mid (firsts calls count) gate at-rest
+
+      pub is-begun : IsBegun (map payload_of calls) (content old)
+      is-begun = record {
+        whole = whole-list (firsts calls count) (content old) list;
+        begins = (map payload_of (drop count calls), ap (λ ps. ps ++ map payload_of (drop count calls)) held-old ∙ split-map calls count);
+      }
+
+      total : held (content mid) ++ map payload_of (drop count calls) ≡ map payload_of calls
+      total = ap (λ ps. ps ++ map payload_of (drop count calls)) (held-mid ∙ held-old) ∙ split-map calls count
+
+      pub all-stored : (new : D) → IsStored content may_leave new (held (content mid) ++ map payload_of (drop count calls)) → IsStored content may_leave new (map payload_of calls)
+      all-stored new stored = subst (IsStored content may_leave new) total stored
+
+      pub all-moments : (new : D) → Only (content old) (may_leave old) → LeavesOnly moment left_since old mid (HoldsAsBefore (may_leave old)) → IsBegun (map payload_of calls) (content old)
+          → LeavesOnly moment left_since mid new (HoldsBeginning (held (content mid) ++ map payload_of (drop count calls)) (held (content mid)))
+          → LeavesOnly moment left_since old new (HoldsBeginning (map payload_of calls) (held (content old)))
+      all-moments new only opening begun adding =
+          and_then moment left_since old mid new (HoldsBeginning (map payload_of calls) (held (content old)))
+          (HoldsBeginning (held (content mid) ++ map payload_of (drop count calls)) (held (content mid)))
+          (HoldsBeginning (map payload_of calls) (held (content old)))
+          (opening-leaves (map payload_of calls) only opening begun) adding (λ c h. h)
+          (λ c h. subst (λ all. HoldsBeginning all (held (content old)) c) total (subst (λ least. HoldsBeginning (held (content mid) ++ map payload_of (drop count calls)) least c) held-mid h))
+
+      pub overflow-told : Overflows gate (drop count calls) → Tells calls (content old) fault.Full
+      overflow-told over =
+          let at : length (all_framed (held (content old))) ≡ gate = ap (λ ps. length (all_framed ps)) held-old ∙ sym ends.stands in
+          let many : length (held (content old)) ≡ count = ap length held-old ∙ firsts-length calls count within in
+          subst (λ g. Overflows g (drop (length (held (content old))) calls)) (sym at) (subst (λ n. Overflows gate (drop n calls)) (sym many) over)
+
+-- what a fault of storing says
+no-add : {e : KeepFault} {X : Type 0} → (e ≡ fault.Full → ⊥) → (e ≡ fault.NoMemory → ⊥) → (e ≡ fault.Disk → ⊥) → IsAddFault e → X
+no-add full memory disk (inl is) = absurd (full is)
+no-add full memory disk (inr (inl is)) = absurd (memory is)
+no-add full memory disk (inr (inr is)) = absurd (disk is)
+
+pub add-tells : {X : Type 0} (calls : List Recorded) (image : List ℕ) (r : Result X KeepFault) → IfErr r (λ e. IsAddFault e) → (IsErrOf r fault.Full → Tells calls image fault.Full) → IfErr r (λ e. Tells calls image e)
+add-tells calls image (Ok x) others full = tt
+add-tells calls image (Err fault.Disk) others full = tt
+add-tells calls image (Err fault.NoMemory) others full = tt
+add-tells calls image (Err fault.Full) others full = full refl
+add-tells calls image (Err fault.TooLong) others full = no-add (λ e. absurd cc) (λ e. absurd cc) (λ e. absurd cc) others
+add-tells calls image (Err (fault.Damaged place)) others full = no-add (λ e. absurd cc) (λ e. absurd cc) (λ e. absurd cc) others
+add-tells calls image (Err (fault.Differs number)) others full = no-add (λ e. absurd cc) (λ e. absurd cc) (λ e. absurd cc) others
+add-tells calls image (Err fault.Unwritten) others full = tt

@@ -1,0 +1,36 @@
+-- Which payloads an image holds, and how they stand to those of all calls.
+use Rattle.std.specs.Prelude.{◌≡◌, ℕ, List, [], ◌∷◌, ◌++◌}
+use Rattle.store_disk.specs.Image.{Frames, closed, damaged, frame, frames, HasList}
+use Rattle.store_disk.specs.Rest.{IsAtRest}
+use Rattle.store_form.specs.Payload.{Bytes}
+
+abbrev pub payloads_in : Frames → List Bytes
+payloads_in (closed place) = []
+payloads_in (damaged place) = []
+payloads_in (frame place p others) = p ∷ payloads_in others
+
+-- the payloads of the records of an image
+abbrev pub held : List ℕ → List Bytes
+held image = payloads_in (frames image)
+
+abbrev pub Begins : List Bytes → List Bytes → Type 0
+Begins ps all = (rest : List Bytes) × (ps ++ rest ≡ all)
+
+-- an image is whole, and holds a beginning of all payloads
+pub record IsBegun (all : List Bytes) (image : List ℕ) : Type 0 where
+  pub whole : HasList (held image) image
+  pub begins : Begins (held image) all
+
+-- it holds one that goes on from these
+pub record HoldsBeginning (all least : List Bytes) (image : List ℕ) : Type 0 where
+  pub begun : IsBegun all image
+  pub no_less : Begins least (held image)
+
+-- nothing is pending, and the disk holds just these payloads
+abbrev pub IsStored : {D : Type 0} → (D → List ℕ) → (D → List ℕ → Type 0) → D → List Bytes → Type 0
+IsStored content may_leave disk ps = (place : ℕ) × IsAtRest content may_leave disk ps place
+
+-- what reads give is as before, and no stop leaves more than before
+pub record IsLeft {D : Type 0} (content : D → List ℕ) (may_leave : D → List ℕ → Type 0) (old new : D) : Type 0 where
+  pub same : content new ≡ content old
+  pub images : (c : List ℕ) → may_leave new c → may_leave old c

@@ -1,0 +1,55 @@
+-- Why the calls of a file are not all stored, and what that says of the disk.
+use Rattle.std.specs.Prelude.{◌≡◌, ◌⊎◌, ℕ, ◌+◌, ◌<◌, ◌≤◌, ◌^◌, Bool, false, List, [], ◌∷◌, length, map, drop}
+use Rattle.adept_io.specs.declared.reading.ReadRefusal.{ReadRefusal}
+use Rattle.adept_io.specs.declared.reading.ReadRefusal.TheVariants as read
+use Rattle.store_calls.specs.Calls.{payload_of}
+use Rattle.store_disk.specs.Image.{all_framed, frames}
+use Rattle.store_form.specs.Stored.{has_short_lists}
+use Rattle.store_form.specs.declared.stored.Recorded.{Recorded}
+use Rattle.store_keep.specs.Finding.{finds}
+use Rattle.store_keep.specs.Keeping.{held}
+use Rattle.store_keep.specs.declared.faults.KeepFault.{KeepFault}
+use Rattle.store_keep.specs.declared.faults.KeepFault.TheVariants as fault
+use Rattle.store_keep.specs.declared.finding.Found.TheVariants as found
+
+abbrev pub unopened : ReadRefusal → KeepFault
+unopened read.Failed = fault.Disk
+unopened read.TooLong = fault.TooLong
+unopened read.NoMemory = fault.NoMemory
+
+-- with this call, and a gate behind it, the image would pass its limit, as it does where a list has 2^32 items or more
+abbrev pub Passes : ℕ → Recorded → Type 0
+Passes gate r = (has_short_lists r.event ≡ false) ⊎ (2 ^ 30 < gate + (6 + length (payload_of r)))
+
+-- so it would with one of these calls, one after another
+abbrev pub Overflows : ℕ → List Recorded → Type 0
+Overflows gate [] = ⊥
+Overflows gate (r ∷ rs) = Passes gate r ⊎ Overflows (gate + (5 + length (payload_of r))) rs
+
+abbrev pub IsAddFault : KeepFault → Type 0
+IsAddFault e = (e ≡ fault.Full) ⊎ (e ≡ fault.NoMemory) ⊎ (e ≡ fault.Disk)
+
+-- a refusal of a disk that holds something else
+abbrev pub IsRefusal : KeepFault → Type 0
+IsRefusal fault.TooLong = Unit {0}
+IsRefusal (fault.Damaged place) = Unit {0}
+IsRefusal (fault.Differs number) = Unit {0}
+IsRefusal _ = ⊥
+
+-- one that comes of what its records are
+abbrev pub IsJudgement : KeepFault → Type 0
+IsJudgement (fault.Damaged place) = Unit {0}
+IsJudgement (fault.Differs number) = Unit {0}
+IsJudgement _ = ⊥
+
+abbrev pub IsKeepFault : KeepFault → Type 0
+IsKeepFault fault.Unwritten = ⊥
+IsKeepFault _ = Unit {0}
+
+-- what a fault says of the image that was there
+abbrev pub Tells : List Recorded → List ℕ → KeepFault → Type 0
+Tells calls image (fault.Damaged place) = finds 0 (map payload_of calls) (frames image) ≡ found.Damaged place
+Tells calls image (fault.Differs number) = finds 0 (map payload_of calls) (frames image) ≡ found.Differs number
+Tells calls image fault.TooLong = 2 ^ 30 < length image
+Tells calls image fault.Full = Overflows (length (all_framed (held image))) (drop (length (held image)) calls)
+Tells calls image _ = Unit {0}

@@ -1,0 +1,39 @@
+// The work of a file over a disk.
+ghost use Rattle.std.specs.Prelude.{◌≡◌, ◌≤◌, map, IfErr, OnOk, IsErrOf};
+ghost use Rattle.std.specs.List.{AllByRecursion};
+ghost use Rattle.adept_io.specs.Counts.{Rose};
+ghost use Rattle.store_calls.specs.Calls.{IsPayable, payload_of};
+ghost use Rattle.store_disk.specs.Disk.{LeavesOnly, Only};
+ghost use Rattle.store_disk.specs.Opening.{HoldsAsBefore};
+ghost use Rattle.store_keep.specs.Keeping.{HoldsBeginning, IsBegun, IsLeft, IsStored, held};
+ghost use Rattle.store_keep.specs.Refusals.{IsJudgement, IsKeepFault, IsRefusal, Tells};
+
+use crate::adding::add_all;
+use crate::faults::KeepFault;
+use crate::finding::{Found, find};
+use std::alloc::Global;
+use store_disk::{Disk, open_image};
+use store_form::Recorded;
+
+/// Stores those of the calls that a disk does not hold yet. It may hold a beginning of them; any other disk is refused, and
+/// left as it is.
+pub fn keep<D: Disk>(alloc: Global, calls: &[Recorded], disk: &mut D) -> Result<(), KeepFault>
+    requires payable { AllByRecursion IsPayable calls.now }
+    requires settled { Only (D.content disk.old) (D.may_leave disk.old) }
+    ensures all { OnOk result (IsStored D.content D.may_leave disk.new (map payload_of calls.now)) }
+    ensures begun { OnOk result (IsBegun (map payload_of calls.now) (D.content disk.old)) }
+    ensures any_moment { IsBegun (map payload_of calls.now) (D.content disk.old) → LeavesOnly D.moment D.left_since disk.old disk.new (HoldsBeginning (map payload_of calls.now) (held (D.content disk.old))) }
+    ensures refused { IfErr result (λ e. Tells calls.now (D.content disk.old) e) }
+    ensures left { IfErr result (λ e. IsJudgement e → IsLeft D.content D.may_leave disk.old disk.new) }
+    ensures same_records { IfErr result (λ e. IsRefusal e → LeavesOnly D.moment D.left_since disk.old disk.new (HoldsAsBefore (D.may_leave disk.old))) }
+    ensures others { IfErr result (λ e. IsKeepFault e) }
+    ensures rose { IsErrOf result KeepFault.Disk → Rose (D.faults disk.old) (D.faults disk.new) }
+    ensures never_falls { D.faults disk.old ≤ D.faults disk.new }
+{
+    let image = open_image(alloc, disk)?;
+    match find(alloc, calls, &image)? {
+        Found::Beginning { count, gate } => add_all(alloc, &calls[count..], gate, disk),
+        Found::Differs(number) => Err(KeepFault::Differs(number)),
+        Found::Damaged(place) => Err(KeepFault::Damaged(place)),
+    }
+}
