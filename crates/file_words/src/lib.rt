@@ -18,5 +18,5 @@ pub use names::{NameWord, is_name};
 pub use numbers::{code, integer, role};
 pub use pairs::{Literal, pair};
 pub use texts::text;
-pub use words::{is_skipped, words_of};
+pub use words::{is_skipped, read_words, words_of};
 pub use wsm_lists::NoMemory;

@@ -1,5 +1,5 @@
 // Words of a line.
-ghost use Rattle.std.specs.Prelude.{◌≡◌, ◌≤◌, length, IfOk, IsTrue, MatchOption, [], ◌∷◌};
+ghost use Rattle.std.specs.Prelude.{◌≡◌, ◌≤◌, length, IfOk, OnOk, IsTrue, MatchOption, [], ◌∷◌};
 ghost use Rattle.file_words.specs.declared.words.Quote.TheVariants.{Outside};
 ghost use Rattle.file_words.specs.Words.{cuts, behind, words_of, word_end, begins_word, is_comment, is_skipped};
 ghost use Rattle.file_words.specs.Shown.{shown};
@@ -86,13 +86,22 @@ fn first_word(line: &[u8]) -> Option<(&[u8], &[u8])>
 pub fn words_of<'a>(alloc: Global, line: &'a [u8]) -> Result<Vec<&'a [u8]>, NoMemory>
     ensures { IfOk result (λ ws. shown ws.items ≡ words_of line.now) }
 {
-    let mut all: Vec<&'a [u8]> = Vec::new(alloc);
+    let mut words = Vec::new(alloc);
+    read_words(&mut words, line)?;
+    Ok(words)
+}
+
+/// The words of a line, which take the place of those in the list. So a list serves for many lines, and takes memory once.
+pub fn read_words<'a>(words: &mut Vec<&'a [u8]>, line: &'a [u8]) -> Result<(), NoMemory>
+    ensures { OnOk result (shown words.new.items ≡ words_of line.now) }
+{
+    words.clear();
     let mut rest = line;
     while let Some((word, more)) = first_word(rest) {
-        all.push(word)?;
+        words.push(word)?;
         rest = more;
     }
-    Ok(all)
+    Ok(())
 }
 
 fn is_comment(word: &[u8]) -> bool

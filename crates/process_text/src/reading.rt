@@ -11,7 +11,7 @@ use crate::stepping::step_in;
 use file_limits::MAX_FILE_BYTES;
 use file_model::{Contents, File, FileRefusal, Lines, Section, Stop, Why};
 use file_state::{no_contents, refusal};
-use file_words::{first_line, is_skipped, without_return, words_of};
+use file_words::{first_line, is_skipped, read_words, without_return};
 use std::alloc::Global;
 
 // The lines of the phase that is open where a file ends, or why it may not end there.
@@ -63,12 +63,12 @@ fn read_lines(contents: &mut Contents, alloc: Global, bytes: &[u8]) -> Result<()
     let mut place = Section::Head;
     let mut at = 1;
     let mut rest = bytes;
+    let mut words = Vec::new(alloc);
     while let Some((line, more)) = first_line(rest) {
         let line = without_return(line);
-        let words = match words_of(alloc, line) {
-            Ok(words) => words,
-            Err(_) => return Err(FileRefusal::NoMemory),
-        };
+        if read_words(&mut words, line).is_err() {
+            return Err(FileRefusal::NoMemory);
+        }
         // (what was read so far is only moved where the line says something)
         if !is_skipped(&words) {
             match step_in(contents, alloc, at, line, &words, place) {

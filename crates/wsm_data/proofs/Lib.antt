@@ -6,4 +6,5 @@ pub mod Pass
 pub mod Syncs
 pub mod Clauses
 pub mod Merging
+pub mod Joining
 pub mod Writers

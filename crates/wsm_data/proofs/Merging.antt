@@ -17,7 +17,7 @@ less_of x y h = elim (lt_means (number x) (number y) h) [ inl less ↦ less | in
 pub all-above : (x : ℕ) (ys : List ℕ) → AllRows (λ y. key_lt (number x) (number y) ≡ true) ys → AllRows (λ y. x < y) ys
 all-above x ys h = all-rows-map _ (λ y. x < y) (λ y less. less_of x y less) ys h
 
-above-less : (x y : ℕ) (zs : List ℕ) → x < y → AllRows (λ z. y < z) zs → AllRows (λ z. x < z) (y ∷ zs)
+pub above-less : (x y : ℕ) (zs : List ℕ) → x < y → AllRows (λ z. y < z) zs → AllRows (λ z. x < z) (y ∷ zs)
 above-less x y zs less h = (less, all-rows-map _ (λ z. x < z) (λ z more. omega (arith, less, more)) zs h)
 
 -- a number that is below all, or above all, is none of them
@@ -158,11 +158,11 @@ skipped-second xs ys shared front back rest others x y is_front is_back less m =
       second = (subst InOrder is_back m.second).1;
     }
 
-has-last : (d x : ℕ) (zs : List ℕ) → is_one_of d (zs ++ x ∷ []) ≡ (is_one_of d zs || eqb x d)
+pub has-last : (d x : ℕ) (zs : List ℕ) → is_one_of d (zs ++ x ∷ []) ≡ (is_one_of d zs || eqb x d)
 has-last d x [] = or_swap (eqb x d) false
 has-last d x (z ∷ zs) = ap (λ b. eqb z d || b) (has-last d x zs) ∙ sym (or_group (eqb z d) (is_one_of d zs) (eqb x d))
 
-order-last : (zs : List ℕ) (x : ℕ) → InOrder zs → AllRows (λ z. z < x) zs → InOrder (zs ++ x ∷ [])
+pub order-last : (zs : List ℕ) (x : ℕ) → InOrder zs → AllRows (λ z. z < x) zs → InOrder (zs ++ x ∷ [])
 order-last [] x order below = (tt, tt)
 order-last (z ∷ zs) x order below = (rows-append _ zs (x ∷ []) order.0 (lt_from (number z) (number x) (inl below.0), tt), order-last zs x order.1 below.1)
 

@@ -1,5 +1,5 @@
 // What two ascending lists of elements share, and both together.
-ghost use Rattle.std.specs.Prelude.{◌≡◌, find, IsTrue, IfOk, ◌&&◌};
+ghost use Rattle.std.specs.Prelude.{◌≡◌, find, IsTrue, IfOk, ◌&&◌, ◌||◌, ◌++◌};
 ghost use Rattle.wsm_data.specs.Sets.{InOrder, AllBelow, Holds};
 ghost use Rattle.wsm_schema.specs.Trail.{is_one_of};
 
@@ -76,4 +76,44 @@ pub fn shared_elements(
         }
     }
     Ok(shared)
+}
+
+/// What is in one of the lists or in both, in order, by one pass over both.
+pub fn joined_elements(
+    alloc: Global,
+    elements: &[u32],
+    others: &[u32],
+) -> Result<Vec<u32>, NoMemory>
+    requires first { InOrder elements.now }
+    requires second { InOrder others.now }
+    ensures order { IfOk result (λ new. InOrder new.items) }
+    ensures members { IfOk result (λ new. Holds new.items (λ d. is_one_of d elements.now || is_one_of d others.now)) }
+{
+    let mut all = Vec::new(alloc);
+    let mut i = 0;
+    let mut j = 0;
+    'both: while i < elements.len() && j < others.len() {
+        if elements[i] < others[j] {
+            all.push(elements[i])?;
+            i += 1;
+        } else if others[j] < elements[i] {
+            all.push(others[j])?;
+            j += 1;
+        } else {
+            all.push(elements[i])?;
+            i += 1;
+            j += 1;
+        }
+    }
+    with_rests(all, &elements[i..], &others[j..])
+}
+
+// The list, with what is left of two others, of which one is at its end.
+fn with_rests(elements: Vec<u32>, rest: &[u32], other_rest: &[u32]) -> Result<Vec<u32>, NoMemory>
+    ensures { IfOk result (λ new. new.items ≡ (elements.items ++ rest.now) ++ other_rest.now) }
+{
+    let mut all = elements;
+    all.extend_from_slice(rest)?;
+    all.extend_from_slice(other_rest)?;
+    Ok(all)
 }

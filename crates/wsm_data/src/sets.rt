@@ -4,7 +4,7 @@ ghost use Rattle.wsm_lists.specs.Rows.{rows_below, key_lt};
 ghost use Rattle.wsm_schema.specs.Trail.{is_one_of};
 ghost use Rattle.wsm_data.specs.Sets.{number, Holds, InOrder};
 
-use crate::merges::shared_elements;
+use crate::merges::{joined_elements, shared_elements};
 use std::alloc::Global;
 use std::marker::Model;
 use wsm_lists::NoMemory;
@@ -73,13 +73,12 @@ impl ElementSet {
         Ok(())
     }
 
-    /// The set with these elements too.
-    pub fn add_all(&mut self, elements: &[u32]) -> Result<(), NoMemory>
+    /// The set with the elements of a list in order too.
+    pub fn add_all(&mut self, alloc: Global, elements: &[u32]) -> Result<(), NoMemory>
+        requires { InOrder elements.now }
         ensures { OnOk result (Holds self.new (λ d. is_one_of d self.old || is_one_of d elements.now)) }
     {
-        for element in elements {
-            self.add(*element)?;
-        }
+        self.numbers = joined_elements(alloc, &self.numbers, elements)?;
         Ok(())
     }
 

@@ -76,12 +76,13 @@ fn with_bound(
         return Ok(set);
     }
     let mut more = set.copy(alloc)?;
-    add_bound(table, enclosures, card, &mut more)?;
+    add_bound(alloc, table, enclosures, card, &mut more)?;
     shared(alloc, more)
 }
 
 // The elements behind the sources of sync edges that are bound to the node, put into a set.
 fn add_bound(
+    alloc: Global,
     table: &BehindTable,
     enclosures: &Enclosures<'_>,
     card: &Card,
@@ -91,7 +92,7 @@ fn add_bound(
 {
     for source in card.syncs_in.as_slice() {
         if enclosures.is_bound(*source, card.node) {
-            set.add_all(set_behind(table, *source))?;
+            set.add_all(alloc, set_behind(table, *source))?;
         }
     }
     Ok(())
@@ -137,7 +138,7 @@ fn behind_some(
     let first = share_behind(alloc, table, ends[0].node)?;
     let mut set = first.copy(alloc)?;
     for i in 1..ends.len() {
-        set.add_all(set_behind(table, ends[i].node))?;
+        set.add_all(alloc, set_behind(table, ends[i].node))?;
     }
     shared(alloc, set)
 }

@@ -80,7 +80,7 @@ impl<T: Drop> Listing<T> {
     pub fn of_one(alloc: Global, item: T) -> Result<Self, NoMemory>
         ensures { IfOk result (λ new. new ≡ item ∷ []) }
     {
-        let mut items = Vec::new(alloc);
+        let mut items = Vec::with_capacity(alloc, 1)?;
         items.push(item)?;
         Ok(Listing { items })
     }

@@ -128,7 +128,7 @@ fn copy_block(alloc: Global, block: &Block) -> Result<Block, NoMemory>
 pub fn copy_items(alloc: Global, items: &[Block]) -> Result<Items, NoMemory>
     ensures { IfOk result (λ new. parts_of new.items ≡ parts_of items.now) }
 {
-    let mut all = Vec::new(alloc);
+    let mut all = Vec::with_capacity(alloc, items.len())?;
     for i in 0..items.len() {
         all.push(copy_block(alloc, &items[i])?)?;
     }
@@ -139,7 +139,7 @@ pub fn copy_items(alloc: Global, items: &[Block]) -> Result<Items, NoMemory>
 fn copy_branches(alloc: Global, branches: &[Branch]) -> Result<Branches, NoMemory>
     ensures { IfOk result (λ new. lanes_of new.items ≡ lanes_of branches.now) }
 {
-    let mut all = Vec::new(alloc);
+    let mut all = Vec::with_capacity(alloc, branches.len())?;
     for i in 0..branches.len() {
         let items = copy_items(alloc, &branches[i].items)?;
         all.push(Branch {

@@ -47,7 +47,8 @@ impl Flat {
         ensures { IfOk result (λ flat. flat ≡ flat_of schema.now) }
     {
         let elements = schema.elements.copy(alloc)?;
-        let cards = all_cards(alloc, schema)?;
+        let mut cards = all_cards(alloc, schema)?;
+        cards.shrink_to_fit();
         let index = Groups::of(numbered(alloc, &cards)?)?;
         Ok(Flat {
             cards,
@@ -99,7 +100,17 @@ impl Flat {
     {
         match self.loop_start(end) {
             None => Ok(Nodes::new(alloc)),
-            Some(start) => Ok(Nodes::from_vec(nodes_between(alloc, &self.cards, start, end)?)),
+            Some(start) => Ok(Nodes::from_vec(nodes_up_to(alloc, self.cards_from(start), end)?)),
+        }
+    }
+
+    // The cards from the node's first one on, in document order.
+    fn cards_from(&self, node: u32) -> &[Card]
+        ensures { map (λ c. c.node) result.now ≡ from_node node (map (λ c. c.node) self.now.cards) }
+    {
+        match self.place(node) {
+            None => &[],
+            Some(place) => &self.cards[place..],
         }
     }
 
@@ -138,21 +149,15 @@ fn numbered(alloc: Global, cards: &[Card]) -> Result<Vec<(u32, usize)>, NoMemory
     Ok(all)
 }
 
-// The nodes of the cards from the first `start` up to the first `end` behind it.
-fn nodes_between(alloc: Global, cards: &[Card], start: u32, end: u32) -> Result<Vec<u32>, NoMemory>
-    ensures { IfOk result (λ new. new.items ≡ up_to_node end (from_node start (map (λ c. c.node) cards.now))) }
+// The nodes of the cards up to the first `end`.
+fn nodes_up_to(alloc: Global, cards: &[Card], end: u32) -> Result<Vec<u32>, NoMemory>
+    ensures { IfOk result (λ new. new.items ≡ up_to_node end (map (λ c. c.node) cards.now)) }
 {
     let mut all = Vec::new(alloc);
-    let mut inside = false;
     for c in cards {
-        if c.node == start {
-            inside = true;
-        }
-        if inside {
-            all.push(c.node)?;
-            if c.node == end {
-                return Ok(all);
-            }
+        all.push(c.node)?;
+        if c.node == end {
+            return Ok(all);
         }
     }
     Ok(all)

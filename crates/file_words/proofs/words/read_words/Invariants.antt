@@ -1,10 +1,10 @@
 use Rattle.std.proofs.Common.{◌≡◌, ◌++◌, length}
 use Rattle.file_words.specs.Words.{words_of}
 use Rattle.file_words.specs.Shown.{shown}
-use Rattle.file_words.proofs.words.words_of.Given as goal
+use Rattle.file_words.proofs.words.read_words.Given as goal
 
 abbrev pub invariant-loop-word : goal.invariant-loop-word
-invariant-loop-word l = shown l.all.items ++ words_of l.rest ≡ words_of l.line
+invariant-loop-word l = shown l.words.items ++ words_of l.rest ≡ words_of l.line
 
 abbrev pub decreases-loop-word : goal.decreases-loop-word
 decreases-loop-word l = length (words_of l.rest)
