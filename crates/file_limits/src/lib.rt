@@ -1,10 +1,16 @@
 //! How much a process file may have, and what is read beside it. Each of these limits stands here once: code and definitions
-//! cite it by its name. How long names and texts may be is said by `file_words`, what a schema may have by its definition
-//! (`wsm_schema/specs/Sound`), what a cell may have by `turn_cell`, and how many versions a type may have by `type_core`.
+//! cite it by its name. What a schema may have is said by its definition (`wsm_schema/specs/Sound`), what a cell may have by
+//! `turn_cell`, and how many versions a type may have by `type_core`.
 #![tactic(auto)]
 
 /// How many bytes a process file may have.
 pub const MAX_FILE_BYTES: usize = 16_777_216;
+
+/// How many bytes a name may have.
+pub const MAX_NAME: usize = 64;
+
+/// How many bytes a text may have.
+pub const MAX_TEXT: usize = 256;
 
 /// How many types a file may have.
 pub const MAX_TYPES: usize = 64;

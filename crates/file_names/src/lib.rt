@@ -10,4 +10,4 @@ mod names;
 
 pub use declared::DeclaredList;
 pub use name_tables::{NameTable, narrow};
-pub use names::{Name64, Names};
+pub use names::{Name64, Names, is_short_name};

@@ -2,13 +2,11 @@
 ghost use Rattle.std.specs.Prelude.{◌≡◌, true, Some, None, IfOk, if◌then◌else◌};
 ghost use Rattle.file_names.specs.ShortNames.{is_short_name};
 
-use file_words::{NameWord, NoMemory};
+use file_limits::MAX_NAME;
+use file_words::{NameWord, NoMemory, is_name};
 use std::alloc::{AllocError, Global};
 use std::marker::Model;
 use wsm_lists::Listing;
-
-/// How many bytes a name may have.
-const MAX_NAME: usize = 64;
 
 /// A name: 1 to 64 ASCII letters, digits, `_`, `-` and `.`, of which the first is a letter or `_`.
 #[derive(Drop)]
@@ -25,6 +23,13 @@ impl Model for Name64 {
     ghost view = { λ a. a.bytes.items };
 
     ghost invariant = { λ a. is_short_name a.bytes.items ≡ true };
+}
+
+/// Whether a word is a name that a file may keep.
+pub fn is_short_name(word: &[u8]) -> bool
+    ensures { result ≡ is_short_name word.now }
+{
+    is_name(word) && word.len() <= MAX_NAME
 }
 
 /// Names by their numbers: the name at an index has that number.

@@ -1,6 +1,7 @@
 -- Names and texts that are too long. In a right line a word of more than 64 bytes is a name of more than 64 bytes, or a pair.
 use Rattle.std.specs.Prelude.{Bool, false, nat_lt, List, [], ◌∷◌, length, Option, Some, None, if◌then◌else◌}
 use Rattle.std.specs.Option.{option_or}
+use Rattle.file_limits.specs.declared.TheConstants.{MAX_NAME, MAX_TEXT}
 use Rattle.file_words.specs.Lines.{Bytes}
 use Rattle.file_words.specs.Texts.{text}
 use Rattle.file_words.specs.Pairs.{parts_at_equals}
@@ -12,11 +13,11 @@ is_longer test long = if test then Some long else None
 
 abbrev pub has_long_text : Option Bytes → Bool
 has_long_text None = false
-has_long_text (Some t) = nat_lt 256 (length t)
+has_long_text (Some t) = nat_lt MAX_TEXT (length t)
 
 abbrev pub long_part : Bytes → Option (Bytes × Bytes) → Option TooLong
-long_part w None = is_longer (nat_lt 64 (length w)) Name
-long_part w (Some p) = option_or (is_longer (nat_lt 64 (length p.0)) Name) (is_longer (has_long_text (text p.1)) Text)
+long_part w None = is_longer (nat_lt MAX_NAME (length w)) Name
+long_part w (Some p) = option_or (is_longer (nat_lt MAX_NAME (length p.0)) Name) (is_longer (has_long_text (text p.1)) Text)
 
 -- what a word has that is too long
 abbrev pub long : Bytes → Option TooLong

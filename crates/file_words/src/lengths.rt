@@ -6,11 +6,7 @@ ghost use Rattle.file_words.specs.Shown.{shown};
 
 use crate::pairs::parts_at_equals;
 use crate::texts::text_len;
-
-/// How many bytes a name and a text may have.
-const MAX_NAME: usize = 64;
-
-const MAX_TEXT: usize = 256;
+use file_limits::{MAX_NAME, MAX_TEXT};
 
 /// What is too long: a name of more than 64 bytes, or a text of more than 256.
 #[derive(Clone, Copy, PartialEq, Eq, Debug)]

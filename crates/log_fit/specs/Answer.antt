@@ -1,5 +1,6 @@
 -- What an input comes to: the bytes of a table, or the status that stands in its place.
 use Rattle.std.specs.Prelude.{ℕ, Bool, ◌||◌, nat_lt, List, length, Option, Some, None, Result, Ok, Err, if◌then◌else◌}
+use Rattle.file_limits.specs.declared.TheConstants.{MAX_FILE_BYTES}
 use Rattle.file_model.specs.Reading.{file}
 use Rattle.file_model.specs.declared.files.File.{File}
 use Rattle.file_model.specs.declared.refusals.Refused.{Refused}
@@ -12,12 +13,9 @@ use Rattle.log_fit.specs.Versions.{version_of}
 use Rattle.log_fit.specs.declared.fits.CaseFit.{CaseFit}
 use Rattle.wsm_sound.specs.VersionModel.{VersionModel}
 
--- the most bytes of an input, and of the file in it
+-- the most bytes of an input
 abbrev pub most_input : ℕ
 most_input = 33554432
-
-abbrev pub most_file : ℕ
-most_file = 16777216
 
 -- 9: a wrong record, or no log
 abbrev pub table_of : File → Result (List CaseFit) ℕ → Result Bytes ℕ
@@ -40,7 +38,7 @@ with_file q log (Ok f) = with_version f (version_of f q.name q.number) log
 
 -- 6: too many bytes
 abbrev pub is_too_long : Bytes → Bool
-is_too_long input = nat_lt most_input (length input) || nat_lt most_file (length (parts_of input).file)
+is_too_long input = nat_lt most_input (length input) || nat_lt MAX_FILE_BYTES (length (parts_of input).file)
 
 abbrev pub answer : Question → Bytes → Result Bytes ℕ
 answer q input = if is_too_long input then Err 6 else with_file q (parts_of input).log (file (parts_of input).file)

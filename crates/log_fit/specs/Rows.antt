@@ -27,3 +27,7 @@ pub record IsTable (v : VersionModel) (records : List LogRecord) (names : List B
   pub apart : AreApart names
   pub others : (n : Bytes) → is_listed n names ≡ false → of_case n records ≡ []
   pub come : rows ≡ map (row_of v records) names
+
+-- of whatever records a table was one, behind a record more it is one of these and that record
+abbrev pub TakesRecord : VersionModel → LogRecord → List Bytes → List ProgressModel → List Bytes → List ProgressModel → Type 0
+TakesRecord v r names rows names_then rows_then = (done : List LogRecord) → IsTable v done names rows → IsTable v (done ++ r ∷ []) names_then rows_then

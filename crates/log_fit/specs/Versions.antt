@@ -7,17 +7,14 @@ use Rattle.file_model.specs.declared.files.Act.TheVariants as act
 use Rattle.file_model.specs.declared.files.File.{File}
 use Rattle.file_model.specs.declared.files.Line.{Line}
 use Rattle.file_model.specs.declared.files.TypeDecl.{TypeDecl}
-use Rattle.type_core.specs.KindModel.{KindModel, not_defined}
+use Rattle.script_run.specs.Verdicts.{defined_kind}
+use Rattle.type_core.specs.KindModel.{KindModel}
 use Rattle.type_core.specs.Machine.{next_kind, version_in}
 use Rattle.type_core.specs.declared.events.KindEvent.TheVariants as kind_event
 use Rattle.wsm_sound.specs.VersionModel.{VersionModel}
 
 abbrev pub is_named : Bytes → TypeDecl → Bool
 is_named name d = bytes_eq name d.name
-
--- a type behind its definition
-abbrev pub defined : ℕ → TypeDecl → KindModel
-defined t d = (next_kind (not_defined t) (kind_event.Define d.schema)).0
 
 -- a line installs on one type; no other line changes a type
 abbrev pub installed_act : ℕ → KindModel → Act → KindModel
@@ -32,7 +29,7 @@ installed_lines t k lines = fold (installed_line t) k lines
 
 -- a type behind all lines
 abbrev pub kind_of : ℕ → List (List Line) → TypeDecl → KindModel
-kind_of t phases d = fold (installed_lines t) (defined t d) phases
+kind_of t phases d = fold (installed_lines t) (defined_kind t d) phases
 
 -- the version of a type with a number
 abbrev pub version_in_type : File → ℕ → ℕ → Option TypeDecl → Option VersionModel

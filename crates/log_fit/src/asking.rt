@@ -1,27 +1,18 @@
 // The words of the command line.
 ghost use Rattle.std.specs.Prelude.{◌≡◌, map, string_bytes, Some, None, if◌then◌else◌};
 ghost use Rattle.std.specs.Option.{option_map};
-ghost use Rattle.file_names.specs.ShortNames.{is_short_name};
 ghost use Rattle.file_words.specs.Numbers.{value_from};
 ghost use Rattle.log_fit.specs.Asked.{asked, is_version_number, two_words};
 ghost use Rattle.log_fit.specs.Shown.{shown_question};
 
-use file_words::{code, is_name};
-
-/// How many bytes a name may have.
-const MAX_NAME: usize = 64;
+use file_names::is_short_name;
+use file_words::code;
 
 /// What is asked: a version of a type, by the type's name and the version's number.
 #[derive(Clone, Copy)]
 pub(crate) struct Asked<'a> {
     pub(crate) name: &'a [u8],
     pub(crate) number: u32,
-}
-
-fn is_short_name(word: &[u8]) -> bool
-    ensures { result ≡ is_short_name word.now }
-{
-    is_name(word) && word.len() <= MAX_NAME
 }
 
 // The number of a version: 1 to 256, in at most three digits.

@@ -16,15 +16,14 @@ use crate::parts::parts_of;
 use crate::versions::version_of;
 use crate::writing::write_fits;
 use adept_io::{Bytes, ReadRefusal, Sink, Source, read_to_limit};
+use file_limits::MAX_FILE_BYTES;
 use file_model::{File, FileRefusal};
 use process_text::read_file;
 use std::alloc::Global;
 use wsm_sound::Version;
 
-/// The most bytes that an input may have, and the process file in it.
+/// The most bytes that an input may have.
 const MOST_INPUT: usize = 33_554_432;
-
-const MOST_FILE: usize = 16_777_216;
 
 /// Reads an input, which is a process file, a line `log` and a log, and writes how far each case of the log goes on a version
 /// of the file. The words are the name of a type and the number of the version; other words are status 2, and then nothing
@@ -79,7 +78,7 @@ fn fit_bytes<K: Sink>(alloc: Global, asked: Asked<'_>, input: &[u8], sink: &mut 
     ensures { IsAnswered K.written K.faults (answer (shown_question asked.entry) input.now) sink.old sink.new result }
 {
     let parts = parts_of(input);
-    if parts.file.len() > MOST_FILE {
+    if parts.file.len() > MAX_FILE_BYTES {
         return 6;
     }
     match read_file(alloc, parts.file) {

@@ -1,22 +1,19 @@
 // The cases of a log while its records are taken.
-ghost use Rattle.std.specs.Prelude.{◌≡◌, ◌++◌, ◌∷◌, [], ◌<◌, ◌≤◌, List, true, not, nat_lt, length, map, slice_set, slice_get, if◌then◌else◌, IfOk, OnOk, ℕ};
+ghost use Rattle.std.specs.Prelude.{◌≡◌, ◌++◌, ◌∷◌, [], ◌<◌, ◌≤◌, true, not, nat_lt, length, map, slice_set, slice_get, if◌then◌else◌, IfOk, OnOk, ℕ};
 ghost use Rattle.file_names.specs.Names.{noted};
 ghost use Rattle.log_fit.specs.Progress.{fit_of, opened_row, reach};
-ghost use Rattle.log_fit.specs.Rows.{IsTable, rows_with};
+ghost use Rattle.log_fit.specs.Rows.{TakesRecord, rows_with};
 ghost use Rattle.log_records.specs.Told.{are_too_many};
-ghost use Rattle.log_records.specs.declared.records.LogRecord.{LogRecord};
 
 use crate::fits::{CaseFit, Fits};
 use crate::progress::Progress;
+use file_limits::MAX_CASES;
 use file_model::Name64;
 use file_names::NameTable;
 use log_records::LogRecord;
 use std::alloc::Global;
 use wsm_lists::NoMemory;
 use wsm_sound::Version;
-
-/// So many cases a log may have.
-const MOST_CASES: usize = 4096;
 
 /// The cases in the order of their first records, found by their names.
 #[derive(Drop)]
@@ -64,10 +61,10 @@ impl CaseTable {
         requires { length self.old.rows.items ≡ length self.old.names }
         ensures room { IfOk result (λ ok. ok ≡ not (are_too_many (noted self.old.names logged.case))) }
         ensures names { IfOk result (λ ok. ok ≡ true → self.new.names ≡ noted self.old.names logged.case) }
-        ensures rows { IfOk result (λ ok. ok ≡ true → (done : List LogRecord) → IsTable version.now done self.old.names self.old.rows.items → IsTable version.now (done ++ logged ∷ []) self.new.names self.new.rows.items) }
+        ensures rows { IfOk result (λ ok. ok ≡ true → TakesRecord version.now logged self.old.names self.old.rows.items self.new.names self.new.rows.items) }
     {
         let place = self.names.note(alloc, logged.case.word())? as usize;
-        if self.names.len() > MOST_CASES {
+        if self.names.len() > MAX_CASES {
             return Ok(false);
         }
         let LogRecord { case, event } = logged;

@@ -2,12 +2,13 @@
 ghost use Rattle.std.specs.Prelude.{◌≡◌, ◌≤◌, length, map, position, IfOk, OnOk};
 ghost use Rattle.file_model.specs.Sizes.{IsBounded, line_effort, phase_effort};
 ghost use Rattle.file_names.specs.Names.{place_of};
-ghost use Rattle.log_fit.specs.Versions.{defined, installed_line, installed_lines, is_named, kind_of, version_of};
+ghost use Rattle.log_fit.specs.Versions.{installed_line, installed_lines, is_named, kind_of, version_of};
 ghost use Rattle.wsm_schema.specs.Flat.{cards_of};
 
 use file_model::{Act, File, Line, TypeDecl};
 use file_names::narrow;
 use std::alloc::Global;
+use script_run::defined_kind;
 use turn_cell::Machine;
 use type_core::{Kind, KindEvent};
 use wsm_lists::NoMemory;
@@ -30,16 +31,6 @@ fn place_of_type(types: &[TypeDecl], name: &[u8]) -> Option<usize>
     ensures { result ≡ place_of (map (λ d. d.name) types.now) name.now }
 {
     first_named(types, name)
-}
-
-// A type behind its definition.
-fn defined(alloc: Global, number: u32, decl: &TypeDecl) -> Result<Kind, NoMemory>
-    requires { length (cards_of decl.now.schema) ≤ 1024 }
-    ensures { IfOk result (λ kind. kind ≡ defined number decl.now) }
-{
-    let mut kind = Kind::new(alloc, number);
-    let _ = kind.step(alloc, &KindEvent::Define(decl.schema.copy(alloc)?))?;
-    Ok(kind)
 }
 
 // The type behind a line.
@@ -85,7 +76,7 @@ fn kind_of(alloc: Global, file: &File, number: u32, decl: &TypeDecl) -> Result<K
     requires small { length (cards_of decl.now.schema) ≤ 1024 }
     ensures { IfOk result (λ kind. kind ≡ kind_of number file.now.phases decl.now) }
 {
-    let mut kind = defined(alloc, number, decl)?;
+    let mut kind = defined_kind(alloc, number, decl)?;
     for lines in file.phases.as_slice() {
         install_lines(&mut kind, alloc, number, lines.as_slice())?;
     }

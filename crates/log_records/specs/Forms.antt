@@ -2,6 +2,7 @@
 use Rattle.std.specs.Prelude.{ℕ, Bool, true, ◌&&◌, not, ◌==◌, nat_le, List, [], ◌∷◌, length, Option, Some, None, option_map, if◌then◌else◌, codes}
 use Rattle.std.specs.List.{list_all, list_any}
 use Rattle.std.specs.Str.{is_utf8}
+use Rattle.file_limits.specs.declared.TheConstants.{MAX_TEXT}
 use Rattle.file_names.specs.Names.{place_of}
 use Rattle.file_names.specs.ShortNames.{is_short_name}
 use Rattle.file_words.specs.Lines.{Bytes}
@@ -25,7 +26,7 @@ Some x >>= f = f x
 abbrev pub none_unless : {A : Type 0} → Bool → Option A → Option A
 none_unless test found = if test then found else None
 
--- a name has at most 64 bytes
+-- a name is not too long
 abbrev pub short_name : Bytes → Option Bytes
 short_name w = none_unless (is_short_name w) (Some w)
 
@@ -34,10 +35,10 @@ abbrev pub choice : Bytes → Option (Option ℕ)
 choice [] = Some None
 choice (b ∷ bs) = option_map Some (code (b ∷ bs))
 
--- a text has at most 256 bytes
+-- a text is not too long
 abbrev pub is_short : Value → Bool
 is_short (value.Int n) = true
-is_short (value.Text t) = nat_le (length t) 256
+is_short (value.Text t) = nat_le (length t) MAX_TEXT
 
 -- an element that the file has, and its value
 abbrev pub write : List Bytes → Bytes × Value → Option (ℕ × Value)

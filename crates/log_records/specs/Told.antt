@@ -1,5 +1,6 @@
 -- What a log tells: its records behind the first, or the first wrong one.
 use Rattle.std.specs.Prelude.{ℕ, ◌+◌, Bool, ◌&&◌, false, nat_lt, List, [], ◌∷◌, length, Option, Some, None, Result, Ok, Err, if◌then◌else◌, codes}
+use Rattle.file_limits.specs.declared.TheConstants.{MAX_CASES}
 use Rattle.file_names.specs.Names.{noted}
 use Rattle.file_words.specs.Lines.{Bytes}
 use Rattle.file_words.specs.Words.{is}
@@ -19,7 +20,7 @@ is_head fs = are_titles (cells_of fs)
 
 -- a log has at most 4,096 cases
 abbrev pub are_too_many : List Bytes → Bool
-are_too_many names = nat_lt 4096 (length names)
+are_too_many names = nat_lt MAX_CASES (length names)
 
 abbrev pub with_first : LogRecord → Result (List LogRecord) ℕ → Result (List LogRecord) ℕ
 with_first r (Ok rs) = Ok (r ∷ rs)

@@ -2,7 +2,6 @@
 ghost use Rattle.std.specs.Prelude.{◌≡◌, ◌==◌, ◌<◌, ◌+◌, ◌^◌, Some, IfOk, length, sum_by, map};
 ghost use Rattle.std.specs.Option.{option_map};
 ghost use Rattle.csv.specs.Records.{fields_of};
-ghost use Rattle.file_names.specs.ShortNames.{is_short_name};
 ghost use Rattle.file_words.specs.Shown.{shown, shown_literal};
 ghost use Rattle.file_words.specs.Words.{words_of};
 ghost use Rattle.log_records.specs.Forms.{cells_of, choice, end_of, event_of, is_short, is_spaced, none_unless, pairs, record_of, said, start_of, write_word, writes};
@@ -12,13 +11,10 @@ ghost use Rattle.log_records.specs.Told.{are_titles, is_head};
 use crate::places::NamePlaces;
 use crate::records::{LogEvent, LogRecord};
 use csv::ByteRecord;
-use file_names::Name64;
-use file_words::{Literal, code, is_name, is_text, pair, role, words_of};
+use file_names::{Name64, is_short_name};
+use file_words::{Literal, code, is_text, pair, role, words_of};
 use std::alloc::Global;
 use wsm_lists::{NoMemory, ShortText, Value, Writes};
-
-/// How many bytes a name may have.
-const MAX_NAME: usize = 64;
 
 // The fields of a record that has six.
 #[derive(Clone, Copy)]
@@ -29,12 +25,6 @@ struct Cells<'a> {
     user: &'a [u8],
     choice: &'a [u8],
     writes: &'a [u8],
-}
-
-fn is_short_name(word: &[u8]) -> bool
-    ensures { result ≡ is_short_name word.now }
-{
-    is_name(word) && word.len() <= MAX_NAME
 }
 
 // Nothing, or a code.

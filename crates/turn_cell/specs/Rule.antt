@@ -179,9 +179,13 @@ module _ {M E R W S : Type 0} where
   carried_log [] = []
   carried_log (x ∷ xs) = log_of x.1
 
+  -- v after its own calls have made the journal that long
+  abbrev pub with_log : List (Entry M E R W S) → SeatView M E R W S → SeatView M E R W S
+  with_log log v = record v { seen = log; own_calls = v.own_calls ++ drop (length v.seen) log }
+
   -- the journal in hand is what was seen, and the entries that it has more are one's own
   abbrev pub committed : Step (Option (Guarded M E R W S)) → Seated M E R W S → ℕ → Seated M E R W S → Type 0
-  committed st m r m' = m' ≡ (record m.0 { seen = carried_log m.1; own_calls = m.0.own_calls ++ drop (length m.0.seen) (carried_log m.1) }, m.1)
+  committed st m r m' = m' ≡ (with_log (carried_log m.1) m.0, m.1)
 
   -- the turn ends, and the slot is put back
   abbrev pub released : Step (Option (Guarded M E R W S)) → Seated M E R W S → ℕ → Seated M E R W S → Type 0

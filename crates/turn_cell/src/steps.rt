@@ -1,8 +1,8 @@
 //! The atomic steps of a pass on the table of its cell.
-ghost use Rattle.std.specs.Prelude.{◌≡◌, ◌+◌, ◌*◌, ◌≤◌, ◌++◌, ◌∷◌, [], true, false, length, drop, None, Some};
+ghost use Rattle.std.specs.Prelude.{◌≡◌, ◌+◌, ◌*◌, ◌≤◌, ◌++◌, ◌∷◌, [], true, false, length, None, Some};
 ghost use Rattle.turn_cell.specs.declared.seat_view.Phase.TheVariants.{Idle, Entered, Inside};
 ghost use Rattle.turn_cell.specs.History.{IsLegalFrom, IsStateAfter};
-ghost use Rattle.turn_cell.specs.Rule.{IsSeen, TakesOut};
+ghost use Rattle.turn_cell.specs.Rule.{IsSeen, TakesOut, with_log};
 
 use crate::cell::{COUNT, Cell, GUARDED, HELD, PassSeat};
 use crate::guarded::Guarded;
@@ -59,7 +59,7 @@ impl<M: Machine> Cell<M> {
         requires young { M.age (M.state guarded.machine) ≤ MAX_OPENING_AGE + MAX_WEIGHT * length guarded.journal.items.items }
         requires short { length guarded.journal.items.items ≤ MAX_ENTRIES }
         ensures cell { seat.new.table_id ≡ seat.old.table_id }
-        ensures left { seat.new.me ≡ (record seat.old.me.0 { phase = Idle; seen = guarded.journal.items.items; own_calls = seat.old.me.0.own_calls ++ drop (length seat.old.me.0.seen) guarded.journal.items.items }, []) }
+        ensures left { seat.new.me ≡ (with_log guarded.journal.items.items (record seat.old.me.0 { phase = Idle }), []) }
     {
         self.table.shared.exchange(seat, GUARDED, Some(guarded));
         self.table.shared.store::<Commit>(seat, COUNT, count);
