@@ -7,8 +7,8 @@ ghost use Rattle.wsm_schema.specs.Flat.{cards_of};
 
 use file_model::{Act, File, Line, TypeDecl};
 use file_names::narrow;
-use std::alloc::Global;
 use script_run::defined_kind;
+use std::alloc::Global;
 use turn_cell::Machine;
 use type_core::{Kind, KindEvent};
 use wsm_lists::NoMemory;

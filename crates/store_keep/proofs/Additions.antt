@@ -1,16 +1,15 @@
 -- Calls that are stored one after another.
-use Rattle.std.proofs.Common.{◌≡◌, ◌⊎◌, inl, inr, ⊎_elim, ℕ, ◌+◌, ◌<◌, ◌≤◌, ◌^◌, true, List, [], ◌∷◌, ◌++◌, length, map, refl, sym, ap, subst, ◌∙◌, append_assoc, arith}
+use Rattle.std.proofs.Common.{◌≡◌, inl, inr, ℕ, ◌+◌, ◌≤◌, ◌^◌, true, List, [], ◌∷◌, ◌++◌, length, map, refl, sym, ap, subst, ◌∙◌, append_assoc, arith}
 use Rattle.std.proofs.lemmas.List.{append-nil}
 use Rattle.store_calls.specs.Calls.{payload_of}
 use Rattle.store_disk.specs.Disk.{LeavesOnly}
-use Rattle.store_disk.specs.Image.{HasList}
 use Rattle.store_disk.specs.Rest.{IsAtRest, IsBeforeOrAfter}
 use Rattle.store_form.specs.Payload.{Bytes}
 use Rattle.store_form.specs.Stored.{has_short_lists}
 use Rattle.store_form.specs.declared.stored.Recorded.{Recorded}
 use Rattle.store_keep.specs.Keeping.{Begins, held, HoldsBeginning, IsStored}
 use Rattle.store_keep.specs.Refusals.{Overflows, Passes}
-use Rattle.store_keep.proofs.Held.{beginning, begins-more, begins-self, rest-again, rest-held, rest-image}
+use Rattle.store_keep.proofs.Held.{beginning, begins-more, begins-self, rest-held, rest-image}
 use Rattle.store_keep.proofs.Moments.{and_then, started}
 
 -- a call that finds room does not pass the limit

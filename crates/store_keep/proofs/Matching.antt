@@ -1,11 +1,11 @@
 -- Records that are compared with calls one after another.
-use Rattle.std.proofs.Common.{◌≡◌, ◌≢◌, ℕ, zero, suc, ◌+◌, ◌<◌, ◌≤◌, ◌^◌, Bool, true, false, List, [], ◌∷◌, ◌++◌, length, map, take, drop, Option, Some, None, refl, sym, ap, subst, ◌∙◌, append_assoc, arith, length-append}
+use Rattle.std.proofs.Common.{◌≡◌, ℕ, zero, suc, ◌+◌, ◌<◌, ◌≤◌, ◌^◌, true, false, List, [], ◌∷◌, ◌++◌, length, map, take, drop, Option, Some, None, refl, sym, ap, subst, ◌∙◌, append_assoc, arith, length-append}
 use Rattle.std.specs.Prelude.{bytes_eq, if◌then◌else◌, slice_get}
 use Rattle.std.specs.List.{AllByRecursion}
 use Rattle.std.proofs.lemmas.List.{append-nil, length-drop, length-take-le, map_push}
 use Rattle.std.proofs.lemmas.Slice.Eq.{bytes_eq-Decides}
-use Rattle.store_calls.specs.Calls.{IsPayable, payload_of}
-use Rattle.store_disk.specs.Image.{all_framed, closed, damaged, frame, frames, frames_from, framed}
+use Rattle.store_calls.specs.Calls.{payload_of}
+use Rattle.store_disk.specs.Image.{all_framed, closed, frame, frames, frames_from, framed}
 use Rattle.store_disk.specs.Opening.{IsFrame, with_gate}
 use Rattle.store_disk.specs.Rest.{EndsAt}
 use Rattle.store_disk.specs.declared.frames.Frame.TheVariants as front
@@ -13,7 +13,6 @@ use Rattle.store_disk.proofs.Framing.{all_short, closes, one_framed}
 use Rattle.store_form.specs.Payload.{Bytes}
 use Rattle.store_form.specs.declared.stored.Recorded.{Recorded}
 use Rattle.store_keep.specs.Finding.{finds, is_call}
-use Rattle.store_keep.specs.declared.finding.Found.{Found}
 use Rattle.store_keep.specs.declared.finding.Found.TheVariants as found
 
 -- an item of a list by its index

@@ -1,7 +1,6 @@
 -- A disk that was opened, and what it turns out to hold of calls.
-use Rattle.std.proofs.Common.{◌≡◌, inl, inr, ℕ, zero, suc, ◌+◌, ◌<◌, ◌≤◌, ◌^◌, List, [], ◌∷◌, ◌++◌, length, map, take, drop, refl, sym, ap, subst, ◌∙◌, arith, length-append}
+use Rattle.std.proofs.Common.{◌≡◌, inl, inr, ℕ, zero, suc, ◌≤◌, List, [], ◌∷◌, ◌++◌, length, map, take, drop, refl, sym, ap, subst, ◌∙◌}
 use Rattle.std.specs.Prelude.{IfErr, IsErrOf, Result, Ok, Err}
-use Rattle.std.specs.List.{AllByRecursion}
 use Rattle.std.proofs.lemmas.List.{length-map, length-take-le}
 use Rattle.store_calls.specs.Calls.{payload_of}
 use Rattle.store_disk.specs.Disk.{IsSettled, LeavesOnly, Only}
@@ -12,12 +11,12 @@ use Rattle.store_disk.proofs.Framing.{frames_at}
 use Rattle.store_form.specs.Payload.{Bytes}
 use Rattle.store_form.specs.declared.stored.Recorded.{Recorded}
 use Rattle.store_keep.specs.Finding.{finds}
-use Rattle.store_keep.specs.Keeping.{Begins, held, HoldsBeginning, IsBegun, IsLeft, IsStored, payloads_in}
+use Rattle.store_keep.specs.Keeping.{held, HoldsBeginning, IsBegun, IsLeft, IsStored, payloads_in}
 use Rattle.store_keep.specs.Refusals.{IsAddFault, Overflows, Tells}
 use Rattle.store_keep.specs.declared.faults.KeepFault.{KeepFault}
 use Rattle.store_keep.specs.declared.faults.KeepFault.TheVariants as fault
 use Rattle.store_keep.specs.declared.finding.Found.TheVariants as found
-use Rattle.store_keep.proofs.Held.{beginning, gate-frames, held-list, rest-again, rest-held, same-frames, whole-list}
+use Rattle.store_keep.proofs.Held.{gate-frames, held-list, rest-again, same-frames, whole-list}
 use Rattle.store_keep.proofs.Matching.{firsts}
 use Rattle.store_keep.proofs.Moments.{and_then, weaker}
 

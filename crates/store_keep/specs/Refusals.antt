@@ -1,5 +1,5 @@
 -- Why the calls of a file are not all stored, and what that says of the disk.
-use Rattle.std.specs.Prelude.{◌≡◌, ◌⊎◌, ℕ, ◌+◌, ◌<◌, ◌≤◌, ◌^◌, Bool, false, List, [], ◌∷◌, length, map, drop}
+use Rattle.std.specs.Prelude.{◌≡◌, ◌⊎◌, ℕ, ◌+◌, ◌<◌, ◌^◌, false, List, [], ◌∷◌, length, map, drop}
 use Rattle.adept_io.specs.declared.reading.ReadRefusal.{ReadRefusal}
 use Rattle.adept_io.specs.declared.reading.ReadRefusal.TheVariants as read
 use Rattle.store_calls.specs.Calls.{payload_of}

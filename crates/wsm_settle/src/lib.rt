@@ -12,7 +12,12 @@ mod timing;
 mod walks;
 
 pub use ends::after_end;
+pub use equations::equation;
+pub use overlays::{Overlay, mark_at, said};
+pub use pending::{Pending, hand_on, hand_to};
 pub use repeats::after_again;
+pub use sources::{Timed, time_of};
 pub use starts::{after_start, after_withdraw};
-pub use timing::{TimedMarks, timed};
+pub use timing::{NoMarks, TimedMarks, timed};
+pub use walks::with_time;
 pub use wsm_rules::{Changes, CountedMarks, Mark, MarkReads, Marks};

@@ -25,9 +25,9 @@ pub enum TimedMarks {
     Fails { position: u32 },
 }
 
-// No marks at all.
+/// No marks at all.
 #[derive(Drop)]
-struct NoMarks;
+pub struct NoMarks;
 
 impl MarkReads for NoMarks {
     ghost kept = { λ m. [] };

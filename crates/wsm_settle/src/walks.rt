@@ -131,8 +131,8 @@ fn revised<M: MarkReads>(
     Ok(Some(with_time(old, timed)))
 }
 
-// The mark with another time.
-fn with_time(mark: Mark, timed: Timed) -> Mark
+/// The mark with another time.
+pub fn with_time(mark: Mark, timed: Timed) -> Mark
     ensures { result ≡ with_time timed mark }
 {
     match timed {

@@ -1,7 +1,7 @@
 -- Local re-marking: the region's pass gives the new marks, and the least misfit of its nodes is where the replay fails.
 use Rattle.std.proofs.Common.{◌≡◌, ℕ, suc, Bool, false, not, List, map, refl, subst, Some}
 use Rattle.wsm_schema.specs.Flat.{card_at, cards_of, flat_of}
-use Rattle.wsm_schema.specs.Marks.{Facts, facts_of, is_again_of}
+use Rattle.wsm_schema.specs.Marks.{Facts, facts_of}
 use Rattle.wsm_schema.specs.Rank.{IsRank}
 use Rattle.wsm_schema.specs.Replay.{replay_of, whole}
 use Rattle.wsm_schema.specs.Rules.{Spots}
@@ -18,7 +18,7 @@ use Rattle.wsm_marks.proofs.Remark.{closed-bordered, remark}
 use Rattle.wsm_marks.proofs.Solutions.{solution-solves}
 use Rattle.wsm_marks.proofs.SolvedInside.{solve_inside-is}
 use Rattle.wsm_marks.proofs.WholeTrails.{whole-orderly}
-use Rattle.wsm_walk.specs.FirstBad.{AtMostOne, least}
+use Rattle.wsm_walk.specs.FirstBad.{least}
 use Rattle.wsm_walk.specs.Reached.{reached_from}
 use Rattle.wsm_walk.specs.Untouched.{Untouched}
 use Rattle.wsm_walk.proofs.RegionMisfit.{node_bad, region-misfit}
@@ -53,9 +53,8 @@ module _ (s1 s2 : SchemaModel) (regular : Regular s2) (rank1 rank2 : List ℕ) (
       (solution-solves (cards_of s1) rank1 is1 f) (solution-solves (cards_of s2) rank2 is2 f) k c at out)
 
   -- the least misfit of the region's nodes is the position at which the replay fails, and where there is none it is whole
-  pub adapt-ends : ((n : ℕ) → AtMostOne (λ e. is_again_of n e.1) es) →
-      Ends (cards_of s2) f m2 (suc (last_position 0 es)) (least (map (node_bad (λ e. not (fits (flat_of s2) f m2 (λ d. value_below d e.0 es) e.0 e.1)) es) nodes)) (replay_of (flat_of s2) es)
-  adapt-ends agains =
+  pub adapt-ends : Ends (cards_of s2) f m2 (suc (last_position 0 es)) (least (map (node_bad (λ e. not (fits (flat_of s2) f m2 (λ d. value_below d e.0 es) e.0 e.1)) es) nodes)) (replay_of (flat_of s2) es)
+  adapt-ends =
       subst (λ o. Ends (cards_of s2) f m2 (suc (last_position 0 es)) o (replay_of (flat_of s2) es))
-      (region-misfit (flat_of s2) f m2 (λ d p. value_below d p es) nodes es (whole-orderly (flat_of s1) es t rises is_whole) agains)
+      (region-misfit (flat_of s2) f m2 (λ d p. value_below d p es) nodes es (whole-orderly (flat_of s1) es t rises is_whole))
       (replay-local (flat_of s1) (flat_of s2) In region rank1 rank2 is1 is2 es t rises is_whole m2 (solution-solves (cards_of s2) rank2 is2 f))

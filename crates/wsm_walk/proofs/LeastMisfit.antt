@@ -1,5 +1,5 @@
 -- The first misfit along a trail is the least position over the nodes of the region.
-use Rattle.std.proofs.Common.{◌≡◌, ℕ, ◌<◌, Bool, false, ◌&&◌, ◌||◌, not, List, [], ◌∷◌, map, refl, ap, ◌∙◌, inl, inr, arith, Option, Some, None}
+use Rattle.std.proofs.Common.{◌≡◌, ℕ, ◌<◌, ◌≤◌, Bool, true, false, ◌&&◌, ◌||◌, not, List, [], ◌∷◌, map, refl, ap, ◌∙◌, inl, inr, arith, Option, Some, None}
 use Rattle.std.specs.Prelude.{find}
 use Rattle.std.specs.List.{list_any}
 use Rattle.std.proofs.lemmas.Bool.{cases_Bool, ltb-true, lt-ltb, le-ltb}
@@ -87,4 +87,27 @@ bad-found test bad (e ∷ es) one =
     elim (cases_Bool (test e)) [
       | inr other ↦ rw other (bad-found test bad es one.1)
       | inl it ↦ elim (cases_Bool (bad e)) [ inl worse ↦ rw (it, worse) refl | inr fine ↦ rw (it, fine) (none-bad test bad es (one.0 it)) ]
+    ]
+
+-- what passes a test behind an entry that passes it and is not bad is not bad either
+abbrev pub Steady : (ℕ × Entry → Bool) → (ℕ × Entry → Bool) → Type 0
+Steady test bad = (d e : ℕ × Entry) → d.0 < e.0 → test d ≡ true → bad d ≡ false → test e ≡ true → bad e ≡ false
+
+none-later : (test bad : ℕ × Entry → Bool) → Steady test bad → (d : ℕ × Entry) → test d ≡ true → bad d ≡ false → (last : ℕ) (es : Entries) → d.0 ≤ last → RisesAfter last es → first_bad (λ e. test e && bad e) es ≡ None
+none-later test bad steady d it fine last [] low rises = refl
+none-later test bad steady d it fine last (e ∷ es) low rises =
+    let later : last < e.0 = ltb-true last e.0 rises.0 in
+    let rest = none-later test bad steady d it fine e.0 es (omega (arith, low, later)) rises.1 in
+    elim (cases_Bool (test e)) [
+      | inr other ↦ rw other rest
+      | inl too ↦ let good : bad e ≡ false = steady d e (omega (arith, low, later)) it fine too in rw (too, good) rest
+    ]
+
+-- so the first entry that passes alone is looked at
+pub bad-first : (test bad : ℕ × Entry → Bool) → Steady test bad → (last : ℕ) (es : Entries) → RisesAfter last es → first_bad (λ e. test e && bad e) es ≡ bad_at bad (find test es)
+bad-first test bad steady last [] rises = refl
+bad-first test bad steady last (e ∷ es) rises =
+    elim (cases_Bool (test e)) [
+      | inr other ↦ rw other (bad-first test bad steady e.0 es rises.1)
+      | inl it ↦ elim (cases_Bool (bad e)) [ inl worse ↦ rw (it, worse) refl | inr fine ↦ rw (it, fine) (none-later test bad steady e it fine e.0 es (omega arith) rises.1) ]
     ]

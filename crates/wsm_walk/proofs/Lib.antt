@@ -16,6 +16,7 @@ pub mod Regions
 pub mod ReachedNames
 pub mod WalkSteps
 pub mod Once
+pub mod SteadyAgains
 pub mod RegionMisfit
 pub mod Adapts
 pub mod MarkStates

@@ -12,9 +12,10 @@ use Rattle.wsm_schema.specs.declared.entries.Entry.TheVariants as entry
 use Rattle.wsm_marks.specs.Fits.{Orderly, fits}
 use Rattle.wsm_marks.specs.Regions.{is_of, misfit_in}
 use Rattle.wsm_marks.specs.Timed.{Entries, Marking}
-use Rattle.wsm_walk.specs.FirstBad.{AtMostOne, bad_at, first_bad, least, lesser}
-use Rattle.wsm_walk.proofs.LeastMisfit.{bad-any, bad-found, bad-or, misfit-bad}
+use Rattle.wsm_walk.specs.FirstBad.{bad_at, first_bad, least, lesser}
+use Rattle.wsm_walk.proofs.LeastMisfit.{Steady, bad-any, bad-first, bad-found, bad-or, misfit-bad}
 use Rattle.wsm_walk.proofs.Once.{ends-once, starts-once}
+use Rattle.wsm_walk.proofs.SteadyAgains.{steady-agains}
 
 -- tests that agree find one entry
 bad-same : (s t : ℕ × Entry → Bool) → ((e : ℕ × Entry) → s e ≡ t e) → (es : Entries) → first_bad s es ≡ first_bad t es
@@ -77,7 +78,7 @@ abbrev pub node_bad : (ℕ × Entry → Bool) → Entries → ℕ → Option ℕ
 node_bad bad es k =
     lesser (bad_at bad (find (λ e. is_start_of k e.1) es)) (lesser (bad_at bad (find (λ e. is_end_of k e.1) es)) (bad_at bad (find (λ e. is_again_of k e.1) es)))
 
-module _ (es : Entries) (orderly : Orderly es) (agains : (n : ℕ) → AtMostOne (λ e. is_again_of n e.1) es) (bad : ℕ × Entry → Bool) where
+module _ (es : Entries) (orderly : Orderly es) (bad : ℕ × Entry → Bool) (agains : (n : ℕ) → Steady (λ e. is_again_of n e.1) bad) where
   pub node-first : (k : ℕ) → first_bad (λ e. of_node k e.1 && bad e) es ≡ node_bad bad es k
   node-first k =
       bad-same _ _ (λ e. ap (λ b. b && bad e) (of-one k e.1) ∙ spread (is_start_of k e.1) _ (bad e) ∙ ap (λ b. (is_start_of k e.1 && bad e) || b) (spread (is_end_of k e.1) (is_again_of k e.1) (bad e))) es
@@ -85,7 +86,7 @@ module _ (es : Entries) (orderly : Orderly es) (agains : (n : ℕ) → AtMostOne
       ∙ ap (lesser _) (bad-or (λ e. is_end_of k e.1 && bad e) (λ e. is_again_of k e.1 && bad e) 0 es orderly.rises)
       ∙ ap (λ o. lesser o (lesser (first_bad (λ e. is_end_of k e.1 && bad e) es) (first_bad (λ e. is_again_of k e.1 && bad e) es))) (bad-found (λ e. is_start_of k e.1) bad es (starts-once es orderly k))
       ∙ ap (λ o. lesser (bad_at bad (find (λ e. is_start_of k e.1) es)) (lesser o (first_bad (λ e. is_again_of k e.1 && bad e) es))) (bad-found (λ e. is_end_of k e.1) bad es (ends-once es orderly k))
-      ∙ ap (λ o. lesser (bad_at bad (find (λ e. is_start_of k e.1) es)) (lesser (bad_at bad (find (λ e. is_end_of k e.1) es)) o)) (bad-found (λ e. is_again_of k e.1) bad es (agains k))
+      ∙ ap (λ o. lesser (bad_at bad (find (λ e. is_start_of k e.1) es)) (lesser (bad_at bad (find (λ e. is_end_of k e.1) es)) o)) (bad-first (λ e. is_again_of k e.1) bad (agains k) 0 es orderly.rises)
 
   pub nodes-first : (nodes : List ℕ) → first_bad (λ e. is_of (λ n. is_one_of n nodes) e.1 && bad e) es ≡ least (map (node_bad bad es) nodes)
   nodes-first nodes =
@@ -98,7 +99,7 @@ module _ (es : Entries) (orderly : Orderly es) (agains : (n : ℕ) → AtMostOne
       least-same (n ∷ ns) = ap (λ o. lesser o (least (map (λ k. first_bad (λ e. of_node k e.1 && bad e) es) ns))) (node-first n) ∙ ap (lesser (node_bad bad es n)) (least-same ns)
 
 -- the first misfit of a region is the least over its nodes
-pub region-misfit : (g : FlatModel) (f : Facts) (m : Marking) (value : ℕ → ℕ → Option Value) (nodes : List ℕ) (es : Entries) → Orderly es → ((n : ℕ) → AtMostOne (λ e. is_again_of n e.1) es) →
+pub region-misfit : (g : FlatModel) (f : Facts) (m : Marking) (value : ℕ → ℕ → Option Value) (nodes : List ℕ) (es : Entries) → Orderly es →
     misfit_in (λ n. is_one_of n nodes) g f m value es ≡ least (map (node_bad (λ e. not (fits g f m (λ d. value d e.0) e.0 e.1)) es) nodes)
-region-misfit g f m value nodes es orderly agains =
-    misfit-bad (λ n. is_one_of n nodes) g f m value es ∙ nodes-first es orderly agains (λ e. not (fits g f m (λ d. value d e.0) e.0 e.1)) nodes
+region-misfit g f m value nodes es orderly =
+    misfit-bad (λ n. is_one_of n nodes) g f m value es ∙ nodes-first es orderly (λ e. not (fits g f m (λ d. value d e.0) e.0 e.1)) (steady-agains g f m value) nodes

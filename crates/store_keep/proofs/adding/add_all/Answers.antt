@@ -1,8 +1,7 @@
-use Rattle.std.proofs.Common.{◌≡◌, ◌<◌, ◌+◌, ◌∷◌, ◌++◌, ◌∙◌, List, length, drop, map, get_or, ap, subst, sym, refl, arith}
+use Rattle.std.proofs.Common.{◌≡◌, ◌+◌, ◌∷◌, ◌++◌, ◌∙◌, drop, map, ap, subst, sym, refl, arith}
 use Rattle.std.specs.List.{AllByRecursion}
 use Rattle.std.proofs.lemmas.List.{drop_more}
 use Rattle.store_calls.specs.Calls.{IsPayable, payload_of}
-use Rattle.store_form.specs.declared.stored.Recorded.{Recorded}
 use Rattle.store_keep.specs.Keeping.{held}
 use Rattle.store_keep.specs.Refusals.{Overflows}
 use Rattle.store_keep.proofs.Additions.{Progress, moments, nothing-yet, one-more, over-behind, over-here, stays}

@@ -1,0 +1,170 @@
+-- What does not fit of a node is told by the marks that are known after the pass.
+use Rattle.std.proofs.Common.{◌≡◌, ℕ, Bool, true, false, ◌&&◌, eqb, List, [], ◌∷◌, refl, ap, sym, ◌∙◌, inl, inr, Option, Some, None}
+use Rattle.std.specs.Prelude.{if◌then◌else◌, is_some}
+use Rattle.std.proofs.lemmas.Bool.{cases_Bool, both_ways}
+use Rattle.wsm_lists.specs.ByNumber.{item_at}
+use Rattle.wsm_lists.specs.Rows.{AllRows}
+use Rattle.wsm_lists.specs.Values.{Written}
+use Rattle.wsm_lists.specs.declared.values.ElementKind.{ElementKind}
+use Rattle.wsm_schema.specs.Flat.{card_at, cards_of, flat_of, kind_in}
+use Rattle.wsm_schema.specs.Kinds.{is_loop_end, worked_on}
+use Rattle.wsm_schema.specs.Marks.{Facts, facts_of, is_again_of, position_of}
+use Rattle.wsm_schema.specs.Replay.{fits_edges, is_of_kind, on_card}
+use Rattle.wsm_schema.specs.Rules.{is_yes}
+use Rattle.wsm_schema.specs.SchemaModel.{SchemaModel}
+use Rattle.wsm_schema.specs.Trail.{is_one_of, value_below}
+use Rattle.wsm_schema.specs.declared.cards.Card.{Card}
+use Rattle.wsm_schema.specs.declared.entries.Entry.{Entry}
+use Rattle.wsm_schema.specs.declared.marks.Mark.{Mark}
+use Rattle.wsm_marks.specs.Fits.{fits, partner_done}
+use Rattle.wsm_marks.specs.Timed.{Entries, Timed, before, early}
+use Rattle.wsm_marks.proofs.Cards.{on_card-same, same_card}
+use Rattle.wsm_marks.proofs.Causality.{solved_net}
+use Rattle.wsm_marks.proofs.FirstFailure.{fits-rows}
+use Rattle.wsm_marks.proofs.MarksOfTrails.{whole-fits}
+use Rattle.wsm_marks.proofs.RankInduction.{in_rank}
+use Rattle.wsm_marks.proofs.WholeTrails.{whole-orderly}
+use Rattle.wsm_walk.specs.FirstBad.{lesser}
+use Rattle.wsm_walk.specs.Kept.{timed_of}
+use Rattle.wsm_walk.specs.Listed.{said, seen}
+use Rattle.wsm_walk.specs.Walk.{untimed}
+use Rattle.wsm_walk.proofs.Kept.{timed_of-by}
+use Rattle.wsm_adapt.specs.Adapting.{Changes, IsRead}
+use Rattle.wsm_adapt.specs.Border.{is_known}
+use Rattle.wsm_adapt.specs.Misfits.{again_misfit, again_misfit_in, end_misfit, misfit_in, misfit_of, partner_in, start_misfit, unless}
+use Rattle.wsm_adapt.specs.Region.{is_inside, is_reached}
+use Rattle.wsm_adapt.specs.Revision.{revise_all}
+use Rattle.wsm_adapt.proofs.Fitted.{again-fitted}
+use Rattle.wsm_adapt.proofs.NewMarks.{apart, carded, found, gone-facts, nodes}
+use Rattle.wsm_adapt.proofs.OldMarks.{goal, inside-reached, kept, m1, m2, region, same-time}
+use Rattle.wsm_adapt.proofs.Partners.{end-of_start, start-of_end}
+use Rattle.wsm_adapt.proofs.RevisedMarks.{Halfway, seen-as, seen-row}
+
+and_false : (b : Bool) → (b && false) ≡ false
+and_false true = refl
+and_false false = refl
+
+-- writes to elements of the same kinds fit alike
+pub kinds-fit : (elements1 elements2 : List (ℕ × ElementKind)) (ws : Written) (ds : List ℕ) → AllRows (λ d. kind_in d elements1 ≡ kind_in d elements2) ds → fits_edges elements1 ws ds ≡ fits_edges elements2 ws ds
+kinds-fit elements1 elements2 [] [] same = refl
+kinds-fit elements1 elements2 [] (d ∷ ds) same = refl
+kinds-fit elements1 elements2 (w ∷ ws) [] same = refl
+kinds-fit elements1 elements2 (w ∷ ws) (d ∷ ds) same =
+    ap (λ k. (eqb w.0 d && is_of_kind k w.1) && fits_edges elements1 ws ds) same.0
+    ∙ ap (λ x. (eqb w.0 d && is_of_kind (kind_in d elements2) w.1) && x) (kinds-fit elements1 elements2 ws ds same.1)
+
+-- nothing fits a node that is gone, whatever its time
+gone-start : (es : Entries) (x y : Timed) (o : Option ℕ) → start_misfit es None x o ≡ start_misfit es None y o
+gone-start es x y None = refl
+gone-start es x y (Some p) = refl
+
+module _ (before_ after : SchemaModel) (rank touched : List ℕ) (es : Entries) (ch : Changes before_ after rank touched es) where
+  abbrev f : Facts
+  f = facts_of es
+
+  abbrev In : ℕ → Bool
+  In n = is_inside (cards_of after) rank touched n
+
+  abbrev M1 : ℕ → Timed
+  M1 = m1 before_ after rank touched es ch
+
+  abbrev M2 : ℕ → Timed
+  M2 = m2 before_ after rank touched es ch
+
+  abbrev Goal : ℕ → Mark
+  Goal = goal before_ after rank touched es ch
+
+  pub fit : AllRows (λ (e : ℕ × Entry). fits (flat_of before_) f M1 (λ d. value_below d e.0 es) e.0 e.1 ≡ true) es
+  fit =
+      fits-rows (flat_of before_) f M1 (λ d p. value_below d p es) es
+      (whole-fits (flat_of before_) ch.rank_before es M1 (solved_net (cards_of before_) ch.rank_before ch.ranked_before f) (whole-orderly (flat_of before_) es ch.marking ch.rises ch.replays) ch.marking ch.replays)
+
+  module _ (gone : List ℕ) (start : List (ℕ × Option Mark)) (read : IsRead (cards_of after) (kept before_ after rank touched es ch) (nodes before_ after rank touched es ch) gone start) where
+    abbrev last : List (ℕ × Option Mark)
+    last = revise_all (cards_of after) (nodes before_ after rank touched es ch) start
+
+    half : Halfway In Goal start rank last
+    half = found before_ after rank touched es ch gone start read
+
+    pub row-new : (n : ℕ) → In n ≡ true → item_at n last ≡ Some (said (Goal n))
+    row-new n it = let has = carded before_ after rank touched es ch n it in half.done n it (in_rank (cards_of after) rank ch.ranked_after n has.0 has.1)
+
+    pub seen-new : (n : ℕ) → In n ≡ true → seen [] last n ≡ Goal n
+    seen-new n it = seen-row last n (Goal n) (row-new n it)
+
+    -- what is known of nodes of the schema is new
+    known-new : (n : ℕ) (c : Card) → card_at n (cards_of after) ≡ Some c → is_known last n ≡ true → seen [] last n ≡ Goal n
+    known-new n c at known =
+        elim (cases_Bool (In n)) [
+          | inl it ↦ seen-new n it
+          | inr out ↦
+              let same : item_at n last ≡ item_at n start = half.left n (inl out) in
+              seen-as last start n same ∙ apart before_ after rank touched es ch gone start read n c at out (ap is_some (sym same) ∙ known)
+        ]
+
+    -- a partner that is not known is as it was
+    unknown-partner : (n p k : ℕ) (c : Card) → card_at n (cards_of after) ≡ Some c → position_of (is_again_of n) es ≡ Some p → is_loop_end c.kind ≡ true → c.partner ≡ Some k → is_known last k ≡ false →
+        partner_done (cards_of after) f M2 p (Some k) ≡ true
+    unknown-partner n p k c at again ends partner unknown =
+        let d = start-of_end after ch.regular_after n k c at ends partner in
+        let out : In k ≡ false = elim (cases_Bool (In k)) [ inl it ↦ absurd (both_ways _ unknown (ap is_some (row-new k it))) | inr other ↦ other ] in
+        let away : is_reached (cards_of after) rank touched k ≡ false = sym (inside-reached before_ after rank touched es ch k d.0 d.1) ∙ out in
+        let card = (region before_ after rank touched es ch).cards k away in
+        let e = end-of_start before_ ch.regular_before n k d.0 (card ∙ d.1) d.2 d.3 in
+        let was = again-fitted (flat_of before_) M1 es ch.rises fit n p again in
+        let one : was.0.partner ≡ Some k = ap (λ (x : Card). x.partner) (same_card (cards_of before_) n was.0 e.0 was.1 e.1) ∙ e.3 in
+        let done : partner_done (cards_of before_) f M1 p (Some k) ≡ true = ap (partner_done (cards_of before_) f M1 p) (sym one) ∙ was.3 in
+        ap (λ o. on_card o (λ (x : Card). if worked_on x.kind then early p (f.ended k) else is_yes (before p (M2 k)))) (sym card)
+        ∙ ap (λ y. on_card (card_at k (cards_of before_)) (λ (x : Card). if worked_on x.kind then early p (f.ended k) else is_yes (before p y))) (sym (same-time before_ after rank touched es ch k d.0 d.1 away))
+        ∙ done
+
+    partner-known : (n p : ℕ) (c : Card) → card_at n (cards_of after) ≡ Some c → position_of (is_again_of n) es ≡ Some p → is_loop_end c.kind ≡ true →
+        partner_in (cards_of after) last p c.partner ≡ partner_done (cards_of after) f M2 p c.partner
+    partner-known n p c at again ends = go c.partner refl
+      where
+        go : (o : Option ℕ) → c.partner ≡ o → partner_in (cards_of after) last p o ≡ partner_done (cards_of after) f M2 p o
+        go None partner = refl
+        go (Some k) partner =
+            elim (cases_Bool (is_known last k)) [
+              | inr unknown ↦ rw unknown (sym (unknown-partner n p k c at again ends partner unknown))
+              | inl known ↦ rw known (on_card-same (card_at k (cards_of after)) _ _ (λ d at_k.
+                  ap (λ (m : Mark). if worked_on d.kind then early p m.ended else is_yes (before p (timed_of m))) (known-new k d at_k known)
+                  ∙ ap (λ x. if worked_on d.kind then early p (f.ended k) else is_yes (before p x)) (timed_of-by M2 es k)))
+            ]
+
+    pub again-same : (n : ℕ) → again_misfit_in (cards_of after) last (card_at n (cards_of after)) (position_of (is_again_of n) es) ≡ again_misfit (cards_of after) f M2 (card_at n (cards_of after)) (position_of (is_again_of n) es)
+    again-same n = go (card_at n (cards_of after)) (position_of (is_again_of n) es) refl refl
+      where
+        go : (o : Option Card) (q : Option ℕ) → card_at n (cards_of after) ≡ o → position_of (is_again_of n) es ≡ q → again_misfit_in (cards_of after) last o q ≡ again_misfit (cards_of after) f M2 o q
+        go o None at again = refl
+        go None (Some p) at again = refl
+        go (Some c) (Some p) at again =
+            ap (λ t. unless t p) (elim (cases_Bool (is_loop_end c.kind)) [
+              | inl ends ↦ rw ends (partner-known n p c at again ends)
+              | inr other ↦ rw other refl
+            ])
+
+    abbrev all_of : ℕ → Mark → Option ℕ
+    all_of n m =
+        lesser (start_misfit es (card_at n (cards_of after)) (timed_of m) m.started)
+        (lesser (end_misfit (flat_of before_) (flat_of after) (card_at n (cards_of before_)) (card_at n (cards_of after)) m.ended m.choice) (again_misfit_in (cards_of after) last (card_at n (cards_of after)) m.again))
+
+    -- of a node of the region
+    pub inside-misfit : (n : ℕ) → In n ≡ true → misfit_in (flat_of before_) (flat_of after) last es n ≡ misfit_of (flat_of before_) (flat_of after) f M2 es n
+    inside-misfit n it =
+        ap (all_of n) (seen-new n it)
+        ∙ ap (λ x. lesser (start_misfit es (card_at n (cards_of after)) x (f.started n)) (lesser (end_misfit (flat_of before_) (flat_of after) (card_at n (cards_of before_)) (card_at n (cards_of after)) (f.ended n) (f.choice n))
+        (again_misfit_in (cards_of after) last (card_at n (cards_of after)) (position_of (is_again_of n) es)))) (timed_of-by M2 es n)
+        ∙ ap (λ x. lesser (start_misfit es (card_at n (cards_of after)) (M2 n) (f.started n)) (lesser (end_misfit (flat_of before_) (flat_of after) (card_at n (cards_of before_)) (card_at n (cards_of after)) (f.ended n) (f.choice n)) x)) (again-same n)
+
+    -- and of one that is gone
+    pub gone-misfit : (n : ℕ) → is_one_of n gone ≡ true → card_at n (cards_of after) ≡ None → misfit_in (flat_of before_) (flat_of after) last es n ≡ misfit_of (flat_of before_) (flat_of after) f M2 es n
+    gone-misfit n lost none =
+        let out : In n ≡ false = ap (λ o. is_reached (cards_of after) rank touched n && is_some o) none ∙ and_false (is_reached (cards_of after) rank touched n) in
+        let facts : untimed (seen [] last n) ≡ untimed (Goal n) = ap untimed (seen-as last start n (half.left n (inl out))) ∙ gone-facts before_ after rank touched es ch gone start read n lost in
+        ap (λ (m : Mark). lesser (start_misfit es (card_at n (cards_of after)) (timed_of (seen [] last n)) m.started)
+        (lesser (end_misfit (flat_of before_) (flat_of after) (card_at n (cards_of before_)) (card_at n (cards_of after)) m.ended m.choice) (again_misfit_in (cards_of after) last (card_at n (cards_of after)) m.again))) facts
+        ∙ ap (λ x. lesser x (lesser (end_misfit (flat_of before_) (flat_of after) (card_at n (cards_of before_)) (card_at n (cards_of after)) (f.ended n) (f.choice n))
+        (again_misfit_in (cards_of after) last (card_at n (cards_of after)) (position_of (is_again_of n) es))))
+        (ap (λ o. start_misfit es o (timed_of (seen [] last n)) (f.started n)) none ∙ gone-start es (timed_of (seen [] last n)) (M2 n) (f.started n) ∙ ap (λ o. start_misfit es o (M2 n) (f.started n)) (sym none))
+        ∙ ap (λ x. lesser (start_misfit es (card_at n (cards_of after)) (M2 n) (f.started n)) (lesser (end_misfit (flat_of before_) (flat_of after) (card_at n (cards_of before_)) (card_at n (cards_of after)) (f.ended n) (f.choice n)) x)) (again-same n)

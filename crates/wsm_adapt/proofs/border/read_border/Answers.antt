@@ -1,0 +1,46 @@
+use Rattle.std.proofs.Common.{List, ℕ, refl, ◌∙◌, subst, sym, arith}
+use Rattle.std.proofs.lemmas.List.{drop_all}
+use Rattle.wsm_schema.specs.declared.marks.Mark.{Mark}
+use Rattle.wsm_adapt.specs.Border.{BorderKnown, ReadsMore}
+use Rattle.wsm_adapt.proofs.ReadBorder.{border-count, border-next, more-none, more-then}
+use Rattle.wsm_adapt.proofs.border.read_border.Goals as goal
+
+pub loop-node-init : goal.loop-node-init
+loop-node-init g c = record {
+  more = more-none (g.M.MarkReads.kept c.args.marks.now) c.args.known.now;
+  sources = λ last more rest. rest;
+  same = refl;
+  rises = omega arith;
+  count = omega arith;
+}
+
+pub loop-node-preserved : goal.loop-node-preserved
+loop-node-preserved g c =
+    let i = c.loop-node.invariant in
+    let kept : List (ℕ × Mark) = g.M.MarkReads.kept c.args.marks.now in
+    let lt = c.loop-node-test.true in
+    let step : ReadsMore kept c.loop-node.known c.read_sources.new.known = subst (λ k. ReadsMore k c.loop-node.known c.read_sources.new.known) i.same c.in_ok-read_sources.ensures.more in
+    record {
+      more = more-then kept c.args.known.now c.loop-node.known c.read_sources.new.known i.more step;
+      sources = λ last more rest.
+          i.sources last (more-then kept c.loop-node.known c.read_sources.new.known last step more)
+          (border-next kept c.args.flat.now.cards c.args.nodes.now c.loop-node.node-index 0 lt c.read_sources.new.known last c.in_ok-read_sources.ensures.sources more rest);
+      same = c.read_sources.ensures.same ∙ i.same;
+      rises = (let a = i.rises in let b = c.read_sources.ensures.rises in omega (arith, a, b));
+      count = border-count kept c.args.flat.now.cards c.args.known.now c.loop-node.known c.args.nodes.now c.loop-node.node-index 0 lt i.more _ _ _ i.count c.read_sources.ensures.count;
+    }
+
+pub returns-clause-sources : goal.returns-clause-sources
+returns-clause-sources g c =
+    let i = c.loop-node.invariant in
+    let all = c.loop-node-test.false in
+    i.sources c.loop-node.known (more-none (g.M.MarkReads.kept c.args.marks.now) c.loop-node.known)
+    (subst (λ l. BorderKnown c.args.flat.now.cards c.loop-node.known l) (sym (drop_all c.loop-node.node-index c.args.nodes.now (omega (arith, all)))) tt)
+
+pub returns-in_err-read_sources-clause-count : goal.returns-in_err-read_sources-clause-count
+returns-in_err-read_sources-clause-count g c =
+    let i = c.loop-node.invariant in
+    let kept : List (ℕ × Mark) = g.M.MarkReads.kept c.args.marks.now in
+    let lt = c.loop-node-test.true in
+    let most = border-count kept c.args.flat.now.cards c.args.known.now c.loop-node.known c.args.nodes.now c.loop-node.node-index 0 lt i.more _ _ _ i.count c.read_sources.ensures.count in
+    omega (arith, most)

@@ -1,0 +1,7 @@
+use Rattle.std.proofs.Common.{◌≡◌, drop, map}
+use Rattle.wsm_walk.specs.FirstBad.{least, lesser}
+use Rattle.wsm_adapt.specs.Misfits.{early_in}
+use Rattle.wsm_adapt.proofs.misfits.early_misfit.Given as goal
+
+abbrev pub invariant-loop-node : goal.invariant-loop-node
+invariant-loop-node l = lesser l.first (least (map (early_in l.new l.known) (drop l.node-index l.nodes))) ≡ least (map (early_in l.new l.known) l.nodes)

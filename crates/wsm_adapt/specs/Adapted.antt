@@ -1,0 +1,42 @@
+-- What is found where a running case's schema changes.
+use Rattle.std.specs.Prelude.{◌≡◌, ℕ, ◌+◌, not, is_some, List, [], ◌∷◌, filter, length, Option, None}
+use Rattle.wsm_lists.specs.ByNumber.{changed}
+use Rattle.wsm_lists.specs.Keys.{first}
+use Rattle.wsm_lists.specs.Rows.{put_row}
+use Rattle.wsm_schema.specs.Flat.{FlatModel, card_at, flat_of}
+use Rattle.wsm_schema.specs.Marks.{marks_of}
+use Rattle.wsm_schema.specs.Replay.{fails, replay_of, whole}
+use Rattle.wsm_schema.specs.Rules.{Spots}
+use Rattle.wsm_schema.specs.SchemaModel.{SchemaModel}
+use Rattle.wsm_schema.specs.declared.cards.Card.{Card}
+use Rattle.wsm_schema.specs.declared.marks.Mark.{Mark}
+use Rattle.wsm_marks.specs.Timed.{Entries}
+use Rattle.wsm_adapt.specs.Adapting.{Changes}
+use Rattle.wsm_adapt.specs.Bounds.{region_reads}
+use Rattle.wsm_adapt.specs.Region.{is_reached}
+use Rattle.wsm_adapt.specs.declared.adapting.Adapted.{Adapted}
+use Rattle.wsm_adapt.specs.declared.adapting.Adapted.TheVariants as adapted
+
+-- those of some nodes that the schema does not have
+abbrev pub gone_of : List Card → List ℕ → List ℕ
+gone_of cards nodes = filter (λ n. not (is_some (card_at n cards))) nodes
+
+-- rows without the marks of some nodes
+abbrev pub without : List ℕ → List (ℕ × Option Mark) → List (ℕ × Option Mark)
+without [] rows = rows
+without (n ∷ ns) rows = without ns (put_row first (n, None) rows)
+
+-- the changes to the marks where the trail replays whole on the new schema, else the position at which it fails
+abbrev pub IsAdapted : FlatModel → List (ℕ × Mark) → Entries → Adapted → Type 0
+IsAdapted flat kept es (adapted.Moved changes) = (t : Spots) × (replay_of flat es ≡ whole t) × (changed changes kept ≡ marks_of flat es)
+IsAdapted flat kept es (adapted.Blocked position) = replay_of flat es ≡ fails position
+
+-- for every trail that replays whole on the old schema and has these marks
+abbrev pub AdaptsRight : FlatModel → FlatModel → List ℕ → List ℕ → List (ℕ × Mark) → Entries → Adapted → Type 0
+AdaptsRight old new rank touched kept es adapted =
+    (before_ after : SchemaModel) → old ≡ flat_of before_ → new ≡ flat_of after → Changes before_ after rank touched es → kept ≡ marks_of old es → IsAdapted new kept es adapted
+
+-- how many marks may be read: one for each touched node that the new schema does not have, and for each card of a node that is
+-- reached one, and one for each edge into it from a node that is not
+abbrev pub marks_to_read : FlatModel → List ℕ → List ℕ → ℕ
+marks_to_read new rank touched = length (gone_of new.cards touched) + region_reads (is_reached new.cards rank touched) new.cards
