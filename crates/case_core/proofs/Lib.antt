@@ -12,3 +12,4 @@ pub mod Journals
 pub mod RoundStarts
 pub mod KeptItems
 pub mod ItemLoops
+pub mod Moving

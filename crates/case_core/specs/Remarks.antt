@@ -3,6 +3,8 @@ use Rattle.std.specs.Prelude.{◌≡◌, ℕ, true, List, Option, Some, None, op
 use Rattle.case_core.specs.CaseModel.{LiveModel, state_of}
 use Rattle.case_core.specs.Kept.{Kept, marks_in}
 use Rattle.case_core.specs.Machine.{repeated_trail, user_of, with_trail}
+use Rattle.wsm_adapt.specs.declared.adapting.Adapted.{Adapted}
+use Rattle.wsm_adapt.specs.declared.adapting.Adapted.TheVariants as adapted
 use Rattle.wsm_lists.specs.ByNumber.{changed, item_at}
 use Rattle.wsm_lists.specs.Values.{Written}
 use Rattle.wsm_lists.specs.declared.values.Value.{Value}
@@ -58,6 +60,16 @@ pub record RunsLoop (l : LiveModel) (node : ℕ) : Type 0 where
 abbrev pub IsTimedOn : SchemaModel → List (ℕ × Entry) → TimedMarks → Type 0
 IsTimedOn s es (timed.Whole marks) = (is_whole (replay_of (flat_of s) es) ≡ true) × (marks.rows ≡ marks_of (flat_of s) es)
 IsTimedOn s es (timed.Fails position) = replay_of (flat_of s) es ≡ fails position
+
+-- changes that make the marks those of the case's trail on another schema, with a row for each node that has another card there
+pub record Moves (l : LiveModel) (s : SchemaModel) (changes : List (ℕ × Option Mark)) : Type 0 where
+  pub marks : changed changes (marks_in l) ≡ marks_of (flat_of s) l.trail.entries
+  pub cards : (n : ℕ) → item_at n changes ≡ None → card_at n (cards_of l.schema) ≡ card_at n (cards_of s)
+
+-- such changes where the case's trail replays whole on that schema, else where it fails
+abbrev pub IsAdaptedTo : LiveModel → SchemaModel → Adapted → Type 0
+IsAdaptedTo l s (adapted.Moved changes) = (is_whole (replay_of (flat_of s) l.trail.entries) ≡ true) × Moves l s changes
+IsAdaptedTo l s (adapted.Blocked position) = replay_of (flat_of s) l.trail.entries ≡ fails position
 
 -- where a node was started, by its mark
 abbrev pub started_in : List (ℕ × Mark) → ℕ → Option ℕ

@@ -6,7 +6,7 @@ ghost use Rattle.case_core.specs.Kept.{IsOnceEach, Kept, marks_in};
 ghost use Rattle.case_core.specs.Machine.{failed_at, reads_now, repeated_trail, with_trail};
 ghost use Rattle.case_core.specs.KeptItems.{ChangesItems, entries_with, held_in};
 ghost use Rattle.case_core.specs.Promises.{HolderStarted};
-ghost use Rattle.case_core.specs.Remarks.{AgainRemarks, EndRemarks, Remarks, Runs, RunsLoop, StartRemarks};
+ghost use Rattle.case_core.specs.Remarks.{AgainRemarks, EndRemarks, IsAdaptedTo, Moves, Remarks, Runs, RunsLoop, StartRemarks};
 ghost use Rattle.case_core.specs.Shown.{is_finished, items_of, shown_holder, shown_spots};
 ghost use Rattle.wsm_items.specs.WorkItems.{AreByNode, items_in};
 ghost use Rattle.wsm_lists.specs.ByNumber.{item_at};
@@ -16,16 +16,18 @@ ghost use Rattle.wsm_ops.specs.Apply.{applied};
 ghost use Rattle.wsm_schema.specs.Flat.{flat_of, card_at, cards_of};
 ghost use Rattle.wsm_schema.specs.Rules.{spot_in};
 ghost use Rattle.wsm_schema.specs.Trail.{cut_by, pushed};
+ghost use Rattle.wsm_sound.specs.Flattened.{IsChecked};
 ghost use Rattle.wsm_trail.specs.Cuts.{StaysBelow};
 ghost use Rattle.wsm_trail.specs.Withdrawn.{starts_of, withdrawn};
 
 use crate::item_changes::{changed_items, items_on};
 use crate::rounds::first_seen;
 use crate::spots::{spot_by, unmarked};
-use crate::timing::{Uncounted, timed_on};
+use crate::timing::{Uncounted, UncountedTrail, timed_on};
 use std::alloc::Global;
 use std::marker::Model;
 use std::sync::Arc;
+use wsm_adapt::{Adapted, adapt};
 use wsm_items::{Item, ItemChanges, Items};
 use wsm_lists::{GrowingTable, copy_option};
 use wsm_ops::Ops;
@@ -35,6 +37,7 @@ use wsm_schema::{
 };
 use wsm_settle::{TimedMarks, after_again, after_end, after_start, after_withdraw};
 use wsm_sound::{Checked, Version};
+use wsm_touch::touched;
 use wsm_trail::Trail;
 
 /// A case that was created: its version, its own operations, its schema, its trail, and the marks and the work items of the trail on the schema.
@@ -357,18 +360,64 @@ impl Live {
         ensures live { IfOk result (λ failed. self.new ≡ (if is_some failed then self.old else on_schema self.old base own schema.value)) }
         ensures err { OnErr result (self.new ≡ self.old) }
     {
-        match timed_on(alloc, &schema, &self.trail)? {
-            TimedMarks::Fails { position } => Ok(Some(position)),
-            TimedMarks::Whole(marks) => {
-                let items = items_on(alloc, &schema, &self.trail, &marks)?;
-                self.base = base;
-                self.own = own;
-                self.schema = schema;
-                self.marks = marks;
-                self.items = items;
+        match self.adapted_to(alloc, &schema)? {
+            Adapted::Blocked { position } => Ok(Some(position)),
+            Adapted::Moved(changes) => {
+                self.move_to(alloc, base, own, schema, changes)?;
                 Ok(None)
             }
         }
+    }
+
+    // What becomes of the marks on another schema, by a look at what differs there.
+    fn adapted_to(&self, alloc: Global, schema: &Checked) -> Result<Adapted, NoMemory>
+        ensures adapted { IfOk result (IsAdaptedTo self.now schema.now) }
+        ensures checked { IsChecked schema.now }
+        ensures kept { Kept self.now }
+    {
+        let mut marks = Uncounted {
+            marks: self.marks(),
+        };
+        let mut trail = UncountedTrail {
+            trail: self.trail(),
+        };
+        let old = self.checked().flat();
+        let new = schema.flat();
+        let nodes = touched(alloc, old, new)?;
+        adapt(
+            alloc,
+            old,
+            new,
+            schema.rank(),
+            &nodes,
+            &mut marks,
+            &mut trail,
+        )
+    }
+
+    // The case on another version or schema, with what that changes of the marks.
+    fn move_to(
+        &mut self,
+        alloc: Global,
+        base: Version,
+        own: Ops,
+        schema: Arc<Checked>,
+        changes: Changes,
+    ) -> Result<(), NoMemory>
+        requires kept { Kept (on_schema self.old base own schema.value) }
+        requires moves { Moves self.old schema.value changes }
+        ensures ok { OnOk result (self.new ≡ on_schema self.old base own schema.value) }
+        ensures err { OnErr result (self.new ≡ self.old) }
+    {
+        let items = changed_items(alloc, &schema, self.trail(), None, &changes)?;
+        self.marks.reserve(changes.len())?;
+        self.items.reserve(items.len())?;
+        self.base = base;
+        self.own = own;
+        self.schema = schema;
+        self.marks.take_in(changes);
+        self.items.take_in(items);
+        Ok(())
     }
 
     /// The loop that ends with the node goes on once more.

@@ -9,7 +9,7 @@ use wsm_rules::{Mark, MarkReads, Marks};
 use wsm_schema::{Entry, NoMemory};
 use wsm_settle::{TimedMarks, timed};
 use wsm_sound::Checked;
-use wsm_trail::Trail;
+use wsm_trail::{Trail, TrailReads};
 
 /// Marks, of which no read is counted.
 #[derive(Drop)]
@@ -24,6 +24,22 @@ impl<'a> MarkReads for Uncounted<'a> {
 
     fn get(&mut self, node: u32) -> Option<Mark> {
         self.marks.get(node).copied()
+    }
+}
+
+/// A trail, of which no read is counted.
+#[derive(Drop)]
+pub struct UncountedTrail<'a> {
+    pub trail: &'a Trail,
+}
+
+impl<'a> TrailReads for UncountedTrail<'a> {
+    ghost kept = { λ t. t.trail.now.trail };
+
+    ghost reads = { λ t. 0 };
+
+    fn entry(&mut self, position: u32) -> Option<&Entry> {
+        self.trail.entry(position)
     }
 }
 

@@ -17,4 +17,5 @@ pub mod RegionMisfits
 pub mod ReadRegion
 pub mod NewTable
 pub mod AdaptsRight
+pub mod TouchedRows
 pub mod RegionReads

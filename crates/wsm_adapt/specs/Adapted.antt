@@ -1,5 +1,5 @@
 -- What is found where a running case's schema changes.
-use Rattle.std.specs.Prelude.{◌≡◌, ℕ, ◌+◌, not, is_some, List, [], ◌∷◌, filter, length, Option, None}
+use Rattle.std.specs.Prelude.{◌≡◌, ℕ, ◌+◌, true, not, is_some, List, [], ◌∷◌, filter, length, Option, None}
 use Rattle.wsm_lists.specs.ByNumber.{changed}
 use Rattle.wsm_lists.specs.Keys.{first}
 use Rattle.wsm_lists.specs.Rows.{put_row}
@@ -8,10 +8,12 @@ use Rattle.wsm_schema.specs.Marks.{marks_of}
 use Rattle.wsm_schema.specs.Replay.{fails, replay_of, whole}
 use Rattle.wsm_schema.specs.Rules.{Spots}
 use Rattle.wsm_schema.specs.SchemaModel.{SchemaModel}
+use Rattle.wsm_schema.specs.Trail.{is_one_of}
 use Rattle.wsm_schema.specs.declared.cards.Card.{Card}
 use Rattle.wsm_schema.specs.declared.marks.Mark.{Mark}
 use Rattle.wsm_marks.specs.Timed.{Entries}
 use Rattle.wsm_adapt.specs.Adapting.{Changes}
+use Rattle.wsm_adapt.specs.Border.{is_known}
 use Rattle.wsm_adapt.specs.Bounds.{region_reads}
 use Rattle.wsm_adapt.specs.Region.{is_reached}
 use Rattle.wsm_adapt.specs.declared.adapting.Adapted.{Adapted}
@@ -35,6 +37,11 @@ IsAdapted flat kept es (adapted.Blocked position) = replay_of flat es ≡ fails 
 abbrev pub AdaptsRight : FlatModel → FlatModel → List ℕ → List ℕ → List (ℕ × Mark) → Entries → Adapted → Type 0
 AdaptsRight old new rank touched kept es adapted =
     (before_ after : SchemaModel) → old ≡ flat_of before_ → new ≡ flat_of after → Changes before_ after rank touched es → kept ≡ marks_of old es → IsAdapted new kept es adapted
+
+-- each touched node has a row among the changes
+abbrev pub TellsTouched : List ℕ → Adapted → Type 0
+TellsTouched touched (adapted.Moved changes) = (n : ℕ) → is_one_of n touched ≡ true → is_known changes n ≡ true
+TellsTouched touched (adapted.Blocked position) = Unit {0}
 
 -- how many marks may be read: one for each touched node that the new schema does not have, and for each card of a node that is
 -- reached one, and one for each edge into it from a node that is not

@@ -1,6 +1,6 @@
 // The marks of a running case whose schema changes.
 ghost use Rattle.std.specs.Prelude.{◌≡◌, ◌+◌, ◌≤◌, ◌∷◌, ◌++◌, [], length, IfOk, OnOk};
-ghost use Rattle.wsm_adapt.specs.Adapted.{AdaptsRight, gone_of, marks_to_read, without};
+ghost use Rattle.wsm_adapt.specs.Adapted.{AdaptsRight, TellsTouched, gone_of, marks_to_read, without};
 ghost use Rattle.wsm_adapt.specs.Misfits.{region_misfit};
 ghost use Rattle.wsm_adapt.specs.Region.{IsNet};
 ghost use Rattle.wsm_lists.specs.Keys.{first};
@@ -36,6 +36,7 @@ pub fn adapt<M: MarkReads, T: TrailReads>(
 ) -> Result<Adapted, NoMemory>
     requires { IsNet new.now rank.now }
     ensures adapted { IfOk result (λ adapted. AdaptsRight old.now new.now rank.now touched.now (M.kept marks.old) (T.kept trail.old).entries adapted) }
+    ensures touched { IfOk result (TellsTouched touched.now) }
     ensures marks { M.kept marks.new ≡ M.kept marks.old }
     ensures marks_rise { M.reads marks.old ≤ M.reads marks.new }
     ensures marks_few { M.reads marks.new ≤ M.reads marks.old + marks_to_read new.now rank.now touched.now }

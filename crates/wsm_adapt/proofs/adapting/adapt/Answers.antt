@@ -5,6 +5,7 @@ use Rattle.wsm_adapt.specs.Region.{region_of}
 use Rattle.wsm_adapt.specs.Revision.{revise_all}
 use Rattle.wsm_adapt.proofs.AdaptsRight.{adapt-blocked, adapt-moved}
 use Rattle.wsm_adapt.proofs.RegionReads.{reads-few}
+use Rattle.wsm_adapt.proofs.TouchedRows.{tells-touched}
 use Rattle.wsm_adapt.proofs.adapting.adapt.Goals as goal
 
 pub returns-in_err-known-clause-marks_few : goal.returns-in_err-known-clause-marks_few
@@ -70,3 +71,15 @@ returns-clause-adapted g c =
     let are = c.in_ok-changes_of-in-None.ensures.rows ∙ ap (λ gs. without gs last) (c.deref-in-None.ensures.value ∙ sym c.deref-2.ensures.value) in
     adapt-moved old new rank touched (g.M.MarkReads.kept c.args.marks.now) es c.deref.result.now c.deref-2.result.now start last nodes_are gone_are c.in_ok-known.ensures.read last_is c.in_ok-changes_of-in-None.field-0 (sym found ∙ c.in-None.is) are
     c.in_ok-changes_of-in-None.ensures.ascends
+
+pub returns-clause-touched : goal.returns-clause-touched
+returns-clause-touched g c =
+    let new = c.args.new.now in
+    let rank = c.args.rank.now in
+    let touched = c.args.touched.now in
+    let last = c.revise_all.new.known in
+    let nodes_are = c.deref.ensures.value ∙ c.in_ok-nodes.ensures ∙ ap (region_of new.cards rank) c.as_slice.ensures in
+    let gone_are = c.deref-2.ensures.value ∙ c.in_ok-gone.ensures ∙ ap (gone_of new.cards) c.as_slice-2.ensures in
+    let last_is = c.in_ok-revise_all.ensures ∙ ap (λ ns. revise_all new.cards ns c.in_ok-known.known) (c.deref-3.ensures.value ∙ sym c.deref.ensures.value) in
+    let are = c.in_ok-changes_of-in-None.ensures.rows ∙ ap (λ gs. without gs last) (c.deref-in-None.ensures.value ∙ sym c.deref-2.ensures.value) in
+    tells-touched new rank touched (g.M.MarkReads.kept c.args.marks.now) c.deref.result.now c.deref-2.result.now c.in_ok-known.known last c.in_ok-changes_of-in-None.field-0 c.requires nodes_are gone_are c.in_ok-known.ensures.read last_is are
