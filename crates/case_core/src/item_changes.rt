@@ -13,7 +13,6 @@ use crate::spots::spot_by;
 use crate::timing::{starter, user_of};
 use std::alloc::Global;
 use wsm_items::{Item, ItemChanges, Items};
-use wsm_lists::GrowingTable;
 use wsm_rules::{Changes, Mark, Marks, is_worked_on};
 use wsm_schema::{Card, Entry, NoMemory, State};
 use wsm_sound::Checked;
@@ -59,12 +58,12 @@ pub fn changed_items(
     ensures nodes { IfOk result AreByNode }
     ensures ascends { Ascends first changes.now }
 {
-    let mut items = GrowingTable::new(alloc);
+    let mut items = ItemChanges::new(alloc);
     for change in changes.as_slice() {
         let item = item_for(checked, trail, entry, change.0, change.1.as_ref());
         items.set((change.0, item))?;
     }
-    items.into_table(alloc)
+    Ok(items)
 }
 
 // The work item of a node with that mark, where the trail gets that entry, or none.

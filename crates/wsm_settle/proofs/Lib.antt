@@ -4,3 +4,4 @@ pub mod Visits
 pub mod AllPlaces
 pub mod Begins
 pub mod TrailMarks
+pub mod Waiting

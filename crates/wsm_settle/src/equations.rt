@@ -1,12 +1,12 @@
 // The equation of a node over marks: since when it is ready or skipped.
-ghost use Rattle.std.specs.Prelude.{◌≡◌, ◌+◌, ◌≤◌, [], ◌∷◌, None, IfOk, IfSome, length, map};
+ghost use Rattle.std.specs.Prelude.{◌≡◌, ◌+◌, ◌≤◌, [], ◌∷◌, None, IfOk, IfSome, length, map, option_map};
 ghost use Rattle.wsm_marks.specs.Timed.{awaited, eq_of, flow, greater, latest, time, timed_by};
-ghost use Rattle.wsm_settle.specs.Signals.{signal_by};
+ghost use Rattle.wsm_settle.specs.Signals.{AllOf, awaited_signals, signal_by};
 ghost use Rattle.wsm_walk.specs.Walk.{time_by};
 ghost use Rattle.wsm_walk.specs.Listed.{seen};
 
 use crate::overlays::Overlay;
-use crate::sources::{Timed, read_source, source_at};
+use crate::sources::{Timed, edge_signal, read_source};
 use std::alloc::Global;
 use wsm_lists::NoMemory;
 use wsm_rules::{Flow, MarkReads, Verdict, judge};
@@ -46,7 +46,7 @@ fn only_edge(card: &Card) -> Option<&End>
     }
 }
 
-// The equation of a node, by all of its edges.
+// The equation of a node, by all of its edges. It waits where a control edge signals nothing yet, whatever the others signal.
 fn equation_of_all<M: MarkReads>(
     alloc: Global,
     flat: &Flat,
@@ -59,31 +59,48 @@ fn equation_of_all<M: MarkReads>(
     ensures rises { M.reads marks.old ≤ M.reads marks.new }
     ensures count { M.reads marks.new ≤ M.reads marks.old + (length card.now.ins + length card.now.syncs_in) }
 {
-    let control = control_signals(alloc, flat, marks, changes, card)?;
-    let syncs = sync_signals(alloc, flat, marks, changes, card)?;
-    equation_of(alloc, card, &control, &syncs)
+    match control_signals(alloc, flat, marks, changes, card)? {
+        None => Ok(None),
+        Some(control) => {
+            let syncs = sync_signals(alloc, flat, marks, changes, card)?;
+            equation_of(alloc, card, &control, &syncs)
+        }
+    }
 }
 
+// The control edges whose signals a node waits for: a start waits for none.
+fn awaited_ends(card: &Card) -> &[End]
+    ensures { result.now ≡ awaited card.now.kind card.now.ins }
+{
+    match card.kind {
+        NodeKind::Start => &[],
+        _ => card.ins.as_slice(),
+    }
+}
+
+// The signals of the control edges that the node waits for. None as soon as one of them signals nothing.
 fn control_signals<M: MarkReads>(
     alloc: Global,
     flat: &Flat,
     marks: &mut M,
     changes: &Overlay,
     card: &Card,
-) -> Result<Vec<Timed>, NoMemory>
-    ensures signals { IfOk result (λ all. all.items ≡ map (λ e. signal_by flat.now.cards (seen (M.kept marks.old) changes.now) e.label e.node) card.now.ins) }
+) -> Result<Option<Vec<Timed>>, NoMemory>
+    ensures signals { IfOk result (λ all. AllOf (awaited_signals flat.now.cards (seen (M.kept marks.old) changes.now) card.now) (option_map (λ v. v.items) all)) }
     ensures same { M.kept marks.new ≡ M.kept marks.old }
     ensures rises { M.reads marks.old ≤ M.reads marks.new }
     ensures count { M.reads marks.new ≤ M.reads marks.old + length card.now.ins }
 {
     let mut all = Vec::new(alloc);
     let mut known = None;
-    for end in card.ins.as_slice() {
-        let source = source_at(flat, marks, changes, known, end.node);
-        all.push(source.signal(end.label))?;
-        known = Some(source);
+    for end in awaited_ends(card) {
+        let signal = edge_signal(flat, marks, changes, &mut known, end);
+        if signal.is_none() {
+            return Ok(None);
+        }
+        all.push(signal)?;
     }
-    Ok(all)
+    Ok(Some(all))
 }
 
 fn sync_signals<M: MarkReads>(

@@ -1,13 +1,14 @@
 // The nodes that edges leave, and what the edges signal.
 ghost use Rattle.std.specs.Prelude.{◌≡◌, ◌+◌, ◌≤◌};
 ghost use Rattle.wsm_marks.specs.Timed.{ended_signal, sig_of};
+ghost use Rattle.wsm_settle.specs.Signals.{signal_by};
 ghost use Rattle.wsm_settle.specs.Sources.{IsSource, KnowsSource, signal_of};
 ghost use Rattle.wsm_walk.specs.Kept.{timed_of};
 ghost use Rattle.wsm_walk.specs.Listed.{seen};
 
 use crate::overlays::{Overlay, mark_at};
 use wsm_rules::{Flow, Mark, MarkReads, is_worked_on};
-use wsm_schema::{Flat, NodeKind};
+use wsm_schema::{End, Flat, NodeKind};
 
 /// A position, and what holds from then on: of a node that it is ready or skipped, of an edge what it signals.
 pub type Timed = Option<(u32, Flow)>;
@@ -31,25 +32,29 @@ impl Source {
     }
 }
 
-/// The node as a source of edges. It is read where it is not the one that is known.
-pub fn source_at<M: MarkReads>(
+/// What an edge signals, and since when. Its source is read where it is not the one that is known, and is known then.
+pub fn edge_signal<M: MarkReads>(
     flat: &Flat,
     marks: &mut M,
     changes: &Overlay,
-    known: Option<Source>,
-    node: u32,
-) -> Source
-    requires { KnowsSource flat.now.cards (seen (M.kept marks.old) changes.now) known }
-    ensures source { IsSource flat.now.cards (seen (M.kept marks.old) changes.now) result }
-    ensures node { result.node ≡ node }
+    known: &mut Option<Source>,
+    end: &End,
+) -> Timed
+    requires { KnowsSource flat.now.cards (seen (M.kept marks.old) changes.now) known.old }
+    ensures signal { result ≡ signal_by flat.now.cards (seen (M.kept marks.old) changes.now) end.now.label end.now.node }
+    ensures known { KnowsSource flat.now.cards (seen (M.kept marks.old) changes.now) known.new }
     ensures same { M.kept marks.new ≡ M.kept marks.old }
     ensures rises { M.reads marks.old ≤ M.reads marks.new }
     ensures count { M.reads marks.new ≤ M.reads marks.old + 1 }
 {
-    match known {
-        Some(source) if source.node == node => source,
-        _ => read_source(flat, marks, changes, node),
+    if let Some(source) = known {
+        if source.node == end.node {
+            return source.signal(end.label);
+        }
     }
+    let source = read_source(flat, marks, changes, end.node);
+    *known = Some(source);
+    source.signal(end.label)
 }
 
 /// The node as a source of edges.

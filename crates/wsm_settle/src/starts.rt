@@ -4,7 +4,7 @@ ghost use Rattle.wsm_settle.specs.Events.{StartsRight, WithdrawsRight};
 
 use crate::overlays::or_blank;
 use std::alloc::Global;
-use wsm_lists::{GrowingTable, NoMemory};
+use wsm_lists::NoMemory;
 use wsm_rules::{Changes, Mark, MarkReads};
 use wsm_schema::Flat;
 
@@ -52,7 +52,7 @@ pub fn after_withdraw<M: MarkReads>(
 fn one_change(alloc: Global, node: u32, mark: Mark) -> Result<Changes, NoMemory>
     ensures { IfOk result (λ changes. changes ≡ (node, Some mark) ∷ []) }
 {
-    let mut changes = GrowingTable::new(alloc);
+    let mut changes = Changes::new(alloc);
     changes.set((node, Some(mark)))?;
-    changes.into_table(alloc)
+    Ok(changes)
 }

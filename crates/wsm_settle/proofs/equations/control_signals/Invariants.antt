@@ -1,6 +1,7 @@
 use Rattle.std.proofs.Common.{◌≡◌, ◌+◌, ◌≤◌, ◌++◌, drop, map}
+use Rattle.wsm_marks.specs.Timed.{awaited}
 use Rattle.wsm_walk.specs.Listed.{seen}
-use Rattle.wsm_settle.specs.Signals.{signal_by}
+use Rattle.wsm_settle.specs.Signals.{awaited_signals, signal_by}
 use Rattle.wsm_settle.specs.Sources.{KnowsSource}
 use Rattle.wsm_settle.proofs.equations.control_signals.Given as goal
 
@@ -9,6 +10,6 @@ invariant-loop-end g l =
     (g.M.MarkReads.kept l.marks ≡ g.M.MarkReads.kept l.fn.marks)
     × (g.M.MarkReads.reads l.fn.marks ≤ g.M.MarkReads.reads l.marks)
     × (g.M.MarkReads.reads l.marks ≤ g.M.MarkReads.reads l.fn.marks + l.end-index)
-    × (l.all.items ++ map (λ e. signal_by l.flat.cards (seen (g.M.MarkReads.kept l.fn.marks) l.changes) e.label e.node) (drop l.end-index l.card.ins)
-    ≡ map (λ e. signal_by l.flat.cards (seen (g.M.MarkReads.kept l.fn.marks) l.changes) e.label e.node) l.card.ins)
+    × (l.all.items ++ map (λ e. signal_by l.flat.cards (seen (g.M.MarkReads.kept l.fn.marks) l.changes) e.label e.node) (drop l.end-index (awaited l.card.kind l.card.ins))
+    ≡ awaited_signals l.flat.cards (seen (g.M.MarkReads.kept l.fn.marks) l.changes) l.card)
     × KnowsSource l.flat.cards (seen (g.M.MarkReads.kept l.marks) l.changes) l.known
