@@ -22,3 +22,4 @@ pub mod Taking
 pub mod Parting
 pub mod Founding
 pub mod Ended
+pub mod SeenWell

@@ -1,17 +1,20 @@
 -- What is offered to a role, in the views after what the passes of a desk have seen.
-use Rattle.std.specs.Prelude.{◌≡◌, ℕ, ◌+◌, ◌==◌, List, [], ◌∷◌, ◌++◌, Some, if◌then◌else◌}
+use Rattle.std.specs.Prelude.{◌≡◌, ℕ, ◌+◌, ◌≤◌, ◌==◌, List, [], ◌∷◌, ◌++◌, map, Some, if◌then◌else◌}
 use mathlib.Core.List.{IsPrefix}
 use Rattle.adept_server.specs.Desks.{CasePass, DeskView}
 use Rattle.adept_server.specs.declared.worklists.Offer.{Offer}
 use Rattle.case_core.specs.CaseModel.{not_created}
+use Rattle.case_core.specs.Journals.{BringsChecked, IsShownWell, weights}
 use Rattle.case_core.specs.Machine.{case_after, case_reply}
 use Rattle.case_core.specs.Shown.{shown}
+use Rattle.case_core.specs.declared.events.Event.{Event}
 use Rattle.wsm_items.specs.declared.work_items.Item.{Item}
 use Rattle.wsm_items.specs.declared.work_items.Item.TheVariants as item
 use Rattle.case_core.specs.declared.views.View.{View}
 use Rattle.case_core.specs.declared.views.View.TheVariants as view
 use Rattle.turn_cell.specs.History.{state_after}
 use Rattle.turn_cell.specs.Passes.{IsLegalView}
+use Rattle.wsm_lists.specs.Rows.{AllRows}
 use Rattle.wsm_sound.specs.declared.versions.CaseId.{CaseId}
 
 -- the offered nodes of that role among work items, as offers of the case
@@ -75,3 +78,19 @@ AllOpened t (row ∷ rows) = OpenedAs t row × AllOpened (t + 1) rows
 pub record Looks (v w : DeskView) : Type 0 where
   pub others : w ≡ record v { cases = w.cases }
   pub looked : AllLooked v.cases w.cases
+
+-- the events of the calls that a pass has seen
+abbrev pub events_seen : CasePass → List Event
+events_seen p = map (λ e. e.event) p.seen
+
+-- a case that calls brought there is never stuck, and finds its data, if the versions that they brought were checked and they
+-- are no more than a case may have
+abbrev pub IsSeenWell : ℕ → CasePass → Type 0
+IsSeenWell t p = AllRows BringsChecked (events_seen p) → weights (events_seen p) ≤ 4000000000 → IsShownWell (state_after case_after (not_created t) p.seen)
+
+abbrev pub AreSeenWell : ℕ → List CasePass → Type 0
+AreSeenWell t ps = AllRows (IsSeenWell t) ps
+
+abbrev pub AllSeenWell : ℕ → List (List CasePass) → Type 0
+AllSeenWell t [] = Unit {0}
+AllSeenWell t (row ∷ rows) = AreSeenWell t row × AllSeenWell (t + 1) rows

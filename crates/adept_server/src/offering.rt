@@ -1,7 +1,7 @@
 // How work lists are made.
 ghost use Rattle.std.specs.Prelude.{◌≡◌, ◌+◌, ◌^◌, ◌<◌, ◌++◌, length, IfOk, OnOk, Some, map};
 ghost use Rattle.adept_server.specs.Desks.{AreRowsOf, AreShort, IsDeskOf, desk_view};
-ghost use Rattle.adept_server.specs.Offering.{AllLooked, AllOpened, EachLooked, HasLooked, Looks, OpenedAs, all_offers, offer_of, offers_in, offers_of, row_offers, view_after};
+ghost use Rattle.adept_server.specs.Offering.{AllLooked, AllOpened, AllSeenWell, EachLooked, HasLooked, Looks, OpenedAs, all_offers, offer_of, offers_in, offers_of, row_offers, view_after};
 ghost use Rattle.case_core.specs.CaseModel.{not_created};
 ghost use Rattle.turn_batch.specs.Batch.{AreOf};
 ghost use Rattle.turn_cell.specs.Passes.{IsPassOf, view_of};
@@ -146,6 +146,7 @@ fn look_rows<R: Wait>(
 
 impl Server {
     /// For each case in order its offered nodes of that role, each in the view after what the desk's pass has then seen.
+    #[tactic(auto, using(crate::proofs::SeenWell::all_well))]
     pub fn worklist<R: Wait>(
         &self,
         rt: &R,
@@ -157,6 +158,9 @@ impl Server {
         ensures desk { IsDeskOf self.now desk.new }
         ensures looked { Looks (desk_view desk.old) (desk_view desk.new) }
         ensures ok { IfOk result (λ offers. offers ≡ all_offers role 0 (desk_view desk.new).cases) }
+
+        // Each of these views is never stuck, and finds its data.
+        ensures well { AllSeenWell 0 (desk_view desk.new).cases }
     {
         let mut offers = Offers::new(alloc);
         look_rows(
