@@ -1,3 +1,4 @@
 pub mod Aging
 pub mod Each
 pub mod Places
+pub mod NoInstalls

@@ -1,5 +1,6 @@
 -- What the types answer to the lines that install, in file order. No other line changes a type.
-use Rattle.std.specs.Prelude.{ℕ, ◌+◌, List, [], ◌∷◌, ◌++◌, fold, slice_get, slice_set, Option, Some, None}
+use Rattle.std.specs.Prelude.{ℕ, ◌+◌, Bool, true, false, List, [], ◌∷◌, ◌++◌, fold, slice_get, slice_set, Option, Some, None}
+use Rattle.std.specs.List.{list_any}
 use Rattle.file_model.specs.declared.files.Act.{Act}
 use Rattle.file_model.specs.declared.files.Act.TheVariants as act
 use Rattle.file_model.specs.declared.files.File.{File}
@@ -50,3 +51,11 @@ judged_phase s lines = fold judged_line s lines
 
 abbrev pub verdicts : File → List Verdict
 verdicts f = (fold judged_phase (record { kinds = defined_from 0 f.types; verdicts = [] }) f.phases).verdicts
+
+-- whether an act installs, and whether a line of a phase does
+abbrev pub installs : Act → Bool
+installs (act.Install t ops) = true
+installs _ = false
+
+abbrev pub some_install : List Line → Bool
+some_install lines = list_any (λ l. installs l.act) lines

@@ -1,9 +1,9 @@
 // What the installs of a file come to.
 ghost use Rattle.std.specs.Prelude.{◌≡◌, ◌+◌, ◌*◌, ◌≤◌, true, length, slice_get, IfOk, OnOk};
-ghost use Rattle.std.specs.List.{list_all};
+ghost use Rattle.std.specs.List.{list_all, list_any};
 ghost use Rattle.file_model.specs.Sizes.{IsBounded, is_small, line_effort, phase_effort};
 ghost use Rattle.script_run.specs.Parts.{checking_of};
-ghost use Rattle.script_run.specs.Verdicts.{defined_from, defined_kind, judged, judged_line, judged_phase, verdicts};
+ghost use Rattle.script_run.specs.Verdicts.{defined_from, defined_kind, installs, judged, judged_line, judged_phase, some_install, verdicts};
 ghost use Rattle.type_core.specs.Machine.{weight};
 ghost use Rattle.wsm_schema.specs.Flat.{cards_of};
 
@@ -28,6 +28,9 @@ pub fn verdicts(alloc: Global, file: &File) -> Result<Verdicts, NoMemory>
     requires { IsBounded file.now }
     ensures { IfOk result (λ new. new ≡ verdicts file.now) }
 {
+    if !some_install(file) {
+        return Ok(Verdicts::new(alloc));
+    }
     let mut judging = Judging {
         kinds: defined_kinds(alloc, file.types.as_slice())?,
         verdicts: Verdicts::new(alloc),
@@ -36,6 +39,36 @@ pub fn verdicts(alloc: Global, file: &File) -> Result<Verdicts, NoMemory>
         judging.judge_phase(alloc, lines.as_slice())?;
     }
     Ok(judging.verdicts)
+}
+
+// Whether a line of the file installs.
+fn some_install(file: &File) -> bool
+    ensures { result ≡ list_any some_install file.now.phases }
+{
+    file.phases
+        .as_slice()
+        .iter()
+        .any(|lines| some_line_installs(lines.as_slice()))
+}
+
+fn some_line_installs(lines: &[Line]) -> bool
+    ensures { result ≡ some_install lines.now }
+{
+    lines.iter().any(|line| installs(&line.act))
+}
+
+fn installs(act: &Act) -> bool
+    ensures { result ≡ installs act.now }
+{
+    match act {
+        Act::Install(_, _) => true,
+        Act::Create(_)
+        | Act::Start(_, _)
+        | Act::Withdraw(_, _)
+        | Act::End(_, _, _, _)
+        | Act::Change(_, _)
+        | Act::Migrate(_) => false,
+    }
 }
 
 // The types behind their definitions, numbered from 0.
