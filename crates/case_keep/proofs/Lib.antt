@@ -1,1 +1,1 @@
-mod Untouched
+mod Outcomes

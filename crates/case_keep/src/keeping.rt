@@ -1,5 +1,5 @@
 // The work of a file over a disk.
-ghost use Rattle.std.specs.Prelude.{◌≡◌, ◌≢◌, ◌⊎◌, IfErr, OnOk, IsErrOf};
+ghost use Rattle.std.specs.Prelude.{◌≡◌, ◌≢◌, ◌⊎◌, ◌≤◌, ◌^◌, length, IfErr, OnOk, IsErrOf};
 ghost use Rattle.std.specs.Io.KnownBytes.{Appends};
 ghost use Rattle.adept_io.specs.Counts.{Rose};
 ghost use Rattle.adept_io.specs.Written.{AppendsPrefix};
@@ -10,7 +10,7 @@ ghost use Rattle.script_run.specs.Serial.{serial};
 ghost use Rattle.store_calls.specs.Calls.{calls, payloads};
 ghost use Rattle.store_disk.specs.Disk.{LeavesOnly, Only};
 ghost use Rattle.store_disk.specs.Opening.{HoldsAsBefore};
-ghost use Rattle.store_keep.specs.Keeping.{HoldsBeginning, IsBegun, IsLeft, IsStored, held};
+ghost use Rattle.store_keep.specs.Keeping.{IsBegun, IsLeft, IsStored, KeepsBeginning};
 ghost use Rattle.store_keep.specs.Refusals.{IsJudgement, IsKeepFault, IsRefusal, Tells};
 
 use adept_io::Sink;
@@ -36,7 +36,7 @@ pub fn keep_file<K: Sink, D: Disk>(
     ensures all { OnOk result (IsStored D.content D.may_leave disk.new (payloads file.now)) }
     ensures written { OnOk result (Appends (K.written sink.old) (K.written sink.new) (text file.now (serial file.now))) }
     ensures begun { OnOk result (IsBegun (payloads file.now) (D.content disk.old)) }
-    ensures any_moment { IsBegun (payloads file.now) (D.content disk.old) → LeavesOnly D.moment D.left_since disk.old disk.new (HoldsBeginning (payloads file.now) (held (D.content disk.old))) }
+    ensures any_moment { KeepsBeginning D.content D.moment D.left_since (payloads file.now) disk.old disk.new }
     ensures refused { IfErr result (λ e. Tells (calls file.now) (D.content disk.old) e) }
     ensures left { IfErr result (λ e. IsJudgement e → IsLeft D.content D.may_leave disk.old disk.new) }
     ensures same_records { IfErr result (λ e. IsRefusal e → LeavesOnly D.moment D.left_since disk.old disk.new (HoldsAsBefore (D.may_leave disk.old))) }
@@ -51,18 +51,25 @@ pub fn keep_file<K: Sink, D: Disk>(
 }
 
 // Stores those of a file's calls that the disk does not hold yet.
-fn store_calls_of<D: Disk>(alloc: Global, file: &File, disk: &mut D) -> Result<(), KeepFault>
+pub(crate) fn store_calls_of<D: Disk>(
+    alloc: Global,
+    file: &File,
+    disk: &mut D,
+) -> Result<(), KeepFault>
     requires bounded { IsBounded file.now }
     requires workable { IsWorkable file.now }
     requires settled { Only (D.content disk.old) (D.may_leave disk.old) }
     ensures all { OnOk result (IsStored D.content D.may_leave disk.new (payloads file.now)) }
     ensures begun { OnOk result (IsBegun (payloads file.now) (D.content disk.old)) }
-    ensures any_moment { IsBegun (payloads file.now) (D.content disk.old) → LeavesOnly D.moment D.left_since disk.old disk.new (HoldsBeginning (payloads file.now) (held (D.content disk.old))) }
+    ensures within { OnOk result (length (D.content disk.new) ≤ 2 ^ 30) }
+    ensures fits { OnOk result (Tells (calls file.now) (D.content disk.old) KeepFault.Full → ⊥) }
+    ensures any_moment { KeepsBeginning D.content D.moment D.left_since (payloads file.now) disk.old disk.new }
     ensures refused { IfErr result (λ e. Tells (calls file.now) (D.content disk.old) e) }
     ensures left { IfErr result (λ e. IsJudgement e → IsLeft D.content D.may_leave disk.old disk.new) }
     ensures same_records { IfErr result (λ e. IsRefusal e → LeavesOnly D.moment D.left_since disk.old disk.new (HoldsAsBefore (D.may_leave disk.old))) }
     ensures others { IfErr result (λ e. IsKeepFault e) }
     ensures rose { IsErrOf result KeepFault.Disk → Rose (D.faults disk.old) (D.faults disk.new) }
+    ensures never_falls { D.faults disk.old ≤ D.faults disk.new }
 {
     let told = calls(alloc, file)?;
     keep(alloc, &told, disk)

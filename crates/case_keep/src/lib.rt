@@ -3,9 +3,11 @@
 #![tactic(auto)]
 
 mod keeping;
+mod playing;
 mod reading;
 mod unkept;
 
 pub use keeping::keep_file;
+pub use playing::{StoreOutcome, store_play};
 pub use reading::read_process;
 pub use unkept::Unkept;

@@ -47,7 +47,7 @@ impl Unkept {
 }
 
 // The status of what befell the store or the report.
-fn keep_status(fault: KeepFault) -> u8
+pub(crate) fn keep_status(fault: KeepFault) -> u8
     ensures { result ≡ keep_status fault }
 {
     match fault {

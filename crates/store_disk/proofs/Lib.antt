@@ -3,7 +3,7 @@ mod ExamplesImages
 pub mod Framing
 mod Gates
 mod Histories
-mod Moments
+pub mod Moments
 mod Noted
 mod Steps
 mod Stops

@@ -1,6 +1,7 @@
 -- The two halves of a step, over any disk.
-use Rattle.std.proofs.Common.{◌≡◌, ℕ, ◌+◌, ◌<◌, ◌≤◌, ◌^◌, List, [], ◌∷◌, ◌++◌, length, get_or, drop, sym, ◌∙◌, ap, subst, arith, append_assoc, length-append}
-use Rattle.std.proofs.lemmas.List.{append-nil}
+use Rattle.std.proofs.Common.{◌≡◌, ℕ, ◌+◌, ◌<◌, ◌≤◌, ◌^◌, List, [], ◌∷◌, ◌++◌, length, get_or, take, drop, sym, ◌∙◌, ap, subst, arith, append_assoc, length-append}
+use Rattle.std.specs.Prelude.{max}
+use Rattle.std.proofs.lemmas.List.{append-nil, length-drop, length-take}
 use Rattle.store_disk.specs.Image.{frames, framed, all_framed, staged, u32, HasList}
 use Rattle.store_disk.specs.Disk.{Torn, spliced, Follows, Only}
 use Rattle.store_disk.specs.Rest.{IsAtRest, IsStaged, IsBeforeOrAfter}
@@ -14,6 +15,23 @@ longer ps p place stands = omega (arith, stands, size-more ps p)
     size-more : (ps : List (List ℕ)) (p : List ℕ) → length (all_framed (ps ++ p ∷ [])) ≡ length (all_framed ps) + (5 + length p)
     size-more [] p = ap length (append-nil (framed p)) ∙ omega arith
     size-more (q ∷ ps) p = length-append (framed q) (all_framed (ps ++ p ∷ [])) ∙ omega (arith, size-more ps p, length-append (framed q) (all_framed ps))
+
+-- how long bytes are that were written over
+spliced-size : (at : ℕ) (bytes c : List ℕ) → at ≤ length c → length (spliced at bytes c) ≡ max (length c) (at + length bytes)
+spliced-size at bytes c within =
+    let front : length (take at c) ≡ at = length-take at c ∙ omega (arith, within) in
+    omega (arith, within, front, length-append (take at c) (bytes ++ drop (at + length bytes) c), length-append bytes (drop (at + length bytes) c), length-drop (at + length bytes) c)
+
+staged-size : (p : List ℕ) → length (staged p) ≡ 5 + length p
+staged-size p = omega (arith, length-append (u32 (length p)) (p ++ 0 ∷ []), length-append p (0 ∷ []))
+
+pub behind-size : (place : ℕ) (p bytes old mid new : List ℕ) → place + 1 ≤ length old → bytes ≡ staged p → new ≡ mid → mid ≡ spliced (place + 1) bytes old
+    → length new ≡ max (length old) (place + (6 + length p))
+behind-size place p bytes old mid new within is kept written =
+    omega (arith, ap length kept, ap length written, ap length is, staged-size p, spliced-size (place + 1) bytes old within)
+
+pub gate-size : (place : ℕ) (old mid new : List ℕ) → place + 1 ≤ length old → new ≡ mid → mid ≡ spliced place (1 ∷ []) old → length new ≡ length old
+gate-size place old mid new within kept written = omega (arith, within, ap length kept, ap length written, spliced-size place (1 ∷ []) old (omega (arith, within)))
 
 module _ {D : Type 0} (content : D → List ℕ) (may_leave : D → List ℕ → Type 0) where
   -- at rest each image has the list
@@ -59,7 +77,7 @@ module _ {D : Type 0} (content : D → List ℕ) (may_leave : D → List ℕ →
   pub staged-list : (disk : D) (ps : List (List ℕ)) (p : List ℕ) (place : ℕ) → IsStaged content may_leave disk ps p place → (c : List ℕ) → may_leave disk c → IsBeforeOrAfter ps p c
   staged-list disk ps p place s c left = subst (IsBeforeOrAfter ps p) (sym (s.durable c left ∙ s.bytes)) (frames_gate ps p s.behind s.gate s.short s.fits)
 
-  pub staged-room : (disk : D) (ps : List (List ℕ)) (p : List ℕ) (place : ℕ) → IsStaged content may_leave disk ps p place → place ≤ length (content disk)
+  pub staged-room : (disk : D) (ps : List (List ℕ)) (p : List ℕ) (place : ℕ) → IsStaged content may_leave disk ps p place → place + 1 ≤ length (content disk)
   staged-room disk ps p place s = omega (arith, ap length s.bytes, size (all_framed ps) s.gate (u32 (length p) ++ (p ++ 0 ∷ s.behind)) place s.stands)
 
   -- and each image of a write of its gate

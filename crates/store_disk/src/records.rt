@@ -1,5 +1,5 @@
 // One record more: it is written behind a closed gate, and then the gate is opened.
-ghost use Rattle.std.specs.Prelude.{◌≡◌, ◌+◌, ◌<◌, ◌≤◌, ◌^◌, List, ℕ, [], ◌∷◌, ◌++◌, length, IfOk, OnOk, OnErr};
+ghost use Rattle.std.specs.Prelude.{◌≡◌, ◌+◌, ◌<◌, ◌≤◌, ◌^◌, List, ℕ, [], ◌∷◌, ◌++◌, length, max, IfOk, OnOk, OnErr};
 ghost use Rattle.adept_io.specs.Counts.{Rose};
 ghost use Rattle.store_disk.specs.Disk.{LeavesOnly};
 ghost use Rattle.store_disk.specs.Image.{HasList};
@@ -18,6 +18,7 @@ fn stage<D: Disk>(disk: &mut D, gate: u64, framed: &Framed) -> Result<(), Failed
     requires room { gate < 2 ^ 63 }
     ensures staged { OnOk result (IsStaged D.content D.may_leave disk.new ps framed.now gate) }
     ensures any_moment { LeavesOnly D.moment D.left_since disk.old disk.new (HasList ps) }
+    ensures size { OnOk result (length (D.content disk.new) ≡ max (length (D.content disk.old)) (gate + (6 + length framed.now))) }
     ensures rose { OnErr result (Rose (D.faults disk.old) (D.faults disk.new)) }
     ensures never_falls { D.faults disk.old ≤ D.faults disk.new }
 {
@@ -35,6 +36,7 @@ fn open_gate<D: Disk>(disk: &mut D, gate: u64, framed: &Framed) -> Result<u64, F
     ensures rest { IfOk result (λ next. IsAtRest D.content D.may_leave disk.new (ps ++ framed.now ∷ []) next) }
     ensures next { IfOk result (λ next. next ≡ gate + (5 + length framed.now)) }
     ensures any_moment { LeavesOnly D.moment D.left_since disk.old disk.new (IsBeforeOrAfter ps framed.now) }
+    ensures size { OnOk result (length (D.content disk.new) ≡ length (D.content disk.old)) }
     ensures rose { OnErr result (Rose (D.faults disk.old) (D.faults disk.new)) }
     ensures never_falls { D.faults disk.old ≤ D.faults disk.new }
 {
@@ -54,6 +56,7 @@ pub fn append<D: Disk>(disk: &mut D, gate: u64, framed: &Framed) -> Result<u64, 
     ensures next { IfOk result (λ next. next ≡ gate + (5 + length framed.now)) }
     ensures every_image { OnOk result ((image : List ℕ) → D.may_leave disk.new image → HasList (ps ++ framed.now ∷ []) image) }
     ensures any_moment { LeavesOnly D.moment D.left_since disk.old disk.new (IsBeforeOrAfter ps framed.now) }
+    ensures size { OnOk result (length (D.content disk.new) ≡ max (length (D.content disk.old)) (gate + (6 + length framed.now))) }
     ensures rose { OnErr result (Rose (D.faults disk.old) (D.faults disk.new)) }
     ensures never_falls { D.faults disk.old ≤ D.faults disk.new }
 {

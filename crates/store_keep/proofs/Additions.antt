@@ -4,13 +4,13 @@ use Rattle.std.proofs.lemmas.List.{append-nil}
 use Rattle.store_calls.specs.Calls.{payload_of}
 use Rattle.store_disk.specs.Disk.{LeavesOnly}
 use Rattle.store_disk.specs.Rest.{IsAtRest, IsBeforeOrAfter}
+use Rattle.store_disk.proofs.Moments.{and_then, started}
 use Rattle.store_form.specs.Payload.{Bytes}
 use Rattle.store_form.specs.Stored.{has_short_lists}
 use Rattle.store_form.specs.declared.stored.Recorded.{Recorded}
 use Rattle.store_keep.specs.Keeping.{Begins, held, HoldsBeginning, IsStored}
 use Rattle.store_keep.specs.Refusals.{Overflows, Passes}
 use Rattle.store_keep.proofs.Held.{beginning, begins-more, begins-self, rest-held, rest-image}
-use Rattle.store_keep.proofs.Moments.{and_then, started}
 
 -- a call that finds room does not pass the limit
 pub not-passing : (gate : ℕ) (r : Recorded) (p : Bytes) → has_short_lists r.event ≡ true → payload_of r ≡ p → gate + (6 + length p) ≤ 2 ^ 30 → Passes gate r → ⊥

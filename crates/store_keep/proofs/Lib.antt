@@ -1,5 +1,4 @@
 mod Additions
-mod Held
+pub mod Held
 mod Matching
-mod Moments
 mod Opened

@@ -8,6 +8,7 @@ use Rattle.store_disk.specs.Image.{all_framed, frames, HasList}
 use Rattle.store_disk.specs.Opening.{HoldsAsBefore, with_gate}
 use Rattle.store_disk.specs.Rest.{EndsAt, IsAtRest}
 use Rattle.store_disk.proofs.Framing.{frames_at}
+use Rattle.store_disk.proofs.Moments.{and_then, weaker}
 use Rattle.store_form.specs.Payload.{Bytes}
 use Rattle.store_form.specs.declared.stored.Recorded.{Recorded}
 use Rattle.store_keep.specs.Finding.{finds}
@@ -18,7 +19,6 @@ use Rattle.store_keep.specs.declared.faults.KeepFault.TheVariants as fault
 use Rattle.store_keep.specs.declared.finding.Found.TheVariants as found
 use Rattle.store_keep.proofs.Held.{gate-frames, held-list, rest-again, same-frames, whole-list}
 use Rattle.store_keep.proofs.Matching.{firsts}
-use Rattle.store_keep.proofs.Moments.{and_then, weaker}
 
 -- calls up to one, and those behind it
 split-map : (calls : List Recorded) (n : ℕ) → firsts calls n ++ map payload_of (drop n calls) ≡ map payload_of calls
@@ -103,11 +103,18 @@ module _ {D : Type 0} (content : D → List ℕ) (may_leave : D → List ℕ →
           (opening-leaves (map payload_of calls) only opening begun) adding (λ c h. h)
           (λ c h. subst (λ all. HoldsBeginning all (held (content old)) c) total (subst (λ least. HoldsBeginning (held (content mid) ++ map payload_of (drop count calls)) least c) held-mid h))
 
+      -- which calls are left, and where they go
+      at : length (all_framed (held (content old))) ≡ gate
+      at = ap (λ ps. length (all_framed ps)) held-old ∙ sym ends.stands
+
+      many : length (held (content old)) ≡ count
+      many = ap length held-old ∙ firsts-length calls count within
+
       pub overflow-told : Overflows gate (drop count calls) → Tells calls (content old) fault.Full
-      overflow-told over =
-          let at : length (all_framed (held (content old))) ≡ gate = ap (λ ps. length (all_framed ps)) held-old ∙ sym ends.stands in
-          let many : length (held (content old)) ≡ count = ap length held-old ∙ firsts-length calls count within in
-          subst (λ g. Overflows g (drop (length (held (content old))) calls)) (sym at) (subst (λ n. Overflows gate (drop n calls)) (sym many) over)
+      overflow-told over = subst (λ g. Overflows g (drop (length (held (content old))) calls)) (sym at) (subst (λ n. Overflows gate (drop n calls)) (sym many) over)
+
+      pub told-overflows : Tells calls (content old) fault.Full → Overflows gate (drop count calls)
+      told-overflows full = subst (λ n. Overflows gate (drop n calls)) many (subst (λ g. Overflows g (drop (length (held (content old))) calls)) at full)
 
 -- what a fault of storing says
 no-add : {e : KeepFault} {X : Type 0} → (e ≡ fault.Full → ⊥) → (e ≡ fault.NoMemory → ⊥) → (e ≡ fault.Disk → ⊥) → IsAddFault e → X

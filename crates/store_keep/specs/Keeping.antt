@@ -1,5 +1,6 @@
 -- Which payloads an image holds, and how they stand to those of all calls.
 use Rattle.std.specs.Prelude.{◌≡◌, ℕ, List, [], ◌∷◌, ◌++◌}
+use Rattle.store_disk.specs.Disk.{LeavesOnly}
 use Rattle.store_disk.specs.Image.{Frames, closed, damaged, frame, frames, HasList}
 use Rattle.store_disk.specs.Rest.{IsAtRest}
 use Rattle.store_form.specs.Payload.{Bytes}
@@ -25,6 +26,14 @@ pub record IsBegun (all : List Bytes) (image : List ℕ) : Type 0 where
 pub record HoldsBeginning (all least : List Bytes) (image : List ℕ) : Type 0 where
   pub begun : IsBegun all image
   pub no_less : Begins least (held image)
+
+-- A stop at any moment leaves a beginning of all payloads that goes on from what the disk held, where that is one.
+abbrev pub KeepsBeginning : {D : Type 0} → (D → List ℕ) → (D → ℕ) → (D → ℕ → List ℕ → Type 0) → List Bytes → D → D → Type 0
+KeepsBeginning content moment left_since all old new = IsBegun all (content old) → LeavesOnly moment left_since old new (HoldsBeginning all (held (content old)))
+
+-- A stop at any moment leaves what the disk held, and behind it a beginning of these.
+abbrev pub AddsOnly : {D : Type 0} → (D → List ℕ) → (D → ℕ) → (D → ℕ → List ℕ → Type 0) → List Bytes → D → D → Type 0
+AddsOnly content moment left_since ps old new = LeavesOnly moment left_since old new (HoldsBeginning (held (content old) ++ ps) (held (content old)))
 
 -- nothing is pending, and the disk holds just these payloads
 abbrev pub IsStored : {D : Type 0} → (D → List ℕ) → (D → List ℕ → Type 0) → D → List Bytes → Type 0

@@ -5,7 +5,7 @@ ghost use Rattle.adept_io.specs.Counts.{Rose};
 ghost use Rattle.store_calls.specs.Calls.{IsPayable, payload_of};
 ghost use Rattle.store_disk.specs.Disk.{LeavesOnly};
 ghost use Rattle.store_disk.specs.Rest.{IsAtRest, IsBeforeOrAfter};
-ghost use Rattle.store_keep.specs.Keeping.{HoldsBeginning, IsStored, held};
+ghost use Rattle.store_keep.specs.Keeping.{AddsOnly, IsStored, held};
 ghost use Rattle.store_keep.specs.Refusals.{IsAddFault, Overflows, Passes};
 
 use crate::faults::KeepFault;
@@ -40,6 +40,7 @@ fn add<D: Disk>(alloc: Global, call: &Recorded, gate: u64, disk: &mut D) -> Resu
     ensures acknowledged { IfOk result (λ next. IsAtRest D.content D.may_leave disk.new (held (D.content disk.old) ++ payload_of call.now ∷ []) next) }
     ensures next { IfOk result (λ next. next ≡ gate + (5 + length (payload_of call.now))) }
     ensures short { IfOk result (λ next. next < 2 ^ 30) }
+    ensures within { OnOk result (length (D.content disk.old) ≤ 2 ^ 30 → length (D.content disk.new) ≤ 2 ^ 30) }
     ensures any_moment { LeavesOnly D.moment D.left_since disk.old disk.new (IsBeforeOrAfter (held (D.content disk.old)) (payload_of call.now)) }
     ensures fits { OnOk result (Passes gate call.now → ⊥) }
     ensures full { IsErrOf result KeepFault.Full → Passes gate call.now }
@@ -63,7 +64,8 @@ pub(crate) fn add_all<D: Disk>(
     requires payable { AllByRecursion IsPayable calls.now }
     requires short { gate < 2 ^ 30 }
     ensures all { OnOk result (IsStored D.content D.may_leave disk.new (held (D.content disk.old) ++ map payload_of calls.now)) }
-    ensures any_moment { LeavesOnly D.moment D.left_since disk.old disk.new (HoldsBeginning (held (D.content disk.old) ++ map payload_of calls.now) (held (D.content disk.old))) }
+    ensures within { OnOk result (length (D.content disk.old) ≤ 2 ^ 30 → length (D.content disk.new) ≤ 2 ^ 30) }
+    ensures any_moment { AddsOnly D.content D.moment D.left_since (map payload_of calls.now) disk.old disk.new }
     ensures fits { OnOk result (Overflows gate calls.now → ⊥) }
     ensures full { IsErrOf result KeepFault.Full → Overflows gate calls.now }
     ensures others { IfErr result (λ e. IsAddFault e) }

@@ -1,11 +1,11 @@
 // The work of a file over a disk.
-ghost use Rattle.std.specs.Prelude.{◌≡◌, ◌≤◌, map, IfErr, OnOk, IsErrOf};
+ghost use Rattle.std.specs.Prelude.{◌≡◌, ◌≤◌, ◌^◌, length, map, IfErr, OnOk, IsErrOf};
 ghost use Rattle.std.specs.List.{AllByRecursion};
 ghost use Rattle.adept_io.specs.Counts.{Rose};
 ghost use Rattle.store_calls.specs.Calls.{IsPayable, payload_of};
 ghost use Rattle.store_disk.specs.Disk.{LeavesOnly, Only};
 ghost use Rattle.store_disk.specs.Opening.{HoldsAsBefore};
-ghost use Rattle.store_keep.specs.Keeping.{HoldsBeginning, IsBegun, IsLeft, IsStored, held};
+ghost use Rattle.store_keep.specs.Keeping.{IsBegun, IsLeft, IsStored, KeepsBeginning};
 ghost use Rattle.store_keep.specs.Refusals.{IsJudgement, IsKeepFault, IsRefusal, Tells};
 
 use crate::adding::add_all;
@@ -22,8 +22,10 @@ pub fn keep<D: Disk>(alloc: Global, calls: &[Recorded], disk: &mut D) -> Result<
     requires settled { Only (D.content disk.old) (D.may_leave disk.old) }
     ensures all { OnOk result (IsStored D.content D.may_leave disk.new (map payload_of calls.now)) }
     ensures begun { OnOk result (IsBegun (map payload_of calls.now) (D.content disk.old)) }
-    ensures any_moment { IsBegun (map payload_of calls.now) (D.content disk.old) → LeavesOnly D.moment D.left_since disk.old disk.new (HoldsBeginning (map payload_of calls.now) (held (D.content disk.old))) }
+    ensures within { OnOk result (length (D.content disk.new) ≤ 2 ^ 30) }
+    ensures any_moment { KeepsBeginning D.content D.moment D.left_since (map payload_of calls.now) disk.old disk.new }
     ensures refused { IfErr result (λ e. Tells calls.now (D.content disk.old) e) }
+    ensures fits { OnOk result (Tells calls.now (D.content disk.old) KeepFault.Full → ⊥) }
     ensures left { IfErr result (λ e. IsJudgement e → IsLeft D.content D.may_leave disk.old disk.new) }
     ensures same_records { IfErr result (λ e. IsRefusal e → LeavesOnly D.moment D.left_since disk.old disk.new (HoldsAsBefore (D.may_leave disk.old))) }
     ensures others { IfErr result (λ e. IsKeepFault e) }

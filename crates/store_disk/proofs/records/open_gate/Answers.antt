@@ -1,11 +1,11 @@
-use Rattle.std.proofs.Common.{ℕ, List}
+use Rattle.std.proofs.Common.{ℕ, List, arith}
 use Rattle.store_disk.specs.Rest.{IsBeforeOrAfter}
 use Rattle.store_disk.proofs.Moments.{started, goes_on}
-use Rattle.store_disk.proofs.Steps.{staged-list, staged-room, gate-list, is-at-rest}
+use Rattle.store_disk.proofs.Steps.{gate-list, gate-size, is-at-rest, staged-list, staged-room}
 use Rattle.store_disk.proofs.records.open_gate.Goals as goal
 
 pub write-requires : goal.write-requires
-write-requires g c = record { within = staged-room g.D.Disk.content g.D.Disk.may_leave c.args.disk.now g.ps c.args.framed.now c.args.gate c.requires.1.0 }
+write-requires g c = record { within = omega (arith, staged-room g.D.Disk.content g.D.Disk.may_leave c.args.disk.now g.ps c.args.framed.now c.args.gate c.requires.1.0) }
 
 pub returns-in_err-write-clause-any_moment : goal.returns-in_err-write-clause-any_moment
 returns-in_err-write-clause-any_moment g c =
@@ -40,3 +40,9 @@ returns-clause-rest g c =
     let k = g.D.Disk in
     rw c.span.ensures (is-at-rest k.content k.may_leave c.args.disk.now c.sync.new.self g.ps c.args.framed.now c.args.gate c.requires.1.0
     (k.content c.write.new.self) c.sync.ensures.content c.in_ok-write.ensures.written c.in_ok-sync.ensures.durable)
+
+pub returns-clause-size : goal.returns-clause-size
+returns-clause-size g c =
+    let k = g.D.Disk in
+    gate-size c.args.gate (k.content c.args.disk.now) (k.content c.write.new.self) (k.content c.sync.new.self)
+    (staged-room k.content k.may_leave c.args.disk.now g.ps c.args.framed.now c.args.gate c.requires.1.0) c.sync.ensures.content c.in_ok-write.ensures.written

@@ -1,7 +1,7 @@
 use Rattle.std.proofs.Common.{ℕ, List}
 use Rattle.store_disk.specs.Image.{HasList}
 use Rattle.store_disk.proofs.Moments.{started, goes_on}
-use Rattle.store_disk.proofs.Steps.{rest-list, rest-room, behind-list, is-staged}
+use Rattle.store_disk.proofs.Steps.{behind-list, behind-size, is-staged, rest-list, rest-room}
 use Rattle.store_disk.proofs.records.stage.Goals as goal
 
 pub write-requires : goal.write-requires
@@ -40,3 +40,9 @@ returns-clause-staged g c =
     let k = g.D.Disk in
     is-staged k.content k.may_leave c.args.disk.now c.sync.new.self g.ps c.args.framed.now c.as_slice.result.now c.args.gate c.requires.1.0 c.as_slice.ensures.bytes c.as_slice.ensures.short
     (k.content c.write.new.self) c.sync.ensures.content c.in_ok-write.ensures.written c.in_ok-sync.ensures.durable
+
+pub returns-clause-size : goal.returns-clause-size
+returns-clause-size g c =
+    let k = g.D.Disk in
+    behind-size c.args.gate c.args.framed.now c.as_slice.result.now (k.content c.args.disk.now) (k.content c.write.new.self) (k.content c.sync.new.self)
+    (rest-room k.content k.may_leave c.args.disk.now g.ps c.args.gate c.requires.1.0) c.as_slice.ensures.bytes c.sync.ensures.content c.in_ok-write.ensures.written

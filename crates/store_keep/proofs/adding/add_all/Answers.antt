@@ -16,6 +16,7 @@ loop-call-init g c =
     record {
       progress = nothing-yet k.content k.may_leave k.moment k.left_since disk c.args.calls.now c.args.gate c.requires.rest;
       short = c.requires.short;
+      within = λ le. le;
       payable = c.requires.payable;
       moments =
           stays k.content k.may_leave k.moment k.left_since g.met.D.Disk.only_now disk least (least ++ map payload_of c.args.calls.now) least c.args.gate c.requires.rest
@@ -59,6 +60,7 @@ loop-call-preserved g c =
     record {
       progress = one-more k.content k.may_leave k.moment k.left_since least all r rs l.disk l.gate so_far c.add.new.disk c.in_ok-gate.gate added.acknowledged;
       short = added.short;
+      within = λ le. added.within (l.invariant.within le);
       payable = (subst (AllByRecursion IsPayable) split l.invariant.payable).1;
       moments = moments k.content k.may_leave k.moment k.left_since least all r rs l.disk l.gate so_far c.args.disk.now c.add.new.disk l.invariant.moments c.add.ensures.any_moment;
       over = λ o. l.invariant.over (subst (Overflows l.gate) (sym split) (over-here l.gate c.in_ok-gate.gate r rs added.next o));

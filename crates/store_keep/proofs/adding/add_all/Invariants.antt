@@ -1,4 +1,4 @@
-use Rattle.std.proofs.Common.{◌≤◌, ◌<◌, ◌^◌, ◌++◌, drop, map}
+use Rattle.std.proofs.Common.{◌≤◌, ◌<◌, ◌^◌, ◌++◌, drop, length, map}
 use Rattle.std.specs.List.{AllByRecursion}
 use Rattle.store_calls.specs.Calls.{IsPayable, payload_of}
 use Rattle.store_disk.specs.Disk.{LeavesOnly}
@@ -15,6 +15,7 @@ invariant-loop-call g l =
     record {
       progress : Progress k.content k.may_leave least all (drop l.call-index l.calls) l.disk l.gate;
       short : l.gate < 2 ^ 30;
+      within : length (k.content l.initial.disk) ≤ 2 ^ 30 → length (k.content l.disk) ≤ 2 ^ 30;
       payable : AllByRecursion IsPayable (drop l.call-index l.calls);
       moments : LeavesOnly k.moment k.left_since l.initial.disk l.disk (HoldsBeginning all least);
       over : Overflows l.gate (drop l.call-index l.calls) → Overflows l.initial.gate l.calls;

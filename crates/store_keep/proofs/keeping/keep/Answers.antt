@@ -1,4 +1,4 @@
-use Rattle.std.proofs.Common.{◌++◌, ◌∙◌, drop, map, subst, sym}
+use Rattle.std.proofs.Common.{◌++◌, ◌∙◌, ap, arith, drop, length, map, subst, sym}
 use Rattle.std.proofs.lemmas.List.{take_rest}
 use Rattle.std.proofs.lemmas.Result.{on_ok_weaker}
 use Rattle.store_calls.specs.Calls.{payload_of}
@@ -7,7 +7,7 @@ use Rattle.store_keep.specs.Finding.{HoldsFound}
 use Rattle.store_keep.specs.Keeping.{held, HoldsBeginning, IsStored}
 use Rattle.store_keep.specs.Refusals.{Overflows}
 use Rattle.store_keep.specs.declared.finding.Found.TheVariants as found
-use Rattle.store_keep.proofs.Opened.{add-tells, all-moments, all-stored, is-begun, overflow-told, rest-mid}
+use Rattle.store_keep.proofs.Opened.{add-tells, all-moments, all-stored, is-begun, overflow-told, rest-mid, told-overflows}
 use Rattle.store_keep.proofs.keeping.keep.Goals as goal
 
 pub add_all-requires-clause-rest : goal.add_all-requires-clause-rest
@@ -82,3 +82,24 @@ returns-in-Beginning-clause-refused g c =
     (λ full.
     overflow-told k.content k.may_leave k.moment k.left_since c.args.disk.now mid image settled (shown ∙ c.in_ok-image.ensures.bytes) calls count c.in-Beginning.gate here.0 here.1
     (subst (Overflows c.in-Beginning.gate) (take_rest calls count) (c.add_all.ensures.full full)))
+
+pub returns-in-Beginning-clause-fits : goal.returns-in-Beginning-clause-fits
+returns-in-Beginning-clause-fits g c =
+    let k = g.D.Disk in
+    let image = c.deref.result.now in
+    let mid = c.open_image.new.disk in
+    let shown = c.deref.ensures.value in
+    let calls = c.args.calls.now in
+    let count = c.in-Beginning.count in
+    let settled : IsSettled k.content k.may_leave mid image = subst (IsSettled k.content k.may_leave mid) (sym shown) c.in_ok-image.ensures.settled in
+    let here : HoldsFound calls image (found.Beginning count c.in-Beginning.gate) = subst (HoldsFound calls image) c.in-Beginning.is c.in_ok-count.ensures.holds in
+    on_ok_weaker c.add_all.result
+    (λ fits full.
+    fits
+    (subst (Overflows c.in-Beginning.gate) (sym (take_rest calls count))
+    (told-overflows k.content k.may_leave k.moment k.left_since c.args.disk.now mid image settled (shown ∙ c.in_ok-image.ensures.bytes) calls count c.in-Beginning.gate here.0 here.1 full)))
+    c.add_all.ensures.fits
+
+pub returns-in-Beginning-clause-within : goal.returns-in-Beginning-clause-within
+returns-in-Beginning-clause-within g c =
+    on_ok_weaker c.add_all.result (λ within. within (omega (arith, ap length c.in_ok-image.ensures.settled.gives, c.in_ok-image.ensures.within))) c.add_all.ensures.within

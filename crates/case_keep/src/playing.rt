@@ -1,0 +1,112 @@
+// The work of a process file over a disk without bytes.
+ghost use Rattle.std.specs.Prelude.{◌≡◌, ◌≢◌, ◌≤◌, ◌⊎◌, [], IfErr, OnOk, IsErrOf};
+ghost use Rattle.std.specs.Io.KnownBytes.{Appends, IsAtEnd};
+ghost use Rattle.adept_io.specs.Counts.{Rose};
+ghost use Rattle.adept_io.specs.Written.{AppendsPrefix};
+ghost use Rattle.case_keep.specs.Playing.{EndsUnplayed, HoldsBeginningOf, IsPlayFault, IsPlayStatus, IsReadStatus, IsUnreadStatus, IsWorkStatus, OfFile, Reports, Stores};
+ghost use Rattle.file_facts.specs.Facts.{IsWorkable};
+ghost use Rattle.file_model.specs.Sizes.{IsBounded};
+ghost use Rattle.report_text.specs.Report.{text};
+ghost use Rattle.script_run.specs.Serial.{serial};
+ghost use Rattle.store_calls.specs.Calls.{calls, payloads};
+ghost use Rattle.store_disk.specs.Disk.{IsSettled, LeavesOnly};
+ghost use Rattle.store_keep.specs.Keeping.{HoldsBeginning, IsStored};
+ghost use Rattle.store_keep.specs.Refusals.{Overflows};
+
+use crate::keeping::{keep_file, store_calls_of};
+use crate::reading::read_process;
+use crate::unkept::keep_status;
+use adept_io::{Sink, Source};
+use file_model::File;
+use std::alloc::Global;
+use store_disk::Disk;
+use store_keep::KeepFault;
+
+/// How the work of a process file over a disk without bytes ends.
+#[derive(Drop)]
+pub struct StoreOutcome<D: Disk + Drop> {
+    /// 0: done; 1: the file is refused; 3: reading failed; 4: writing failed; 5: there was not enough memory; 6: the input
+    /// is too long; 7: the disk failed; 8: the store would have more than 1,073,741,824 bytes.
+    pub status: u8,
+    /// The disk, as the work left it.
+    pub disk: D,
+}
+
+/// Reads a process file, stores its calls on a disk without bytes, one after another, opens the disk again, and writes the
+/// report of the calls that it holds. The disk is left alone until the file is read, and nothing is written before the
+/// disk was opened again.
+pub fn store_play<S: Source, K: Sink, D: Disk + Drop>(
+    alloc: Global,
+    source: &mut S,
+    sink: &mut K,
+    disk: D,
+) -> StoreOutcome<D>
+    requires { IsSettled D.content D.may_leave disk [] }
+    ensures statuses { IsPlayStatus result.status }
+    ensures unread { IsUnreadStatus result.status → EndsUnplayed S.left S.faults source.old source.new disk result }
+    ensures whole { IsReadStatus result.status → IsAtEnd (S.left source.new) }
+    ensures report { IsReadStatus result.status → OfFile (S.left source.old) (λ f. Reports K.written K.faults f sink.old sink.new result.status) }
+    ensures stored { IsReadStatus result.status → OfFile (S.left source.old) (λ f. Stores D.content D.may_leave D.faults f disk result) }
+    ensures untouched { result.status ≢ 0 → result.status ≢ 4 → sink.new ≡ sink.old }
+    ensures any_moment { LeavesOnly D.moment D.left_since disk result.disk (HoldsBeginningOf (S.left source.old)) }
+{
+    match read_process(alloc, source) {
+        Ok(file) => play_over(alloc, &file, sink, disk),
+        Err(why) => StoreOutcome {
+            status: why.status(),
+            disk,
+        },
+    }
+}
+
+// The work of a file that was read.
+fn play_over<K: Sink, D: Disk + Drop>(
+    alloc: Global,
+    file: &File,
+    sink: &mut K,
+    disk: D,
+) -> StoreOutcome<D>
+    requires bounded { IsBounded file.now }
+    requires workable { IsWorkable file.now }
+    requires settled { IsSettled D.content D.may_leave disk [] }
+    ensures statuses { IsWorkStatus result.status }
+    ensures report { Reports K.written K.faults file.now sink.old sink.new result.status }
+    ensures stored { Stores D.content D.may_leave D.faults file.now disk result }
+    ensures any_moment { LeavesOnly D.moment D.left_since disk result.disk (HoldsBeginning (payloads file.now) []) }
+{
+    let mut disk = disk;
+    match play_file(alloc, file, sink, &mut disk) {
+        Ok(()) => StoreOutcome { status: 0, disk },
+        Err(fault) => StoreOutcome {
+            status: keep_status(fault),
+            disk,
+        },
+    }
+}
+
+// Stores the calls of a file, opens the disk again, and writes the report of what it holds.
+fn play_file<K: Sink, D: Disk>(
+    alloc: Global,
+    file: &File,
+    sink: &mut K,
+    disk: &mut D,
+) -> Result<(), KeepFault>
+    requires bounded { IsBounded file.now }
+    requires workable { IsWorkable file.now }
+    requires settled { IsSettled D.content D.may_leave disk.old [] }
+    ensures all { OnOk result (IsStored D.content D.may_leave disk.new (payloads file.now)) }
+    ensures fits { OnOk result (Overflows 0 (calls file.now) → ⊥) }
+    ensures written { OnOk result (Appends (K.written sink.old) (K.written sink.new) (text file.now (serial file.now))) }
+    ensures causes { IfErr result (λ e. IsPlayFault e) }
+    ensures full { IsErrOf result KeepFault.Full → Overflows 0 (calls file.now) }
+    ensures rose { IsErrOf result KeepFault.Disk → Rose (D.faults disk.old) (D.faults disk.new) }
+    ensures unwritten { IsErrOf result KeepFault.Unwritten → IsStored D.content D.may_leave disk.new (payloads file.now) }
+    ensures fits_unwritten { IsErrOf result KeepFault.Unwritten → Overflows 0 (calls file.now) → ⊥ }
+    ensures part { IsErrOf result KeepFault.Unwritten → AppendsPrefix (K.written sink.old) (K.written sink.new) (text file.now (serial file.now)) }
+    ensures sink_failed { IsErrOf result KeepFault.Unwritten → Rose (K.faults sink.old) (K.faults sink.new) }
+    ensures untouched { IfErr result (λ e. e ≢ KeepFault.Unwritten → sink.new ≡ sink.old) }
+    ensures any_moment { LeavesOnly D.moment D.left_since disk.old disk.new (HoldsBeginning (payloads file.now) []) }
+{
+    store_calls_of(alloc, file, disk)?;
+    keep_file(alloc, file, sink, disk)
+}

@@ -1,0 +1,4 @@
+mod Changes
+mod CountedPlaces
+pub mod Folded
+mod Numbers

@@ -1,0 +1,119 @@
+-- The newest version of a type has the number of how many there are, so it is found by its number.
+use Rattle.std.proofs.Common.{◌≡◌, ℕ, zero, suc, ◌+◌, ◌-◌, ◌==◌, Bool, true, false, List, [], ◌∷◌, ◌++◌, length, Option, Some, None, Result, Ok, Err, refl, ap, sym, subst, ◌∙◌, arith, length-append}
+use Rattle.std.specs.Prelude.{nat_lt, option_map, slice_get, if◌then◌else◌}
+use Rattle.std.proofs.lemmas.Bool.{ne_eqb}
+use Rattle.std.proofs.lemmas.Option.{same_Some}
+use Rattle.case_store.specs.Folding.{version_of, version_of_kind}
+use Rattle.script_run.specs.Calls.{answered_version, call_kind, changed_at, newest, newest_in, on_kind}
+use Rattle.script_run.specs.declared.runs.ClosedKind.{ClosedKind}
+use Rattle.script_run.specs.declared.runs.Run.{Run}
+use Rattle.store_runs.proofs.Changes.{changed-later, get-changed}
+use Rattle.type_core.proofs.Numbering.{none_newest}
+use Rattle.type_core.specs.KindModel.{KindModel}
+use Rattle.type_core.specs.Machine.{defined_by, event_on, installed_by, newest_of, next_kind, version_in, with_version}
+use Rattle.type_core.specs.declared.events.KindEvent.{KindEvent}
+use Rattle.type_core.specs.declared.events.KindEvent.TheVariants as kind_event
+use Rattle.type_core.specs.declared.replies.KindReply.TheVariants as reply
+use Rattle.wsm_ops.specs.declared.operations.Op.{Op}
+use Rattle.wsm_schema.specs.SchemaModel.{SchemaModel}
+use Rattle.wsm_sound.specs.Faults.{changed_by, fault_of, unless_fault}
+use Rattle.wsm_sound.specs.VersionModel.{VersionModel}
+use Rattle.wsm_sound.specs.Versions.{first_version, next_version, with_schema}
+use Rattle.wsm_sound.specs.declared.faults.Fault.{Fault}
+
+abbrev pub IsCounted : KindModel → Type 0
+IsCounted k = (w : VersionModel) → newest_of k.versions ≡ Some w → w.number ≡ length k.versions
+
+last-is : (vs : List VersionModel) (v : VersionModel) → slice_get (vs ++ v ∷ []) (length vs) ≡ Some v
+last-is [] v = refl
+last-is (u ∷ us) v = last-is us v
+
+size-more : (vs : List VersionModel) (v : VersionModel) → length (vs ++ v ∷ []) ≡ length vs + 1
+size-more vs v = length-append vs (v ∷ [])
+
+newest-is : (vs : List VersionModel) (v : VersionModel) → newest_of (vs ++ v ∷ []) ≡ Some v
+newest-is vs v = ap (slice_get (vs ++ v ∷ [])) (omega (arith, size-more vs v)) ∙ last-is vs v
+
+one-more : (k : KindModel) (v : VersionModel) → v.number ≡ length k.versions + 1 → IsCounted (with_version k v)
+one-more k v number w is =
+    let same : v ≡ w = same_Some v w (sym (newest-is k.versions v) ∙ is) in
+    ap (λ x. x.number) (sym same) ∙ number ∙ sym (size-more k.versions v)
+
+by-defined : (k : KindModel) (r : Result SchemaModel Fault) → IsCounted k → length k.versions ≡ 0 → IsCounted (defined_by k (with_schema (first_version k.type_no) r)).0
+by-defined k (Ok s) counted none = one-more k (first_version k.type_no s) (omega (arith, none))
+by-defined k (Err f) counted none = counted
+
+by-installed : (k : KindModel) (full : Bool) (n : VersionModel) (ops : List Op) (r : Result SchemaModel Fault) → IsCounted k → newest_of k.versions ≡ Some n
+    → IsCounted (if full then (k, reply.VersionLimit) else installed_by k (with_schema (next_version n ops) r)).0
+by-installed k true n ops r counted is = counted
+by-installed k false n ops (Ok s) counted is = one-more k (next_version n ops s) (ap (λ x. x + 1) (counted n is))
+by-installed k false n ops (Err f) counted is = counted
+
+by-event : (k : KindModel) (o : Option VersionModel) (e : KindEvent) → newest_of k.versions ≡ o → IsCounted k → IsCounted (event_on k o e).0
+by-event k None (kind_event.Define s) is counted = by-defined k (unless_fault (fault_of s) s) counted (none_newest k.versions is)
+by-event k None (kind_event.Install ops) is counted = counted
+by-event k None kind_event.Newest is counted = counted
+by-event k (Some n) (kind_event.Define s) is counted = counted
+by-event k (Some n) (kind_event.Install ops) is counted = by-installed k (nat_lt 255 (length k.versions)) n ops (changed_by n.schema ops) counted is
+by-event k (Some n) kind_event.Newest is counted = counted
+
+after-event : (k : KindModel) (e : KindEvent) → IsCounted k → IsCounted (next_kind k e).0
+after-event k e counted = by-event k (newest_of k.versions) e refl counted
+
+pub none-counted : (k : KindModel) → k.versions ≡ [] → IsCounted k
+none-counted k none w is = absurd (go k.versions none is)
+  where
+    go : (vs : List VersionModel) → vs ≡ [] → newest_of vs ≡ Some w → ⊥
+    go [] none is = absurd cc
+    go (v ∷ vs) none is = absurd cc
+
+-- each type of a run
+abbrev pub AllCounted : List ClosedKind → Type 0
+AllCounted [] = Unit {0}
+AllCounted (k ∷ ks) = IsCounted k.machine × AllCounted ks
+
+pub counted-changed : (a t : ℕ) (e : KindEvent) (ks : List ClosedKind) → AllCounted ks → AllCounted (changed_at (call_kind a e) t ks)
+counted-changed a zero e [] all = tt
+counted-changed a (suc t) e [] all = tt
+counted-changed a zero e (k ∷ ks) all = (after-event k.machine e all.0, all.1)
+counted-changed a (suc t) e (k ∷ ks) all = subst AllCounted (sym (changed-later (call_kind a e) t k ks)) (all.0, counted-changed a t e ks all.1)
+
+pub counted-call : (a : ℕ) (e : KindEvent) (k : ClosedKind) → IsCounted k.machine → IsCounted (call_kind a e k).machine
+counted-call a e k counted = after-event k.machine e counted
+
+counted-at : (ks : List ClosedKind) (t : ℕ) (k : ClosedKind) → AllCounted ks → slice_get ks t ≡ Some k → IsCounted k.machine
+counted-at [] t k all at = absurd cc
+counted-at (x ∷ xs) zero k all at = subst (λ y. IsCounted y.machine) (same_Some x k at) all.0
+counted-at (x ∷ xs) (suc t) k all at = counted-at xs t k all.1 at
+
+-- it is found by its number
+at-number : (vs : List VersionModel) (v : VersionModel) → v.number ≡ length vs → newest_of vs ≡ Some v → version_in vs v.number ≡ Some v
+at-number [] v number is = absurd cc
+at-number (x ∷ xs) v number is =
+    let some : (length (x ∷ xs) == 0) ≡ false = ne_eqb (length (x ∷ xs)) 0 (λ none. omega (arith, none)) in
+    ap (version_in (x ∷ xs)) number ∙ ap (λ b. if b then None else slice_get (x ∷ xs) (length (x ∷ xs) - 1)) some ∙ is
+
+answered : (k : KindModel) (o : Option VersionModel) (v : VersionModel) → answered_version (event_on k o kind_event.Newest).1 ≡ Some v → o ≡ Some v
+answered k None v is = absurd cc
+answered k (Some w) v is = is
+
+pub found-by-number : (r : Run) (t : ℕ) (v : VersionModel) → AllCounted r.kinds → newest t r ≡ Some v → version_of r t v.number ≡ Some v
+found-by-number r t v all is = go (slice_get r.kinds t) refl is
+  where
+    go : (o : Option ClosedKind) → slice_get r.kinds t ≡ o → newest_in o ≡ Some v → version_of_kind v.number o ≡ Some v
+    go None at is = absurd cc
+    go (Some k) at is =
+        let has = answered k.machine (newest_of k.machine.versions) v is in
+        at-number k.machine.versions v (counted-at r.kinds t k all at v has) has
+
+-- a type that is asked for its newest version stays as it is
+asked : (k : KindModel) (o : Option VersionModel) → (event_on k o kind_event.Newest).0 ≡ k
+asked k None = refl
+asked k (Some v) = refl
+
+pub found-when-asked : (a t n : ℕ) (r : Run) → version_of (on_kind a t kind_event.Newest r) t n ≡ version_of r t n
+found-when-asked a t n r = ap (version_of_kind n) (get-changed (call_kind a kind_event.Newest) t r.kinds) ∙ go (slice_get r.kinds t)
+  where
+    go : (o : Option ClosedKind) → version_of_kind n (option_map (call_kind a kind_event.Newest) o) ≡ version_of_kind n o
+    go None = refl
+    go (Some k) = ap (λ m. version_in m.versions n) (asked k.machine (newest_of k.machine.versions))
