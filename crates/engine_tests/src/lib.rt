@@ -1,7 +1,9 @@
-//! Tests of changes of schemas, of versions, trails and replays: what no clause says of them. No test holds a schema, a trail or a
+//! Tests of changes of schemas, of versions, trails, replays and marks on another schema: what no clause says of them. No test holds a schema, a trail or a
 //! version, which makes its proof dear: functions without a clause do, and answer what is compared.
 #![tactic(auto)]
 
+#[cfg(test)]
+mod adapting;
 #[cfg(test)]
 mod footprints;
 #[cfg(test)]
