@@ -1,4 +1,4 @@
-//! Tests of the store: what no clause says of its disks and its records.
+//! Tests of the store: what no clause says of its disks, its records, its steps, and the work of a file over it.
 #![tactic(auto)]
 
 #[cfg(test)]
@@ -7,3 +7,7 @@ mod disks;
 mod opening;
 #[cfg(test)]
 mod payloads;
+#[cfg(test)]
+mod playing;
+#[cfg(test)]
+mod stores;

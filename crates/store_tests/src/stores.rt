@@ -1,0 +1,106 @@
+// A store over a disk in memory, and what its disk holds then.
+ghost use Rattle.std.specs.Prelude.{◌≡◌, ◌∷◌, [], true, false, IfSome, IsErrOf};
+ghost use Rattle.case_store.specs.Standing.{IsStore};
+ghost use Rattle.store_disk.specs.History.{MayLeave, content};
+
+use adept_io::{Bytes, Calls};
+use case_store::{Store, StoreFault, StoredReply};
+use std::alloc::Global;
+use std::test::Fail;
+use store_disk::MemoryDisk;
+use store_form::Stored;
+use type_core::KindReply;
+
+#[test]
+fn empty_disk_becomes_a_gate(rt: HostRuntime) -> Result<(), Fail> {
+    let image = first_image(rt.alloc()).ok_or("a disk of no bytes is opened")?;
+    assert_eq!(rt; image.as_slice(), [0].as_slice());
+    Ok(())
+}
+
+#[test]
+fn step_is_stored(rt: HostRuntime) -> Result<(), Fail> {
+    let (is_no_type, image) = image_after_a_call(rt.alloc()).ok_or("a call is made")?;
+    assert!(rt; is_no_type);
+    assert_eq!(rt;
+        image.as_slice(),
+        [1, 0, 0, 0, 9, 3, 0, 0, 0, 0, 0, 0, 0, 0, 0].as_slice()
+    );
+    Ok(())
+}
+
+#[test]
+fn store_breaks_where_its_disk_fails(rt: HostRuntime) -> Result<(), Fail> {
+    let (second, entries) = calls_at_a_fault(rt.alloc()).ok_or("a call fails")?;
+    assert_eq!(rt; second, StoreFault::Broken);
+    assert!(rt; entries <= 1);
+    Ok(())
+}
+
+// A disk without bytes.
+fn empty_disk(alloc: Global, fails: Calls) -> Option<MemoryDisk>
+    ensures { IfSome result (λ disk. content disk.first disk.past ≡ []) }
+{
+    MemoryDisk::new(alloc, Bytes::new(alloc), 100, 100, fails).ok()
+}
+
+// A store on it, for one type with one case.
+fn opened(alloc: Global, disk: MemoryDisk) -> Option<Store<MemoryDisk>>
+    requires { content disk.first disk.past ≡ [] }
+    ensures { IfSome result (λ store. IsStore (λ d. content d.first d.past) (λ d. MayLeave d.first d.past) (1 ∷ []) store []) }
+{
+    Store::open(alloc, disk, &[1]).ok()
+}
+
+fn begun(alloc: Global, fails: Calls) -> Option<Store<MemoryDisk>>
+    ensures { IfSome result (λ store. IsStore (λ d. content d.first d.past) (λ d. MayLeave d.first d.past) (1 ∷ []) store []) }
+{
+    opened(alloc, empty_disk(alloc, fails)?)
+}
+
+// The program asks the type 0 for its newest version, where the store has the type: whether there is none.
+fn asked(alloc: Global, store: &mut Store<MemoryDisk>) -> Option<Result<bool, StoreFault>>
+    requires store { store.old.is_broken ≡ false → IsStore (λ d. content d.first d.past) (λ d. MayLeave d.first d.past) (1 ∷ []) store.old [] }
+    ensures broken { IfSome result (λ answer. IsErrOf answer StoreFault.Disk → store.new.is_broken ≡ true) }
+{
+    let event = Stored::Newest(0);
+    if !store.has(&event) {
+        return None;
+    }
+    match store.step(alloc, 0, &event) {
+        Ok(reply) => Some(Ok(is_no_type(&reply))),
+        Err(fault) => Some(Err(fault)),
+    }
+}
+
+fn is_no_type(reply: &StoredReply) -> bool {
+    matches!(reply, StoredReply::Kind(KindReply::NoType))
+}
+
+// What the disk of a store holds that was just begun.
+fn first_image(alloc: Global) -> Option<Vec<u8>> {
+    let store = begun(alloc, Calls::new(alloc))?;
+    store.abandon().bytes().to_vec(alloc).ok()
+}
+
+// Whether the first call finds no version, and what the disk holds behind it.
+fn image_after_a_call(alloc: Global) -> Option<(bool, Vec<u8>)> {
+    let mut store = begun(alloc, Calls::new(alloc))?;
+    let is_no_type = asked(alloc, &mut store)?.ok()?;
+    let image = store.abandon().bytes().to_vec(alloc).ok()?;
+    Some((is_no_type, image))
+}
+
+// A call whose gate is not written: why the next one fails, and how many entries the type has when the disk is opened again.
+fn calls_at_a_fault(alloc: Global) -> Option<(StoreFault, usize)> {
+    let mut fails = Calls::new(alloc);
+    fails.push(8).ok()?;
+    let mut store = begun(alloc, fails)?;
+    if asked(alloc, &mut store)?.err()? != StoreFault::Disk {
+        return None;
+    }
+    let second = asked(alloc, &mut store)?.err()?;
+    let again = Store::open(alloc, store.abandon(), &[1]).ok()?;
+    let (_, kinds, _) = again.close();
+    Some((second, kinds.get(0)?.journal.len()))
+}
