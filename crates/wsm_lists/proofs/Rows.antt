@@ -238,6 +238,26 @@ module _ {X : Type 0} (key : X → ℕ × ℕ) where
                 rw (y_is_x, same) refl
           ]
 
+  -- a row stands where those with keys below its own end
+  pub row-place : (xs : List X) (n : ℕ) (x : X) → Ascends key xs → slice_get xs n ≡ Some x → n ≡ rows_below key (key x) xs
+  row-place [] n x s there = cc
+  row-place (y ∷ ys) zero x s there =
+      let same : y ≡ x = cc in
+      rw (same, lt_self (key x)) refl
+    where
+      lt_self : (k : ℕ × ℕ) → key_lt k k ≡ false
+      lt_self k =
+          elim (cases_Bool (key_lt k k)) [
+            | inl below ↦ absurd (elim (lt_means k k below) [ inl h ↦ omega arith | inr h ↦ omega arith ])
+            | inr not_below ↦ not_below
+          ]
+  row-place (y ∷ ys) (suc n) x s there = rw (all-there ys n s.0 there) (ap suc (row-place ys n x s.1 there))
+    where
+      all-there : (zs : List X) (m : ℕ) → AllRows (λ z. key_lt (key y) (key z) ≡ true) zs → slice_get zs m ≡ Some x → key_lt (key y) (key x) ≡ true
+      all-there [] m all is = cc
+      all-there (z ∷ zs) zero all is = let same : z ≡ x = cc in rw (sym same) all.0
+      all-there (z ∷ zs) (suc m) all is = all-there zs m all.1 is
+
   -- where there is no row at that place, or one with another key, no row has this one
   pub row_at-absent : (k : ℕ × ℕ) (xs : List X) (n : ℕ) → n ≡ rows_below key k xs → Ascends key xs → is_row_at key k (slice_get xs n) ≡ false → row_at key k xs ≡ None
   row_at-absent k xs n place s e = none_of (row_at key k xs) (sym (row_is_there k xs s) ∙ rw (sym place) e)

@@ -4,3 +4,4 @@ pub mod Values
 pub mod Entries
 pub mod ByNumber
 pub mod TakenIn
+pub mod PutOver

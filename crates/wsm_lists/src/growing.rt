@@ -1,7 +1,9 @@
 // Tables while many rows are put, one after another and in any order.
 ghost use Rattle.std.specs.Prelude.{◌≡◌, ◌<◌, ℕ, [], not, OnErr, OnOk, IfOk, if◌then◌else◌};
 ghost use Rattle.std.specs.Option.{is_some, option_copied};
+ghost use Rattle.wsm_lists.specs.Entries.{Keyed, rows_of};
 ghost use Rattle.wsm_lists.specs.Keys.{put_role};
+ghost use Rattle.wsm_lists.specs.PutOver.{put_over};
 ghost use Rattle.wsm_lists.specs.Rows.{Ascends, put_row, drop_row, row_at};
 
 use crate::NoMemory;
@@ -12,22 +14,28 @@ use std::alloc::Global;
 use std::collections::BTreeMap;
 use std::marker::Model;
 
-/// A table that grows: a row is put in a time that grows with the logarithm of the number of rows.
+/// A table that grows: a row is put in a time that grows with the logarithm of the number of rows. Its first rows stand in a
+/// list, since most tables stay that small.
 #[derive(Drop)]
 pub struct GrowingTable<K: Keys> {
-    map: BTreeMap<(u32, u32), K::Row>,
+    few: Table<K>,
+    more: BTreeMap<(u32, u32), K::Row>,
 }
+
+/// How many rows stand in a list before others go into a map.
+const FEW_ROWS: usize = 16;
 
 impl<K: Keys> Model for GrowingTable<K> {
     ghost use Rattle.std.specs.Prelude.{List};
     ghost use Rattle.wsm_lists.specs.Entries.{rows_of, Keyed};
+    ghost use Rattle.wsm_lists.specs.PutOver.{put_over};
     ghost use Rattle.wsm_lists.specs.Rows.{Ascends};
 
     ghost Value = { List K.Row };
 
-    ghost view = { λ a. rows_of a.map.entries };
+    ghost view = { λ a. put_over K.key_of a.few (rows_of a.more.entries) };
 
-    ghost invariant = { λ a. Keyed K.key_of a.map.entries × Ascends K.key_of (rows_of a.map.entries) };
+    ghost invariant = { λ a. Keyed K.key_of a.more.entries × Ascends K.key_of (rows_of a.more.entries) };
 }
 
 impl<K: Keys> GrowingTable<K> {
@@ -36,7 +44,8 @@ impl<K: Keys> GrowingTable<K> {
         ensures { result ≡ [] }
     {
         GrowingTable {
-            map: BTreeMap::new(alloc),
+            few: Table::new(alloc),
+            more: BTreeMap::new(alloc),
         }
     }
 
@@ -45,14 +54,17 @@ impl<K: Keys> GrowingTable<K> {
         ensures found { option_copied result ≡ row_at K.key_of key self.now }
         ensures ascends { Ascends K.key_of self.now }
     {
-        self.map.get(&key)
+        match self.few.find(key) {
+            None => self.more.get(&key),
+            Some(row) => Some(row),
+        }
     }
 
     /// Whether there is a row with that key.
     pub fn has(&self, key: (u32, u32)) -> bool
         ensures { result ≡ is_some (row_at K.key_of key self.now) }
     {
-        self.map.contains_key(&key)
+        self.find(key).is_some()
     }
 
     /// One more row at its place. False, with no change, where its key is there.
@@ -61,11 +73,10 @@ impl<K: Keys> GrowingTable<K> {
         ensures rows { IfOk result (λ added. self.new ≡ (if added then put_row K.key_of row self.old else self.old)) }
         ensures err { OnErr result (self.new ≡ self.old) }
     {
-        let key = K::key(&row);
-        if self.has(key) {
+        if self.has(K::key(&row)) {
             return Ok(false);
         }
-        self.map.insert(key, row)?;
+        self.set(row)?;
         Ok(true)
     }
 
@@ -74,8 +85,10 @@ impl<K: Keys> GrowingTable<K> {
         ensures ok { OnOk result (self.new ≡ put_row K.key_of row self.old) }
         ensures err { OnErr result (self.new ≡ self.old) }
     {
-        let key = K::key(&row);
-        self.map.insert(key, row)?;
+        if self.few.len() < FEW_ROWS || self.few.has(K::key(&row)) {
+            return self.few.set(row);
+        }
+        put_in_map::<K>(&mut self.more, row)?;
         Ok(())
     }
 
@@ -83,15 +96,60 @@ impl<K: Keys> GrowingTable<K> {
     pub fn remove(&mut self, key: (u32, u32))
         ensures { self.new ≡ drop_row K.key_of key self.old }
     {
-        self.map.remove(&key);
+        let _ = self.few.as_slice();
+        self.few.remove(key);
+        self.more.remove(&key);
     }
 
     /// The table with these rows, which grows no more.
     pub fn into_table(self, alloc: Global) -> Result<Table<K>, NoMemory>
         ensures { IfOk result (λ table. table ≡ self) }
     {
-        Ok(Table::of_ascending(self.map.into_values().collect(alloc)?))
+        let GrowingTable { few, mut more } = self;
+        let _ = few.as_slice();
+        if more.is_empty() {
+            return Ok(few);
+        }
+        put_all_in_map::<K>(&mut more, few.into_vec())?;
+        table_of::<K>(alloc, more)
     }
+}
+
+// The rows of the map as a table.
+fn table_of<K: Keys>(alloc: Global, map: BTreeMap<(u32, u32), K::Row>) -> Result<Table<K>, NoMemory>
+    requires { Ascends K.key_of (rows_of map.entries) }
+    ensures { IfOk result (λ table. table ≡ rows_of map.entries) }
+{
+    Ok(Table::of_ascending(map.into_values().collect(alloc)?))
+}
+
+// The row at its place in the map, in place of one with the same key.
+fn put_in_map<K: Keys>(map: &mut BTreeMap<(u32, u32), K::Row>, row: K::Row) -> Result<(), NoMemory>
+    requires { Keyed K.key_of map.old.entries }
+    ensures rows { OnOk result (rows_of map.new.entries ≡ put_row K.key_of row (rows_of map.old.entries)) }
+    ensures keyed { OnOk result (Keyed K.key_of map.new.entries) }
+    ensures err { OnErr result (map.new.entries ≡ map.old.entries) }
+{
+    let key = K::key(&row);
+    map.insert(key, row)?;
+    Ok(())
+}
+
+// The rows at their places in the map, in place of those with the same keys.
+fn put_all_in_map<K: Keys>(
+    map: &mut BTreeMap<(u32, u32), K::Row>,
+    rows: Vec<K::Row>,
+) -> Result<(), NoMemory>
+    requires rows { Ascends K.key_of rows.items }
+    requires keyed { Keyed K.key_of map.old.entries }
+    requires ascends { Ascends K.key_of (rows_of map.old.entries) }
+    ensures rows { OnOk result (rows_of map.new.entries ≡ put_over K.key_of rows.items (rows_of map.old.entries)) }
+    ensures ascends { OnOk result (Ascends K.key_of (rows_of map.new.entries)) }
+{
+    for row in rows {
+        put_in_map::<K>(map, row)?;
+    }
+    Ok(())
 }
 
 /// Roles of nodes that grow: a role is put in a time that grows with the logarithm of their number.

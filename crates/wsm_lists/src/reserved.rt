@@ -1,5 +1,5 @@
 // Rows by number, in reserved room.
-ghost use Rattle.std.specs.Prelude.{◌≡◌, ◌+◌, ◌<◌, ◌≤◌, [], length, slice_get, vec_len, vec_capacity, OnOk, if◌then◌else◌};
+ghost use Rattle.std.specs.Prelude.{◌≡◌, ◌+◌, ◌<◌, ◌≤◌, [], length, slice_get, vec_len, vec_capacity, IfSome, OnOk, if◌then◌else◌};
 ghost use Rattle.std.specs.List.{insert};
 ghost use Rattle.std.specs.Option.{is_some, option_copied};
 ghost use Rattle.wsm_lists.specs.Keys.{first};
@@ -127,8 +127,31 @@ fn insert_row<T: Drop>(rows: &mut Vec<(u32, T)>, at: usize, row: (u32, T))
     }
 }
 
-// How many rows have a smaller number, by a binary search.
+// How many rows have a smaller number: told by the first row where numbers have no gaps before it, else by a binary search.
 fn place_of<T>(rows: &[(u32, T)], number: u32) -> usize
+    requires { Ascends first rows.now }
+    ensures { result ≡ rows_below first (number, 0) rows.now }
+{
+    match gapless_place(rows, number) {
+        Some(at) => at,
+        None => searched_place(rows, number),
+    }
+}
+
+// Where the row of that number stands if the numbers before it have no gaps. None if it does not stand there.
+fn gapless_place<T>(rows: &[(u32, T)], number: u32) -> Option<usize>
+    requires { Ascends first rows.now }
+    ensures { IfSome result (λ at. at ≡ rows_below first (number, 0) rows.now) }
+{
+    let least = rows.first()?.0;
+    let at = number.checked_sub(least)? as usize;
+    match row_at(rows, at) {
+        Some(row) => { if row.0 == number { Some(at) } else { None } }
+        None => None,
+    }
+}
+
+fn searched_place<T>(rows: &[(u32, T)], number: u32) -> usize
     requires { Ascends first rows.now }
     ensures { result ≡ rows_below first (number, 0) rows.now }
 {

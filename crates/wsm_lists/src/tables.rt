@@ -1,5 +1,5 @@
 // Tables: rows that ascend strictly by their keys.
-ghost use Rattle.std.specs.Prelude.{◌≡◌, ◌<◌, ℕ, ◌+◌, List, [], true, length, slice_get, filter, ◌==◌, not, OnErr, OnOk, IfOk, IsTrue, ◌↔◌, if◌then◌else◌};
+ghost use Rattle.std.specs.Prelude.{◌≡◌, ◌<◌, ℕ, ◌+◌, List, [], true, false, length, slice_get, filter, ◌==◌, not, OnErr, OnOk, IfOk, IsTrue, ◌↔◌, if◌then◌else◌};
 ghost use Rattle.std.specs.Option.{option_copied, is_some};
 ghost use Rattle.std.specs.Slice.Iter.{iter_rest};
 ghost use Rattle.wsm_lists.specs.Rows.{put_row, drop_row, row_at, rows_below, is_row_at, key_lt, key_eq, Ascends};
@@ -117,13 +117,22 @@ impl<K: Keys> Table<K> {
         ensures rows { IfOk result (λ added. self.new ≡ (if added then put_row K.key_of row self.old else self.old)) }
         ensures err { OnErr result (self.new ≡ self.old) }
     {
-        let key = K::key(&row);
-        if self.has(key) {
+        if self.has(K::key(&row)) {
             return Ok(false);
         }
-        let at = self.place(key);
-        self.rows.insert(at, row)?;
+        self.add(row)?;
         Ok(true)
+    }
+
+    // One more row at its place, where its key is not there.
+    fn add(&mut self, row: K::Row) -> Result<(), NoMemory>
+        requires { is_some (row_at K.key_of (K.key_of row) self.old) ≡ false }
+        ensures ok { OnOk result (self.new ≡ put_row K.key_of row self.old) }
+        ensures err { OnErr result (self.new ≡ self.old) }
+    {
+        let at = self.place(K::key(&row));
+        self.rows.insert(at, row)?;
+        Ok(())
     }
 
     // The row in place of the one with its key.
@@ -144,8 +153,7 @@ impl<K: Keys> Table<K> {
             self.replace(row);
             return Ok(());
         }
-        self.put(row)?;
-        Ok(())
+        self.add(row)
     }
 
     /// Without the row of that key.

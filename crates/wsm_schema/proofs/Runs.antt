@@ -5,11 +5,12 @@ use Rattle.std.specs.List.{filter, slice_range, position_from}
 use Rattle.std.specs.List.Sorted.{IsNonDecreasingBy, IsPartitionPoint, IsStableByKey, ties}
 use Rattle.std.specs.Ordering.{nat_cmp, is_lt}
 use Rattle.std.proofs.Math.Dec.{leb}
-use Rattle.std.proofs.lemmas.Bool.{cases_Bool, cases_order, eq-eqb, ne_eqb, eqb-true, eqb-false, ltb-true, ltb-false, lt-ltb, le-ltb, leb-true, leb-false}
+use Rattle.std.proofs.lemmas.Bool.{cases_Bool, cases_order, both_ways, and_parts, eq-eqb, ne_eqb, eqb-true, eqb-false, ltb-true, ltb-false, lt-ltb, le-ltb, leb-true, leb-false}
+use Rattle.std.proofs.lemmas.Option.{slice_get_within, get_or_from_slice_get, slice_get-get_or}
 use Rattle.wsm_schema.specs.Flat.{card_at}
 use Rattle.wsm_schema.specs.Trail.{is_one_of}
 use Rattle.wsm_schema.specs.Sound.{nodes_of}
-use Rattle.wsm_schema.specs.Groups.{rows_with, SameGroups, reversed, numbered, placed, IsStart, IsEnd}
+use Rattle.wsm_schema.specs.Groups.{has_number, starts_at, rows_with, SameGroups, reversed, numbered, placed, IsStart, IsEnd}
 use Rattle.wsm_schema.specs.declared.cards.Card.{Card}
 
 module _ {A : Type 0} (n : ℕ) where
@@ -92,6 +93,52 @@ module _ {A : Type 0} (n : ℕ) where
   -- what tests by booleans say of places
   pub start-from_tests : (xs : List (ℕ × A)) (i : ℕ) → IsPartitionPoint (λ (r : ℕ × A). ltb r.0 n ≡ true) (λ (r : ℕ × A). ltb r.0 n ≡ false) xs i → IsStart n xs i
   start-from_tests xs i p = ((λ k d a b. ltb-true _ n (p.0 k d a b)), (λ k d a b. ltb-false _ n (p.1 k d a b)))
+
+  row-there : (o : Option (ℕ × A)) → has_number n o ≡ true → (r : ℕ × A) × (o ≡ Some r) × (r.0 ≡ n)
+  row-there None h = absurd (cc)
+  row-there (Some r) h = (r, refl, eqb-true r.0 n h)
+
+  none-there : (o : Option (ℕ × A)) (r : ℕ × A) → not (has_number n o) ≡ true → o ≡ Some r → eqb r.0 n ≡ false
+  none-there o r h is = off (eqb r.0 n) (rw is at h)
+    where
+      off : (b : Bool) → not b ≡ true → b ≡ false
+      off true h = absurd (cc)
+      off false h = refl
+
+  from-row : (xs : List (ℕ × A)) (i : ℕ) (r : ℕ × A) → IsNonDecreasingBy (λ (r : ℕ × A). r.0) xs → slice_get xs i ≡ Some r → r.0 ≡ n → (k : ℕ) (d : ℕ × A) → i ≤ k → k < length xs → n ≤ (get_or xs k d).0
+  from-row xs i r order is same k d a b =
+      let up = order i k d a b in
+      let here = ap (λ (x : ℕ × A). x.0) (get_or_from_slice_get xs i r d is) in
+      omega (arith, up, here, same)
+
+  -- where a row has the number and the one before it has not, the rows of smaller numbers end
+  pub start-from_row : (xs : List (ℕ × A)) (i : ℕ) → IsNonDecreasingBy (λ (r : ℕ × A). r.0) xs → starts_at n xs i ≡ true → IsStart n xs i
+  start-from_row xs zero order here =
+      let row = row-there (slice_get xs 0) here in
+      ((λ k d a b. absurd (omega (arith, b))), from-row xs 0 row.0 order row.1 row.2)
+  start-from_row xs (suc i) order here =
+      let parts = and_parts _ _ here in
+      let row = row-there (slice_get xs (suc i)) parts.0 in
+      let within = slice_get_within xs (suc i) row.0 row.1 in
+      let before : (k : ℕ) (d : ℕ × A) → k < suc i → (get_or xs k d).0 < n =
+      λ k d lt.
+      let up = order k i d (omega (arith, lt)) (omega (arith, within)) in
+      let next = order i (suc i) d (omega arith) within in
+      let there = ap (λ (x : ℕ × A). x.0) (get_or_from_slice_get xs (suc i) row.0 d row.1) in
+      let other = eqb-false _ n (none-there (slice_get xs i) (get_or xs i d) parts.1 (slice_get-get_or xs i d (omega (arith, within)))) in
+      omega (arith, up, next, there, row.2, other)
+      in
+      ((λ k d a b. before k d b), from-row xs (suc i) row.0 order row.1 row.2)
+
+  pub place-within : (xs : List (ℕ × A)) (i : ℕ) → starts_at n xs i ≡ true → i ≤ length xs
+  place-within xs zero here = omega arith
+  place-within xs (suc i) here =
+      let row = row-there (slice_get xs (suc i)) (and_parts _ _ here).0 in
+      omega (arith, slice_get_within xs (suc i) row.0 row.1)
+
+  pub starts_behind : (xs : List (ℕ × A)) (i : ℕ) → (i ≡ 0 → ⊥) → starts_at n xs i ≡ (has_number n (slice_get xs i) && not (has_number n (slice_get xs (i - 1))))
+  starts_behind xs zero other = absurd (other refl)
+  starts_behind xs (suc i) other = ap (λ k. has_number n (slice_get xs (suc i)) && not (has_number n (slice_get xs k))) (omega arith)
 
   pub end-from_tests : (xs : List (ℕ × A)) (i : ℕ) → IsPartitionPoint (λ (r : ℕ × A). leb r.0 n ≡ true) (λ (r : ℕ × A). leb r.0 n ≡ false) xs i → IsEnd n xs i
   end-from_tests xs i p = ((λ k d a b. leb-true _ n (p.0 k d a b)), (λ k d a b. leb-false _ n (p.1 k d a b)))

@@ -1,5 +1,5 @@
 -- Rows grouped by their first number.
-use Rattle.std.specs.Prelude.{◌≡◌, ℕ, ◌+◌, ◌<◌, ◌≤◌, List, [], ◌∷◌, map, filter, ◌==◌}
+use Rattle.std.specs.Prelude.{◌≡◌, ℕ, Bool, not, ◌&&◌, ◌+◌, ◌<◌, ◌≤◌, List, [], ◌∷◌, Option, Some, None, map, filter, slice_get, ◌==◌}
 use Rattle.std.specs.List.Sorted.{IsPartitionPoint}
 use Rattle.wsm_schema.specs.declared.cards.Card.{Card}
 
@@ -31,3 +31,13 @@ IsStart {A} number = IsPartitionPoint (λ (r : ℕ × A). r.0 < number) (λ (r :
 
 abbrev pub IsEnd : {A : Type 0} → ℕ → List (ℕ × A) → ℕ → Type 0
 IsEnd {A} number = IsPartitionPoint (λ (r : ℕ × A). r.0 ≤ number) (λ (r : ℕ × A). number < r.0)
+
+-- whether a row has a number
+abbrev pub has_number : {A : Type 0} → ℕ → Option (ℕ × A) → Bool
+has_number number None = Bool.false
+has_number number (Some r) = r.0 == number
+
+-- whether the row at a place has the number, and the one before it has not
+abbrev pub starts_at : {A : Type 0} → ℕ → List (ℕ × A) → ℕ → Bool
+starts_at number rows ℕ.zero = has_number number (slice_get rows 0)
+starts_at number rows (ℕ.suc place) = has_number number (slice_get rows (ℕ.suc place)) && not (has_number number (slice_get rows place))

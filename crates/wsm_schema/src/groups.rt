@@ -1,8 +1,8 @@
 // Rows grouped by a number.
-ghost use Rattle.std.specs.Prelude.{◌≡◌, ◌≤◌, length, slice_get, IfOk};
+ghost use Rattle.std.specs.Prelude.{◌≡◌, ◌≤◌, length, slice_get, IfOk, IfSome};
 ghost use Rattle.std.specs.Option.{option_copied};
 ghost use Rattle.std.specs.List.Sorted.{IsNonDecreasingBy};
-ghost use Rattle.wsm_schema.specs.Groups.{rows_with, SameGroups, IsStart, IsEnd};
+ghost use Rattle.wsm_schema.specs.Groups.{has_number, rows_with, starts_at, SameGroups, IsStart, IsEnd};
 
 use std::marker::Model;
 use wsm_lists::NoMemory;
@@ -40,7 +40,7 @@ impl<T: Drop> Groups<T> {
         run_of(&self.rows, number)
     }
 
-    /// The first row of a number, by one binary search.
+    /// The first row of a number.
     pub fn first_with(&self, number: u32) -> Option<&(u32, T)>
         ensures { option_copied result ≡ slice_get (rows_with number self.now) 0 }
     {
@@ -77,8 +77,53 @@ fn row_at<T>(rows: &[(u32, T)], at: usize) -> Option<&(u32, T)>
     rows.get(at)
 }
 
-// Where the rows of smaller numbers end, by a binary search.
+// Where the rows of smaller numbers end: told by the first row where numbers have no gaps before it, else by a binary search.
 fn start_of<T>(rows: &[(u32, T)], number: u32) -> usize
+    requires { IsNonDecreasingBy (λ r. r.0) rows.now }
+    ensures bound { result ≤ length rows.now }
+    ensures place { IsStart number rows.now result }
+{
+    match gapless_start(rows, number) {
+        Some(at) => at,
+        None => searched_start(rows, number),
+    }
+}
+
+// Where the first row of that number stands if each number before it has one row. None if it does not stand there.
+fn gapless_start<T>(rows: &[(u32, T)], number: u32) -> Option<usize>
+    requires { IsNonDecreasingBy (λ r. r.0) rows.now }
+    ensures bound { IfSome result (λ at. at ≤ length rows.now) }
+    ensures place { IfSome result (IsStart number rows.now) }
+{
+    let least = rows.first()?.0;
+    let at = number.checked_sub(least)? as usize;
+    if starts_at(rows, number, at) {
+        Some(at)
+    } else {
+        None
+    }
+}
+
+// Whether the row at a place has the number, and the one before it has not.
+fn starts_at<T>(rows: &[(u32, T)], number: u32, at: usize) -> bool
+    ensures { result ≡ starts_at number rows.now at }
+{
+    if at == 0 {
+        return has_number(row_at(rows, 0), number);
+    }
+    has_number(row_at(rows, at), number) && !has_number(row_at(rows, at - 1), number)
+}
+
+fn has_number<T>(row: Option<&(u32, T)>, number: u32) -> bool
+    ensures { result ≡ has_number number (option_copied row.entry) }
+{
+    match row {
+        None => false,
+        Some(row) => row.0 == number,
+    }
+}
+
+fn searched_start<T>(rows: &[(u32, T)], number: u32) -> usize
     requires { IsNonDecreasingBy (λ r. r.0) rows.now }
     ensures bound { result ≤ length rows.now }
     ensures place { IsStart number rows.now result }

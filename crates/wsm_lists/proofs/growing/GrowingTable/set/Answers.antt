@@ -1,22 +1,28 @@
-use Rattle.std.proofs.Common.{◌≡◌, sym, ◌∙◌, ap, subst}
-use Rattle.std.specs.BTreeMap.{insert_entry}
-use Rattle.wsm_lists.specs.Rows.{put_row, Ascends}
+use Rattle.std.proofs.Common.{◌≡◌, sym, ◌∙◌, ap, subst, false}
+use Rattle.std.specs.Option.{is_some}
+use Rattle.wsm_lists.specs.PutOver.{put_over}
+use Rattle.wsm_lists.specs.Rows.{Ascends, put_row, row_at}
+use Rattle.wsm_lists.specs.Entries.{rows_of}
+use Rattle.wsm_lists.proofs.PutOver.{on-ok, over-put, put-under}
 use Rattle.wsm_lists.proofs.Rows.{ascends_put}
-use Rattle.wsm_lists.specs.Entries.{rows_of, Keyed}
-use Rattle.wsm_lists.proofs.Entries.{pair_cmp, put-entry, keyed-entry}
 use Rattle.wsm_lists.proofs.growing.GrowingTable.set.Goals as goal
+
+pub returns-then-len-lt-FEW_ROWS-clause-ok : goal.returns-then-len-lt-FEW_ROWS-clause-ok
+returns-then-len-lt-FEW_ROWS-clause-ok g c =
+    let key = g.K.Keys.key_of in
+    let rows = rows_of c.self.inside.more.entries in
+    on-ok c.set.result (λ is. ap (λ xs. put_over key xs rows) is ∙ over-put key c.args.row c.self.inside.few rows c.self.invariant.1 ∙ ap (put_row key c.args.row) c.self.view_is) c.set.ensures.ok
 
 pub invariant_of-self-2 : goal.invariant_of-self-2
 invariant_of-self-2 g c =
-    let is : c.insert.new.self.entries ≡ insert_entry pair_cmp c.self.inside.map.entries (g.K.Keys.key_of c.args.row) c.args.row =
-    c.in_ok-insert.ensures.entries ∙ ap (λ k. insert_entry pair_cmp c.self.inside.map.entries k c.args.row) c.key-key.ensures in (
-      subst (Keyed g.K.Keys.key_of) (sym is) (keyed-entry g.K.Keys.key_of c.args.row c.self.inside.map.entries c.self.invariant.0),
-      subst (Ascends g.K.Keys.key_of) (sym (ap rows_of is ∙ put-entry g.K.Keys.key_of c.args.row c.self.inside.map.entries c.self.invariant.0))
-          (ascends_put g.K.Keys.key_of c.args.row (rows_of c.self.inside.map.entries) c.self.invariant.1),
-    )
+    let key = g.K.Keys.key_of in
+    let e = c.in_ok-put_in_map.ensures in
+    (e.keyed, subst (Ascends key) (sym e.rows) (ascends_put key c.args.row (rows_of c.self.inside.more.entries) c.self.invariant.1))
 
 pub returns-clause-ok : goal.returns-clause-ok
 returns-clause-ok g c =
-    let is : c.insert.new.self.entries ≡ insert_entry pair_cmp c.self.inside.map.entries (g.K.Keys.key_of c.args.row) c.args.row =
-    c.in_ok-insert.ensures.entries ∙ ap (λ k. insert_entry pair_cmp c.self.inside.map.entries k c.args.row) c.key-key.ensures in
-    ap rows_of is ∙ put-entry g.K.Keys.key_of c.args.row c.self.inside.map.entries c.self.invariant.0 ∙ ap (put_row g.K.Keys.key_of c.args.row) c.self.view_is
+    let key = g.K.Keys.key_of in
+    let rows = rows_of c.self.inside.more.entries in
+    let absent : is_some (row_at key (key c.args.row) c.self.inside.few) ≡ false =
+    ap (λ k. is_some (row_at key k c.self.inside.few)) (sym c.key.ensures) ∙ sym c.has.ensures ∙ c.if-has.false in
+    ap (put_over key c.self.inside.few) c.in_ok-put_in_map.ensures.rows ∙ put-under key c.args.row c.self.inside.few rows c.self.invariant.1 absent ∙ ap (put_row key c.args.row) c.self.view_is

@@ -1,7 +1,7 @@
 use Rattle.std.proofs.Common.{rules, of_calls, ltb}
 use Rattle.std.proofs.lemmas.List.Sorted.{IsPartitionPoint-from_clause, IsPartitionedBy-ltb}
 use Rattle.wsm_schema.proofs.Runs.{start-from_tests}
-use Rattle.wsm_schema.proofs.groups.start_of.Goals as goal
+use Rattle.wsm_schema.proofs.groups.searched_start.Goals as goal
 
 pub returns-clause-place : goal.returns-clause-place
 returns-clause-place g c =

@@ -4,7 +4,7 @@ use Rattle.wsm_lists.specs.Keys.{first}
 use Rattle.wsm_lists.specs.Rows.{key_lt}
 use Rattle.wsm_lists.proofs.Rows.{ascends-partitioned, rows_below-point}
 use Rattle.wsm_lists.proofs.ByNumber.{lt_number}
-use Rattle.wsm_lists.proofs.reserved.place_of.Goals as goal
+use Rattle.wsm_lists.proofs.reserved.searched_place.Goals as goal
 
 pub returns : goal.returns
 returns g c =
