@@ -264,6 +264,15 @@ low-last (x ∷ y ∷ ys) last n s h less =
     let near : x.0 < y.0 = ltb-true x.0 y.0 (sym (lt_number x.0 y.0) ∙ s.0.0) in
     (omega (arith, near, rest.0), rest)
 
+-- the rows that are kept are all there
+pub kept-inside : {A : Type 0} (old : List (ℕ × A)) (cs : List (ℕ × Option A)) (rows : List (ℕ × A)) (kept left from : ℕ) → Merging old cs rows kept left from → kept ≤ length rows
+kept-inside old cs rows kept left from m = omega (arith, m.low, longer-put_all (puts_of cs) old, m.size)
+
+-- where the kept rows have a last one, some are kept
+pub some-kept : {A : Type 0} (rows : List (ℕ × A)) (kept last : ℕ) → last_number (take kept rows) ≡ Some last → 1 ≤ kept
+some-kept rows zero last there = let q : None ≡ Some last = there in absurd (cc)
+some-kept rows (suc kept) last there = omega arith
+
 module _ {A : Type 0} (old : List (ℕ × A)) (cs : List (ℕ × Option A)) (so : Ascends first old) (sc : Ascends first cs) (rows : List (ℕ × A)) (kept left from : ℕ) (m : Merging old cs rows kept left from) (some : 0 < left) (d : ℕ × Option A) (n : ℕ) where
   one_more : Merging old cs rows kept ((left - 1) + 1) from
   one_more = let e : left ≡ (left - 1) + 1 = omega (arith, some) in subst (λ l. Merging old cs rows kept l from) e m
@@ -306,21 +315,17 @@ module _ {A : Type 0} (old : List (ℕ × A)) (cs : List (ℕ × Option A)) (so 
       (merge-put old cs sc rows kept (left - 1) from n x d one_more here (low-last (take kept old) last n front-ascends (ap last_number (sym m.front) ∙ there) (omega (arith, le, apart)))).2
 
   module _ (last : ℕ) (there : last_number (take kept rows) ≡ Some last) (e : ℕ × A) where
-    some-kept : 0 < kept
-    some-kept = go kept there
-      where
-        go : (k : ℕ) → last_number (take k rows) ≡ Some last → 0 < k
-        go zero h = let q : None ≡ Some last = h in absurd (cc)
-        go (suc k) h = omega arith
+    kept-some : 1 ≤ kept
+    kept-some = some-kept rows kept last there
 
     one_kept : (kept - 1) + 1 ≡ kept
-    one_kept = omega (arith, some-kept)
+    one_kept = omega (arith, kept-some)
 
     both_more : Merging old cs rows ((kept - 1) + 1) ((left - 1) + 1) from
     both_more = subst (λ k. Merging old cs rows k ((left - 1) + 1) from) (sym one_kept) one_more
 
     long : kept - 1 < length rows
-    long = omega (arith, some-kept, m.low, longer-put_all (puts_of cs) old, m.size)
+    long = omega (arith, kept-some, kept-inside old cs rows kept left from m)
 
     last-is : (get_or rows (kept - 1) e).0 ≡ last
     last-is = ap or_zero (sym (last-taken rows (kept - 1) e long) ∙ ap (λ k. last_number (take k rows)) one_kept ∙ there)

@@ -1,9 +1,9 @@
 -- All that changes put, without what they drop, is what they make of the rows one after another.
-use Rattle.std.proofs.Common.{◌≡◌, ℕ, ◌+◌, ◌<◌, Bool, true, false, cond, not, eqb, List, [], ◌∷◌, ◌++◌, length, length-append, take, drop, get_or, filter, refl, ap, sym, ◌∙◌, inl, inr, arith, Option, Some, None}
+use Rattle.std.proofs.Common.{◌≡◌, ℕ, ◌+◌, ◌<◌, ◌≤◌, Bool, true, false, cond, not, eqb, List, [], ◌∷◌, ◌++◌, length, length-append, take, drop, get_or, filter, refl, ap, sym, ◌∙◌, inl, inr, arith, append_assoc, append-nil, Option, Some, None}
 use Rattle.std.specs.List.{list_any}
 use Rattle.std.specs.Option.{is_some}
 use Rattle.std.proofs.lemmas.Bool.{cases_Bool, both_ways, eqb-true, ne_eqb, ltb-true}
-use Rattle.std.proofs.lemmas.List.{drop_more, length-set, take_at}
+use Rattle.std.proofs.lemmas.List.{drop_all, drop_more, length-set, take-append-le, take_at}
 use Rattle.std.proofs.lemmas.List.Edits.{length-insert}
 use Rattle.wsm_lists.specs.ByNumber.{changed, item_after, item_at}
 use Rattle.wsm_lists.specs.Keys.{first}
@@ -164,6 +164,34 @@ module _ {A : Type 0} where
       ∙ sym (put_all-front c.0 c.1 (puts_of (drop (k + 1) cs)) rows)
       ∙ ap (λ d. put_all (puts_of (d ∷ drop (k + 1) cs)) rows) is
       ∙ ap (λ l. put_all (puts_of l) rows) (sym (drop_more cs k c inside))
+
+  -- one turn of a loop that puts behind the rows what changes put where there is no row
+  pub push-step : (old rows pushed : List (ℕ × A)) (cs : List (ℕ × Option A)) (k : ℕ) (c : ℕ × Option A) (count : ℕ) → k < length cs → c ≡ get_or cs k c → count ≤ length rows → take count rows ≡ old → pushed ≡ rows ++ absent_of (put_before c.0 c.1 []) (take count rows) →
+      (count ≤ length pushed) × (take count pushed ≡ old) × (pushed ++ absent_of (puts_of (drop (k + 1) cs)) old ≡ rows ++ absent_of (puts_of (drop k cs)) old)
+  push-step old rows pushed cs k c count inside is long front next =
+      let rest : List (ℕ × A) = absent_of (puts_of (drop (k + 1) cs)) old in
+      let one : List (ℕ × A) = absent_of (put_before c.0 c.1 []) old in
+      let new : pushed ≡ rows ++ one = next ∙ ap (λ l. rows ++ absent_of (put_before c.0 c.1 []) l) front in
+      let all : one ++ rest ≡ absent_of (puts_of (drop k cs)) old =
+      sym (absent_of-front c.0 c.1 (puts_of (drop (k + 1) cs)) old)
+      ∙ ap (λ d. absent_of (puts_of (d ∷ drop (k + 1) cs)) old) is
+      ∙ ap (λ l. absent_of (puts_of l) old) (sym (drop_more cs k c inside)) in (
+        omega (arith, long, ap length new, length-append rows one),
+        ap (take count) new ∙ take-append-le count rows one long ∙ front,
+        ap (λ l. l ++ rest) new ∙ append_assoc rows one rest ∙ ap (λ l. rows ++ l) all,
+      )
+
+  pub no-more : (old rows : List (ℕ × A)) (cs : List (ℕ × Option A)) (k : ℕ) → length cs ≤ k → rows ++ absent_of (puts_of (drop k cs)) old ≡ rows
+  no-more old rows cs k end = ap (λ l. rows ++ absent_of (puts_of l) old) (drop_all k cs end) ∙ append-nil rows
+
+  -- what was there, among rows with others behind them
+  pub pushed-front : (old more pushed : List (ℕ × A)) (count : ℕ) → count ≡ length old → pushed ≡ old ++ more → (count ≤ length pushed) × (take count pushed ≡ old)
+  pushed-front old more pushed count long next = (omega (arith, long, ap length next, length-append old more), ap (take count) next ∙ take_at old more count (sym long))
+
+  -- rows that are as many as they were have no others behind them
+  pub pushed-none : (old more pushed : List (ℕ × A)) → length pushed ≡ length old → pushed ≡ old ++ more → pushed ≡ old
+  pushed-none old [] pushed long next = next ∙ append-nil old
+  pushed-none old (y ∷ ys) pushed long next = absurd (omega (arith, long, ap length next, length-append old (y ∷ ys)))
 
   -- how long the rows are with those behind them for which there is no row
   pub pushed-size : (old pushed : List (ℕ × A)) (cs : List (ℕ × Option A)) (count : ℕ) → Ascends first old → Ascends first cs → count ≡ length old → pushed ≡ old ++ absent_of (puts_of cs) old →
