@@ -336,7 +336,7 @@ impl Live {
         ensures err { OnErr result (self.new ≡ self.old) }
     {
         let items = self.changed_items(alloc, Some(&entry), &changes)?;
-        self.trail.reserve_for(&entry)?;
+        self.trail.reserve(1)?;
         self.marks.reserve(changes.len())?;
         self.items.reserve(items.len())?;
         self.trail.push(entry);
@@ -459,7 +459,7 @@ impl Live {
         ensures err { OnErr result (self.new ≡ self.old) }
     {
         let items = self.changed_items(alloc, Some(&entry), &changes)?;
-        self.trail.reserve_for(&entry)?;
+        self.trail.reserve(1)?;
         self.marks.reserve(changes.len())?;
         self.items.reserve(items.len())?;
         self.trail.cut_from(first, body);

@@ -22,7 +22,7 @@ fn written(alloc: Global) -> Result<Trail, NoMemory> {
         reads: ReadValues::new(alloc),
     });
     let end = end(alloc)?;
-    trail.reserve_for(&end)?;
+    trail.reserve(1)?;
     trail.push(end);
     Ok(trail)
 }

@@ -5,10 +5,9 @@ mod fits;
 mod settling;
 mod spots;
 
-ghost use Rattle.std.specs.Prelude.{◌≡◌, IfOk, OnOk};
+ghost use Rattle.std.specs.Prelude.{◌≡◌, IfOk};
 ghost use Rattle.wsm_schema.specs.Rank.{IsRank};
 ghost use Rattle.wsm_schema.specs.Replay.{replay_of};
-ghost use Rattle.wsm_trail.specs.LastWrites.{noted_entry};
 ghost use Rattle.wsm_replay.specs.Answer.{answer};
 
 use crate::fits::applicable;
@@ -16,8 +15,8 @@ use crate::settling::{after, settled};
 pub use fits::fits_choice;
 pub use spots::spot_in;
 use std::alloc::Global;
-use wsm_schema::{Entry, Flat, Marking, NoMemory, Rank};
-use wsm_trail::{LastWrites, Trail, written_by};
+use wsm_schema::{Flat, Marking, NoMemory, Rank};
+use wsm_trail::{LastWrites, Trail};
 
 /// The marking after all entries, or the position of the first entry that is not applicable.
 #[derive(Drop)]
@@ -40,17 +39,7 @@ pub fn replay(alloc: Global, flat: &Flat, rank: &Rank, trail: &Trail) -> Result<
             });
         }
         table = after(alloc, flat, rank, &table, entry)?;
-        note(&mut before, *position, entry)?;
+        before.note_entry(*position, entry)?;
     }
     Ok(Replayed::Whole(table))
-}
-
-// The last writes after that entry.
-fn note(before: &mut LastWrites, position: u32, entry: &Entry) -> Result<(), NoMemory>
-    ensures { OnOk result (before.new.rows ≡ noted_entry before.old.rows (position, entry.now)) }
-{
-    let writes = written_by(entry);
-    before.reserve(writes.len())?;
-    before.note(position, writes);
-    Ok(())
 }

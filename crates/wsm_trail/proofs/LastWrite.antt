@@ -107,7 +107,7 @@ value_where_none d low high es h at = sym (value_below-noted d low high es h ∙
 
 -- ---- the values before an entry
 
-below-none : (d p low high : ℕ) (es : List (ℕ × Entry)) → p ≤ low → Rises low high es → value_below d p es ≡ None
+pub below-none : (d p low high : ℕ) (es : List (ℕ × Entry)) → p ≤ low → Rises low high es → value_below d p es ≡ None
 below-none d p low high [] le h = refl
 below-none d p low high (e ∷ es) le h =
     rw (below-none d p (e.0 + 1) high es (omega (arith, le, h.0)) h.1, le-ltb e.0 p (omega (arith, le, h.0))) refl
@@ -125,10 +125,10 @@ entry_at-append p (x ∷ xs) ys e h =
     ]
 
 -- the rows of the entries in front of a position tell the values before it
-pub value_before : (d p high : ℕ) (xs ys : List (ℕ × Entry)) → Rises 1 p xs → Rises p high ys → value_below d p (xs ++ ys) ≡ value_noted (xs ++ ys) (noted_entries xs) d
-value_before d p high xs ys front behind =
+pub value_before-from : (d low p high : ℕ) (xs ys : List (ℕ × Entry)) → Rises low p xs → Rises p high ys → value_below d p (xs ++ ys) ≡ value_noted (xs ++ ys) (noted_entries xs) d
+value_before-from d low p high xs ys front behind =
     below-append d p xs ys (below-none d p p high ys (omega arith) behind)
-    ∙ told (last_position d xs) (tells d 1 p xs front)
+    ∙ told (last_position d xs) (tells d low p xs front)
     ∙ ap (λ o. written_to d (entry_of (xs ++ ys) o)) (sym (item_at-entries d [] xs ∙ or_none (last_position d xs)))
   where
     or_none : (o : Option ℕ) → option_or o None ≡ o
@@ -139,9 +139,12 @@ value_before d p high xs ys front behind =
     there q v None at wrote = absurd (both_ways false refl (ap is_some wrote))
     there q v (Some e) at wrote = ap (written_to d) (entry_at-append q xs ys e at) ∙ wrote
 
-    told : (o : Option ℕ) → Tells d 1 p xs o → value_below d p xs ≡ written_to d (entry_of (xs ++ ys) o)
+    told : (o : Option ℕ) → Tells d low p xs o → value_below d p xs ≡ written_to d (entry_of (xs ++ ys) o)
     told None t = t
     told (Some q) t = t.2 ∙ sym (there q t.1 (entry_at q xs) refl t.3)
+
+pub value_before : (d p high : ℕ) (xs ys : List (ℕ × Entry)) → Rises 1 p xs → Rises p high ys → value_below d p (xs ++ ys) ≡ value_noted (xs ++ ys) (noted_entries xs) d
+value_before d p high xs ys front behind = value_before-from d 1 p high xs ys front behind
 
 -- ---- all values
 

@@ -2,3 +2,4 @@ pub mod Rising
 pub mod LastWrite
 pub mod Cutting
 pub mod Withdrawing
+pub mod LateNotes

@@ -1,9 +1,9 @@
--- The entry at a position, and what it wrote.
-use Rattle.std.specs.Prelude.{ℕ, List, Option, Some, None}
+-- The entry at a position, and what entries wrote.
+use Rattle.std.specs.Prelude.{ℕ, List, [], ◌∷◌, Option, Some, None}
 use Rattle.wsm_lists.specs.ByNumber.{item_at}
 use Rattle.wsm_lists.specs.Values.{value_in}
 use Rattle.wsm_lists.specs.declared.values.Value.{Value}
-use Rattle.wsm_schema.specs.Trail.{written_by}
+use Rattle.wsm_schema.specs.Trail.{later_or, written_by}
 use Rattle.wsm_schema.specs.declared.entries.Entry.{Entry}
 
 abbrev pub entry_at : ℕ → List (ℕ × Entry) → Option Entry
@@ -22,3 +22,8 @@ entry_of entries (Some position) = entry_at position entries
 -- the value of an element, where `rows` tell the position of its last write
 abbrev pub value_noted : List (ℕ × Entry) → List (ℕ × ℕ) → ℕ → Option Value
 value_noted entries rows element = written_to element (entry_of entries (item_at element rows))
+
+-- what entries wrote last to an element
+abbrev pub last_written : ℕ → List (ℕ × Entry) → Option Value
+last_written element [] = None
+last_written element (e ∷ es) = later_or (last_written element es) (value_in element (written_by e.1))

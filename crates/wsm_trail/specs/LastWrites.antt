@@ -1,5 +1,5 @@
 -- For each element that was written, the position of its last write, ascending by element.
-use Rattle.std.specs.Prelude.{ℕ, List, [], ◌∷◌, ◌++◌, Option, Some, None}
+use Rattle.std.specs.Prelude.{ℕ, List, [], ◌∷◌, ◌++◌, Option, Some, None, filter, nat_lt}
 use Rattle.std.specs.List.{fold}
 use Rattle.wsm_lists.specs.Keys.{first}
 use Rattle.wsm_lists.specs.Rows.{put_row}
@@ -23,6 +23,10 @@ noted_entry rows e = noted e.0 rows (written_by e.1)
 
 abbrev pub noted_entries : List (ℕ × Entry) → List (ℕ × ℕ)
 noted_entries entries = fold noted_entry [] entries
+
+-- the rows of the entries below a position
+abbrev pub noted_until : ℕ → List (ℕ × Entry) → List (ℕ × ℕ)
+noted_until position entries = noted_entries (filter (λ e. nat_lt e.0 position) entries)
 
 -- a write, where there is a value
 abbrev pub write_of : ℕ → Option Value → Written

@@ -3,11 +3,10 @@ use Rattle.std.specs.Prelude.{ℕ, ◌+◌, ◌≤◌, List, [], ◌∷◌}
 use Rattle.wsm_schema.specs.Trail.{TrailModel}
 use Rattle.wsm_schema.specs.declared.entries.Entry.{Entry}
 
--- how many entries, and how many writes in them, may come before memory is taken
+-- how many entries may come before memory is taken
 pub record TrailWithRoom : Type 0 where
   pub trail : TrailModel
   pub spare : ℕ
-  pub spare_writes : ℕ
 
 -- positions rise, from `low` on, and stay below `high`
 abbrev pub Rises : ℕ → ℕ → List (ℕ × Entry) → Type 0

@@ -1,16 +1,17 @@
 // Where each element was written last.
-ghost use Rattle.std.specs.Prelude.{◌≡◌, ◌+◌, ◌≤◌, ◌<◌, [], length, vec_len, vec_capacity, OnOk, IfOk};
+ghost use Rattle.std.specs.Prelude.{◌≡◌, ◌+◌, ◌≤◌, ◌<◌, [], length, vec_len, vec_capacity, OnOk, OnErr, IfOk};
 ghost use Rattle.std.specs.List.{insert};
 ghost use Rattle.std.specs.Option.{is_some};
 ghost use Rattle.wsm_lists.specs.Keys.{first};
 ghost use Rattle.wsm_lists.specs.Rows.{put_row, Ascends};
 ghost use Rattle.wsm_lists.specs.ByNumber.{item_at};
-ghost use Rattle.wsm_trail.specs.LastWrites.{noted};
+ghost use Rattle.wsm_trail.specs.LastWrites.{noted, noted_entry};
 
+use crate::entries::written_by;
 use crate::lookups::{find, place_of};
 use std::alloc::Global;
 use std::marker::Model;
-use wsm_schema::{NoMemory, Value};
+use wsm_schema::{Entry, NoMemory, Value};
 
 /// For each element that was written, the position of its last write, ascending by element.
 #[derive(Drop)]
@@ -65,17 +66,27 @@ impl LastWrites {
         })
     }
 
-    /// Room for so many more elements.
-    pub fn reserve(&mut self, more: usize) -> Result<(), NoMemory>
+    /// That entry stands at that position, which is behind all others.
+    pub fn note_entry(&mut self, position: u32, entry: &Entry) -> Result<(), NoMemory>
+        ensures ok { OnOk result (self.new.rows ≡ noted_entry self.old.rows (position, entry.now)) }
+        ensures err { OnErr result (self.new.rows ≡ self.old.rows) }
+    {
+        let writes = written_by(entry);
+        self.reserve(writes.len())?;
+        self.note(position, writes);
+        Ok(())
+    }
+
+    // Room for so many more elements.
+    fn reserve(&mut self, more: usize) -> Result<(), NoMemory>
         ensures same { self.new.rows ≡ self.old.rows }
         ensures room { OnOk result (more ≤ self.new.spare) }
-        ensures kept { self.old.spare ≤ self.new.spare }
     {
         self.rows.try_reserve(more)
     }
 
-    /// These were written at that position, which is behind all others. Takes no memory.
-    pub fn note(&mut self, position: u32, writes: &[(u32, Value)])
+    // These were written at that position, which is behind all others. Takes no memory.
+    fn note(&mut self, position: u32, writes: &[(u32, Value)])
         requires { length writes.now ≤ self.old.spare }
         ensures rows { self.new.rows ≡ noted position self.old.rows writes.now }
         ensures spare { self.old.spare ≤ self.new.spare + length writes.now }

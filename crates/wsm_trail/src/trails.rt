@@ -1,10 +1,10 @@
 // Trails.
-ghost use Rattle.std.specs.Prelude.{◌≡◌, ◌+◌, ◌<◌, ◌≤◌, ◌^◌, ℕ, [], ◌++◌, ◌↔◌, IsTrue, length, OnOk, IfOk, Some, None, if◌then◌else◌};
+ghost use Rattle.std.specs.Prelude.{◌≡◌, ◌+◌, ◌<◌, ◌≤◌, ◌^◌, ℕ, [], ◌++◌, ◌↔◌, IsTrue, length, OnOk, IfOk};
 ghost use Rattle.std.specs.Option.{option_copied};
 ghost use Rattle.wsm_lists.specs.Keys.{first};
 ghost use Rattle.wsm_lists.specs.Rows.{Ascends};
 ghost use Rattle.wsm_lists.specs.Values.{value_in};
-ghost use Rattle.wsm_schema.specs.Trail.{no_trail, pushed, value_below, cut_by, written_by};
+ghost use Rattle.wsm_schema.specs.Trail.{no_trail, pushed, value_below, cut_by};
 ghost use Rattle.wsm_trail.specs.Cuts.{StaysBelow};
 ghost use Rattle.wsm_trail.specs.EntryAt.{entry_at, written_to};
 ghost use Rattle.wsm_trail.specs.LastWrites.{noted_entries, values_at, write_of};
@@ -12,31 +12,35 @@ ghost use Rattle.wsm_trail.specs.TrailWithRoom.{Rises};
 ghost use Rattle.wsm_trail.specs.Withdrawn.{starts_of, withdrawn};
 
 use crate::cuts::cut_behind;
+use crate::entries::{copy_entries, last_written};
 use crate::last_writes::LastWrites;
+use crate::late::note_late;
 use crate::lookups::{find, place_of};
 use crate::withdrawals::start_place;
 use std::alloc::Global;
 use std::marker::Model;
 use wsm_schema::{Entry, NoMemory, Nodes, Value, Writes};
 
-/// Entries at rising positions from 1 on, and the position that comes next.
+/// Entries at rising positions from 1 on, and the position that comes next. The writes of the entries below position `noted`
+/// stand in `last_writes`.
 #[derive(Drop)]
 pub struct Trail {
     entries: Vec<(u32, Entry)>,
     next: u32,
     last_writes: LastWrites,
+    noted: u32,
 }
 
 impl Model for Trail {
-    ghost use Rattle.std.specs.Prelude.{◌≡◌, ◌-◌, vec_len, vec_capacity};
-    ghost use Rattle.wsm_trail.specs.LastWrites.{noted_entries};
+    ghost use Rattle.std.specs.Prelude.{◌≡◌, ◌≤◌, ◌-◌, vec_len, vec_capacity};
+    ghost use Rattle.wsm_trail.specs.LastWrites.{noted_until};
     ghost use Rattle.wsm_trail.specs.TrailWithRoom.{TrailWithRoom, Rises};
 
     ghost Value = { TrailWithRoom };
 
-    ghost view = { λ a. record { trail = record { entries = a.entries.items; next = a.next }; spare = vec_capacity a.entries - vec_len a.entries; spare_writes = a.last_writes.spare } };
+    ghost view = { λ a. record { trail = record { entries = a.entries.items; next = a.next }; spare = vec_capacity a.entries - vec_len a.entries } };
 
-    ghost invariant = { λ a. Rises 1 a.next a.entries.items × (a.last_writes.rows ≡ noted_entries a.entries.items) };
+    ghost invariant = { λ a. Rises 1 a.next a.entries.items × (a.noted ≤ a.next) × (a.last_writes.rows ≡ noted_until a.noted a.entries.items) };
 }
 
 impl Trail {
@@ -48,6 +52,7 @@ impl Trail {
             entries: Vec::new(alloc),
             next: 1,
             last_writes: LastWrites::new(alloc),
+            noted: 1,
         }
     }
 
@@ -88,13 +93,17 @@ impl Trail {
         find(&self.entries, position)
     }
 
-    /// The value of the element's last write, by two binary searches.
+    /// The value of the element's last write, by a look at the entries that were pushed last, and by three binary searches.
     pub fn value(&self, element: u32) -> Option<&Value>
         ensures { option_copied result ≡ value_below element self.now.trail.next self.now.trail.entries }
     {
-        match self.last_writes.position(element) {
-            Some(position) => self.written_at(position, element),
-            None => None,
+        let place = place_of(&self.entries, self.noted);
+        match last_written(&self.entries, place, element) {
+            Some(value) => Some(value),
+            None => match self.last_writes.position(element) {
+                Some(position) => self.written_at(position, element),
+                None => None,
+            },
         }
     }
 
@@ -114,18 +123,23 @@ impl Trail {
         ensures ascends { IfOk result (Ascends first) }
         ensures values { IfOk result (λ values. (element : ℕ) → value_in element values ≡ value_below element self.now.trail.next self.now.trail.entries) }
     {
+        let writes = self.last_writes(alloc)?;
         let mut values = Vec::new(alloc);
-        for row in self.last_writes.as_slice() {
+        for row in writes.as_slice() {
             put_write(alloc, &mut values, row.0, self.written_at(row.1, row.0))?;
         }
         Ok(Writes::from_vec(values))
     }
 
-    /// Where each element was written last.
-    pub fn last_writes(&self) -> &LastWrites
-        ensures { result.now.rows ≡ noted_entries self.now.trail.entries }
+    // For each element that was written, the position of its last write.
+    fn last_writes(&self, alloc: Global) -> Result<LastWrites, NoMemory>
+        ensures rows { IfOk result (λ writes. writes.rows ≡ noted_entries self.now.trail.entries) }
+        ensures rises { Rises 1 self.now.trail.next self.now.trail.entries }
     {
-        &self.last_writes
+        let mut writes = self.last_writes.copy(alloc)?;
+        let mut noted = self.noted;
+        note_late(&self.entries, self.next, &mut writes, &mut noted)?;
+        Ok(writes)
     }
 
     /// An equal trail, without further room.
@@ -136,50 +150,28 @@ impl Trail {
             entries: copy_entries(alloc, &self.entries)?,
             next: self.next,
             last_writes: self.last_writes.copy(alloc)?,
+            noted: self.noted,
         })
     }
 
-    /// Room for so many more entries.
+    /// Room for so many more entries. The writes of those that were pushed before are noted.
     pub fn reserve(&mut self, more: usize) -> Result<(), NoMemory>
         ensures same { self.new.trail ≡ self.old.trail }
         ensures room { OnOk result (more ≤ self.new.spare) }
         ensures kept { self.old.spare ≤ self.new.spare }
-        ensures kept_writes { self.new.spare_writes ≡ self.old.spare_writes }
     {
+        note_late(&self.entries, self.next, &mut self.last_writes, &mut self.noted)?;
         self.entries.try_reserve(more)
-    }
-
-    /// Room for so many more writes in entries to come.
-    pub fn reserve_writes(&mut self, more: usize) -> Result<(), NoMemory>
-        ensures same { self.new.trail ≡ self.old.trail }
-        ensures room { OnOk result (more ≤ self.new.spare_writes) }
-        ensures kept { self.new.spare ≡ self.old.spare }
-        ensures kept_writes { self.old.spare_writes ≤ self.new.spare_writes }
-    {
-        self.last_writes.reserve(more)
-    }
-
-    /// Room for this entry, the next one.
-    pub fn reserve_for(&mut self, entry: &Entry) -> Result<(), NoMemory>
-        ensures same { self.new.trail ≡ self.old.trail }
-        ensures room { OnOk result (0 < self.new.spare) }
-        ensures room_for_writes { OnOk result (length (written_by entry.now) ≤ self.new.spare_writes) }
-    {
-        self.reserve(1)?;
-        self.reserve_writes(written_by(entry).len())
     }
 
     /// One more entry, at the next position. Takes no memory.
     pub fn push(&mut self, entry: Entry)
         requires room { 0 < self.old.spare }
-        requires room_for_writes { length (written_by entry) ≤ self.old.spare_writes }
         requires position { self.old.trail.next + 1 < 2 ^ 32 }
         ensures trail { self.new.trail ≡ pushed entry self.old.trail }
         ensures spare { self.new.spare + 1 ≡ self.old.spare }
-        ensures spare_writes { self.old.spare_writes ≤ self.new.spare_writes + length (written_by entry) }
     {
         let position = self.next;
-        self.last_writes.note(position, written_by(&entry));
         self.entries.push_reserved((position, entry));
         self.next = position + 1;
     }
@@ -188,7 +180,6 @@ impl Trail {
     pub fn cut(&mut self, body: &Nodes)
         ensures trail { self.new.trail ≡ cut_by body.now self.old.trail }
         ensures spare { self.old.spare ≤ self.new.spare }
-        ensures spare_writes { self.new.spare_writes ≡ self.old.spare_writes }
     {
         self.cut_from(0, body);
     }
@@ -198,7 +189,6 @@ impl Trail {
         requires { StaysBelow position body.now self.old.trail.entries }
         ensures trail { self.new.trail ≡ cut_by body.now self.old.trail }
         ensures spare { self.old.spare ≤ self.new.spare }
-        ensures spare_writes { self.new.spare_writes ≡ self.old.spare_writes }
     {
         let alloc = *self.entries.allocator();
         let place = place_of(&self.entries, position);
@@ -210,7 +200,6 @@ impl Trail {
         requires one { length (starts_of node self.old.trail.entries) ≡ 1 }
         ensures trail { self.new.trail ≡ withdrawn node self.old.trail }
         ensures spare { self.old.spare ≤ self.new.spare }
-        ensures spare_writes { self.new.spare_writes ≡ self.old.spare_writes }
     {
         if let Some(place) = start_place(&self.entries, node) {
             self.entries.remove(place);
@@ -231,26 +220,4 @@ fn put_write(
         writes.push((element, value.copy(alloc)?))?;
     }
     Ok(())
-}
-
-/// What the entry wrote.
-pub fn written_by(entry: &Entry) -> &[(u32, Value)]
-    ensures { result.now ≡ written_by entry.now }
-{
-    match entry {
-        Entry::Start { .. } => &[],
-        Entry::End { writes, .. } => writes.as_slice(),
-        Entry::Again { writes, .. } => writes.as_slice(),
-        Entry::Wrote { writes } => writes.as_slice(),
-    }
-}
-
-fn copy_entries(alloc: Global, entries: &[(u32, Entry)]) -> Result<Vec<(u32, Entry)>, NoMemory>
-    ensures { IfOk result (λ new. new.items ≡ entries.now) }
-{
-    let mut copies = Vec::new(alloc);
-    for row in entries {
-        copies.push((row.0, row.1.copy(alloc)?))?;
-    }
-    Ok(copies)
 }

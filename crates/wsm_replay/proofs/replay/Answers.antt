@@ -59,7 +59,7 @@ loop-position-preserved c =
           ∙ c.loop-position.invariant.rest;
       marking = subst (IsMarking f.cards) (sym c.in_ok-table-2.ensures) (marking_of-twice f.cards net);
       before =
-          c.in_ok-note.ensures
+          c.in_ok-note_entry.ensures.ok
           ∙ ap (λ m. noted_entry m e) c.loop-position.invariant.before
           ∙ noted_next items i e (omega arith) c.loop-position-item.is;
     }

@@ -5,9 +5,10 @@ use Rattle.wsm_lists.specs.Rows.{Ascends, rows_below}
 use Rattle.wsm_schema.specs.Trail.{cut_by}
 use Rattle.wsm_schema.specs.declared.entries.Entry.{Entry}
 use Rattle.wsm_trail.specs.Cuts.{StaysBelow, cut_entries}
-use Rattle.wsm_trail.specs.LastWrites.{noted_entries}
+use Rattle.wsm_trail.specs.LastWrites.{noted_until}
 use Rattle.wsm_trail.specs.TrailWithRoom.{Rises, TrailWithRoom}
-use Rattle.wsm_trail.proofs.Cutting.{cut-above, noted_entries-cut, rises_cut}
+use Rattle.wsm_trail.proofs.Cutting.{cut-above, rises_cut}
+use Rattle.wsm_trail.proofs.LateNotes.{noted_until-cut}
 use Rattle.wsm_trail.proofs.Rising.{rises-ascends}
 use Rattle.wsm_trail.proofs.trails.Trail.cut_from.Goals as goal
 
@@ -38,7 +39,8 @@ invariant_of-self c =
     let kept = c.self.invariant in
     let left = sym (cut_list c) in (
       subst (Rises 1 c.self.inside.next) left (rises_cut c.args.body.now 1 c.self.inside.next es kept.0),
-      kept.1 ∙ sym (noted_entries-cut c.args.body.now es) ∙ ap noted_entries left,
+      kept.1,
+      kept.2 ∙ sym (noted_until-cut c.args.body.now c.self.inside.noted es) ∙ ap (noted_until c.self.inside.noted) left,
     )
 
 pub returns-clause-trail : goal.returns-clause-trail

@@ -1,10 +1,11 @@
 use Rattle.std.proofs.Common.{◌≡◌, ℕ, ◌+◌, ◌++◌, List, length, take, drop, Some, sym, ◌∙◌, ap, subst, rules}
 use Rattle.wsm_schema.specs.declared.entries.Entry.{Entry}
-use Rattle.wsm_trail.specs.LastWrites.{noted_entries}
+use Rattle.wsm_trail.specs.LastWrites.{noted_until}
 use Rattle.wsm_trail.specs.StartPlaces.{IsStartPlace}
 use Rattle.wsm_trail.specs.TrailWithRoom.{Rises, TrailWithRoom}
 use Rattle.wsm_trail.specs.Withdrawn.{starts_of, without_start, withdrawn}
-use Rattle.wsm_trail.proofs.Withdrawing.{noted_entries-left, place-left, rises-left}
+use Rattle.wsm_trail.proofs.LateNotes.{noted_until-left}
+use Rattle.wsm_trail.proofs.Withdrawing.{place-left, rises-left}
 use Rattle.wsm_trail.proofs.trails.Trail.drop_start.Goals as goal
 use Rattle.wsm_trail.proofs.trails.Trail.drop_start.Goals.{in-Start-1, in-End-1, in-Again-1, in-Wrote-1}
 
@@ -19,7 +20,8 @@ invariant_of-self c =
     let here = left c.args.self.now c.args.node c.in-Some.place es c.remove.new.self.items (ap (λ (k : TrailWithRoom). k.trail.entries) c.self.view_is) c.requires.one at c.remove.ensures.by_index.2 in
     let kept = c.self.invariant in (
       subst (Rises 1 c.self.inside.next) (sym here) (rises-left c.args.node 1 c.self.inside.next es kept.0),
-      kept.1 ∙ sym (noted_entries-left c.args.node es) ∙ ap noted_entries (sym here),
+      kept.1,
+      kept.2 ∙ sym (noted_until-left c.args.node c.self.inside.noted es) ∙ ap (noted_until c.self.inside.noted) (sym here),
     )
 
 pub returns-in-Some-clause-trail : goal.returns-in-Some-clause-trail
