@@ -6,3 +6,4 @@ pub mod Revised
 pub mod Signals
 pub mod Sources
 pub mod Timing
+pub mod Places

@@ -5,10 +5,10 @@ ghost use Rattle.wsm_walk.specs.RankPlaces.{AllWithin, Handed};
 ghost use Rattle.wsm_walk.specs.Targets.{leads_to};
 
 use crate::overlays::{Overlay, or_blank};
-use crate::pending::{Pending, hand_on};
+use crate::pending::hand_on;
+use crate::places::Pending;
 use crate::walks::walk;
 use std::alloc::Global;
-use std::collections::BTreeSet;
 use wsm_lists::{GrowingTable, NoMemory};
 use wsm_rules::{Changes, Mark, MarkReads};
 use wsm_schema::{Card, Flat, Rank};
@@ -55,9 +55,9 @@ fn behind(alloc: Global, flat: &Flat, rank: &Rank, node: u32) -> Result<Pending,
     ensures handed { IfOk result (λ pending. BehindNode flat.now rank.now node pending.keys) }
 {
     match flat.card(node) {
-        None => Ok(BTreeSet::new(alloc)),
+        None => Ok(Pending::new(alloc)),
         Some(card) => match rank.place(node) {
-            None => Ok(BTreeSet::new(alloc)),
+            None => Ok(Pending::new(alloc)),
             Some(place) => named_behind(alloc, rank, card, place),
         },
     }
@@ -67,7 +67,7 @@ fn behind(alloc: Global, flat: &Flat, rank: &Rank, node: u32) -> Result<Pending,
 fn named_behind(alloc: Global, rank: &Rank, card: &Card, place: usize) -> Result<Pending, NoMemory>
     ensures { IfOk result (λ pending. Handed rank.now (leads_to card.now) (place + 1) [] pending.keys) }
 {
-    let mut pending = BTreeSet::new(alloc);
+    let mut pending = Pending::new(alloc);
     hand_on(rank, card, Some(place), &mut pending)?;
     Ok(pending)
 }

@@ -1,4 +1,4 @@
-// The places in a rank that a walk still goes to.
+// How nodes become pending.
 ghost use Rattle.std.specs.Prelude.{◌≡◌, ◌==◌, ◌≤◌, ◌↔◌, IsTrue, OnOk};
 ghost use Rattle.std.specs.List.{list_any};
 ghost use Rattle.wsm_schema.specs.Trail.{is_one_of};
@@ -6,12 +6,9 @@ ghost use Rattle.wsm_settle.specs.Behind.{WasHanded, low_of};
 ghost use Rattle.wsm_walk.specs.RankPlaces.{Handed};
 ghost use Rattle.wsm_walk.specs.Targets.{leads_to};
 
-use std::collections::BTreeSet;
+use crate::places::Pending;
 use wsm_lists::NoMemory;
 use wsm_schema::{Card, End, Rank};
-
-/// Places in a rank, of which the least is visited first.
-pub type Pending = BTreeSet<usize>;
 
 /// The nodes to which edges lead from the card's node become pending, as far as they stand behind a place.
 pub fn hand_on(

@@ -6,9 +6,9 @@ ghost use Rattle.wsm_walk.specs.Walk.{freed};
 
 use crate::overlays::{Overlay, said};
 use crate::pending::hand_to;
+use crate::places::Pending;
 use crate::walks::walk;
 use std::alloc::Global;
-use std::collections::BTreeSet;
 use wsm_lists::{GrowingTable, NoMemory};
 use wsm_rules::{Changes, Mark, MarkReads};
 use wsm_schema::{Flat, Rank};
@@ -29,7 +29,7 @@ pub fn after_again<M: MarkReads>(
 {
     let body = flat.loop_body(alloc, node)?;
     let mut changes = all_freed(alloc, body.as_slice(), node, position)?;
-    let mut pending = BTreeSet::new(alloc);
+    let mut pending = Pending::new(alloc);
     hand_to(rank, body.as_slice(), None, &mut pending)?;
     walk(alloc, flat, rank, marks, &mut changes, &mut pending)?;
     changes.into_table(alloc)

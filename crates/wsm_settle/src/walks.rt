@@ -10,7 +10,8 @@ ghost use Rattle.wsm_walk.specs.Walk.{Walks, with_time};
 
 use crate::equations::equation;
 use crate::overlays::{Overlay, mark_at, said};
-use crate::pending::{Pending, hand_on};
+use crate::pending::hand_on;
+use crate::places::Pending;
 use crate::sources::{Timed, time_of};
 use std::alloc::Global;
 use wsm_lists::NoMemory;

@@ -1,9 +1,10 @@
-use Rattle.std.proofs.Common.{◌+◌, [], length, refl, ap, sym, ◌∙◌, BTreeSet, ℕ}
+use Rattle.std.proofs.Common.{◌+◌, [], length, refl, ap, sym, ◌∙◌}
 use Rattle.std.specs.Option.{option_copied}
 use Rattle.std.proofs.lemmas.Bool.{both_ways}
 use Rattle.wsm_walk.specs.RankPlaces.{AllWithin}
 use Rattle.wsm_walk.specs.Targets.{leads_to}
 use Rattle.wsm_settle.specs.Events.{BehindNode}
+use Rattle.wsm_settle.specs.Places.{Places}
 use Rattle.wsm_settle.proofs.Begins.{behind-named}
 use Rattle.wsm_settle.proofs.Handing.{handed-within, placed-at, position-none}
 use Rattle.wsm_settle.proofs.Results.{if_ok}
@@ -14,13 +15,13 @@ returns-in-None-place-clause-handed c = λ d found in_rank. absurd (both_ways _ 
 
 pub returns-in-Some-place-clause-within : goal.returns-in-Some-place-clause-within
 returns-in-Some-place-clause-within c =
-    if_ok _ (λ (pending : BTreeSet ℕ). AllWithin (length c.args.rank.now) pending.keys)
+    if_ok _ (λ (pending : Places). AllWithin (length c.args.rank.now) pending.keys)
     (λ pending handed. handed-within c.args.rank.now (c.in-Some-place.place + 1) (leads_to c.in-Some.card.now) [] pending.keys handed (λ q none. absurd (both_ways _ refl none)))
     c.named_behind.result c.named_behind.ensures
 
 pub returns-in-Some-place-clause-handed : goal.returns-in-Some-place-clause-handed
 returns-in-Some-place-clause-handed c =
-    if_ok _ (λ (pending : BTreeSet ℕ). BehindNode c.args.flat.now c.args.rank.now c.args.node pending.keys)
+    if_ok _ (λ (pending : Places). BehindNode c.args.flat.now c.args.rank.now c.args.node pending.keys)
     (λ pending handed.
     behind-named c.args.flat.now c.args.rank.now c.args.node c.in-Some.card.now (sym c.card.ensures ∙ ap option_copied c.in-Some.is) c.in-Some-place.place
     ((placed-at c.args.node c.args.rank.now c.in-Some-place.place (sym c.place.ensures ∙ c.in-Some-place.is)).1) pending.keys handed)

@@ -6,7 +6,7 @@ use Rattle.wsm_settle.proofs.pending.hand_to_node.Goals as goal
 
 pub returns-in_ok-insert-in-Some : goal.returns-in_ok-insert-in-Some
 returns-in_ok-insert-in-Some c = record {
-  handed = node-comes c.args.rank.now c.args.node (low_of c.args.from) c.args.pending.now.keys c.in-Some.place (sym c.place.ensures ∙ c.in-Some.is) (c.is_behind.ensures.0 c.if-is_behind.true) c.insert.new.self.keys c.in_ok-insert-in-Some.ensures.keys;
+  handed = node-comes c.args.rank.now c.args.node (low_of c.args.from) c.args.pending.now.keys c.in-Some.place (sym c.place.ensures ∙ c.in-Some.is) (c.is_behind.ensures.0 c.if-is_behind.true) c.insert.new.self.keys c.in_ok-insert-in-Some.ensures.ok;
 }
 
 pub returns-else-is_behind : goal.returns-else-is_behind
