@@ -160,7 +160,12 @@ impl Trail {
         ensures room { OnOk result (more ≤ self.new.spare) }
         ensures kept { self.old.spare ≤ self.new.spare }
     {
-        note_late(&self.entries, self.next, &mut self.last_writes, &mut self.noted)?;
+        note_late(
+            &self.entries,
+            self.next,
+            &mut self.last_writes,
+            &mut self.noted,
+        )?;
         self.entries.try_reserve(more)
     }
 
