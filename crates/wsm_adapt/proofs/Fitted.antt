@@ -29,20 +29,21 @@ module _ (a : FlatModel) (m : Marking) (es : Entries) (rises : RisesAfter 0 es) 
   abbrev Fit : ℕ × Entry → Type 0
   Fit e = fits a f m (λ d. value_below d e.0 es) e.0 e.1 ≡ true
 
-  pub start-fitted : (n p : ℕ) → f.started n ≡ Some p → (c : Card) × (card_at n a.cards ≡ Some c) × (worked_on c.kind ≡ true) × (reads_fit (reads_in (entry_at p es)) c.reads ≡ true)
+  pub start-fitted : (n p : ℕ) → f.started n ≡ Some p → (c : Card) × (card_at n a.cards ≡ Some c) × (worked_on c.kind ≡ true) × (is_yes (before p (m n)) ≡ true) × (reads_fit (reads_in (entry_at p es)) c.reads ≡ true)
   start-fitted n p h =
       let x = position-found (is_start_of n) es p h in
       let r = found-row Fit (is_start_of n) es (p, x.0) fit x.1 in
       go x.0 r.0 r.1 (found-entry (is_start_of n) 0 es (p, x.0) rises x.1)
     where
       go : (e : Entry) → fits a f m (λ d. value_below d p es) p e ≡ true → is_start_of n e ≡ true → entry_at p es ≡ Some e →
-          (c : Card) × (card_at n a.cards ≡ Some c) × (worked_on c.kind ≡ true) × (reads_fit (reads_in (entry_at p es)) c.reads ≡ true)
+          (c : Card) × (card_at n a.cards ≡ Some c) × (worked_on c.kind ≡ true) × (is_yes (before p (m n)) ≡ true) × (reads_fit (reads_in (entry_at p es)) c.reads ≡ true)
       go (entry.Start k user reads) fits_here it here =
           let o = on_card-true (card_at k a.cards) _ fits_here in
           let both = and_parts (worked_on o.0.kind && is_yes (before p (m k))) (fits_reads (λ d. value_below d p es) reads o.0.reads) o.2 in (
             o.0,
             ap (λ j. card_at j a.cards) (sym (eqb-true k n it)) ∙ o.1,
             (and_parts (worked_on o.0.kind) (is_yes (before p (m k))) both.0).0,
+            ap (λ j. is_yes (before p (m j))) (sym (eqb-true k n it)) ∙ (and_parts (worked_on o.0.kind) (is_yes (before p (m k))) both.0).1,
             ap (λ q. reads_fit (reads_in q) o.0.reads) here ∙ sym (reads-fit (λ d. value_below d p es) reads o.0.reads o.0.reads both.1) ∙ both.1,
           )
       go (entry.End k writes choice) fits_here it here = absurd (both_ways _ refl it)

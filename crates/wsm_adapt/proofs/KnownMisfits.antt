@@ -1,6 +1,6 @@
 -- What does not fit of a node is told by the marks that are known after the pass.
-use Rattle.std.proofs.Common.{◌≡◌, ℕ, Bool, true, false, ◌&&◌, eqb, List, [], ◌∷◌, refl, ap, sym, ◌∙◌, inl, inr, Option, Some, None}
-use Rattle.std.specs.Prelude.{if◌then◌else◌, is_some}
+use Rattle.std.proofs.Common.{◌≡◌, ℕ, true, false, ◌&&◌, eqb, List, [], ◌∷◌, refl, ap, sym, ◌∙◌, inl, inr, Option, Some, None}
+use Rattle.std.specs.Prelude.{if◌then◌else◌}
 use Rattle.std.proofs.lemmas.Bool.{cases_Bool, both_ways}
 use Rattle.wsm_lists.specs.ByNumber.{item_at}
 use Rattle.wsm_lists.specs.Rows.{AllRows}
@@ -22,27 +22,24 @@ use Rattle.wsm_marks.proofs.Cards.{on_card-same, same_card}
 use Rattle.wsm_marks.proofs.Causality.{solved_net}
 use Rattle.wsm_marks.proofs.FirstFailure.{fits-rows}
 use Rattle.wsm_marks.proofs.MarksOfTrails.{whole-fits}
-use Rattle.wsm_marks.proofs.RankInduction.{in_rank}
 use Rattle.wsm_marks.proofs.WholeTrails.{whole-orderly}
 use Rattle.wsm_walk.specs.FirstBad.{lesser}
 use Rattle.wsm_walk.specs.Kept.{timed_of}
-use Rattle.wsm_walk.specs.Listed.{said, seen}
+use Rattle.wsm_walk.specs.Listed.{seen}
 use Rattle.wsm_walk.specs.Walk.{untimed}
+use Rattle.wsm_walk.proofs.Goals.{trail-aim}
 use Rattle.wsm_walk.proofs.Kept.{timed_of-by}
-use Rattle.wsm_adapt.specs.Adapting.{Changes, IsRead}
+use Rattle.wsm_walk.proofs.Stands.{stands-end}
+use Rattle.wsm_adapt.specs.Adapting.{Changes}
 use Rattle.wsm_adapt.specs.Border.{is_known}
 use Rattle.wsm_adapt.specs.Misfits.{again_misfit, again_misfit_in, end_misfit, misfit_in, misfit_of, partner_in, start_misfit, unless}
-use Rattle.wsm_adapt.specs.Region.{is_inside, is_reached}
-use Rattle.wsm_adapt.specs.Revision.{revise_all}
+use Rattle.wsm_adapt.specs.Walking.{IsAsKept, Standing}
+use Rattle.wsm_adapt.specs.declared.walks.Found.{Found}
+use Rattle.wsm_adapt.proofs.Filtered.{known-row}
 use Rattle.wsm_adapt.proofs.Fitted.{again-fitted}
-use Rattle.wsm_adapt.proofs.NewMarks.{apart, carded, found, gone-facts, nodes}
-use Rattle.wsm_adapt.proofs.OldMarks.{goal, inside-reached, kept, m1, m2, region, same-time}
+use Rattle.wsm_adapt.proofs.OldMarks.{goal, kept, m1, m2, old-facts, same-time}
 use Rattle.wsm_adapt.proofs.Partners.{end-of_start, start-of_end}
-use Rattle.wsm_adapt.proofs.RevisedMarks.{Halfway, seen-as, seen-row}
-
-and_false : (b : Bool) → (b && false) ≡ false
-and_false true = refl
-and_false false = refl
+use Rattle.wsm_adapt.proofs.Visiting.{shown}
 
 -- writes to elements of the same kinds fit alike
 pub kinds-fit : (elements1 elements2 : List (ℕ × ElementKind)) (ws : Written) (ds : List ℕ) → AllRows (λ d. kind_in d elements1 ≡ kind_in d elements2) ds → fits_edges elements1 ws ds ≡ fits_edges elements2 ws ds
@@ -62,9 +59,6 @@ module _ (before_ after : SchemaModel) (rank touched : List ℕ) (es : Entries) 
   abbrev f : Facts
   f = facts_of es
 
-  abbrev In : ℕ → Bool
-  In n = is_inside (cards_of after) rank touched n
-
   abbrev M1 : ℕ → Timed
   M1 = m1 before_ after rank touched es ch
 
@@ -79,43 +73,41 @@ module _ (before_ after : SchemaModel) (rank touched : List ℕ) (es : Entries) 
       fits-rows (flat_of before_) f M1 (λ d p. value_below d p es) es
       (whole-fits (flat_of before_) ch.rank_before es M1 (solved_net (cards_of before_) ch.rank_before ch.ranked_before f) (whole-orderly (flat_of before_) es ch.marking ch.rises ch.replays) ch.marking ch.replays)
 
-  module _ (gone : List ℕ) (start : List (ℕ × Option Mark)) (read : IsRead (cards_of after) (kept before_ after rank touched es ch) (nodes before_ after rank touched es ch) gone start) where
+  module _ (found : Found) (st : Standing (cards_of after) rank (goal before_ after rank touched es ch) (kept before_ after rank touched es ch) touched [] found) where
     abbrev last : List (ℕ × Option Mark)
-    last = revise_all (cards_of after) (nodes before_ after rank touched es ch) start
+    last = found.known
 
-    half : Halfway In Goal start rank last
-    half = found before_ after rank touched es ch gone start read
+    -- each node of the schema is seen with its new mark
+    pub all-new : (n : ℕ) (c : Card) → card_at n (cards_of after) ≡ Some c → seen (kept before_ after rank touched es ch) found.changes n ≡ Goal n
+    all-new = stands-end (cards_of after) rank Goal (trail-aim after ch.regular_after rank ch.ranked_after es) (kept before_ after rank touched es ch) found.changes st.stands
 
-    pub row-new : (n : ℕ) → In n ≡ true → item_at n last ≡ Some (said (Goal n))
-    row-new n it = let has = carded before_ after rank touched es ch n it in half.done n it (in_rank (cards_of after) rank ch.ranked_after n has.0 has.1)
+    -- so what is known of it is new
+    pub known-new : (n : ℕ) (c : Card) → card_at n (cards_of after) ≡ Some c → is_known last n ≡ true → seen [] last n ≡ Goal n
+    known-new n c at known = let row = known-row (item_at n last) known in shown last n row.0 row.1 ∙ st.known n row.0 row.1 ∙ all-new n c at
 
-    pub seen-new : (n : ℕ) → In n ≡ true → seen [] last n ≡ Goal n
-    seen-new n it = seen-row last n (Goal n) (row-new n it)
+    -- a node that has the mark that it had has the time that it had
+    pub kept-time : (n : ℕ) (c d : Card) → card_at n (cards_of before_) ≡ Some c → card_at n (cards_of after) ≡ Some d → IsAsKept (kept before_ after rank touched es ch) found.changes n → M1 n ≡ M2 n
+    kept-time n c d was at same = same-time before_ after rank touched es ch n c d was at (sym (all-new n d at) ∙ same)
 
-    -- what is known of nodes of the schema is new
-    known-new : (n : ℕ) (c : Card) → card_at n (cards_of after) ≡ Some c → is_known last n ≡ true → seen [] last n ≡ Goal n
-    known-new n c at known =
-        elim (cases_Bool (In n)) [
-          | inl it ↦ seen-new n it
-          | inr out ↦
-              let same : item_at n last ≡ item_at n start = half.left n (inl out) in
-              seen-as last start n same ∙ apart before_ after rank touched es ch gone start read n c at out (ap is_some (sym same) ∙ known)
-        ]
+    not-known : (n : ℕ) → is_known last n ≡ false → (is_one_of n touched ≡ false) × (is_one_of n found.nodes ≡ false)
+    not-known n unknown = (
+      elim (cases_Bool (is_one_of n touched)) [ inl it ↦ absurd (both_ways _ unknown (st.asked n it)) | inr other ↦ other ],
+      elim (cases_Bool (is_one_of n found.nodes)) [ inl it ↦ absurd (both_ways _ unknown (st.visited n it)) | inr other ↦ other ],
+    )
 
     -- a partner that is not known is as it was
     unknown-partner : (n p k : ℕ) (c : Card) → card_at n (cards_of after) ≡ Some c → position_of (is_again_of n) es ≡ Some p → is_loop_end c.kind ≡ true → c.partner ≡ Some k → is_known last k ≡ false →
         partner_done (cards_of after) f M2 p (Some k) ≡ true
     unknown-partner n p k c at again ends partner unknown =
+        let away = not-known k unknown in
         let d = start-of_end after ch.regular_after n k c at ends partner in
-        let out : In k ≡ false = elim (cases_Bool (In k)) [ inl it ↦ absurd (both_ways _ unknown (ap is_some (row-new k it))) | inr other ↦ other ] in
-        let away : is_reached (cards_of after) rank touched k ≡ false = sym (inside-reached before_ after rank touched es ch k d.0 d.1) ∙ out in
-        let card = (region before_ after rank touched es ch).cards k away in
+        let card = (ch.untouched k away.0).card in
         let e = end-of_start before_ ch.regular_before n k d.0 (card ∙ d.1) d.2 d.3 in
         let was = again-fitted (flat_of before_) M1 es ch.rises fit n p again in
         let one : was.0.partner ≡ Some k = ap (λ (x : Card). x.partner) (same_card (cards_of before_) n was.0 e.0 was.1 e.1) ∙ e.3 in
         let done : partner_done (cards_of before_) f M1 p (Some k) ≡ true = ap (partner_done (cards_of before_) f M1 p) (sym one) ∙ was.3 in
         ap (λ o. on_card o (λ (x : Card). if worked_on x.kind then early p (f.ended k) else is_yes (before p (M2 k)))) (sym card)
-        ∙ ap (λ y. on_card (card_at k (cards_of before_)) (λ (x : Card). if worked_on x.kind then early p (f.ended k) else is_yes (before p y))) (sym (same-time before_ after rank touched es ch k d.0 d.1 away))
+        ∙ ap (λ y. on_card (card_at k (cards_of before_)) (λ (x : Card). if worked_on x.kind then early p (f.ended k) else is_yes (before p y))) (sym (kept-time k d.0 d.0 (card ∙ d.1) d.1 (st.others k away.1)))
         ∙ done
 
     partner-known : (n p : ℕ) (c : Card) → card_at n (cards_of after) ≡ Some c → position_of (is_again_of n) es ≡ Some p → is_loop_end c.kind ≡ true →
@@ -149,19 +141,19 @@ module _ (before_ after : SchemaModel) (rank touched : List ℕ) (es : Entries) 
         lesser (start_misfit es (card_at n (cards_of after)) (timed_of m) m.started)
         (lesser (end_misfit (flat_of before_) (flat_of after) (card_at n (cards_of before_)) (card_at n (cards_of after)) m.ended m.choice) (again_misfit_in (cards_of after) last (card_at n (cards_of after)) m.again))
 
-    -- of a node of the region
-    pub inside-misfit : (n : ℕ) → In n ≡ true → misfit_in (flat_of before_) (flat_of after) last es n ≡ misfit_of (flat_of before_) (flat_of after) f M2 es n
-    inside-misfit n it =
-        ap (all_of n) (seen-new n it)
+    -- of a node that is known
+    pub known-misfit : (n : ℕ) (c : Card) → card_at n (cards_of after) ≡ Some c → is_known last n ≡ true → misfit_in (flat_of before_) (flat_of after) last es n ≡ misfit_of (flat_of before_) (flat_of after) f M2 es n
+    known-misfit n c at known =
+        ap (all_of n) (known-new n c at known)
         ∙ ap (λ x. lesser (start_misfit es (card_at n (cards_of after)) x (f.started n)) (lesser (end_misfit (flat_of before_) (flat_of after) (card_at n (cards_of before_)) (card_at n (cards_of after)) (f.ended n) (f.choice n))
         (again_misfit_in (cards_of after) last (card_at n (cards_of after)) (position_of (is_again_of n) es)))) (timed_of-by M2 es n)
         ∙ ap (λ x. lesser (start_misfit es (card_at n (cards_of after)) (M2 n) (f.started n)) (lesser (end_misfit (flat_of before_) (flat_of after) (card_at n (cards_of before_)) (card_at n (cards_of after)) (f.ended n) (f.choice n)) x)) (again-same n)
 
     -- and of one that is gone
-    pub gone-misfit : (n : ℕ) → is_one_of n gone ≡ true → card_at n (cards_of after) ≡ None → misfit_in (flat_of before_) (flat_of after) last es n ≡ misfit_of (flat_of before_) (flat_of after) f M2 es n
-    gone-misfit n lost none =
-        let out : In n ≡ false = ap (λ o. is_reached (cards_of after) rank touched n && is_some o) none ∙ and_false (is_reached (cards_of after) rank touched n) in
-        let facts : untimed (seen [] last n) ≡ untimed (Goal n) = ap untimed (seen-as last start n (half.left n (inl out))) ∙ gone-facts before_ after rank touched es ch gone start read n lost in
+    pub gone-misfit : (n : ℕ) → is_one_of n touched ≡ true → is_one_of n found.nodes ≡ false → card_at n (cards_of after) ≡ None → misfit_in (flat_of before_) (flat_of after) last es n ≡ misfit_of (flat_of before_) (flat_of after) f M2 es n
+    gone-misfit n seed away none =
+        let row = known-row (item_at n last) (st.asked n seed) in
+        let facts : untimed (seen [] last n) ≡ untimed (Goal n) = ap untimed (shown last n row.0 row.1 ∙ st.known n row.0 row.1 ∙ st.others n away) ∙ old-facts before_ after rank touched es ch n in
         ap (λ (m : Mark). lesser (start_misfit es (card_at n (cards_of after)) (timed_of (seen [] last n)) m.started)
         (lesser (end_misfit (flat_of before_) (flat_of after) (card_at n (cards_of before_)) (card_at n (cards_of after)) m.ended m.choice) (again_misfit_in (cards_of after) last (card_at n (cards_of after)) m.again))) facts
         ∙ ap (λ x. lesser x (lesser (end_misfit (flat_of before_) (flat_of after) (card_at n (cards_of before_)) (card_at n (cards_of after)) (f.ended n) (f.choice n))

@@ -1,51 +1,30 @@
--- What the kept marks tell of the new ones: the facts of each node, and outside of the region all.
-use Rattle.std.proofs.Common.{◌≡◌, ℕ, Bool, true, false, ◌&&◌, List, refl, ap, sym, ◌∙◌, inl, inr, Option, Some, None}
-use Rattle.std.specs.Prelude.{is_some}
-use Rattle.std.proofs.lemmas.Bool.{cases_Bool, both_ways}
+-- What the kept marks tell of the new ones: the facts of each node; and from them a walk may begin.
+use Rattle.std.proofs.Common.{◌≡◌, ℕ, false, List, refl, ap, sym, ◌∙◌, subst, Option, Some, None}
 use Rattle.wsm_lists.specs.ByNumber.{item_at}
+use Rattle.wsm_lists.proofs.Lists.{all-rows-map}
 use Rattle.wsm_schema.specs.Flat.{card_at, cards_of, flat_of}
-use Rattle.wsm_schema.specs.Marks.{Facts, facts_of, is_again_of, list_marks, marks_of, position_of}
+use Rattle.wsm_schema.specs.Marks.{facts_of, list_marks, marks_of}
 use Rattle.wsm_schema.specs.SchemaModel.{SchemaModel}
 use Rattle.wsm_schema.specs.Trail.{is_one_of}
 use Rattle.wsm_schema.specs.declared.cards.Card.{Card}
 use Rattle.wsm_schema.specs.declared.marks.Mark.{Mark}
-use Rattle.wsm_schema.specs.declared.states.Flow.TheVariants.{No, Yes}
-use Rattle.wsm_marks.specs.MarkBy.{mark_by, since}
-use Rattle.wsm_marks.specs.Regions.{Closed, Region}
 use Rattle.wsm_marks.specs.Solving.{solution}
-use Rattle.wsm_marks.specs.Timed.{Entries, Marking, Timed}
+use Rattle.wsm_marks.specs.Timed.{Entries, Marking, sig_at, sig_by}
 use Rattle.wsm_marks.proofs.MarksOfTrails.{whole-marks}
-use Rattle.wsm_marks.proofs.Remark.{closed-bordered, remark}
-use Rattle.wsm_marks.proofs.Solutions.{solution-solves}
+use Rattle.wsm_marks.proofs.Solutions.{eq_of-same, solution-solves}
+use Rattle.wsm_marks.proofs.Sources.{sources-have_cards}
 use Rattle.wsm_walk.specs.Current.{mark_now}
-use Rattle.wsm_walk.specs.Kept.{mark_or}
+use Rattle.wsm_walk.specs.Kept.{mark_or, timed_of}
 use Rattle.wsm_walk.specs.Listed.{listed}
-use Rattle.wsm_walk.specs.Walk.{untimed}
-use Rattle.wsm_walk.proofs.Kept.{listed-read}
+use Rattle.wsm_walk.specs.Walk.{facts_by, times_by, untimed, with_time}
+use Rattle.wsm_walk.proofs.Goals.{trail-aim}
+use Rattle.wsm_walk.proofs.Kept.{listed-read, timed_of-by}
 use Rattle.wsm_walk.proofs.Listed.{listed-item}
-use Rattle.wsm_walk.proofs.Reached.{reached-keeps}
-use Rattle.wsm_walk.proofs.Regions.{region-of}
 use Rattle.wsm_walk.proofs.Told.{untold}
 use Rattle.wsm_adapt.specs.Adapting.{Changes}
-use Rattle.wsm_adapt.specs.Region.{is_inside, is_reached}
-
-and_some : (b : Bool) (o : Option Card) (c : Card) → o ≡ Some c → (b && is_some o) ≡ b
-and_some true o c at = ap is_some at
-and_some false o c at = refl
-
--- a mark goes by its node's time, beside what the trail tells
-pub mark-same : (m m' : Marking) (es : Entries) (n : ℕ) → m n ≡ m' n → mark_by m es n ≡ mark_by m' es n
-mark-same m m' es n same =
-    let f : Facts = facts_of es in
-    ap (λ (x : Timed). record { ready_at = since Yes x; skipped_at = since No x; started = f.started n; ended = f.ended n; choice = f.choice n; again = position_of (is_again_of n) es }) same
+use Rattle.wsm_adapt.specs.Begun.{Begins}
 
 module _ (before after : SchemaModel) (rank touched : List ℕ) (es : Entries) (ch : Changes before after rank touched es) where
-  abbrev pub Inside : ℕ → Bool
-  Inside n = is_inside (cards_of after) rank touched n
-
-  abbrev pub Reached : ℕ → Bool
-  Reached n = is_reached (cards_of after) rank touched n
-
   abbrev pub kept : List (ℕ × Mark)
   kept = marks_of (flat_of before) es
 
@@ -57,26 +36,6 @@ module _ (before after : SchemaModel) (rank touched : List ℕ) (es : Entries) (
 
   abbrev pub m2 : Marking
   m2 = solution (cards_of after) rank (facts_of es)
-
-  -- a node of the schema is inside where it is reached
-  pub inside-reached : (n : ℕ) (c : Card) → card_at n (cards_of after) ≡ Some c → Inside n ≡ Reached n
-  inside-reached n c at = and_some (Reached n) (card_at n (cards_of after)) c at
-
-  pub not_touched : (n : ℕ) → Reached n ≡ false → is_one_of n touched ≡ false
-  not_touched n out = elim (cases_Bool (is_one_of n touched)) [ inl it ↦ absurd (both_ways _ out (reached-keeps (cards_of after) rank touched n it)) | inr other ↦ other ]
-
-  pub region : Region (flat_of before) (flat_of after) Reached
-  region = region-of before after ch.regular_after rank ch.ranked_after touched ch.untouched
-
-  closed : Closed (cards_of before) (facts_of es) (cards_of after) (facts_of es) Reached
-  closed = record { cards = region.cards; ended = λ n out. refl; choice = λ n out. refl; ins = region.ins; syncs = region.syncs }
-
-  -- outside the times are as they were
-  pub same-time : (n : ℕ) (c : Card) → card_at n (cards_of after) ≡ Some c → Reached n ≡ false → m1 n ≡ m2 n
-  same-time n c at out =
-      remark (cards_of before) (facts_of es) m1 (cards_of after) (facts_of es) m2 Reached rank ch.ranked_after
-      (closed-bordered (cards_of before) (facts_of es) m1 (cards_of after) (facts_of es) m2 Reached closed)
-      (solution-solves (cards_of before) ch.rank_before ch.ranked_before (facts_of es)) (solution-solves (cards_of after) rank ch.ranked_after (facts_of es)) n c at out
 
   pub kept-listed : kept ≡ list_marks (mark_now before ch.rank_before es) (cards_of before)
   kept-listed = whole-marks (flat_of before) ch.rank_before ch.ranked_before es ch.marking ch.rises ch.replays
@@ -97,8 +56,45 @@ module _ (before after : SchemaModel) (rank touched : List ℕ) (es : Entries) (
           none-listed : card_at n (cards_of before) ≡ None → listed (card_at n (cards_of before)) (mark_now before ch.rank_before es n) ≡ None
           none-listed at = rw at refl
 
-  -- outside the region they are the new ones
-  pub old-apart : (n : ℕ) (c : Card) → card_at n (cards_of after) ≡ Some c → Inside n ≡ false → mark_or (item_at n kept) ≡ goal n
-  old-apart n c at out =
-      let away : Reached n ≡ false = sym (inside-reached n c at) ∙ out in
-      old-read n c (region.cards n away ∙ at) ∙ mark-same m1 m2 es n (same-time n c at away)
+  -- a node that has its old mark has its old time
+  pub same-time : (n : ℕ) (c d : Card) → card_at n (cards_of before) ≡ Some c → card_at n (cards_of after) ≡ Some d → goal n ≡ mark_or (item_at n kept) → m1 n ≡ m2 n
+  same-time n c d was at same = sym (timed_of-by m1 es n) ∙ ap timed_of (sym (same ∙ old-read n c was)) ∙ timed_of-by m2 es n
+
+  abbrev K : ℕ → Mark
+  K n = mark_or (item_at n kept)
+
+  -- an edge from a node that is not touched signals over them what it did
+  old-signal : (label : Option ℕ) (n : ℕ) → is_one_of n touched ≡ false → sig_at (cards_of before) (facts_of es) m1 label n ≡ sig_at (cards_of after) (facts_by K) (times_by K) label n
+  old-signal label n out =
+      ap (λ o. sig_by o (m1 n) ((facts_of es).ended n) ((facts_of es).choice n) label) (ch.untouched n out).card
+      ∙ go (card_at n (cards_of after)) refl
+    where
+      go : (o : Option Card) → card_at n (cards_of after) ≡ o → sig_by o (m1 n) ((facts_of es).ended n) ((facts_of es).choice n) label ≡ sig_by o (timed_of (K n)) (K n).ended (K n).choice label
+      go None at = refl
+      go (Some d) at =
+          ap (λ x. sig_by (Some d) x ((facts_of es).ended n) ((facts_of es).choice n) label) (sym (timed_of-by m1 es n))
+          ∙ ap (λ (m : Mark). sig_by (Some d) (timed_of m) m.ended m.choice label) (sym (old-read n d ((ch.untouched n out).card ∙ at)))
+
+  old-times : (n : ℕ) → K n ≡ with_time (timed_of (K n)) (K n)
+  old-times n = go (card_at n (cards_of before)) refl
+    where
+      none-kept : card_at n (cards_of before) ≡ None → item_at n kept ≡ None
+      none-kept at = ap (item_at n) kept-listed ∙ listed-item (mark_now before ch.rank_before es) n (cards_of before) ∙ ap (λ o. listed o (mark_now before ch.rank_before es n)) at
+
+      go : (o : Option Card) → card_at n (cards_of before) ≡ o → K n ≡ with_time (timed_of (K n)) (K n)
+      go (Some c) at = subst (λ m. m ≡ with_time (timed_of m) m) (sym (old-read n c at)) ((trail-aim before ch.regular_before ch.rank_before ch.ranked_before es).times n)
+      go None at = subst (λ m. m ≡ with_time (timed_of m) m) (sym (ap mark_or (none-kept at))) refl
+
+  -- a walk may begin from them
+  pub old-begins : Begins (cards_of after) goal kept touched
+  old-begins = record {
+    facts = λ n c at. old-facts n;
+    times = old-times;
+    meets = λ n c at out none.
+        let was : card_at n (cards_of before) ≡ Some c = (ch.untouched n out).card ∙ at in
+        ap timed_of (old-read n c was)
+        ∙ timed_of-by m1 es n
+        ∙ (solution-solves (cards_of before) ch.rank_before ch.ranked_before (facts_of es)).meets n c was
+        ∙ eq_of-same c _ _ _ _ (all-rows-map _ _ (λ x away. old-signal x.label x.node away) c.ins none.0) (all-rows-map _ _ (λ x away. old-signal None x away) c.syncs_in none.1);
+    sources = λ n c at. sources-have_cards after ch.regular_after n c at;
+  }

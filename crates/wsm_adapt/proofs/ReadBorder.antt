@@ -7,10 +7,10 @@ use Rattle.wsm_lists.specs.ByNumber.{item_at}
 use Rattle.wsm_lists.specs.Keys.{first}
 use Rattle.wsm_lists.specs.Rows.{put_row, row_at}
 use Rattle.wsm_lists.proofs.ByNumber.{is_some-map, item_at-put}
-use Rattle.wsm_schema.specs.Flat.{card_at}
-use Rattle.wsm_schema.specs.declared.cards.Card.{Card}
+use Rattle.wsm_schema.specs.Trail.{is_one_of}
 use Rattle.wsm_schema.specs.declared.marks.Mark.{Mark}
-use Rattle.wsm_adapt.specs.Border.{AllKnown, BorderKnown, ReadsMore, SourcesKnown, end_node, is_known, own, unknown, unknown_border, unknown_in, unknown_sources}
+use Rattle.wsm_adapt.specs.Border.{AllAmong, AllKnown, FewAmong, ReadsMore, SpendsAmong, is_known, unknown, unknown_in}
+use Rattle.wsm_adapt.proofs.Filtered.{row-at}
 
 pub more-none : (kept : List (ℕ × Mark)) (old : List (ℕ × Option Mark)) → ReadsMore kept old old
 more-none kept old n = inl refl
@@ -40,10 +40,6 @@ pub known-all : {X : Type 0} (kept : List (ℕ × Mark)) (old new : List (ℕ ×
 known-all kept old new node [] more all = tt
 known-all kept old new node (x ∷ xs) more all = (known-stays kept old new more (node x) all.0, known-all kept old new node xs more all.1)
 
-pub known-sources : (kept : List (ℕ × Mark)) (old new : List (ℕ × Option Mark)) (o : Option Card) → ReadsMore kept old new → SourcesKnown old o → SourcesKnown new o
-known-sources kept old new None more all = tt
-known-sources kept old new (Some c) more all = (known-all kept old new end_node c.ins more all.0, known-all kept old new own c.syncs_in more all.1)
-
 -- and so what is unknown grows less
 pub unknown-less : (kept : List (ℕ × Mark)) (old new : List (ℕ × Option Mark)) → ReadsMore kept old new → (n : ℕ) → unknown new n ≤ unknown old n
 unknown-less kept old new more n =
@@ -55,19 +51,46 @@ unknown-less kept old new more n =
       ]
     ]
 
-pub unknown_in-less : {X : Type 0} (kept : List (ℕ × Mark)) (old new : List (ℕ × Option Mark)) (node : X → ℕ) (xs : List X) → ReadsMore kept old new → unknown_in new node xs ≤ unknown_in old node xs
-unknown_in-less kept old new node [] more = omega arith
-unknown_in-less kept old new node (x ∷ xs) more =
-    let a = unknown-less kept old new more (node x) in
-    let b = unknown_in-less kept old new node xs more in
+pub unknown_in-less : (kept : List (ℕ × Mark)) (old new : List (ℕ × Option Mark)) → ReadsMore kept old new → (all : List ℕ) → unknown_in new all ≤ unknown_in old all
+unknown_in-less kept old new more [] = omega arith
+unknown_in-less kept old new more (n ∷ ns) =
+    let a = unknown-less kept old new more n in
+    let b = unknown_in-less kept old new more ns in
     omega (arith, a, b)
 
-pub unknown_sources-less : (kept : List (ℕ × Mark)) (old new : List (ℕ × Option Mark)) (o : Option Card) → ReadsMore kept old new → unknown_sources new o ≤ unknown_sources old o
-unknown_sources-less kept old new None more = omega arith
-unknown_sources-less kept old new (Some c) more =
-    let a = unknown_in-less kept old new end_node c.ins more in
-    let b = unknown_in-less kept old new own c.syncs_in more in
-    omega (arith, a, b)
+-- by one at least where one of them has a row since
+unknown_in-one : (kept : List (ℕ × Mark)) (old new : List (ℕ × Option Mark)) → ReadsMore kept old new → (n : ℕ) → is_known old n ≡ false → is_known new n ≡ true → (all : List ℕ) → is_one_of n all ≡ true →
+    unknown_in new all + 1 ≤ unknown_in old all
+unknown_in-one kept old new more n none there [] among = absurd (both_ways _ refl among)
+unknown_in-one kept old new more n none there (k ∷ ks) among =
+    elim (cases_Bool (eqb k n)) [
+      | inl same ↦
+          let e : k ≡ n = eqb-true k n same in
+          let was : unknown old k ≡ 1 = ap (unknown old) e ∙ rw none refl in
+          let is : unknown new k ≡ 0 = ap (unknown new) e ∙ rw there refl in
+          let rest = unknown_in-less kept old new more ks in
+          omega (arith, was, is, rest)
+      | inr other ↦
+          let a = unknown-less kept old new more k in
+          let b = unknown_in-one kept old new more n none there ks (rw other at among) in
+          omega (arith, a, b)
+    ]
+
+-- so one read more is paid for
+pub spends-one : (kept : List (ℕ × Mark)) (old new : List (ℕ × Option Mark)) (n reads reads' : ℕ) → ReadsMore kept old new → is_known old n ≡ false → is_known new n ≡ true → reads' ≤ reads + 1 →
+    SpendsAmong (λ all. is_one_of n all ≡ true) reads old reads' new
+spends-one kept old new n reads reads' more none there few all among = let one = unknown_in-one kept old new more n none there all among in omega (arith, one, few)
+
+pub few-one : (old : List (ℕ × Option Mark)) (n reads reads' : ℕ) → is_known old n ≡ false → reads' ≤ reads + 1 → FewAmong (λ all. is_one_of n all ≡ true) reads old reads'
+few-one old n reads reads' none few all among = let one = at_least all among in omega (arith, one, few)
+  where
+    at_least : (ns : List ℕ) → is_one_of n ns ≡ true → 1 ≤ unknown_in old ns
+    at_least [] in_ns = absurd (both_ways _ refl in_ns)
+    at_least (k ∷ ks) in_ns =
+        elim (cases_Bool (eqb k n)) [
+          | inl same ↦ let was : unknown old k ≡ 1 = ap (unknown old) (eqb-true k n same) ∙ rw none refl in omega (arith, was)
+          | inr other ↦ let rest = at_least ks (rw other at in_ns) in omega (arith, rest)
+        ]
 
 -- a node that has a row by its key has one
 pub known-has : (n : ℕ) (rows : List (ℕ × Option Mark)) (t : Bool) → is_some (row_at first (n, 0) rows) ≡ t → is_known rows n ≡ t
@@ -98,21 +121,21 @@ pub all-next : {X : Type 0} (kept : List (ℕ × Mark)) (node : X → ℕ) (xs :
     AllKnown last node (drop (i + 1) xs) → AllKnown last node (drop i xs)
 all-next kept node xs i d lt new last there more rest = subst (λ l. AllKnown last node l) (sym (drop_more xs i d lt)) (known-stays kept new last more (node (get_or xs i d)) there, rest)
 
-pub count-next : {X : Type 0} (kept : List (ℕ × Mark)) (node : X → ℕ) (old now : List (ℕ × Option Mark)) (xs : List X) (i : ℕ) (d : X) → i < length xs → ReadsMore kept old now → (reads first last : ℕ) →
-    reads + unknown_in old node (drop i xs) ≤ first → last ≤ reads + unknown now (node (get_or xs i d)) → last + unknown_in old node (drop (i + 1) xs) ≤ first
-count-next kept node old now xs i d lt more reads first last a b =
-    let e : unknown_in old node (drop i xs) ≡ unknown old (node (get_or xs i d)) + unknown_in old node (drop (i + 1) xs) = ap (unknown_in old node) (drop_more xs i d lt) in
-    let l = unknown-less kept old now more (node (get_or xs i d)) in
-    omega (arith, a, b, e, l)
+pub spends-next : {X : Type 0} (node : X → ℕ) (xs : List X) (i : ℕ) (d : X) → i < length xs → (old now new : List (ℕ × Option Mark)) (reads reads' reads'' : ℕ) → SpendsAmong (λ all. AllAmong all node xs) reads old reads' now →
+    SpendsAmong (λ all. is_one_of (node (get_or xs i d)) all ≡ true) reads' now reads'' new → SpendsAmong (λ all. AllAmong all node xs) reads old reads'' new
+spends-next node xs i d lt old now new reads reads' reads'' before one all among =
+    let a = before all among in
+    let b = one all (row-at (λ x. is_one_of (node x) all ≡ true) xs i d lt among) in
+    omega (arith, a, b)
 
-pub border-next : (kept : List (ℕ × Mark)) (cards : List Card) (ns : List ℕ) (i d : ℕ) → i < length ns → (new last : List (ℕ × Option Mark)) → SourcesKnown new (card_at (get_or ns i d) cards) → ReadsMore kept new last →
-    BorderKnown cards last (drop (i + 1) ns) → BorderKnown cards last (drop i ns)
-border-next kept cards ns i d lt new last there more rest =
-    subst (λ l. BorderKnown cards last l) (sym (drop_more ns i d lt)) (known-sources kept new last (card_at (get_or ns i d) cards) more there, rest)
+-- a read that fails is one of those that may be
+pub few-next : {X : Type 0} (node : X → ℕ) (xs : List X) (i : ℕ) (d : X) → i < length xs → (old now : List (ℕ × Option Mark)) (reads reads' reads'' : ℕ) → SpendsAmong (λ all. AllAmong all node xs) reads old reads' now →
+    FewAmong (λ all. is_one_of (node (get_or xs i d)) all ≡ true) reads' now reads'' → FewAmong (λ all. AllAmong all node xs) reads old reads''
+few-next node xs i d lt old now reads reads' reads'' before one all among =
+    let a = before all among in
+    let b = one all (row-at (λ x. is_one_of (node x) all ≡ true) xs i d lt among) in
+    omega (arith, a, b)
 
-pub border-count : (kept : List (ℕ × Mark)) (cards : List Card) (old now : List (ℕ × Option Mark)) (ns : List ℕ) (i d : ℕ) → i < length ns → ReadsMore kept old now → (reads first last : ℕ) →
-    reads + unknown_border cards old (drop i ns) ≤ first → last ≤ reads + unknown_sources now (card_at (get_or ns i d) cards) → last + unknown_border cards old (drop (i + 1) ns) ≤ first
-border-count kept cards old now ns i d lt more reads first last a b =
-    let e : unknown_border cards old (drop i ns) ≡ unknown_sources old (card_at (get_or ns i d) cards) + unknown_border cards old (drop (i + 1) ns) = ap (unknown_border cards old) (drop_more ns i d lt) in
-    let l = unknown_sources-less kept old now (card_at (get_or ns i d) cards) more in
-    omega (arith, a, b, e, l)
+-- what is paid for is no more than what may be read
+pub few-spent : (asked : List ℕ → Type 0) (reads : ℕ) (old : List (ℕ × Option Mark)) (reads' : ℕ) (new : List (ℕ × Option Mark)) → SpendsAmong asked reads old reads' new → FewAmong asked reads old reads'
+few-spent asked reads old reads' new spent all among = let a = spent all among in omega (arith, a)

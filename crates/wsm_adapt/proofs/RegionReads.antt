@@ -1,167 +1,135 @@
--- A region's marks are counted along the rank or along the cards.
-use Rattle.std.proofs.Common.{◌≡◌, ℕ, ◌+◌, ◌≤◌, Bool, true, false, eqb, List, [], ◌∷◌, ◌++◌, filter, refl, ap, sym, ◌∙◌, subst, inl, inr, arith, append_assoc, Option, Some, None}
-use Rattle.std.specs.Prelude.{if◌then◌else◌, is_some, length}
-use Rattle.std.proofs.lemmas.Bool.{and_parts, both_ways, cases_Bool, eqb-true, eq-eqb}
-use Rattle.wsm_lists.proofs.Lists.{all-rows-map}
+-- The nodes whose marks may be read, and how many they are.
+use Rattle.std.proofs.Common.{◌≡◌, ℕ, ◌+◌, Bool, true, false, eqb, List, [], ◌∷◌, ◌++◌, refl, ap, sym, ◌∙◌, subst, inl, inr, arith, length-append, Option, Some, None}
+use Rattle.std.specs.Prelude.{if◌then◌else◌, is_some, length, not}
+use Rattle.std.proofs.lemmas.Bool.{cases_Bool, eq-eqb}
+use Rattle.std.proofs.lemmas.Option.{same_Some}
 use Rattle.wsm_lists.specs.Rows.{AllRows}
-use Rattle.wsm_schema.specs.Flat.{FlatModel, card_at, cards_of}
-use Rattle.wsm_schema.specs.Rank.{IsRank}
+use Rattle.wsm_lists.proofs.Lists.{all-rows-map, both_rows}
+use Rattle.wsm_schema.specs.Flat.{card_at, cards_of}
 use Rattle.wsm_schema.specs.SchemaModel.{SchemaModel}
 use Rattle.wsm_schema.specs.Trail.{is_one_of}
 use Rattle.wsm_schema.specs.declared.cards.Card.{Card}
 use Rattle.wsm_schema.specs.declared.cards.End.{End}
-use Rattle.wsm_schema.proofs.Rounds.{card_at-node, member-splits}
+use Rattle.wsm_schema.proofs.Rounds.{card_at-node}
 use Rattle.wsm_marks.specs.Schemas.{HasCard, Regular}
-use Rattle.wsm_marks.proofs.Lists.{one_of-middle}
-use Rattle.wsm_marks.proofs.RankInduction.{in_rank}
+use Rattle.wsm_marks.proofs.Lists.{one_of-front}
 use Rattle.wsm_marks.proofs.Sources.{sources-have_cards}
-use Rattle.wsm_adapt.specs.Adapted.{gone_of, marks_to_read}
-use Rattle.wsm_adapt.specs.Border.{end_node, own}
-use Rattle.wsm_adapt.specs.Bounds.{node_reads, other_sources, others_in, region_reads}
-use Rattle.wsm_adapt.specs.Region.{IsNet, is_inside, is_reached, region_of}
-use Rattle.wsm_adapt.proofs.NewMarks.{filtered}
+use Rattle.wsm_walk.proofs.Reached.{reached-keeps}
+use Rattle.wsm_adapt.specs.Adapted.{gone_of}
+use Rattle.wsm_adapt.specs.Border.{AllAmong, SourcesAmong, end_node, own, unknown_in}
+use Rattle.wsm_adapt.specs.Bounds.{others_in, region_reads}
+use Rattle.wsm_adapt.specs.Region.{is_reached}
+use Rattle.wsm_adapt.specs.Walking.{Covered}
+use Rattle.wsm_adapt.proofs.Filtered.{filtered, rows-of}
 
--- no node twice
-abbrev Once : List ℕ → Type 0
-Once [] = Unit {0}
-Once (n ∷ ns) = (is_one_of n ns ≡ false) × Once ns
+one_of-behind : (k : ℕ) (xs ys : List ℕ) → is_one_of k ys ≡ true → is_one_of k (xs ++ ys) ≡ true
+one_of-behind k [] ys among = among
+one_of-behind k (x ∷ xs) ys among = elim (cases_Bool (eqb x k)) [ inl same ↦ rw same refl | inr away ↦ rw away (one_of-behind k xs ys among) ]
 
-rank-once : (cards : List Card) (rank : List ℕ) → IsRank cards rank → (front rest : List ℕ) → rank ≡ front ++ rest → Once rest
-rank-once cards rank is front [] at = tt
-rank-once cards rank is front (n ∷ ns) at = (
-  elim (cases_Bool (is_one_of n ns)) [
-    | inr none ↦ none
-    | inl again ↦
-        let s = member-splits n ns again in
-        let split : rank ≡ (front ++ (n ∷ s.0)) ++ (n ∷ s.1) = at ∙ ap (λ l. front ++ (n ∷ l)) s.2 ∙ sym (append_assoc front (n ∷ s.0) (n ∷ s.1)) in
-        absurd (both_ways _ (is.once (front ++ (n ∷ s.0)) s.1 n split) (one_of-middle n front s.0))
-  ],
-  rank-once cards rank is (front ++ n ∷ []) ns (at ∙ sym (append_assoc front (n ∷ []) ns)),
-)
+module _ (inside : ℕ → Bool) where
+  -- those of some nodes that are not inside
+  abbrev pub others : {X : Type 0} → (X → ℕ) → List X → List ℕ
+  others node [] = []
+  others node (x ∷ xs) = if inside (node x) then others node xs else node x ∷ others node xs
 
-module _ (g : Option Card → ℕ) (none : g None ≡ 0) where
-  abbrev along : List Card → List ℕ → ℕ
-  along cards [] = 0
-  along cards (n ∷ ns) = g (card_at n cards) + along cards ns
+  others-length : {X : Type 0} (node : X → ℕ) (xs : List X) → length (others node xs) ≡ others_in inside node xs
+  others-length node [] = refl
+  others-length node (x ∷ xs) =
+      let rest = others-length node xs in
+      elim (cases_Bool (inside (node x))) [ inl it ↦ rw it (omega (arith, rest)) | inr out ↦ rw out (omega (arith, rest)) ]
 
-  abbrev over : List Card → ℕ
-  over [] = 0
-  over (c ∷ cs) = g (Some c) + over cs
-
-  along-none : (ns : List ℕ) → along [] ns ≡ 0
-  along-none [] = refl
-  along-none (n ∷ ns) = let a = none in let b = along-none ns in omega (arith, a, b)
-
-  along-away : (c : Card) (cs : List Card) (ns : List ℕ) → is_one_of c.node ns ≡ false → along (c ∷ cs) ns ≡ along cs ns
-  along-away c cs [] away = refl
-  along-away c cs (n ∷ ns) away =
-      elim (cases_Bool (eqb n c.node)) [
-        | inl same ↦ absurd (both_ways _ (rw same at away) refl)
-        | inr other ↦
-            let apart : eqb c.node n ≡ false = elim (cases_Bool (eqb c.node n)) [ inl it ↦ absurd (both_ways _ other (eq-eqb n c.node (sym (eqb-true c.node n it)))) | inr fine ↦ fine ] in
-            rw apart (ap (λ x. g (card_at n cs) + x) (along-away c cs ns (rw other at away)))
-      ]
-
-  along-step : (c : Card) (cs : List Card) (ns : List ℕ) → Once ns → along (c ∷ cs) ns ≤ g (Some c) + along cs ns
-  along-step c cs [] once = omega arith
-  along-step c cs (n ∷ ns) once =
-      elim (cases_Bool (eqb c.node n)) [
-        | inl same ↦
-            let away : is_one_of c.node ns ≡ false = ap (λ k. is_one_of k ns) (eqb-true c.node n same) ∙ once.0 in
-            let rest = along-away c cs ns away in
-            rw same (omega (arith, rest))
-        | inr other ↦ let rest = along-step c cs ns once.1 in rw other (omega (arith, rest))
-      ]
-
-  -- a sum along nodes, none of which stands twice, is no more than that over the cards
-  along-over : (cards : List Card) (ns : List ℕ) → Once ns → along cards ns ≤ over cards
-  along-over [] ns once = let a = along-none ns in omega (arith, a)
-  along-over (c ∷ cs) ns once =
-      let a = along-step c cs ns once in
-      let b = along-over cs ns once in
-      omega (arith, a, b)
-
--- ---- the edges from outside
-module _ (inside wide : ℕ → Bool) where
-  fewer : {X : Type 0} (node : X → ℕ) (xs : List X) → AllRows (λ x. wide (node x) ≡ true → inside (node x) ≡ true) xs → others_in inside node xs ≤ others_in wide node xs
-  fewer node [] rows = omega arith
-  fewer node (x ∷ xs) rows =
-      let rest = fewer node xs rows.1 in
-      elim (cases_Bool (wide (node x))) [
-        | inl it ↦ rw (it, rows.0 it) (omega (arith, rest))
-        | inr out ↦ elim (cases_Bool (inside (node x))) [
-          | inl in_x ↦ rw (out, in_x) (omega (arith, rest))
-          | inr too ↦ rw (out, too) (omega (arith, rest))
-        ]
-      ]
-
--- what one card of a region costs
-abbrev pub card_reads : (ℕ → Bool) → Option Card → ℕ
-card_reads inside None = 0
-card_reads inside (Some c) = if inside c.node then 1 + other_sources inside (Some c) else 0
-
-over-reads : (inside : ℕ → Bool) (cards : List Card) → over (card_reads inside) refl cards ≡ region_reads inside cards
-over-reads inside [] = refl
-over-reads inside (c ∷ cs) = ap (λ x. card_reads inside (Some c) + x) (over-reads inside cs)
-
-module _ (s : SchemaModel) (regular : Regular s) (rank : List ℕ) (is : IsRank (cards_of s) rank) (seeds : List ℕ) where
-  abbrev Wide : ℕ → Bool
-  Wide n = is_reached (cards_of s) rank seeds n
-
-  abbrev Inside : ℕ → Bool
-  Inside n = is_inside (cards_of s) rank seeds n
-
-  abbrev nodes : List ℕ
-  nodes = region_of (cards_of s) rank seeds
-
-  among : (n : ℕ) → HasCard (cards_of s) n → Wide n ≡ true → is_one_of n nodes ≡ true
-  among n has it = filtered Inside rank n (in_rank (cards_of s) rank is n has.0 has.1) (rw it (ap is_some has.1))
-
-  few-sources : (n : ℕ) (c : Card) → card_at n (cards_of s) ≡ Some c → other_sources (λ k. is_one_of k nodes) (Some c) ≤ other_sources Wide (Some c)
-  few-sources n c at =
-      let carded = sources-have_cards s regular n c at in
-      let a = fewer (λ k. is_one_of k nodes) Wide end_node c.ins (all-rows-map _ _ (λ (x : End) has. among x.node has) c.ins carded.0) in
-      let b = fewer (λ k. is_one_of k nodes) Wide own c.syncs_in (all-rows-map _ _ (λ x has. among x has) c.syncs_in carded.1) in
-      omega (arith, a, b)
-
-  one-node : (n : ℕ) → Inside n ≡ true → 1 + other_sources (λ k. is_one_of k nodes) (card_at n (cards_of s)) ≤ card_reads Wide (card_at n (cards_of s))
-  one-node n it = go (card_at n (cards_of s)) refl
+  others-all : {X : Type 0} (node : X → ℕ) (xs : List X) → AllRows (λ x. inside (node x) ≡ false → is_one_of (node x) (others node xs) ≡ true) xs
+  others-all node [] = tt
+  others-all node (x ∷ xs) = (
+    (λ out. rw (out, eq-eqb (node x) (node x) refl) refl),
+    all-rows-map _ _ (λ y rest out. later (node y) (rest out)) xs (others-all node xs),
+  )
     where
-      parts : (Wide n ≡ true) × (is_some (card_at n (cards_of s)) ≡ true)
-      parts = and_parts (Wide n) (is_some (card_at n (cards_of s))) it
+      later : (n : ℕ) → is_one_of n (others node xs) ≡ true → is_one_of n (others node (x ∷ xs)) ≡ true
+      later n among =
+          elim (cases_Bool (inside (node x))) [
+            | inl it ↦ rw it among
+            | inr out ↦ rw out (elim (cases_Bool (eqb (node x) n)) [ inl same ↦ rw same refl | inr away ↦ rw away among ])
+          ]
 
-      go : (o : Option Card) → card_at n (cards_of s) ≡ o → 1 + other_sources (λ k. is_one_of k nodes) o ≤ card_reads Wide o
-      go None at = absurd (both_ways _ (ap is_some at) parts.1)
-      go (Some c) at =
-          let own_node : Wide c.node ≡ true = ap Wide (card_at-node n (cards_of s) c at) ∙ parts.0 in
-          let few = few-sources n c at in
-          rw own_node (omega (arith, few))
+  -- what is read for one card, and for all that are inside
+  abbrev card_nodes : Card → List ℕ
+  card_nodes c = if inside c.node then c.node ∷ (others end_node c.ins ++ others own c.syncs_in) else []
 
-  nodes-along : (ns : List ℕ) → node_reads (cards_of s) (λ k. is_one_of k nodes) (filter Inside ns) ≤ along (card_reads Wide) refl (cards_of s) ns
-  nodes-along [] = omega arith
-  nodes-along (n ∷ ns) =
-      let rest = nodes-along ns in
-      elim (cases_Bool (Inside n)) [
-        | inl it ↦ let here = one-node n it in rw it (omega (arith, rest, here))
-        | inr out ↦ rw out (omega (arith, rest))
+  abbrev pub read_nodes : List Card → List ℕ
+  read_nodes [] = []
+  read_nodes (c ∷ cs) = card_nodes c ++ read_nodes cs
+
+  nodes-length : (cards : List Card) → length (read_nodes cards) ≡ region_reads inside cards
+  nodes-length [] = refl
+  nodes-length (c ∷ cs) =
+      let rest = nodes-length cs in
+      let both = length-append (card_nodes c) (read_nodes cs) in
+      let own_part : length (card_nodes c) ≡ (if inside c.node then 1 + (others_in inside end_node c.ins + others_in inside own c.syncs_in) else 0) =
+      elim (cases_Bool (inside c.node)) [
+        | inr out ↦ rw out refl
+        | inl it ↦
+            let ends = others-length end_node c.ins in
+            let syncs = others-length own c.syncs_in in
+            let all = length-append (others end_node c.ins) (others own c.syncs_in) in
+            rw it (omega (arith, ends, syncs, all))
+      ] in
+      omega (arith, rest, both, own_part)
+
+  -- a card's are among them
+  card-among : (n k : ℕ) (cards : List Card) (c : Card) → card_at n cards ≡ Some c → is_one_of k (card_nodes c) ≡ true → is_one_of k (read_nodes cards) ≡ true
+  card-among n k [] c at among = absurd (let q : None ≡ Some c = at in cc)
+  card-among n k (b ∷ bs) c at among =
+      elim (cases_Bool (eqb b.node n)) [
+        | inl same ↦ one_of-front k (card_nodes b) (read_nodes bs) (subst (λ x. is_one_of k (card_nodes x) ≡ true) (sym (same_Some b c (rw same at at))) among)
+        | inr away ↦ one_of-behind k (card_nodes b) (read_nodes bs) (card-among n k bs c (rw away at at) among)
       ]
 
-  -- the reads of a region are no more than its cards and the edges into them from outside
-  pub region-few : node_reads (cards_of s) (λ k. is_one_of k nodes) nodes ≤ region_reads Wide (cards_of s)
-  region-few =
-      let a = nodes-along rank in
-      let b = along-over (card_reads Wide) refl (cards_of s) rank (rank-once (cards_of s) rank is [] rank refl) in
-      let c = over-reads Wide (cards_of s) in
-      omega (arith, a, b, c)
+module _ (s : SchemaModel) (regular : Regular s) (rank : List ℕ) (touched : List ℕ) where
+  abbrev Inside : ℕ → Bool
+  Inside n = is_reached (cards_of s) rank touched n
 
-abbrev IsFew : List ℕ → List ℕ → ℕ → ℕ → FlatModel → Type 0
-IsFew rank touched reads last g =
-    last ≤ reads + (length (gone_of g.cards touched) + node_reads g.cards (λ k. is_one_of k (region_of g.cards rank touched)) (region_of g.cards rank touched)) → last ≤ reads + marks_to_read g rank touched
+  -- all that may be read
+  abbrev pub all_read : List ℕ
+  all_read = gone_of (cards_of s) touched ++ read_nodes Inside (cards_of s)
 
-pub reads-few : (new : FlatModel) (rank touched nodes_ gone : List ℕ) (reads last : ℕ) → IsNet new rank → nodes_ ≡ region_of new.cards rank touched → gone ≡ gone_of new.cards touched →
-    last ≤ reads + (length gone + node_reads new.cards (λ k. is_one_of k nodes_) nodes_) → last ≤ reads + marks_to_read new rank touched
-reads-few new rank touched nodes_ gone reads last net nodes_are gone_are few =
-    let told : last ≤ reads + (length (gone_of new.cards touched) + node_reads new.cards (λ k. is_one_of k (region_of new.cards rank touched)) (region_of new.cards rank touched)) =
-    subst (λ gs. last ≤ reads + (length gs + node_reads new.cards (λ k. is_one_of k (region_of new.cards rank touched)) (region_of new.cards rank touched))) gone_are
-    (subst (λ ns. last ≤ reads + (length gone + node_reads new.cards (λ k. is_one_of k ns) ns)) nodes_are few) in
-    subst (IsFew rank touched reads last) (sym net.1) (λ h. let most = region-few net.0 net.2 rank net.3 touched in omega (arith, h, most)) told
+  own-read : (n : ℕ) (c : Card) → card_at n (cards_of s) ≡ Some c → Inside n ≡ true → is_one_of n all_read ≡ true
+  own-read n c at it =
+      let node = card_at-node n (cards_of s) c at in
+      let here : is_one_of n (card_nodes Inside c) ≡ true = rw (ap Inside node ∙ it) (rw (eq-eqb c.node n node) refl) in
+      one_of-behind n (gone_of (cards_of s) touched) (read_nodes Inside (cards_of s)) (card-among Inside n n (cards_of s) c at here)
+
+  source-read : {X : Type 0} (node : X → ℕ) (xs : List X) → AllRows (λ x. HasCard (cards_of s) (node x)) xs → AllRows (λ x. Inside (node x) ≡ false → is_one_of (node x) all_read ≡ true) xs → AllAmong all_read node xs
+  source-read node xs carded outside =
+      both_rows _ _ _ (λ x has out. elim (cases_Bool (Inside (node x))) [ inl it ↦ own-read (node x) has.0 has.1 it | inr away ↦ out away ]) xs carded outside
+
+  sources-read : (n : ℕ) (c : Card) → card_at n (cards_of s) ≡ Some c → Inside n ≡ true → SourcesAmong all_read c
+  sources-read n c at it =
+      let carded = sources-have_cards s regular n c at in (
+        source-read end_node c.ins carded.0 (all-rows-map (λ (x : End). Inside x.node ≡ false → is_one_of x.node (others Inside end_node c.ins) ≡ true) (λ (x : End). Inside x.node ≡ false → is_one_of x.node all_read ≡ true) (λ x there out. among x.node (one_of-front x.node (others Inside end_node c.ins) (others Inside own c.syncs_in) (there out))) c.ins (others-all Inside end_node c.ins)),
+        source-read own c.syncs_in carded.1 (all-rows-map (λ (x : ℕ). Inside x ≡ false → is_one_of x (others Inside own c.syncs_in) ≡ true) (λ (x : ℕ). Inside x ≡ false → is_one_of x all_read ≡ true) (λ x there out. among x (one_of-behind x (others Inside end_node c.ins) (others Inside own c.syncs_in) (there out))) c.syncs_in (others-all Inside own c.syncs_in)),
+      )
+    where
+      among : (k : ℕ) → is_one_of k (others Inside end_node c.ins ++ others Inside own c.syncs_in) ≡ true → is_one_of k all_read ≡ true
+      among k there =
+          one_of-behind k (gone_of (cards_of s) touched) (read_nodes Inside (cards_of s))
+          (card-among Inside n k (cards_of s) c at (rw (ap Inside (card_at-node n (cards_of s) c at) ∙ it) (elim (cases_Bool (eqb c.node k)) [ inl same ↦ rw same refl | inr away ↦ rw away there ])))
+
+  pub read-covered : Covered (cards_of s) Inside all_read
+  read-covered = record { own = own-read; sources = sources-read }
+
+  -- touched nodes are among them
+  pub touched-read : AllAmong all_read own touched
+  touched-read = rows-of (λ n. is_one_of n all_read ≡ true) touched (λ n seed. one n seed (card_at n (cards_of s)) refl)
+    where
+      one : (n : ℕ) → is_one_of n touched ≡ true → (o : Option Card) → card_at n (cards_of s) ≡ o → is_one_of n all_read ≡ true
+      one n seed None at = one_of-front n (gone_of (cards_of s) touched) (read_nodes Inside (cards_of s)) (filtered (λ k. not (is_some (card_at k (cards_of s)))) touched n seed (ap (λ o. not (is_some o)) at))
+      one n seed (Some c) at = own-read n c at (reached-keeps (cards_of s) rank touched n seed)
+
+  pub read-length : length all_read ≡ length (gone_of (cards_of s) touched) + region_reads Inside (cards_of s)
+  read-length = length-append (gone_of (cards_of s) touched) (read_nodes Inside (cards_of s)) ∙ ap (λ x. length (gone_of (cards_of s) touched) + x) (nodes-length Inside (cards_of s))
+
+-- nothing is known at first
+pub unknown-none : (ns : List ℕ) → unknown_in [] ns ≡ length ns
+unknown-none [] = refl
+unknown-none (n ∷ ns) = let rest = unknown-none ns in omega (arith, rest)

@@ -1,8 +1,8 @@
--- The marks of the nodes from which edges lead into a region, read where they are not known.
-use Rattle.std.specs.Prelude.{◌≡◌, ◌⊎◌, ℕ, ◌+◌, Bool, true, List, [], ◌∷◌, Option, Some, None, is_some, if◌then◌else◌}
+-- The marks of nodes, and of those from which edges lead to a node, read where they are not known.
+use Rattle.std.specs.Prelude.{◌≡◌, ◌≤◌, ◌⊎◌, ℕ, ◌+◌, Bool, true, List, [], ◌∷◌, Option, Some, None, is_some, if◌then◌else◌}
 use Rattle.wsm_lists.specs.ByNumber.{item_at}
 use Rattle.wsm_lists.specs.Rows.{AllRows}
-use Rattle.wsm_schema.specs.Flat.{card_at}
+use Rattle.wsm_schema.specs.Trail.{is_one_of}
 use Rattle.wsm_schema.specs.declared.cards.Card.{Card}
 use Rattle.wsm_schema.specs.declared.cards.End.{End}
 use Rattle.wsm_schema.specs.declared.marks.Mark.{Mark}
@@ -19,13 +19,9 @@ ReadsMore kept old new = (n : ℕ) → (item_at n new ≡ item_at n old) ⊎ ((i
 abbrev pub AllKnown : {X : Type 0} → List (ℕ × Option Mark) → (X → ℕ) → List X → Type 0
 AllKnown rows node xs = AllRows (λ x. is_known rows (node x) ≡ true) xs
 
--- how many of these have no row
-abbrev pub unknown : List (ℕ × Option Mark) → ℕ → ℕ
-unknown rows n = if is_known rows n then 0 else 1
-
-abbrev pub unknown_in : {X : Type 0} → List (ℕ × Option Mark) → (X → ℕ) → List X → ℕ
-unknown_in rows node [] = 0
-unknown_in rows node (x ∷ xs) = unknown rows (node x) + unknown_in rows node xs
+-- or are among some nodes
+abbrev pub AllAmong : {X : Type 0} → List ℕ → (X → ℕ) → List X → Type 0
+AllAmong all node xs = AllRows (λ x. is_one_of (node x) all ≡ true) xs
 
 -- the edges into a node, by their sources
 abbrev pub end_node : End → ℕ
@@ -34,18 +30,25 @@ end_node e = e.node
 abbrev pub own : ℕ → ℕ
 own n = n
 
-abbrev pub SourcesKnown : List (ℕ × Option Mark) → Option Card → Type 0
-SourcesKnown rows None = Unit {0}
-SourcesKnown rows (Some c) = AllKnown rows end_node c.ins × AllKnown rows own c.syncs_in
+abbrev pub SourcesKnown : List (ℕ × Option Mark) → Card → Type 0
+SourcesKnown rows c = AllKnown rows end_node c.ins × AllKnown rows own c.syncs_in
 
-abbrev pub unknown_sources : List (ℕ × Option Mark) → Option Card → ℕ
-unknown_sources rows None = 0
-unknown_sources rows (Some c) = unknown_in rows end_node c.ins + unknown_in rows own c.syncs_in
+abbrev pub SourcesAmong : List ℕ → Card → Type 0
+SourcesAmong all c = AllAmong all end_node c.ins × AllAmong all own c.syncs_in
 
--- the same for some nodes
-abbrev pub BorderKnown : List Card → List (ℕ × Option Mark) → List ℕ → Type 0
-BorderKnown cards rows nodes = AllRows (λ n. SourcesKnown rows (card_at n cards)) nodes
+-- ---- how much is read
+-- how many of some nodes have no row
+abbrev pub unknown : List (ℕ × Option Mark) → ℕ → ℕ
+unknown rows n = if is_known rows n then 0 else 1
 
-abbrev pub unknown_border : List Card → List (ℕ × Option Mark) → List ℕ → ℕ
-unknown_border cards rows [] = 0
-unknown_border cards rows (n ∷ ns) = unknown_sources rows (card_at n cards) + unknown_border cards rows ns
+abbrev pub unknown_in : List (ℕ × Option Mark) → List ℕ → ℕ
+unknown_in rows [] = 0
+unknown_in rows (n ∷ ns) = unknown rows n + unknown_in rows ns
+
+-- wherever what is asked for is among some nodes, there is one read for each of these that has a row since, and no more
+abbrev pub SpendsAmong : (List ℕ → Type 0) → ℕ → List (ℕ × Option Mark) → ℕ → List (ℕ × Option Mark) → Type 0
+SpendsAmong asked reads rows reads' rows' = (all : List ℕ) → asked all → reads' + unknown_in rows' all ≤ reads + unknown_in rows all
+
+-- and in any case no more than these have no row
+abbrev pub FewAmong : (List ℕ → Type 0) → ℕ → List (ℕ × Option Mark) → ℕ → Type 0
+FewAmong asked reads rows reads' = (all : List ℕ) → asked all → reads' ≤ reads + unknown_in rows all

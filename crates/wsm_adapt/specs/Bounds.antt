@@ -1,6 +1,5 @@
--- How many marks are read for a region.
+-- How many marks may be read for what touched nodes reach.
 use Rattle.std.specs.Prelude.{ℕ, ◌+◌, Bool, List, [], ◌∷◌, Option, Some, None, if◌then◌else◌}
-use Rattle.wsm_schema.specs.Flat.{card_at}
 use Rattle.wsm_schema.specs.declared.cards.Card.{Card}
 use Rattle.wsm_adapt.specs.Border.{end_node, own}
 
@@ -16,11 +15,6 @@ others_in inside node (x ∷ xs) = other inside (node x) + others_in inside node
 abbrev pub other_sources : (ℕ → Bool) → Option Card → ℕ
 other_sources inside None = 0
 other_sources inside (Some c) = others_in inside end_node c.ins + others_in inside own c.syncs_in
-
--- one for each of the nodes, and one for each edge into it from outside
-abbrev pub node_reads : List Card → (ℕ → Bool) → List ℕ → ℕ
-node_reads cards inside [] = 0
-node_reads cards inside (n ∷ ns) = (1 + other_sources inside (card_at n cards)) + node_reads cards inside ns
 
 -- one for each card of a node that is inside, and one for each edge into it from outside
 abbrev pub region_reads : (ℕ → Bool) → List Card → ℕ

@@ -1,8 +1,8 @@
 pub mod Adapted
 pub mod Adapting
+pub mod Begun
 pub mod Border
 pub mod Bounds
 pub mod Misfits
-pub mod ReadMarks
 pub mod Region
-pub mod Revision
+pub mod Walking

@@ -90,6 +90,6 @@ early_start c x (Some p) = unless (on_card c (λ d. worked_on d.kind && is_yes (
 abbrev pub early_in : FlatModel → List (ℕ × Option Mark) → ℕ → Option ℕ
 early_in b rows n = lesser (early_start (card_at n b.cards) (timed_of (seen [] rows n)) (seen [] rows n).started) (again_misfit_in b.cards rows (card_at n b.cards) (seen [] rows n).again)
 
--- the first position at which something of touched nodes, or of those of the region, does not fit
+-- the first position at which something of touched nodes, or of those that were visited, does not fit
 abbrev pub region_misfit : FlatModel → FlatModel → List (ℕ × Option Mark) → Entries → List ℕ → List ℕ → Option ℕ
 region_misfit a b rows es touched nodes = lesser (least (map (misfit_in a b rows es) touched)) (least (map (early_in b rows) nodes))

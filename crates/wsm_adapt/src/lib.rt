@@ -2,11 +2,10 @@
 #![tactic(auto)]
 
 mod adapting;
+mod begins;
 mod border;
 mod fits;
 mod misfits;
-mod passes;
-mod reading;
-mod region;
+mod walks;
 
 pub use adapting::{Adapted, adapt};

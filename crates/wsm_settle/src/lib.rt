@@ -21,5 +21,5 @@ pub use repeats::after_again;
 pub use sources::{Timed, time_of};
 pub use starts::{after_start, after_withdraw};
 pub use timing::{NoMarks, TimedMarks, timed};
-pub use walks::with_time;
+pub use walks::revised;
 pub use wsm_rules::{Changes, CountedMarks, Mark, MarkReads, Marks};

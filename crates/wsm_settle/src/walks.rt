@@ -111,8 +111,8 @@ fn visit<M: MarkReads>(
     }
 }
 
-// The node's mark with the time of its equation. None where it has that time.
-fn revised<M: MarkReads>(
+/// The node's mark with the time of its equation. None where it has that time.
+pub fn revised<M: MarkReads>(
     alloc: Global,
     flat: &Flat,
     marks: &mut M,
@@ -132,8 +132,8 @@ fn revised<M: MarkReads>(
     Ok(Some(with_time(old, timed)))
 }
 
-/// The mark with another time.
-pub fn with_time(mark: Mark, timed: Timed) -> Mark
+// The mark with another time.
+fn with_time(mark: Mark, timed: Timed) -> Mark
     ensures { result ≡ with_time timed mark }
 {
     match timed {

@@ -2,7 +2,7 @@ use Rattle.std.proofs.Common.{List, ℕ, refl, ◌∙◌, subst, sym, arith}
 use Rattle.std.proofs.lemmas.List.{drop_all}
 use Rattle.wsm_schema.specs.declared.marks.Mark.{Mark}
 use Rattle.wsm_adapt.specs.Border.{AllKnown, ReadsMore, end_node}
-use Rattle.wsm_adapt.proofs.ReadBorder.{all-next, count-next, more-none, more-then}
+use Rattle.wsm_adapt.proofs.ReadBorder.{all-next, few-next, few-spent, more-none, more-then, spends-next}
 use Rattle.wsm_adapt.proofs.border.read_ends.Goals as goal
 
 pub loop-end-init : goal.loop-end-init
@@ -11,7 +11,7 @@ loop-end-init g c = record {
   sources = λ last more rest. rest;
   same = refl;
   rises = omega arith;
-  count = omega arith;
+  spent = λ all among. omega arith;
 }
 
 pub loop-end-preserved : goal.loop-end-preserved
@@ -27,7 +27,7 @@ loop-end-preserved g c =
           (all-next kept end_node c.args.ends.now c.loop-end.end-index _ lt c.read_unknown.new.known last c.in_ok-read_unknown.ensures.there more rest);
       same = c.read_unknown.ensures.same ∙ i.same;
       rises = (let a = i.rises in let b = c.read_unknown.ensures.rises in omega (arith, a, b));
-      count = count-next kept end_node c.args.known.now c.loop-end.known c.args.ends.now c.loop-end.end-index _ lt i.more _ _ _ i.count c.read_unknown.ensures.count;
+      spent = spends-next end_node c.args.ends.now c.loop-end.end-index _ lt c.args.known.now c.loop-end.known c.read_unknown.new.known _ _ _ i.spent c.in_ok-read_unknown.ensures.spent;
     }
 
 pub returns-clause-sources : goal.returns-clause-sources
@@ -36,3 +36,10 @@ returns-clause-sources g c =
     let all = c.loop-end-test.false in
     i.sources c.loop-end.known (more-none (g.M.MarkReads.kept c.args.marks.now) c.loop-end.known)
     (subst (λ l. AllKnown c.loop-end.known end_node l) (sym (drop_all c.loop-end.end-index c.args.ends.now (omega (arith, all)))) tt)
+
+pub returns-in_err-read_unknown-clause-few : goal.returns-in_err-read_unknown-clause-few
+returns-in_err-read_unknown-clause-few g c =
+    few-next end_node c.args.ends.now c.loop-end.end-index _ c.loop-end-test.true c.args.known.now c.loop-end.known _ _ _ c.loop-end.invariant.spent c.read_unknown.ensures.few
+
+pub returns-clause-few : goal.returns-clause-few
+returns-clause-few g c = few-spent _ _ c.args.known.now _ c.loop-end.known c.loop-end.invariant.spent

@@ -1,6 +1,6 @@
-use Rattle.std.proofs.Common.{◌≡◌, ◌+◌, ◌≤◌, List, ℕ, Option, drop}
+use Rattle.std.proofs.Common.{◌≡◌, ◌≤◌, List, ℕ, Option, drop}
 use Rattle.wsm_schema.specs.declared.marks.Mark.{Mark}
-use Rattle.wsm_adapt.specs.Border.{AllKnown, ReadsMore, end_node, unknown_in}
+use Rattle.wsm_adapt.specs.Border.{AllAmong, AllKnown, ReadsMore, SpendsAmong, end_node}
 use Rattle.wsm_adapt.proofs.border.read_ends.Given as goal
 
 abbrev pub invariant-loop-end : goal.invariant-loop-end
@@ -9,5 +9,5 @@ invariant-loop-end g l = record {
   sources : (last : List (ℕ × Option Mark)) → ReadsMore (g.M.MarkReads.kept l.fn.marks) l.known last → AllKnown last end_node (drop l.end-index l.ends) → AllKnown last end_node l.ends;
   same : g.M.MarkReads.kept l.marks ≡ g.M.MarkReads.kept l.fn.marks;
   rises : g.M.MarkReads.reads l.fn.marks ≤ g.M.MarkReads.reads l.marks;
-  count : g.M.MarkReads.reads l.marks + unknown_in l.fn.known end_node (drop l.end-index l.ends) ≤ g.M.MarkReads.reads l.fn.marks + unknown_in l.fn.known end_node l.ends;
+  spent : SpendsAmong (λ all. AllAmong all end_node l.ends) (g.M.MarkReads.reads l.fn.marks) l.fn.known (g.M.MarkReads.reads l.marks) l.known;
 }

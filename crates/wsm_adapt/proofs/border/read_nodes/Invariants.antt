@@ -1,6 +1,6 @@
-use Rattle.std.proofs.Common.{◌≡◌, ◌+◌, ◌≤◌, List, ℕ, Option, drop}
+use Rattle.std.proofs.Common.{◌≡◌, ◌≤◌, List, ℕ, Option, drop}
 use Rattle.wsm_schema.specs.declared.marks.Mark.{Mark}
-use Rattle.wsm_adapt.specs.Border.{AllKnown, ReadsMore, own, unknown_in}
+use Rattle.wsm_adapt.specs.Border.{AllAmong, AllKnown, ReadsMore, SpendsAmong, own}
 use Rattle.wsm_adapt.proofs.border.read_nodes.Given as goal
 
 abbrev pub invariant-loop-node : goal.invariant-loop-node
@@ -9,5 +9,5 @@ invariant-loop-node g l = record {
   sources : (last : List (ℕ × Option Mark)) → ReadsMore (g.M.MarkReads.kept l.fn.marks) l.known last → AllKnown last own (drop l.node-index l.nodes) → AllKnown last own l.nodes;
   same : g.M.MarkReads.kept l.marks ≡ g.M.MarkReads.kept l.fn.marks;
   rises : g.M.MarkReads.reads l.fn.marks ≤ g.M.MarkReads.reads l.marks;
-  count : g.M.MarkReads.reads l.marks + unknown_in l.fn.known own (drop l.node-index l.nodes) ≤ g.M.MarkReads.reads l.fn.marks + unknown_in l.fn.known own l.nodes;
+  spent : SpendsAmong (λ all. AllAmong all own l.nodes) (g.M.MarkReads.reads l.fn.marks) l.fn.known (g.M.MarkReads.reads l.marks) l.known;
 }

@@ -1,0 +1,11 @@
+use Rattle.std.proofs.Common.{ℕ, List, drop}
+use Rattle.std.specs.List.{list_any}
+use Rattle.wsm_schema.specs.Flat.{card_at}
+use Rattle.wsm_walk.specs.RankPlaces.{Handed}
+use Rattle.wsm_adapt.specs.Begun.{is_led}
+use Rattle.wsm_adapt.proofs.begins.hand_on_all.Given as goal
+
+abbrev pub invariant-loop-node : goal.invariant-loop-node
+invariant-loop-node l =
+    (last : List ℕ) → Handed l.rank (λ k. list_any (λ m. is_led (card_at m l.flat.cards) k) (drop l.node-index l.nodes)) 0 l.pending.keys last →
+    Handed l.rank (λ k. list_any (λ m. is_led (card_at m l.flat.cards) k) l.nodes) 0 l.fn.pending.keys last

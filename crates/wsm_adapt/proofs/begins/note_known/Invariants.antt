@@ -1,0 +1,6 @@
+use Rattle.std.proofs.Common.{◌≡◌, drop}
+use Rattle.wsm_adapt.specs.Begun.{begun_rows}
+use Rattle.wsm_adapt.proofs.begins.note_known.Given as goal
+
+abbrev pub invariant-loop-node : goal.invariant-loop-node
+invariant-loop-node l = begun_rows l.flat.cards l.known (drop l.node-index l.nodes) l.changes ≡ begun_rows l.flat.cards l.known l.nodes l.fn.changes
