@@ -12,7 +12,6 @@ ghost use Rattle.wsm_walk.specs.RankPlaces.{Handed};
 use crate::border::read_nodes;
 use crate::walks::{Found, walk};
 use std::alloc::Global;
-use std::collections::BTreeSet;
 use wsm_lists::{GrowingTable, NoMemory};
 use wsm_rules::MarkReads;
 use wsm_schema::{Flat, Nodes, Rank};
@@ -94,7 +93,7 @@ fn begun_pending(
 ) -> Result<Pending, NoMemory>
     ensures { IfOk result (λ pending. Handed rank.now (λ k. is_one_of k nodes.now || list_any (λ m. is_led (card_at m flat.now.cards) k) nodes.now) 0 [] pending.keys) }
 {
-    let mut pending = BTreeSet::new(alloc);
+    let mut pending = Pending::new(alloc);
     hand_to(rank, nodes, None, &mut pending)?;
     hand_on_all(flat, rank, nodes, &mut pending)?;
     Ok(pending)
