@@ -1,4 +1,3 @@
-pub mod Options
 pub mod Words
 pub mod NamedForms
 pub mod Named

@@ -13,7 +13,7 @@ use Rattle.file_words.specs.declared.texts.TextStep.{TextStep}
 use Rattle.file_words.specs.declared.texts.TextStep.TheVariants.{Stands, Escapes, Ends, Wrong}
 use Rattle.line_readers.specs.Readers.{IsOneLine}
 use Rattle.audit_facts.specs.Facts.{IsName, IsOneLineValue}
-use Rattle.audit_facts.proofs.Options.{some-any, some-mapped, some-or}
+use Rattle.file_forms.proofs.Options.{some-any, some-mapped, some-or}
 
 pub name-is : (w : Bytes) → IfSome (name w) IsName
 name-is w = by (is_name w) refl

@@ -5,3 +5,4 @@ pub mod TypeForms
 pub mod ScriptForms
 pub mod OperationForms
 pub mod Shown
+pub mod NamesInForms

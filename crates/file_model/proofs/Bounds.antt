@@ -66,10 +66,10 @@ step-kept s at line ws h = if-kept (is_skipped ws) (Ok s) (step_in s.place at li
 
 -- ---- the end of a file
 bounded : (c : Contents) → CountsKept c 0 → IsBounded (file_of c c.phases)
-bounded c h = record { small = h.small; effort = omega (arith, h.within, h.effort) }
+bounded c h = record { types = h.few; small = h.small; effort = omega (arith, h.within, h.effort) }
 
 last-bounded : (lines : List Line) (c : Contents) → CountsKept c (phase_effort lines) → IsBounded (file_of c (c.phases ++ lines ∷ []))
-last-bounded lines c h = record { small = h.small; effort = omega (arith, h.within, h.effort, sum_by_push phase_effort c.phases lines) }
+last-bounded lines c h = record { types = h.few; small = h.small; effort = omega (arith, h.within, h.effort, sum_by_push phase_effort c.phases lines) }
 
 finished_in-bounded : (p : Section) (c : Contents) → KeptIn p c → IfOk (finished_in p c) IsBounded
 finished_in-bounded section.Head c h = tt
@@ -98,4 +98,4 @@ read_from-bounded (Ok s) at left (l ∷ ls) h =
 pub file-bounded : (bytes : Bytes) (f : File) → file bytes ≡ Ok f → IsBounded f
 file-bounded bytes f is =
     subst (λ (o : Result File Refused). IfOk o IsBounded) is
-    (read_from-bounded (Ok opening) 1 (lines_of bytes).left (lines_of bytes).ended (record { small = refl; within = omega arith; effort = omega arith }))
+    (read_from-bounded (Ok opening) 1 (lines_of bytes).left (lines_of bytes).ended (record { few = omega arith; small = refl; within = omega arith; effort = omega arith }))

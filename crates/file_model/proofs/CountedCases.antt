@@ -1,17 +1,22 @@
 -- The counts of cases by their types.
-use Rattle.std.proofs.Common.{◌≡◌, ◌≢◌, ℕ, ◌+◌, ◌<◌, ◌==◌, Bool, true, false, List, [], ◌∷◌, ◌++◌, length, replicate, refl, sym, subst, ap, ◌∙◌, arith}
+use Rattle.std.proofs.Common.{◌≡◌, ◌≤◌, ℕ, zero, suc, ◌+◌, ◌<◌, ◌==◌, Bool, true, false, List, [], ◌∷◌, ◌++◌, length, refl, sym, subst, ap, ◌∙◌, arith}
 use Rattle.std.proofs.lemmas.Bool.{eqb-true, eqb-false, eq-eqb}
-use Rattle.std.proofs.lemmas.List.{get_or-set_same, get_or-set_other, get_or-replicate, get_or_past, length-replicate}
-use Rattle.std.proofs.lemmas.List.Sums.{sum_by_push}
+use Rattle.std.proofs.lemmas.List.{get_or-set_same, get_or-set_other}
+use Rattle.std.proofs.lemmas.List.Sums.{count_by-le-length, sum_by_push}
 use Rattle.std.specs.Prelude.{get_or, set, cond, slice_index}
 use Rattle.file_model.specs.CaseCounts.{cases_of_type, AreCounted}
 use Rattle.file_model.specs.declared.files.CaseDecl.{CaseDecl}
 
-zeros : (n t : ℕ) → slice_index (replicate n 0) t ≡ 0
-zeros n t = grind (arith, get_or-replicate {A = ℕ} n t 0 0, get_or_past {X = ℕ} (replicate {A = ℕ} n 0) t 0, length-replicate {A = ℕ} n 0)
+-- a count of 0 behind the others changes none
+pub zero_behind : (counts : List ℕ) (t : ℕ) → slice_index (counts ++ 0 ∷ []) t ≡ slice_index counts t
+zero_behind [] zero = refl
+zero_behind [] (suc t) = refl
+zero_behind (c ∷ counts) zero = refl
+zero_behind (c ∷ counts) (suc t) = zero_behind counts t
 
-pub none_counted : (counts : List ℕ) (n : ℕ) → counts ≡ replicate n 0 → AreCounted counts []
-none_counted counts n is t = sym (ap (λ (c : List ℕ). slice_index c t) is ∙ zeros n t)
+-- a type has no more cases than there are
+pub few_of_type : (t : ℕ) (cases : List CaseDecl) → cases_of_type t cases ≤ length cases
+few_of_type t cases = count_by-le-length (λ (d : CaseDecl). d.id.type_no == t) cases
 
 -- a type's count with one case more
 pushed : (cases : List CaseDecl) (d : CaseDecl) (t : ℕ) → cases_of_type t (cases ++ d ∷ []) ≡ cases_of_type t cases + cond (d.id.type_no == t) 1 0

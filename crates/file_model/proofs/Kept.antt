@@ -1,6 +1,7 @@
 -- What holds behind each line that is read: all types are small, and no more was asked for than the script lines so far may ask for.
-use Rattle.std.proofs.Common.{◌≡◌, ◌≤◌, ℕ, ◌+◌, ◌*◌, Bool, true, false, List, [], ◌∷◌, ◌++◌, length, refl, arith, Option, Some, None}
+use Rattle.std.proofs.Common.{◌≡◌, ◌≤◌, ◌<◌, ℕ, ◌+◌, ◌*◌, Bool, true, false, List, [], ◌∷◌, ◌++◌, length, refl, arith, Option, Some, None}
 use Rattle.std.proofs.lemmas.Bool.{leb-false, ltb-false, le-leb}
+use Rattle.std.proofs.lemmas.List.{length-append}
 use Rattle.std.proofs.lemmas.List.Folds.{list_all-append}
 use Rattle.std.proofs.lemmas.List.Sums.{sum_by_push}
 use Rattle.std.specs.Prelude.{IfOk, nat_le, nat_lt}
@@ -28,6 +29,7 @@ use Rattle.file_model.specs.declared.states.Section.TheVariants as section
 
 -- a line asks for 769 at most: one, and three for each of 256 operations
 pub record IsKept (types : List TypeDecl) (phases : List (List Line)) (lines begun : ℕ) : Type 0 where
+  pub few : length types ≤ 64
   pub small : list_all is_small types ≡ true
   pub within : lines ≤ 60000
   pub effort : begun + sum_by phase_effort phases ≤ 769 * lines
@@ -39,7 +41,7 @@ CountsKept c begun = IsKept c.types.items c.phases c.counts.lines begun
 abbrev pub KeptIn : Section → Contents → Type 0
 KeptIn section.Head c = CountsKept c 0
 KeptIn section.Outside c = CountsKept c 0
-KeptIn (section.InType d) c = CountsKept c 0
+KeptIn (section.InType d) c = CountsKept c 0 × (length c.types.items < 64)
 KeptIn (section.InPhase lines) c = CountsKept c (phase_effort lines)
 KeptIn (section.InGroup lines g) c = CountsKept c (phase_effort lines + 769) × (length g.ops ≤ 256)
 
@@ -85,8 +87,9 @@ small_type n s h = le-leb (length (cards_of s)) 1024 (ltb-false 1024 (length (ca
 all_small : (ts : List TypeDecl) (t : TypeDecl) → list_all is_small ts ≡ true → is_small t ≡ true → list_all is_small (ts ++ t ∷ []) ≡ true
 all_small ts t all one = rw (list_all-append, all, one) refl
 
-pub type-kept : (n : Bytes) (s : SchemaModel) (c : Contents) → fault_of s ≡ None → CountsKept c 0 → CountsKept (with_type n s c) 0
-type-kept n s c none h = record {
+pub type-kept : (n : Bytes) (s : SchemaModel) (c : Contents) → fault_of s ≡ None → CountsKept c 0 → length c.types.items < 64 → CountsKept (with_type n s c) 0
+type-kept n s c none h below = record {
+  few = omega (arith, below, length-append c.types.items (record { name = n; schema = s } ∷ []));
   small = all_small c.types.items (record { name = n; schema = s }) h.small (small_type n s none);
   within = h.within;
   effort = h.effort;
@@ -95,6 +98,7 @@ type-kept n s c none h = record {
 -- ---- the effort of one more phase, and of one more line
 pub phase-kept : (lines : List Line) (c : Contents) → CountsKept c (phase_effort lines) → CountsKept (with_phase lines c) 0
 phase-kept lines c h = record {
+  few = h.few;
   small = h.small;
   within = h.within;
   effort = omega (arith, h.effort, sum_by_push phase_effort c.phases lines);
@@ -103,6 +107,7 @@ phase-kept lines c h = record {
 -- a line more is counted, while it asks for so much
 pub counted-kept : (begun more : ℕ) (c : Contents) → more ≤ 769 → nat_le 60000 c.counts.lines ≡ false → CountsKept c begun → CountsKept (counted c) (begun + more)
 counted-kept begun more c less below h = record {
+  few = h.few;
   small = h.small;
   within = omega (arith, leb-false 60000 c.counts.lines below);
   effort = omega (arith, h.effort);

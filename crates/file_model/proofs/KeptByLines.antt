@@ -1,7 +1,8 @@
 -- What holds of the state behind each form of a line.
-use Rattle.std.proofs.Common.{◌≡◌, ◌≤◌, ℕ, ◌+◌, ◌*◌, false, List, [], ◌∷◌, ◌++◌, length, refl, arith, Option, Some, None, length-append}
+use Rattle.std.proofs.Common.{◌≡◌, ◌≤◌, ◌<◌, ℕ, ◌+◌, ◌*◌, Bool, true, false, List, [], ◌∷◌, ◌++◌, length, refl, arith, Option, Some, None, length-append}
 use Rattle.std.proofs.lemmas.Bool.{leb-false}
 use Rattle.std.specs.Prelude.{nat_le, nat_lt}
+use Rattle.std.specs.Option.{option_or}
 use Rattle.wsm_lists.specs.declared.values.Value.{Value}
 use Rattle.wsm_ops.specs.declared.operations.Op.{Op}
 use Rattle.wsm_schema.specs.SchemaModel.{SchemaModel}
@@ -9,13 +10,13 @@ use Rattle.wsm_sound.specs.Faults.{fault_of}
 use Rattle.wsm_sound.specs.declared.faults.Fault.{Fault}
 use Rattle.wsm_sound.specs.declared.versions.CaseId.{CaseId}
 use Rattle.file_words.specs.Lines.{Bytes}
-use Rattle.file_names.specs.Names.{place_of}
+use Rattle.file_names.specs.Names.{is_listed, place_of}
 use Rattle.file_forms.specs.Forms.{Declaration, a_type, an_actor, a_case, first_phase, TypeLine, activity, opens_and, opens_xor, opens_branch, opens_loop, closes_block, a_sync, an_element, a_read, a_write, type_end}
 use Rattle.file_forms.specs.Forms.{Deed, to_create, to_start, to_withdraw, to_end, to_change, to_install, to_migrate, ScriptLine, next_phase, a_deed}
 use Rattle.file_forms.specs.Forms.{NamedGap, behind, at_head, OperationLine, insert, parallel, conditional, delete, move, sync, unsync, element, read, unread, write, unwrite, set_role, group_end}
-use Rattle.file_drafts.specs.Drafts.{whole}
+use Rattle.file_drafts.specs.Drafts.{new_draft, whole}
 use Rattle.file_drafts.specs.declared.drafts.Draft.{Draft}
-use Rattle.file_model.specs.Steps.{at_place, over, node_in, with_node, with_element}
+use Rattle.file_model.specs.Steps.{at_place, over, twice, unless, node_in, with_node, with_element}
 use Rattle.file_model.specs.Declaring.{case_declared, declared}
 use Rattle.file_model.specs.Typing.{ended, typed}
 use Rattle.file_model.specs.Scripting.{case_in, actor_in, counted, line_of, with_line, with_group, changing, one_install, installing, migrations_with, migrating, with_elements, numbered, acted, scripted}
@@ -30,25 +31,30 @@ use Rattle.file_model.specs.declared.states.Group.{Group}
 use Rattle.file_model.specs.declared.states.Target.{Target}
 use Rattle.file_model.specs.declared.states.Target.TheVariants as target
 use Rattle.file_model.specs.declared.states.Section.TheVariants as section
-use Rattle.file_model.proofs.Kept.{CountsKept, KeptState, KeptStep, unless-kept, within-kept, within_both-kept, known-kept, type-kept, phase-kept, counted-kept, more_effort}
+use Rattle.file_model.proofs.Kept.{CountsKept, KeptIn, KeptState, KeptStep, unless-kept, within-kept, within_both-kept, known-kept, type-kept, phase-kept, counted-kept, more_effort}
 
 -- ---- declarations
 case_declared-kept : (n : Bytes) (t : Option ℕ) (c : Contents) → CountsKept c 0 → KeptStep (case_declared n t c)
 case_declared-kept n None c h = tt
 case_declared-kept n (Some t) c h = unless-kept _ c _ h
 
+begun-kept : (n : Bytes) (listed : Bool) (c : Contents) → CountsKept c 0 →
+    KeptStep (unless (option_or (twice listed) (over (nat_le 64 (length c.types.items)) limit.Types)) c (at_place (section.InType (new_draft n)) c))
+begun-kept n true c h = tt
+begun-kept n false c h = within-kept (nat_le 64 (length c.types.items)) limit.Types c (at_place (section.InType (new_draft n)) c) (λ below. (h, leb-false 64 (length c.types.items) below))
+
 pub declared-kept : (d : Declaration) (c : Contents) → CountsKept c 0 → KeptStep (declared d c)
-declared-kept (a_type n) c h = unless-kept _ c _ h
+declared-kept (a_type n) c h = begun-kept n (is_listed n c.types.names) c h
 declared-kept (an_actor n roles) c h = unless-kept _ c _ h
 declared-kept (a_case n kind) c h = case_declared-kept n (place_of c.types.names kind) c h
 declared-kept first_phase c h = h
 
 -- ---- lines of a type
-ended-kept : (n : Bytes) (s : SchemaModel) (f : Option Fault) (c : Contents) → fault_of s ≡ f → CountsKept c 0 → KeptStep (ended n s f c)
-ended-kept n s None c e h = type-kept n s c e h
-ended-kept n s (Some f) c e h = tt
+ended-kept : (n : Bytes) (s : SchemaModel) (f : Option Fault) (c : Contents) → fault_of s ≡ f → CountsKept c 0 → length c.types.items < 64 → KeptStep (ended n s f c)
+ended-kept n s None c e h below = type-kept n s c e h below
+ended-kept n s (Some f) c e h below = tt
 
-pub typed-kept : (l : TypeLine) (d : Draft) (c : Contents) → CountsKept c 0 → KeptStep (typed l d c)
+pub typed-kept : (l : TypeLine) (d : Draft) (c : Contents) → KeptIn (section.InType d) c → KeptStep (typed l d c)
 typed-kept (activity n role) d c h = h
 typed-kept (opens_and a b) d c h = unless-kept _ c _ h
 typed-kept (opens_xor a b role) d c h = unless-kept _ c _ h
@@ -59,7 +65,7 @@ typed-kept (a_sync a b) d c h = unless-kept _ (with_node b (with_node a c)) _ h
 typed-kept (an_element e k) d c h = unless-kept _ (with_element e c) _ h
 typed-kept (a_read n e mandatory) d c h = unless-kept _ (with_element e (with_node n c)) _ h
 typed-kept (a_write n e) d c h = unless-kept _ (with_element e (with_node n c)) _ h
-typed-kept type_end d c h = ended-kept d.name (whole d) (fault_of (whole d)) c refl h
+typed-kept type_end d c h = ended-kept d.name (whole d) (fault_of (whole d)) c refl h.0 h.1
 
 -- ---- lines of a phase
 one_line : (lines : List Line) (at actor : ℕ) (a : Act) (c : Contents) → act_effort a ≡ 0 → nat_le 60000 c.counts.lines ≡ false →
@@ -140,6 +146,7 @@ group_effort (target.«Type» t) ops = refl
 -- an open group was counted with all the operations that it may have
 closed-kept : (g : Group) (lines : List Line) (c : Contents) → CountsKept c (phase_effort lines + 769) → length g.ops ≤ 256 → CountsKept c (phase_effort (lines ++ line_of_group g ∷ []))
 closed-kept g lines c h fits = record {
+  few = h.few;
   small = h.small;
   within = h.within;
   effort = omega (arith, h.effort, more_effort lines (line_of_group g), group_effort g.target g.ops);

@@ -3,6 +3,8 @@ pub mod AtEnd
 pub mod Kept
 pub mod KeptByLines
 pub mod Bounds
+pub mod ShortWords
+pub mod Grown
 pub mod Examples
 pub mod FileExamples
 pub mod FaultExamples

@@ -8,3 +8,5 @@ pub mod Scripting
 pub mod Operating
 pub mod Reading
 pub mod Sizes
+pub mod ShortForms
+pub mod Room

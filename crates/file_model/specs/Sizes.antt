@@ -1,6 +1,7 @@
 -- How large a file that is read can be.
-use Rattle.std.specs.Prelude.{ℕ, ◌+◌, ◌*◌, ◌≡◌, ◌≤◌, Bool, true, List, length, nat_le}
+use Rattle.std.specs.Prelude.{ℕ, ◌+◌, ◌*◌, ◌≡◌, ◌≤◌, ◌<◌, ◌^◌, Bool, true, List, length, nat_le}
 use Rattle.std.specs.List.{list_all, sum_by}
+use Rattle.file_limits.specs.declared.TheConstants.{MAX_TYPES}
 use Rattle.file_model.specs.declared.files.Act.{Act}
 use Rattle.file_model.specs.declared.files.Act.TheVariants as act
 use Rattle.file_model.specs.declared.files.File.{File}
@@ -28,5 +29,11 @@ effort f = sum_by phase_effort f.phases
 
 -- what holds of each file that is read: 60,000 lines of at most 256 operations each are below the bound
 pub record IsBounded (f : File) : Type 0 where
+  pub types : length f.types ≤ MAX_TYPES
   pub small : list_all is_small f.types ≡ true
   pub effort : effort f ≤ 50000000
+
+-- each node and each element has a number
+pub record HasNumbers (f : File) : Type 0 where
+  pub nodes : length f.nodes < 2 ^ 32
+  pub elements : length f.elements < 2 ^ 32

@@ -1,13 +1,13 @@
 // Cases while they are declared.
-ghost use Rattle.std.specs.Prelude.{◌≡◌, [], ◌∷◌, ◌++◌, ◌+◌, replicate, IfOk, OnOk};
+ghost use Rattle.std.specs.Prelude.{◌≡◌, ◌<◌, ◌^◌, [], ◌∷◌, ◌++◌, ◌+◌, ℕ, length, slice_index, OnOk};
 ghost use Rattle.file_names.specs.Names.{noted};
 ghost use Rattle.file_model.specs.CaseCounts.{cases_of_type};
+ghost use Rattle.file_model.specs.ShortForms.{IsShort};
 
 use crate::files::{CaseDecl, CaseDecls};
-use file_limits::MAX_TYPES;
 use file_names::{DeclaredList, NameTable};
 use file_words::NameWord;
-use std::alloc::{AllocError, Global};
+use std::alloc::Global;
 use std::marker::Model;
 use wsm_lists::NoMemory;
 
@@ -30,28 +30,27 @@ impl Model for CaseTable {
     ghost invariant = { λ a. AreCounted a.counts.items a.list.items };
 }
 
-// One count for each type, all of them 0.
-fn no_counts(alloc: Global) -> Result<Vec<u32>, NoMemory>
-    ensures { IfOk result (λ counts. counts.items ≡ replicate MAX_TYPES 0) }
+// A count for the type with this number, and for each before it: what has no count yet gets 0.
+#[tactic(auto, using(crate::proofs::CountedCases::zero_behind))]
+fn count_up_to(counts: &mut Vec<u32>, type_no: u32) -> Result<(), NoMemory>
+    ensures within { OnOk result (type_no < length counts.new.items) }
+    ensures same { (t : ℕ) → slice_index counts.new.items t ≡ slice_index counts.old.items t }
 {
-    vec![in alloc; 0; MAX_TYPES]
-}
-
-fn with_one(count: u32) -> Result<u32, NoMemory>
-    ensures { IfOk result (λ more. more ≡ count + 1) }
-{
-    count.checked_add(1).ok_or(AllocError)
+    while counts.len() <= type_no as usize {
+        counts.push(0)?;
+    }
+    Ok(())
 }
 
 impl CaseTable {
     /// No cases.
-    pub fn new(alloc: Global) -> Result<CaseTable, NoMemory>
-        ensures { IfOk result (λ cases. cases ≡ record { names = []; items = [] }) }
+    pub fn new(alloc: Global) -> CaseTable
+        ensures { result ≡ record { names = []; items = [] } }
     {
-        Ok(CaseTable {
+        CaseTable {
             list: DeclaredList::new(alloc),
-            counts: no_counts(alloc)?,
-        })
+            counts: Vec::new(alloc),
+        }
     }
 
     /// The names of the cases.
@@ -85,21 +84,22 @@ impl CaseTable {
         }
     }
 
-    /// One more case. A type past the limit has no count, and that counts as want of memory here.
-    #[tactic(auto, using(crate::proofs::CountedCases::one_counted))]
+    /// One more case.
+    #[tactic(auto, using(crate::proofs::CountedCases::one_counted, crate::proofs::CountedCases::few_of_type))]
     pub fn push(
         &mut self,
         alloc: Global,
         name: NameWord<'_>,
         case: CaseDecl,
     ) -> Result<(), NoMemory>
+        requires short { IsShort name.bytes.now }
+        requires room { length self.old.names + 1 < 2 ^ 32 }
+        requires cases { length self.old.items + 1 < 2 ^ 32 }
         ensures { OnOk result (self.new ≡ record { names = noted self.old.names name.entry.bytes.now; items = self.old.items ++ case ∷ [] }) }
     {
         let index = case.id.type_no as usize;
-        if index >= self.counts.len() {
-            return Err(AllocError);
-        }
-        let count = with_one(self.counts[index])?;
+        count_up_to(&mut self.counts, case.id.type_no)?;
+        let count = self.counts[index] + 1;
         self.list.names.note(alloc, name)?;
         self.list.items.push(case)?;
         self.counts[index] = count;

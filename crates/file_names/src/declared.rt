@@ -1,6 +1,7 @@
 // What a file declares, by name.
-ghost use Rattle.std.specs.Prelude.{◌≡◌, [], ◌∷◌, ◌++◌, OnOk, IfOk};
+ghost use Rattle.std.specs.Prelude.{◌≡◌, ◌<◌, ◌^◌, ◌+◌, [], ◌∷◌, ◌++◌, length, true, OnOk, IfOk};
 ghost use Rattle.file_names.specs.Names.{noted};
+ghost use Rattle.file_names.specs.ShortNames.{is_short_name};
 
 use crate::name_tables::NameTable;
 use file_words::{NameWord, NoMemory};
@@ -27,6 +28,8 @@ impl<T: Drop> DeclaredList<T> {
 
     /// One more declaration.
     pub fn push(&mut self, alloc: Global, name: NameWord<'_>, item: T) -> Result<(), NoMemory>
+        requires short { is_short_name name.bytes.now ≡ true }
+        requires room { length self.old.names + 1 < 2 ^ 32 }
         ensures { OnOk result (self.new ≡ record { names = noted self.old.names name.entry.bytes.now; items = self.old.items ++ item ∷ [] }) }
     {
         self.names.note(alloc, name)?;

@@ -9,5 +9,5 @@ mod name_tables;
 mod names;
 
 pub use declared::DeclaredList;
-pub use name_tables::{NameTable, narrow};
+pub use name_tables::NameTable;
 pub use names::{Name64, Names, is_short_name};

@@ -1,12 +1,13 @@
 // Names with their numbers.
-ghost use Rattle.std.specs.Prelude.{◌≡◌, ◌<◌, ◌^◌, [], ◌∷◌, ◌++◌, length, slice_get, false, OnOk, IfOk, codes};
+ghost use Rattle.std.specs.Prelude.{◌≡◌, ◌<◌, ◌^◌, ◌+◌, [], ◌∷◌, ◌++◌, length, slice_get, true, false, OnOk, IfOk, IfSome, codes};
 ghost use Rattle.std.specs.Option.{option_copied};
 ghost use Rattle.file_names.specs.Names.{is_listed, noted, number_of, place_of};
+ghost use Rattle.file_names.specs.ShortNames.{is_short_name};
 
 use crate::names::{Name64, Names};
 use file_words::{NameWord, NoMemory};
 use indexmap::IndexSet;
-use std::alloc::{AllocError, Global};
+use std::alloc::Global;
 use std::marker::Model;
 
 /// Names in order of first occurrence, found by their bytes.
@@ -16,7 +17,7 @@ pub struct NameTable {
 }
 
 impl Model for NameTable {
-    ghost use Rattle.std.specs.Prelude.{◌≡◌, ℕ, List, map, true};
+    ghost use Rattle.std.specs.Prelude.{◌≡◌, ◌<◌, ◌^◌, ℕ, List, length, map, true};
     ghost use Rattle.std.specs.List.{list_all};
     ghost use Rattle.file_names.specs.ShortNames.{is_short_name};
 
@@ -24,18 +25,7 @@ impl Model for NameTable {
 
     ghost view = { λ a. map (λ v. v.items) a.set.keys };
 
-    ghost invariant = { λ a. list_all is_short_name (map (λ v. v.items) a.set.keys) ≡ true };
-}
-
-/// The number of what stands at an index. Past 2^32 - 1 no number is left, and that counts as want of memory.
-pub fn narrow(index: usize) -> Result<u32, NoMemory>
-    ensures { IfOk result (λ number. number ≡ index) }
-{
-    if index <= 0xffff_ffff {
-        Ok(index as u32)
-    } else {
-        Err(AllocError)
-    }
+    ghost invariant = { λ a. (list_all is_short_name (map (λ v. v.items) a.set.keys) ≡ true) × (length a.set.keys < 2 ^ 32) };
 }
 
 impl NameTable {
@@ -61,7 +51,7 @@ impl NameTable {
     /// How many names there are.
     pub fn len(&self) -> usize
         ensures len { result ≡ length self.now }
-        ensures small { result < 2 ^ 63 }
+        ensures small { result < 2 ^ 32 }
     {
         self.set.len()
     }
@@ -73,31 +63,39 @@ impl NameTable {
         self.set.contains(name.bytes)
     }
 
-    /// The place of a name, where it has one.
-    pub fn find(&self, name: NameWord<'_>) -> Option<usize>
-        ensures { result ≡ place_of self.now name.entry.bytes.now }
+    /// The number of a name, where it has one.
+    pub fn find(&self, name: NameWord<'_>) -> Option<u32>
+        ensures found { result ≡ place_of self.now name.entry.bytes.now }
+        ensures small { IfSome result (λ number. number + 1 < 2 ^ 32) }
     {
-        self.set.get_index_of(name.bytes)
+        match self.set.get_index_of(name.bytes) {
+            Some(index) => Some(index as u32),
+            None => None,
+        }
     }
 
     /// The number of a name, which gets the next one where it has none.
     pub fn note(&mut self, alloc: Global, name: NameWord<'_>) -> Result<u32, NoMemory>
+        requires short { is_short_name name.bytes.now ≡ true }
+        requires room { length self.old + 1 < 2 ^ 32 }
         ensures noted { OnOk result (self.new ≡ noted self.old name.entry.bytes.now) }
         ensures number { IfOk result (λ n. n ≡ number_of (noted self.old name.entry.bytes.now) name.entry.bytes.now) }
     {
         match self.set.get_index_of(name.bytes) {
-            Some(index) => narrow(index),
+            Some(index) => Ok(index as u32),
             None => self.add(alloc, name),
         }
     }
 
     // The number of a name that had none.
     fn add(&mut self, alloc: Global, name: NameWord<'_>) -> Result<u32, NoMemory>
-        requires { is_listed name.bytes.now self.old ≡ false }
+        requires new { is_listed name.bytes.now self.old ≡ false }
+        requires short { is_short_name name.bytes.now ≡ true }
+        requires room { length self.old + 1 < 2 ^ 32 }
         ensures added { OnOk result (self.new ≡ self.old ++ name.entry.bytes.now ∷ []) }
         ensures number { IfOk result (λ n. n ≡ length self.old) }
     {
-        let number = narrow(self.set.len())?;
+        let number = self.set.len() as u32;
         let name = Name64::of_word(alloc, name)?;
         self.set.insert(name.into_bytes())?;
         Ok(number)

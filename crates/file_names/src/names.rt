@@ -4,7 +4,7 @@ ghost use Rattle.file_names.specs.ShortNames.{is_short_name};
 
 use file_limits::MAX_NAME;
 use file_words::{NameWord, NoMemory, is_name};
-use std::alloc::{AllocError, Global};
+use std::alloc::Global;
 use std::marker::Model;
 use wsm_lists::Listing;
 
@@ -51,13 +51,11 @@ impl Name64 {
         }
     }
 
-    /// The name of a word. The reader refuses a line with a longer name first; here it counts as want of memory.
+    /// The name of a word that is short enough.
     pub fn of_word(alloc: Global, word: NameWord<'_>) -> Result<Name64, NoMemory>
+        requires { is_short_name word.bytes.now ≡ true }
         ensures { IfOk result (λ name. name ≡ word.entry.bytes.now) }
     {
-        if word.bytes.len() > MAX_NAME {
-            return Err(AllocError);
-        }
         Ok(Name64 {
             bytes: Vec::from_slice(alloc, word.bytes)?,
         })
@@ -72,7 +70,8 @@ impl Name64 {
 
     /// The name as a word.
     pub fn word(&self) -> NameWord<'_>
-        ensures { result.bytes.now ≡ self.now }
+        ensures bytes { result.bytes.now ≡ self.now }
+        ensures short { is_short_name result.bytes.now ≡ true }
     {
         NameWord { bytes: &self.bytes }
     }

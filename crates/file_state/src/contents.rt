@@ -1,40 +1,30 @@
 // What was read so far: names and refusals.
-ghost use Rattle.std.specs.Prelude.{◌≡◌, Err, IfOk, OnOk};
-ghost use Rattle.file_names.specs.Names.{place_of};
+ghost use Rattle.std.specs.Prelude.{◌≡◌, ◌≤◌, ◌+◌, Err, IfOk, OnOk};
 ghost use Rattle.file_model.specs.Outcomes.{Tells};
 ghost use Rattle.file_model.specs.Reading.{refused};
+ghost use Rattle.file_model.specs.Room.{HasRoom, count_of_names};
+ghost use Rattle.file_model.specs.ShortForms.{IsShort};
 ghost use Rattle.file_model.specs.Steps.{no_contents, node_in, with_node, element_in, with_element, node_behind, with_nodes, element_behind, with_node_and_element};
 
 use crate::texts::text_of;
 use file_model::{CaseTable, Contents, Counts, FileRefusal, Phases, Refused, Why};
-use file_names::{DeclaredList, NameTable, narrow};
+use file_names::{DeclaredList, NameTable};
 use file_words::NameWord;
 use std::alloc::Global;
 use wsm_lists::NoMemory;
-
-/// The number of what was declared with a name.
-pub fn place_in(names: &NameTable, name: NameWord<'_>) -> Result<Option<u32>, NoMemory>
-    ensures { IfOk result (λ found. found ≡ place_of names.now name.entry.bytes.now) }
-{
-    match names.find(name) {
-        None => Ok(None),
-        Some(index) => Ok(Some(narrow(index)?)),
-    }
-}
 
 /// Before the first line.
 pub fn no_contents(alloc: Global) -> Result<Contents, NoMemory>
     ensures { IfOk result (λ contents. contents ≡ no_contents) }
 {
     let nodes = NameTable::start_and_finish(alloc)?;
-    let cases = CaseTable::new(alloc)?;
     Ok(Contents {
         format: 1,
         nodes,
         elements: NameTable::new(alloc),
         types: DeclaredList::new(alloc),
         actors: DeclaredList::new(alloc),
-        cases,
+        cases: CaseTable::new(alloc),
         phases: Phases::new(alloc),
         counts: Counts {
             lines: 0,
@@ -59,25 +49,33 @@ pub fn refusal(contents: &Contents, alloc: Global, at: u32, why: Why) -> FileRef
 }
 
 /// The number of a node, which gets the next one where it has none.
+#[tactic(auto, using(file_model::proofs::Grown::node_grown))]
 pub fn node_number(
     contents: &mut Contents,
     alloc: Global,
     name: NameWord<'_>,
 ) -> Result<u32, NoMemory>
+    requires short { IsShort name.bytes.now }
+    requires room { HasRoom 1 contents.old }
     ensures noted { OnOk result (contents.new ≡ with_node name.entry.bytes.now contents.old) }
     ensures number { IfOk result (λ number. number ≡ node_in name.entry.bytes.now contents.old) }
+    ensures room { OnOk result (count_of_names contents.new ≤ count_of_names contents.old + 1) }
 {
     contents.nodes.note(alloc, name)
 }
 
 /// The number of an element, which gets the next one where it has none.
+#[tactic(auto, using(file_model::proofs::Grown::element_grown))]
 pub fn element_number(
     contents: &mut Contents,
     alloc: Global,
     name: NameWord<'_>,
 ) -> Result<u32, NoMemory>
+    requires short { IsShort name.bytes.now }
+    requires room { HasRoom 1 contents.old }
     ensures noted { OnOk result (contents.new ≡ with_element name.entry.bytes.now contents.old) }
     ensures number { IfOk result (λ number. number ≡ element_in name.entry.bytes.now contents.old) }
+    ensures room { OnOk result (count_of_names contents.new ≤ count_of_names contents.old + 1) }
 {
     contents.elements.note(alloc, name)
 }
@@ -89,8 +87,11 @@ pub fn node_numbers(
     a: NameWord<'_>,
     b: NameWord<'_>,
 ) -> Result<(u32, u32), NoMemory>
+    requires short { IsShort a.bytes.now × IsShort b.bytes.now }
+    requires room { HasRoom 2 contents.old }
     ensures noted { OnOk result (contents.new ≡ with_nodes a.entry.bytes.now b.entry.bytes.now contents.old) }
     ensures numbers { IfOk result (λ p. p ≡ (node_in a.entry.bytes.now contents.old, node_behind a.entry.bytes.now b.entry.bytes.now contents.old)) }
+    ensures room { OnOk result (count_of_names contents.new ≤ count_of_names contents.old + 2) }
 {
     let first = node_number(contents, alloc, a)?;
     let second = node_number(contents, alloc, b)?;
@@ -104,8 +105,11 @@ pub fn node_and_element_numbers(
     node: NameWord<'_>,
     element: NameWord<'_>,
 ) -> Result<(u32, u32), NoMemory>
+    requires short { IsShort node.bytes.now × IsShort element.bytes.now }
+    requires room { HasRoom 2 contents.old }
     ensures noted { OnOk result (contents.new ≡ with_node_and_element node.entry.bytes.now element.entry.bytes.now contents.old) }
     ensures numbers { IfOk result (λ p. p ≡ (node_in node.entry.bytes.now contents.old, element_behind node.entry.bytes.now element.entry.bytes.now contents.old)) }
+    ensures room { OnOk result (count_of_names contents.new ≤ count_of_names contents.old + 2) }
 {
     let first = node_number(contents, alloc, node)?;
     let second = element_number(contents, alloc, element)?;

@@ -1,14 +1,15 @@
 // The header, and declarations.
-ghost use Rattle.std.specs.Prelude.{◌≡◌, Ok, Some, IfOk, IfErr, OnOk};
+ghost use Rattle.std.specs.Prelude.{◌≡◌, ◌<◌, length, Ok, Some, IfOk, IfErr, OnOk};
 ghost use Rattle.file_words.specs.Shown.{shown};
 ghost use Rattle.file_forms.specs.Shown.{shown_declaration};
 ghost use Rattle.file_forms.specs.Forms.{a_type, an_actor, a_case};
 ghost use Rattle.file_model.specs.Outcomes.{Stops};
+ghost use Rattle.file_model.specs.Room.{HasRoom};
+ghost use Rattle.file_model.specs.ShortForms.{IsShort, IsShortDeclaration};
 ghost use Rattle.file_model.specs.Steps.{at_place};
 ghost use Rattle.file_model.specs.Declaring.{declared, with_actor, case_declared, with_case};
 ghost use Rattle.file_model.specs.Reading.{headed};
 
-use crate::contents::place_in;
 use file_drafts::Draft;
 use file_forms::{Declaration, header};
 use file_limits::{MAX_ACTORS, MAX_CASES, MAX_ROLES, MAX_TYPES};
@@ -39,6 +40,8 @@ pub fn declared(
     alloc: Global,
     line: Declaration<'_>,
 ) -> Result<Section, Stop>
+    requires short { IsShortDeclaration (shown_declaration line) }
+    requires room { HasRoom 1 contents.old }
     ensures ok { IfOk result (λ place. declared (shown_declaration line.entry) contents.old ≡ Ok (at_place place contents.new)) }
     ensures refused { IfErr result (λ stop. Stops (declared (shown_declaration line.entry) contents.old) contents.new stop) }
 {
@@ -51,6 +54,7 @@ pub fn declared(
 }
 
 fn with_type(contents: &mut Contents, alloc: Global, name: NameWord<'_>) -> Result<Section, Stop>
+    requires short { IsShort name.bytes.now }
     ensures ok { IfOk result (λ place. declared (a_type name.entry.bytes.now) contents.old ≡ Ok (at_place place contents.new)) }
     ensures refused { IfErr result (λ stop. Stops (declared (a_type name.entry.bytes.now) contents.old) contents.new stop) }
 {
@@ -70,6 +74,8 @@ fn with_actor(
     name: NameWord<'_>,
     roles: RoleList,
 ) -> Result<Section, Stop>
+    requires short { IsShort name.bytes.now }
+    requires room { HasRoom 1 contents.old }
     ensures ok { IfOk result (λ place. declared (an_actor name.entry.bytes.now roles) contents.old ≡ Ok (at_place place contents.new)) }
     ensures refused { IfErr result (λ stop. Stops (declared (an_actor name.entry.bytes.now roles) contents.old) contents.new stop) }
 {
@@ -92,6 +98,8 @@ fn add_actor(
     name: NameWord<'_>,
     roles: RoleList,
 ) -> Result<(), NoMemory>
+    requires short { IsShort name.bytes.now }
+    requires room { HasRoom 1 contents.old }
     ensures { OnOk result (contents.new ≡ with_actor name.entry.bytes.now roles contents.old) }
 {
     let actor = ActorDecl {
@@ -107,10 +115,12 @@ fn with_case(
     name: NameWord<'_>,
     kind: NameWord<'_>,
 ) -> Result<Section, Stop>
+    requires short { IsShort name.bytes.now }
+    requires room { HasRoom 1 contents.old }
     ensures ok { IfOk result (λ place. declared (a_case name.entry.bytes.now kind.entry.bytes.now) contents.old ≡ Ok (at_place place contents.new)) }
     ensures refused { IfErr result (λ stop. Stops (declared (a_case name.entry.bytes.now kind.entry.bytes.now) contents.old) contents.new stop) }
 {
-    let found = place_in(&contents.types.names, kind)?;
+    let found = contents.types.names.find(kind);
     with_case_of(contents, alloc, name, found)
 }
 
@@ -120,6 +130,8 @@ fn with_case_of(
     name: NameWord<'_>,
     found: Option<u32>,
 ) -> Result<Section, Stop>
+    requires short { IsShort name.bytes.now }
+    requires room { HasRoom 1 contents.old }
     ensures ok { IfOk result (λ place. case_declared name.entry.bytes.now found contents.old ≡ Ok (at_place place contents.new)) }
     ensures refused { IfErr result (λ stop. Stops (case_declared name.entry.bytes.now found contents.old) contents.new stop) }
 {
@@ -135,6 +147,8 @@ fn with_known_type(
     name: NameWord<'_>,
     type_no: u32,
 ) -> Result<Section, Stop>
+    requires short { IsShort name.bytes.now }
+    requires room { HasRoom 1 contents.old }
     ensures ok { IfOk result (λ place. case_declared name.entry.bytes.now (Some type_no) contents.old ≡ Ok (at_place place contents.new)) }
     ensures refused { IfErr result (λ stop. Stops (case_declared name.entry.bytes.now (Some type_no) contents.old) contents.new stop) }
 {
@@ -154,6 +168,9 @@ fn add_case(
     name: NameWord<'_>,
     type_no: u32,
 ) -> Result<(), NoMemory>
+    requires short { IsShort name.bytes.now }
+    requires room { HasRoom 1 contents.old }
+    requires cases { length contents.old.cases.items < MAX_CASES }
     ensures { OnOk result (contents.new ≡ with_case name.entry.bytes.now type_no contents.old) }
 {
     let place = contents.cases.count(type_no);

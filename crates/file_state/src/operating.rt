@@ -3,6 +3,8 @@ ghost use Rattle.std.specs.Prelude.{◌≡◌, [], ◌∷◌, ◌++◌, Ok, Some
 ghost use Rattle.file_forms.specs.Shown.{shown_place, shown_operation};
 ghost use Rattle.file_forms.specs.Forms.{insert, delete, move, sync, unsync, element, read, unread, write, unwrite, set_role};
 ghost use Rattle.file_model.specs.Outcomes.{Stops};
+ghost use Rattle.file_model.specs.Room.{HasRoom};
+ghost use Rattle.file_model.specs.ShortForms.{IsShort, IsShortGap, IsShortOperation};
 ghost use Rattle.file_model.specs.Steps.{at_place, node_in, with_node};
 ghost use Rattle.file_model.specs.Operating.{gap_in, with_place, op_in, with_names, line_of_group, grouped, operated};
 
@@ -48,6 +50,8 @@ pub fn operated(
     group: Group,
     line: OperationLine<'_>,
 ) -> Result<Section, Stop>
+    requires short { IsShortOperation (shown_operation line) }
+    requires room { HasRoom 5 contents.old }
     ensures ok { IfOk result (λ next. operated (shown_operation line.entry) group lines contents.old ≡ Ok (at_place next contents.new)) }
     ensures refused { IfErr result (λ stop. Stops (operated (shown_operation line.entry) group lines contents.old) contents.new stop) }
 {
@@ -93,6 +97,8 @@ fn operation(
     alloc: Global,
     line: OperationLine<'_>,
 ) -> Result<Option<Op>, NoMemory>
+    requires short { IsShortOperation (shown_operation line) }
+    requires room { HasRoom 5 contents.old }
     ensures noted { OnOk result (contents.new ≡ with_names (shown_operation line.entry) contents.old) }
     ensures op { IfOk result (λ found. found ≡ op_in (shown_operation line.entry) contents.old) }
 {
@@ -134,6 +140,8 @@ fn operation(
 }
 
 fn gap(contents: &mut Contents, alloc: Global, place: NamedGap<'_>) -> Result<Gap, NoMemory>
+    requires short { IsShortGap (shown_place place) }
+    requires room { HasRoom 1 contents.old }
     ensures noted { OnOk result (contents.new ≡ with_place (shown_place place.entry) contents.old) }
     ensures gap { IfOk result (λ gap. gap ≡ gap_in (shown_place place.entry) contents.old) }
 {
@@ -150,6 +158,8 @@ fn insertion(
     role: u32,
     place: NamedGap<'_>,
 ) -> Result<Option<Op>, NoMemory>
+    requires short { IsShort node.bytes.now × IsShortGap (shown_place place) }
+    requires room { HasRoom 5 contents.old }
     ensures noted { OnOk result (contents.new ≡ with_names (insert node.entry.bytes.now role (shown_place place.entry)) contents.old) }
     ensures op { IfOk result (λ found. found ≡ op_in (insert node.entry.bytes.now role (shown_place place.entry)) contents.old) }
 {
@@ -168,6 +178,8 @@ fn parallel_insertion(
     first: NameWord<'_>,
     last: NameWord<'_>,
 ) -> Result<Option<Op>, NoMemory>
+    requires short { IsShort node.bytes.now × IsShort split.bytes.now × IsShort join.bytes.now × IsShort first.bytes.now × IsShort last.bytes.now }
+    requires room { HasRoom 5 contents.old }
     ensures noted { OnOk result (contents.new ≡ with_names (shown_operation (OperationLine.Parallel node.entry role split.entry join.entry first.entry last.entry)) contents.old) }
     ensures op { IfOk result (λ found. found ≡ op_in (shown_operation (OperationLine.Parallel node.entry role split.entry join.entry first.entry last.entry)) contents.old) }
 {
@@ -193,6 +205,8 @@ fn conditional_insertion(
     join: NameWord<'_>,
     place: NamedGap<'_>,
 ) -> Result<Option<Op>, NoMemory>
+    requires short { IsShort node.bytes.now × IsShort split.bytes.now × IsShort join.bytes.now × IsShortGap (shown_place place) }
+    requires room { HasRoom 5 contents.old }
     ensures noted { OnOk result (contents.new ≡ with_names (shown_operation (OperationLine.Conditional node.entry role split.entry join.entry place.entry)) contents.old) }
     ensures op { IfOk result (λ found. found ≡ op_in (shown_operation (OperationLine.Conditional node.entry role split.entry join.entry place.entry)) contents.old) }
 {
@@ -213,6 +227,8 @@ fn deletion(
     alloc: Global,
     node: NameWord<'_>,
 ) -> Result<Option<Op>, NoMemory>
+    requires short { IsShort node.bytes.now }
+    requires room { HasRoom 5 contents.old }
     ensures noted { OnOk result (contents.new ≡ with_names (delete node.entry.bytes.now) contents.old) }
     ensures op { IfOk result (λ found. found ≡ op_in (delete node.entry.bytes.now) contents.old) }
 {
@@ -226,6 +242,8 @@ fn movement(
     node: NameWord<'_>,
     place: NamedGap<'_>,
 ) -> Result<Option<Op>, NoMemory>
+    requires short { IsShort node.bytes.now × IsShortGap (shown_place place) }
+    requires room { HasRoom 5 contents.old }
     ensures noted { OnOk result (contents.new ≡ with_names (move node.entry.bytes.now (shown_place place.entry)) contents.old) }
     ensures op { IfOk result (λ found. found ≡ op_in (move node.entry.bytes.now (shown_place place.entry)) contents.old) }
 {
@@ -240,6 +258,8 @@ fn new_sync(
     source: NameWord<'_>,
     target: NameWord<'_>,
 ) -> Result<Option<Op>, NoMemory>
+    requires short { IsShort source.bytes.now × IsShort target.bytes.now }
+    requires room { HasRoom 5 contents.old }
     ensures noted { OnOk result (contents.new ≡ with_names (sync source.entry.bytes.now target.entry.bytes.now) contents.old) }
     ensures op { IfOk result (λ found. found ≡ op_in (sync source.entry.bytes.now target.entry.bytes.now) contents.old) }
 {
@@ -253,6 +273,8 @@ fn lost_sync(
     source: NameWord<'_>,
     target: NameWord<'_>,
 ) -> Result<Option<Op>, NoMemory>
+    requires short { IsShort source.bytes.now × IsShort target.bytes.now }
+    requires room { HasRoom 5 contents.old }
     ensures noted { OnOk result (contents.new ≡ with_names (unsync source.entry.bytes.now target.entry.bytes.now) contents.old) }
     ensures op { IfOk result (λ found. found ≡ op_in (unsync source.entry.bytes.now target.entry.bytes.now) contents.old) }
 {
@@ -266,6 +288,8 @@ fn new_element(
     name: NameWord<'_>,
     kind: ElementKind,
 ) -> Result<Option<Op>, NoMemory>
+    requires short { IsShort name.bytes.now }
+    requires room { HasRoom 5 contents.old }
     ensures noted { OnOk result (contents.new ≡ with_names (element name.entry.bytes.now kind) contents.old) }
     ensures op { IfOk result (λ found. found ≡ op_in (element name.entry.bytes.now kind) contents.old) }
 {
@@ -280,6 +304,8 @@ fn new_read(
     element: NameWord<'_>,
     mandatory: bool,
 ) -> Result<Option<Op>, NoMemory>
+    requires short { IsShort node.bytes.now × IsShort element.bytes.now }
+    requires room { HasRoom 5 contents.old }
     ensures noted { OnOk result (contents.new ≡ with_names (read node.entry.bytes.now element.entry.bytes.now mandatory) contents.old) }
     ensures op { IfOk result (λ found. found ≡ op_in (read node.entry.bytes.now element.entry.bytes.now mandatory) contents.old) }
 {
@@ -297,6 +323,8 @@ fn lost_read(
     node: NameWord<'_>,
     element: NameWord<'_>,
 ) -> Result<Option<Op>, NoMemory>
+    requires short { IsShort node.bytes.now × IsShort element.bytes.now }
+    requires room { HasRoom 5 contents.old }
     ensures noted { OnOk result (contents.new ≡ with_names (unread node.entry.bytes.now element.entry.bytes.now) contents.old) }
     ensures op { IfOk result (λ found. found ≡ op_in (unread node.entry.bytes.now element.entry.bytes.now) contents.old) }
 {
@@ -310,6 +338,8 @@ fn new_write(
     node: NameWord<'_>,
     element: NameWord<'_>,
 ) -> Result<Option<Op>, NoMemory>
+    requires short { IsShort node.bytes.now × IsShort element.bytes.now }
+    requires room { HasRoom 5 contents.old }
     ensures noted { OnOk result (contents.new ≡ with_names (write node.entry.bytes.now element.entry.bytes.now) contents.old) }
     ensures op { IfOk result (λ found. found ≡ op_in (write node.entry.bytes.now element.entry.bytes.now) contents.old) }
 {
@@ -323,6 +353,8 @@ fn lost_write(
     node: NameWord<'_>,
     element: NameWord<'_>,
 ) -> Result<Option<Op>, NoMemory>
+    requires short { IsShort node.bytes.now × IsShort element.bytes.now }
+    requires room { HasRoom 5 contents.old }
     ensures noted { OnOk result (contents.new ≡ with_names (unwrite node.entry.bytes.now element.entry.bytes.now) contents.old) }
     ensures op { IfOk result (λ found. found ≡ op_in (unwrite node.entry.bytes.now element.entry.bytes.now) contents.old) }
 {
@@ -336,6 +368,8 @@ fn new_role(
     node: NameWord<'_>,
     role: u32,
 ) -> Result<Option<Op>, NoMemory>
+    requires short { IsShort node.bytes.now }
+    requires room { HasRoom 5 contents.old }
     ensures noted { OnOk result (contents.new ≡ with_names (set_role node.entry.bytes.now role) contents.old) }
     ensures op { IfOk result (λ found. found ≡ op_in (set_role node.entry.bytes.now role) contents.old) }
 {

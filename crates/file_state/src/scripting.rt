@@ -1,44 +1,38 @@
 // Lines of a phase.
-ghost use Rattle.std.specs.Prelude.{◌≡◌, ◌+◌, ◌<◌, [], ◌∷◌, ◌++◌, map, Ok, Some, IfOk, IfErr, OnOk};
+ghost use Rattle.std.specs.Prelude.{◌≡◌, ◌≤◌, ◌+◌, ◌<◌, length, [], ◌∷◌, ◌++◌, map, Ok, Some, IfOk, IfErr, OnOk};
+ghost use Rattle.wsm_lists.specs.Rows.{AllRows};
+ghost use Rattle.file_forms.specs.NamesInForms.{writes_in, writes_in_deed};
 ghost use Rattle.file_words.specs.Shown.{shown_literal, shown_pair};
 ghost use Rattle.file_forms.specs.Shown.{shown_deed, shown_script_line};
 ghost use Rattle.file_forms.specs.Forms.{to_create, to_change, to_install, to_migrate, next_phase, a_deed};
 ghost use Rattle.file_model.specs.Outcomes.{Stops};
+ghost use Rattle.file_model.specs.Room.{HasRoom, count_of_names};
+ghost use Rattle.file_model.specs.ShortForms.{IsShort, IsShortDeed, IsShortScriptLine, IsShortValue, IsShortWrite};
 ghost use Rattle.file_model.specs.Steps.{at_place, node_in, with_node};
 ghost use Rattle.file_state.specs.Unknown.{StopsUnknown};
 ghost use Rattle.file_model.specs.Scripting.{actor_in, if_known, case_in, with_line, line_of, counted, with_group, changing, one_install, installing, migrations_with, migrating, with_elements, numbered, acted, acted_by, scripted};
 
-use crate::contents::{element_number, node_number, place_in};
+use crate::contents::{element_number, node_number};
 use file_forms::{Deed, ScriptLine, WriteWords};
 use file_limits::{MAX_INSTALLS, MAX_LINES, MAX_MIGRATIONS, MAX_PHASES};
 use file_model::{Act, Contents, FileLimit, Group, Line, Lines, Section, Stop, Target, Why};
 use file_words::{Literal, NameWord};
-use std::alloc::{AllocError, Global};
+use std::alloc::Global;
 use wsm_lists::{NoMemory, ShortText, Value, Writes};
 use wsm_ops::Ops;
 use wsm_sound::CaseId;
 
-// The value of a literal. The reader refuses a line with a longer text first; here it counts as want of memory.
+// The value of a literal whose text is short enough.
 fn value_of(alloc: Global, literal: &Literal) -> Result<Value, NoMemory>
+    requires short { IsShortValue (shown_literal literal.now) }
     ensures { IfOk result (λ value. value ≡ shown_literal literal.now) }
 {
     match literal {
         Literal::Int(n) => Ok(Value::Int(*n)),
         Literal::Text(bytes) => match ShortText::of(alloc, bytes)? {
             Some(text) => Ok(Value::Text(text)),
-            None => Err(AllocError),
+            None => unreachable!(),
         },
-    }
-}
-
-// The number of what stands at an index, where they are counted from 1.
-fn next_number(index: usize) -> Result<u32, NoMemory>
-    ensures { IfOk result (λ number. number ≡ index + 1) }
-{
-    if index < 0xffff_ffff {
-        Ok(index as u32 + 1)
-    } else {
-        Err(AllocError)
     }
 }
 
@@ -46,7 +40,7 @@ fn case_of(contents: &Contents, name: NameWord<'_>) -> Option<CaseId>
     ensures { result ≡ case_in name.entry.bytes.now contents.now }
 {
     let index = contents.cases.names().find(name)?;
-    let case = contents.cases.items().get(index)?;
+    let case = contents.cases.items().get(index as usize)?;
     Some(case.id)
 }
 
@@ -56,6 +50,8 @@ fn numbered_writes(
     alloc: Global,
     words: &[(NameWord<'_>, Literal)],
 ) -> Result<Writes, NoMemory>
+    requires short { AllRows IsShortWrite (map shown_pair words.now) }
+    requires room { HasRoom (length words.now) contents.old }
     ensures noted { OnOk result (contents.new ≡ with_elements (map shown_pair words.now) contents.old) }
     ensures writes { IfOk result (λ writes. writes ≡ numbered (map shown_pair words.now) contents.old) }
 {
@@ -75,6 +71,8 @@ pub fn scripted(
     lines: Lines,
     line: ScriptLine<'_>,
 ) -> Result<Section, Stop>
+    requires short { IsShortScriptLine (shown_script_line line) }
+    requires room { HasRoom (writes_in (shown_script_line line) + 1) contents.old }
     ensures ok { IfOk result (λ place. scripted (shown_script_line line.entry) lines at contents.old ≡ Ok (at_place place contents.new)) }
     ensures refused { IfErr result (λ stop. Stops (scripted (shown_script_line line.entry) lines at contents.old) contents.new stop) }
 {
@@ -96,13 +94,11 @@ fn phase_line(contents: &mut Contents, alloc: Global, lines: Lines) -> Result<Se
 }
 
 // The number of an actor, from 1.
-fn actor_in(contents: &Contents, name: NameWord<'_>) -> Result<Option<u32>, NoMemory>
-    ensures { IfOk result (λ found. found ≡ actor_in name.entry.bytes.now contents.now) }
+fn actor_in(contents: &Contents, name: NameWord<'_>) -> Option<u32>
+    ensures { result ≡ actor_in name.entry.bytes.now contents.now }
 {
-    match contents.actors.names.find(name) {
-        None => Ok(None),
-        Some(index) => Ok(Some(next_number(index)?)),
-    }
+    let index = contents.actors.names.find(name)?;
+    Some(index + 1)
 }
 
 fn deed_line(
@@ -113,10 +109,12 @@ fn deed_line(
     actor: NameWord<'_>,
     deed: Deed<'_>,
 ) -> Result<Section, Stop>
+    requires short { IsShortDeed (shown_deed deed) }
+    requires room { HasRoom (writes_in_deed (shown_deed deed) + 1) contents.old }
     ensures ok { IfOk result (λ place. scripted (a_deed actor.entry.bytes.now (shown_deed deed.entry)) lines at contents.old ≡ Ok (at_place place contents.new)) }
     ensures refused { IfErr result (λ stop. Stops (scripted (a_deed actor.entry.bytes.now (shown_deed deed.entry)) lines at contents.old) contents.new stop) }
 {
-    let found = actor_in(contents, actor)?;
+    let found = actor_in(contents, actor);
     acted_by(contents, alloc, at, lines, found, deed)
 }
 
@@ -128,6 +126,8 @@ fn acted_by(
     found: Option<u32>,
     deed: Deed<'_>,
 ) -> Result<Section, Stop>
+    requires short { IsShortDeed (shown_deed deed) }
+    requires room { HasRoom (writes_in_deed (shown_deed deed) + 1) contents.old }
     ensures ok { IfOk result (λ place. acted_by found (shown_deed deed.entry) lines at contents.old ≡ Ok (at_place place contents.new)) }
     ensures refused { IfErr result (λ stop. Stops (acted_by found (shown_deed deed.entry) lines at contents.old) contents.new stop) }
 {
@@ -145,6 +145,8 @@ fn acted(
     actor: u32,
     deed: Deed<'_>,
 ) -> Result<Section, Stop>
+    requires short { IsShortDeed (shown_deed deed) }
+    requires room { HasRoom (writes_in_deed (shown_deed deed) + 1) contents.old }
     ensures ok { IfOk result (λ place. acted (shown_deed deed.entry) actor lines at contents.old ≡ Ok (at_place place contents.new)) }
     ensures refused { IfErr result (λ stop. Stops (acted (shown_deed deed.entry) actor lines at contents.old) contents.new stop) }
 {
@@ -191,10 +193,13 @@ fn case_and_node(
     case: NameWord<'_>,
     node: NameWord<'_>,
 ) -> Result<(CaseId, u32), Stop>
+    requires short { IsShort node.bytes.now }
+    requires room { HasRoom 1 contents.old }
     ensures case { IfOk result (λ found. case_in case.entry.bytes.now contents.old ≡ Some found.0) }
     ensures node { IfOk result (λ found. found.1 ≡ node_in node.entry.bytes.now contents.old) }
     ensures noted { OnOk result (contents.new ≡ with_node node.entry.bytes.now contents.old) }
     ensures refused { IfErr result (λ stop. StopsUnknown (case_in case.entry.bytes.now contents.old) contents.old contents.new stop) }
+    ensures room { OnOk result (count_of_names contents.new ≤ count_of_names contents.old + 1) }
 {
     match case_of(contents, case) {
         None => Err(Stop::Refused(Why::Unknown)),
@@ -211,6 +216,8 @@ fn start_line(
     case: NameWord<'_>,
     node: NameWord<'_>,
 ) -> Result<Section, Stop>
+    requires short { IsShort node.bytes.now }
+    requires room { HasRoom 1 contents.old }
     ensures ok { IfOk result (λ place. acted (shown_deed (Deed.Start case.entry node.entry)) actor lines at contents.old ≡ Ok (at_place place contents.new)) }
     ensures refused { IfErr result (λ stop. Stops (acted (shown_deed (Deed.Start case.entry node.entry)) actor lines at contents.old) contents.new stop) }
 {
@@ -227,6 +234,8 @@ fn withdraw_line(
     case: NameWord<'_>,
     node: NameWord<'_>,
 ) -> Result<Section, Stop>
+    requires short { IsShort node.bytes.now }
+    requires room { HasRoom 1 contents.old }
     ensures ok { IfOk result (λ place. acted (shown_deed (Deed.Withdraw case.entry node.entry)) actor lines at contents.old ≡ Ok (at_place place contents.new)) }
     ensures refused { IfErr result (λ stop. Stops (acted (shown_deed (Deed.Withdraw case.entry node.entry)) actor lines at contents.old) contents.new stop) }
 {
@@ -245,6 +254,8 @@ fn end_line(
     choice: Option<u16>,
     writes: WriteWords<'_>,
 ) -> Result<Section, Stop>
+    requires short { IsShort node.bytes.now × AllRows IsShortWrite (map shown_pair writes.items) }
+    requires room { HasRoom (length writes.items + 1) contents.old }
     ensures ok { IfOk result (λ place. acted (shown_deed (Deed.End case.entry node.entry choice writes.entry)) actor lines at contents.old ≡ Ok (at_place place contents.new)) }
     ensures refused { IfErr result (λ stop. Stops (acted (shown_deed (Deed.End case.entry node.entry choice writes.entry)) actor lines at contents.old) contents.new stop) }
 {
@@ -304,7 +315,7 @@ fn install_line(
     ensures ok { IfOk result (λ place. acted (to_install kind.entry.bytes.now) actor lines at contents.old ≡ Ok (at_place place contents.new)) }
     ensures refused { IfErr result (λ stop. Stops (acted (to_install kind.entry.bytes.now) actor lines at contents.old) contents.new stop) }
 {
-    let found = place_in(&contents.types.names, kind)?;
+    let found = contents.types.names.find(kind);
     install_known(contents, alloc, at, lines, actor, found)
 }
 
@@ -356,7 +367,7 @@ fn migrate_line(
     ensures ok { IfOk result (λ place. acted (to_migrate kind.entry.bytes.now) actor lines at contents.old ≡ Ok (at_place place contents.new)) }
     ensures refused { IfErr result (λ stop. Stops (acted (to_migrate kind.entry.bytes.now) actor lines at contents.old) contents.new stop) }
 {
-    let found = place_in(&contents.types.names, kind)?;
+    let found = contents.types.names.find(kind);
     migrate_known(contents, at, lines, actor, found)
 }
 

@@ -4,6 +4,8 @@ ghost use Rattle.file_forms.specs.Shown.{shown_type_line};
 ghost use Rattle.file_forms.specs.Forms.{activity, opens_and, opens_xor, opens_branch, opens_loop, closes_block, a_sync, an_element, a_read, a_write, type_end};
 ghost use Rattle.file_drafts.specs.Drafts.{closed, branched, whole};
 ghost use Rattle.file_model.specs.Outcomes.{Stops};
+ghost use Rattle.file_model.specs.Room.{HasRoom};
+ghost use Rattle.file_model.specs.ShortForms.{IsShort, IsShortTypeLine};
 ghost use Rattle.file_model.specs.Steps.{at_place, with_node, with_element, with_nodes, with_node_and_element};
 ghost use Rattle.file_model.specs.Declaring.{with_type};
 ghost use Rattle.file_model.specs.Typing.{takes_blocks, takes_branch, is_outside, fits_in, typed, with_role_of, with_and, with_xor, with_loop, has_sync, put_sync, has_element, put_element, has_read, put_read, has_write, put_write};
@@ -73,6 +75,8 @@ pub fn typed(
     draft: Draft,
     line: TypeLine<'_>,
 ) -> Result<Section, Stop>
+    requires short { IsShortTypeLine (shown_type_line line) }
+    requires room { HasRoom 2 contents.old }
     ensures ok { IfOk result (λ place. typed (shown_type_line line.entry) draft contents.old ≡ Ok (at_place place contents.new)) }
     ensures refused { IfErr result (λ stop. Stops (typed (shown_type_line line.entry) draft contents.old) contents.new stop) }
 {
@@ -92,6 +96,8 @@ fn put_line(
     draft: &mut Draft,
     line: TypeLine<'_>,
 ) -> Result<bool, Stop>
+    requires short { IsShortTypeLine (shown_type_line line) }
+    requires room { HasRoom 2 contents.old }
     ensures ok { IfOk result (λ inside. Taken inside (shown_type_line line.entry) draft.old contents.old draft.new contents.new) }
     ensures refused { IfErr result (λ stop. Stops (typed (shown_type_line line.entry) draft.old contents.old) contents.new stop) }
 {
@@ -121,6 +127,8 @@ fn activity_line(
     node: NameWord<'_>,
     role: u32,
 ) -> Result<bool, Stop>
+    requires short { IsShort node.bytes.now }
+    requires room { HasRoom 2 contents.old }
     ensures ok { IfOk result (λ inside. Taken inside (activity node.entry.bytes.now role) draft.old contents.old draft.new contents.new) }
     ensures refused { IfErr result (λ stop. Stops (typed (activity node.entry.bytes.now role) draft.old contents.old) contents.new stop) }
 {
@@ -135,6 +143,8 @@ fn and_line(
     split: NameWord<'_>,
     join: NameWord<'_>,
 ) -> Result<bool, Stop>
+    requires short { IsShort split.bytes.now × IsShort join.bytes.now }
+    requires room { HasRoom 2 contents.old }
     ensures ok { IfOk result (λ inside. Taken inside (opens_and split.entry.bytes.now join.entry.bytes.now) draft.old contents.old draft.new contents.new) }
     ensures refused { IfErr result (λ stop. Stops (typed (opens_and split.entry.bytes.now join.entry.bytes.now) draft.old contents.old) contents.new stop) }
 {
@@ -153,6 +163,8 @@ fn xor_line(
     join: NameWord<'_>,
     role: u32,
 ) -> Result<bool, Stop>
+    requires short { IsShort split.bytes.now × IsShort join.bytes.now }
+    requires room { HasRoom 2 contents.old }
     ensures ok { IfOk result (λ inside. Taken inside (opens_xor split.entry.bytes.now join.entry.bytes.now role) draft.old contents.old draft.new contents.new) }
     ensures refused { IfErr result (λ stop. Stops (typed (opens_xor split.entry.bytes.now join.entry.bytes.now role) draft.old contents.old) contents.new stop) }
 {
@@ -171,6 +183,8 @@ fn loop_line(
     end: NameWord<'_>,
     role: u32,
 ) -> Result<bool, Stop>
+    requires short { IsShort start.bytes.now × IsShort end.bytes.now }
+    requires room { HasRoom 2 contents.old }
     ensures ok { IfOk result (λ inside. Taken inside (opens_loop start.entry.bytes.now end.entry.bytes.now role) draft.old contents.old draft.new contents.new) }
     ensures refused { IfErr result (λ stop. Stops (typed (opens_loop start.entry.bytes.now end.entry.bytes.now role) draft.old contents.old) contents.new stop) }
 {
@@ -209,6 +223,8 @@ fn sync_line(
     source: NameWord<'_>,
     target: NameWord<'_>,
 ) -> Result<bool, Stop>
+    requires short { IsShort source.bytes.now × IsShort target.bytes.now }
+    requires room { HasRoom 2 contents.old }
     ensures ok { IfOk result (λ inside. Taken inside (a_sync source.entry.bytes.now target.entry.bytes.now) draft.old contents.old draft.new contents.new) }
     ensures refused { IfErr result (λ stop. Stops (typed (a_sync source.entry.bytes.now target.entry.bytes.now) draft.old contents.old) contents.new stop) }
 {
@@ -226,6 +242,8 @@ fn element_line(
     element: NameWord<'_>,
     kind: ElementKind,
 ) -> Result<bool, Stop>
+    requires short { IsShort element.bytes.now }
+    requires room { HasRoom 2 contents.old }
     ensures ok { IfOk result (λ inside. Taken inside (an_element element.entry.bytes.now kind) draft.old contents.old draft.new contents.new) }
     ensures refused { IfErr result (λ stop. Stops (typed (an_element element.entry.bytes.now kind) draft.old contents.old) contents.new stop) }
 {
@@ -244,6 +262,8 @@ fn read_line(
     element: NameWord<'_>,
     mandatory: bool,
 ) -> Result<bool, Stop>
+    requires short { IsShort node.bytes.now × IsShort element.bytes.now }
+    requires room { HasRoom 2 contents.old }
     ensures ok { IfOk result (λ inside. Taken inside (a_read node.entry.bytes.now element.entry.bytes.now mandatory) draft.old contents.old draft.new contents.new) }
     ensures refused { IfErr result (λ stop. Stops (typed (a_read node.entry.bytes.now element.entry.bytes.now mandatory) draft.old contents.old) contents.new stop) }
 {
@@ -261,6 +281,8 @@ fn write_line(
     node: NameWord<'_>,
     element: NameWord<'_>,
 ) -> Result<bool, Stop>
+    requires short { IsShort node.bytes.now × IsShort element.bytes.now }
+    requires room { HasRoom 2 contents.old }
     ensures ok { IfOk result (λ inside. Taken inside (a_write node.entry.bytes.now element.entry.bytes.now) draft.old contents.old draft.new contents.new) }
     ensures refused { IfErr result (λ stop. Stops (typed (a_write node.entry.bytes.now element.entry.bytes.now) draft.old contents.old) contents.new stop) }
 {
@@ -272,6 +294,7 @@ fn write_line(
 }
 
 fn end_line(contents: &mut Contents, alloc: Global, draft: Draft) -> Result<Section, Stop>
+    requires room { HasRoom 2 contents.old }
     ensures ok { IfOk result (λ place. typed (type_end) draft contents.old ≡ Ok (at_place place contents.new)) }
     ensures refused { IfErr result (λ stop. Stops (typed (type_end) draft contents.old) contents.new stop) }
 {
@@ -293,6 +316,8 @@ fn add_activity(
     node: NameWord<'_>,
     role: u32,
 ) -> Result<(), NoMemory>
+    requires short { IsShort node.bytes.now }
+    requires room { HasRoom 2 contents.old }
     ensures noted { OnOk result (contents.new ≡ with_node node.entry.bytes.now contents.old) }
     ensures draft { OnOk result (draft.new ≡ with_role_of node.entry.bytes.now role draft.old contents.old) }
 {
@@ -308,6 +333,8 @@ fn open_and(
     split: NameWord<'_>,
     join: NameWord<'_>,
 ) -> Result<(), NoMemory>
+    requires short { IsShort split.bytes.now × IsShort join.bytes.now }
+    requires room { HasRoom 2 contents.old }
     ensures noted { OnOk result (contents.new ≡ with_nodes split.entry.bytes.now join.entry.bytes.now contents.old) }
     ensures draft { OnOk result (draft.new ≡ with_and split.entry.bytes.now join.entry.bytes.now draft.old contents.old) }
 {
@@ -323,6 +350,8 @@ fn open_xor(
     join: NameWord<'_>,
     role: u32,
 ) -> Result<(), NoMemory>
+    requires short { IsShort split.bytes.now × IsShort join.bytes.now }
+    requires room { HasRoom 2 contents.old }
     ensures noted { OnOk result (contents.new ≡ with_nodes split.entry.bytes.now join.entry.bytes.now contents.old) }
     ensures draft { OnOk result (draft.new ≡ with_xor split.entry.bytes.now join.entry.bytes.now role draft.old contents.old) }
 {
@@ -339,6 +368,8 @@ fn open_loop(
     end: NameWord<'_>,
     role: u32,
 ) -> Result<(), NoMemory>
+    requires short { IsShort start.bytes.now × IsShort end.bytes.now }
+    requires room { HasRoom 2 contents.old }
     ensures noted { OnOk result (contents.new ≡ with_nodes start.entry.bytes.now end.entry.bytes.now contents.old) }
     ensures draft { OnOk result (draft.new ≡ with_loop start.entry.bytes.now end.entry.bytes.now role draft.old contents.old) }
 {
@@ -354,6 +385,8 @@ fn put_sync(
     source: NameWord<'_>,
     target: NameWord<'_>,
 ) -> Result<bool, NoMemory>
+    requires short { IsShort source.bytes.now × IsShort target.bytes.now }
+    requires room { HasRoom 2 contents.old }
     ensures noted { OnOk result (contents.new ≡ with_nodes source.entry.bytes.now target.entry.bytes.now contents.old) }
     ensures added { IfOk result (λ added. added ≡ not (has_sync source.entry.bytes.now target.entry.bytes.now draft.old contents.old)) }
     ensures rows { IfOk result (λ added. draft.new ≡ (if added then put_sync source.entry.bytes.now target.entry.bytes.now draft.old contents.old else draft.old)) }
@@ -369,6 +402,8 @@ fn put_element(
     element: NameWord<'_>,
     kind: ElementKind,
 ) -> Result<bool, NoMemory>
+    requires short { IsShort element.bytes.now }
+    requires room { HasRoom 2 contents.old }
     ensures noted { OnOk result (contents.new ≡ with_element element.entry.bytes.now contents.old) }
     ensures added { IfOk result (λ added. added ≡ not (has_element element.entry.bytes.now draft.old contents.old)) }
     ensures rows { IfOk result (λ added. draft.new ≡ (if added then put_element element.entry.bytes.now kind draft.old contents.old else draft.old)) }
@@ -385,6 +420,8 @@ fn put_read(
     element: NameWord<'_>,
     mandatory: bool,
 ) -> Result<bool, NoMemory>
+    requires short { IsShort node.bytes.now × IsShort element.bytes.now }
+    requires room { HasRoom 2 contents.old }
     ensures noted { OnOk result (contents.new ≡ with_node_and_element node.entry.bytes.now element.entry.bytes.now contents.old) }
     ensures added { IfOk result (λ added. added ≡ not (has_read node.entry.bytes.now element.entry.bytes.now draft.old contents.old)) }
     ensures rows { IfOk result (λ added. draft.new ≡ (if added then put_read node.entry.bytes.now element.entry.bytes.now mandatory draft.old contents.old else draft.old)) }
@@ -400,6 +437,8 @@ fn put_write(
     node: NameWord<'_>,
     element: NameWord<'_>,
 ) -> Result<bool, NoMemory>
+    requires short { IsShort node.bytes.now × IsShort element.bytes.now }
+    requires room { HasRoom 2 contents.old }
     ensures noted { OnOk result (contents.new ≡ with_node_and_element node.entry.bytes.now element.entry.bytes.now contents.old) }
     ensures added { IfOk result (λ added. added ≡ not (has_write node.entry.bytes.now element.entry.bytes.now draft.old contents.old)) }
     ensures rows { IfOk result (λ added. draft.new ≡ (if added then put_write node.entry.bytes.now element.entry.bytes.now draft.old contents.old else draft.old)) }
@@ -415,6 +454,7 @@ fn add_sound(
     name: Name64,
     checked: Checked,
 ) -> Result<(), NoMemory>
+    requires room { HasRoom 2 contents.old }
     ensures { OnOk result (contents.new ≡ with_type name checked contents.old) }
 {
     add_type(contents, alloc, name, &checked)
@@ -426,6 +466,7 @@ fn add_type(
     name: Name64,
     checked: &Checked,
 ) -> Result<(), NoMemory>
+    requires room { HasRoom 2 contents.old }
     ensures { OnOk result (contents.new ≡ with_type name checked.now contents.old) }
 {
     let schema = checked.schema().copy(alloc)?;

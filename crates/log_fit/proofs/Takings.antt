@@ -1,5 +1,5 @@
 -- A table of cases while records are taken.
-use Rattle.std.proofs.Common.{◌≡◌, ℕ, ◌<◌, get_or, Bool, true, false, List, [], ◌∷◌, ◌++◌, length, map, filter, fold, Some, refl, sym, ap, ◌∙◌, arith, inl, inr, if◌then◌else◌, nat_lt, nat_lt}
+use Rattle.std.proofs.Common.{◌≡◌, ℕ, zero, suc, ◌<◌, ◌≤◌, subst, get_or, Bool, true, false, List, [], ◌∷◌, ◌++◌, length, map, filter, fold, Some, refl, sym, ap, ◌∙◌, arith, inl, inr, if◌then◌else◌, nat_lt, nat_lt}
 use Rattle.std.specs.Prelude.{slice_get, slice_set}
 use Rattle.std.specs.Str.{bytes_eq}
 use Rattle.std.proofs.lemmas.Bool.{cases_Bool, le-ltb, lt-ltb}
@@ -11,6 +11,8 @@ use Rattle.log_fit.specs.Fit.{case_fit, fits_of, of_case}
 use Rattle.log_fit.specs.Progress.{fit_of, opened_row, reach}
 use Rattle.log_fit.specs.Rows.{IsTable, row_of, rows_with}
 use Rattle.log_fit.specs.ProgressModel.{ProgressModel}
+use Rattle.log_fit.specs.declared.fits.CaseFit.{CaseFit}
+use Rattle.wsm_lists.specs.Rows.{AllRows}
 use Rattle.log_fit.proofs.Going.{as_told}
 use Rattle.log_fit.proofs.NamedRows.{apart_noted, get_last, get_named, get_or_of, itself, map_last, number_last, one_changes, others_noted, others_stay, set_last, within}
 use Rattle.log_records.specs.declared.records.LogRecord.{LogRecord}
@@ -133,3 +135,48 @@ all_fits v records names rows t = ap (map fit_of) t.come ∙ each names ∙ ap (
     each : (ns : List Bytes) → map fit_of (map (row_of v records) ns) ≡ map (λ n. case_fit v n (of_case n records)) ns
     each [] = refl
     each (n ∷ ns) = rw (as_told v n (of_case n records), each ns) refl
+
+-- ---- a case has no more events than there are records
+few_of_case : (n : Bytes) (records : List LogRecord) → length (filter (λ r. bytes_eq r.case n) records) ≤ length records
+few_of_case n [] = omega arith
+few_of_case n (q ∷ qs) = by (bytes_eq q.case n) (few_of_case n qs)
+  where
+    by : (b : Bool) → length (filter (λ r. bytes_eq r.case n) qs) ≤ length qs
+        → length (if b then q ∷ filter (λ r. bytes_eq r.case n) qs else filter (λ r. bytes_eq r.case n) qs) ≤ length (q ∷ qs)
+    by true few = omega (arith, few)
+    by false few = omega (arith, few)
+
+few_in_row : (v : VersionModel) (records : List LogRecord) (n : Bytes) → (row_of v records n).events ≤ length records
+few_in_row v records n =
+    let told = ap (λ (f : CaseFit). f.events) (as_told v n (of_case n records)) in
+    let many = length-map (filter (λ r. bytes_eq r.case n) records) (λ (r : LogRecord). r.event) in
+    omega (arith, told, many, few_of_case n records)
+
+pub few_events : (v : VersionModel) (records : List LogRecord) (names : List Bytes) (rows : List ProgressModel) (most : ℕ) → IsTable v records names rows → length records < most → AllRows (λ p. p.events < most) rows
+few_events v records names rows most t below = subst (AllRows (λ p. p.events < most)) (sym t.come) (each names)
+  where
+    each : (ns : List Bytes) → AllRows (λ p. p.events < most) (map (row_of v records) ns)
+    each [] = tt
+    each (n ∷ ns) = (omega (arith, below, few_in_row v records n), each ns)
+
+-- the same holds with a new row, and of the row at a place
+with_row : (v : VersionModel) (rows : List ProgressModel) (place : ℕ) (name : Bytes) (most : ℕ) → 0 < most → AllRows (λ p. p.events < most) rows → AllRows (λ p. p.events < most) (rows_with v rows place name)
+with_row v rows place name most some all = by (nat_lt place (length rows))
+  where
+    end : (ps : List ProgressModel) → AllRows (λ p. p.events < most) ps → AllRows (λ p. p.events < most) (ps ++ opened_row v name ∷ [])
+    end [] h = (some, tt)
+    end (p ∷ ps) h = (h.0, end ps h.1)
+
+    by : (b : Bool) → AllRows (λ p. p.events < most) (if b then rows else rows ++ opened_row v name ∷ [])
+    by true = all
+    by false = end rows all
+
+at_row : (rows : List ProgressModel) (place : ℕ) (row : ProgressModel) (most : ℕ) → place < length rows → AllRows (λ p. p.events < most) rows → (get_or rows place row).events < most
+at_row [] place row most less all = absurd (omega (arith, less))
+at_row (p ∷ ps) zero row most less all = all.0
+at_row (p ∷ ps) (suc i) row most less all = at_row ps i row most (omega (arith, less)) all.1
+
+pub few_at : (v : VersionModel) (rows : List ProgressModel) (place : ℕ) (name : Bytes) (row : ProgressModel) (most : ℕ) → 0 < most → AllRows (λ p. p.events < most) rows → place < length (rows_with v rows place name) →
+    row ≡ get_or (rows_with v rows place name) place row → row.events < most
+few_at v rows place name row most some all less is =
+    subst (λ (p : ProgressModel). p.events < most) (sym is) (at_row (rows_with v rows place name) place row most less (with_row v rows place name most some all))

@@ -1,19 +1,21 @@
 -- The records of a log that were told so far, and those behind them.
-use Rattle.std.proofs.Common.{◌≡◌, ℕ, length, map, if◌then◌else◌, ◌+◌, Bool, true, false, List, [], ◌∷◌, ◌++◌, Some, None, Result, Ok, Err, refl, sym, ap, ◌∙◌}
+use Rattle.std.proofs.Common.{◌≡◌, ◌<◌, ◌≤◌, ℕ, length, map, if◌then◌else◌, ◌+◌, Bool, true, false, List, [], ◌∷◌, ◌++◌, Some, None, Result, Ok, Err, refl, sym, ap, ◌∙◌, arith}
 use Rattle.std.specs.Prelude.{not}
 use Rattle.std.proofs.Common.{append_assoc}
-use Rattle.std.proofs.lemmas.List.{append-nil, length-map}
+use Rattle.std.proofs.lemmas.Bool.{ltb-false}
+use Rattle.std.proofs.lemmas.List.{append-nil, length-append, length-map}
 use Rattle.file_names.specs.Names.{noted}
 use Rattle.file_words.specs.Lines.{Bytes}
 use Rattle.log_fit.specs.Fit.{fits_of, fits_told}
 use Rattle.log_fit.specs.Progress.{fit_of}
 use Rattle.log_fit.specs.Rows.{IsTable, row_of}
-use Rattle.log_fit.proofs.Takings.{all_fits, empty}
+use Rattle.log_fit.proofs.Takings.{all_fits, empty, few_events}
 use Rattle.log_fit.specs.ProgressModel.{ProgressModel}
 use Rattle.log_records.specs.Forms.{record_of}
 use Rattle.log_records.specs.Records.{Fields}
 use Rattle.log_records.specs.Told.{are_too_many, told_by, told_from, with_first}
 use Rattle.log_records.specs.declared.records.LogRecord.{LogRecord}
+use Rattle.wsm_lists.specs.Rows.{AllRows}
 use Rattle.wsm_sound.specs.VersionModel.{VersionModel}
 
 -- records in front of what is told
@@ -30,6 +32,7 @@ pub record IsReached (v : VersionModel) (nodes elements : List Bytes) (whole : R
   pub done : List LogRecord
   pub table : IsTable v done names rows
   pub rest : whole ≡ behind done (told_from nodes elements at names left)
+  pub counted : at ≡ length done + 2
 
 behind-none : (more : Result (List LogRecord) ℕ) → more ≡ behind [] more
 behind-none (Ok rs) = refl
@@ -43,14 +46,22 @@ turned_back : (a b : Bool) → a ≡ not b → a ≡ true → b ≡ false
 turned_back a true e f = let wrong : false ≡ true = sym e ∙ f in cc
 turned_back a false e f = refl
 
+-- names that are not too many
+pub few_cases : (names : List Bytes) (ok : Bool) → ok ≡ not (are_too_many names) → ok ≡ true → length names ≤ 4096
+few_cases names ok room fine = ltb-false 4096 (length names) (turned_back ok (are_too_many names) room fine)
+
 -- before the first record
 pub start : (v : VersionModel) (nodes elements : List Bytes) (left : List Fields) (names : List Bytes) (rows : List ProgressModel) → names ≡ [] → rows ≡ [] → IsReached v nodes elements (told_from nodes elements 2 [] left) 2 names rows left
-start v nodes elements left names rows none no_rows = rw (none, no_rows) (record { done = []; table = empty v; rest = behind-none (told_from nodes elements 2 [] left) })
+start v nodes elements left names rows none no_rows = rw (none, no_rows) (record { done = []; table = empty v; rest = behind-none (told_from nodes elements 2 [] left); counted = omega arith })
 
 module _ (v : VersionModel) (nodes elements : List Bytes) (whole : Result (List LogRecord) ℕ) (at : ℕ) (names : List Bytes) (rows : List ProgressModel) (left : List Fields) (t : IsReached v nodes elements whole at names rows left) where
   -- each case has a row
   pub even : length rows ≡ length names
   even = ap length t.table.come ∙ length-map names (row_of v t.done)
+
+  -- and few events
+  pub few : (most : ℕ) → at < most → AllRows (λ p. p.events < most) rows
+  few most below = few_events v t.done names rows most t.table (omega (arith, below, t.counted))
 
   -- all records
   pub ended : left ≡ [] → fits_told v whole ≡ Ok (map fit_of rows)
@@ -82,4 +93,5 @@ module _ (v : VersionModel) (nodes elements : List Bytes) (whole : Result (List 
             told ∙ ap (λ b. behind t.done (if b then Err at else with_first r (told_from nodes elements (at + 1) (noted names r.case) rest))) (turned_back ok _ room fine)
             ∙ behind-first t.done r (told_from nodes elements (at + 1) (noted names r.case) rest)
             ∙ rw (up, named) refl;
+        counted = omega (arith, up, t.counted, length-append t.done (r ∷ []));
       }

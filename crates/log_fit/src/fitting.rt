@@ -1,5 +1,6 @@
 // How far the cases of a log go.
-ghost use Rattle.std.specs.Prelude.{◌≡◌, ◌+◌, ◌≤◌, [], Ok, length, IfOk, IfErr};
+ghost use Rattle.std.specs.Prelude.{◌≡◌, ◌≤◌, [], Ok, length, IfOk, IfErr};
+ghost use Rattle.file_model.specs.Sizes.{HasNumbers};
 ghost use Rattle.log_fit.specs.Fit.{fit, fits_told};
 ghost use Rattle.log_fit.specs.Outcomes.{Tells};
 ghost use Rattle.log_records.specs.Told.{told_from};
@@ -9,16 +10,8 @@ use crate::tables::CaseTable;
 use csv::ByteRecord;
 use file_model::File;
 use log_records::{LogReader, NamePlaces, is_head, record_of};
-use std::alloc::{AllocError, Global};
-use wsm_lists::NoMemory;
+use std::alloc::Global;
 use wsm_sound::Version;
-
-// The place of the record behind. A log has fewer than 2^32; here that counts as want of memory.
-fn next_place(place: u32) -> Result<u32, NoMemory>
-    ensures { IfOk result (λ next. next ≡ place + 1) }
-{
-    place.checked_add(1).ok_or(AllocError)
-}
 
 // How far the cases go that the records behind the first name.
 fn fit_behind(
@@ -28,6 +21,7 @@ fn fit_behind(
     elements: &NamePlaces<'_>,
     mut reader: LogReader<'_>,
 ) -> Result<Fits, FitRefusal>
+    requires { length reader ≤ 33554433 }
     ensures ok { IfOk result (λ fits. fits_told version.now (told_from nodes.now elements.now 2 [] reader.entry) ≡ Ok fits) }
     ensures bad { IfErr result (λ refusal. Tells (fits_told version.now (told_from nodes.now elements.now 2 [] reader.entry)) refusal) }
 {
@@ -41,7 +35,7 @@ fn fit_behind(
         if !table.take(alloc, version, record)? {
             return Err(FitRefusal::Bad { index });
         }
-        index = next_place(index)?;
+        index += 1;
     }
     Ok(table.into_fits(alloc)?)
 }
@@ -49,8 +43,10 @@ fn fit_behind(
 /// How far the cases of a log go on a version, where nodes and elements have the names of the file. A log is CSV; its first
 /// record names the fields, and each other is an event of a case. The first record that is not of the form, or that is of
 /// the 4,097th case, is told; so is 1 where the log has none.
+#[tactic(auto, using(log_records::proofs::Counts::few_records))]
 pub fn fit(alloc: Global, version: &Version, file: &File, log: &[u8]) -> Result<Fits, FitRefusal>
-    requires { length log.now ≤ 33554432 }
+    requires numbers { HasNumbers file.now }
+    requires log { length log.now ≤ 33554432 }
     ensures ok { IfOk result (λ fits. fit version.now file.now log.now ≡ Ok fits) }
     ensures bad { IfErr result (λ refusal. Tells (fit version.now file.now log.now) refusal) }
 {

@@ -1,7 +1,7 @@
 // A fit from the bytes of an input to those of a table.
 ghost use Rattle.std.specs.Prelude.{◌≡◌, ◌≤◌, length, map, string_bytes, Ok, None, IfOk, IfErr, IfSome, OnOk, option_map};
 ghost use Rattle.std.specs.Io.KnownBytes.{IsAtEnd};
-ghost use Rattle.file_model.specs.Sizes.{IsBounded};
+ghost use Rattle.file_model.specs.Sizes.{HasNumbers, IsBounded};
 ghost use Rattle.log_fit.specs.Answer.{answer, most_input, with_log, with_version};
 ghost use Rattle.log_fit.specs.Asked.{asked};
 ghost use Rattle.log_fit.specs.Endings.{EndsUnread, FitEnds, IsAnswered};
@@ -97,6 +97,7 @@ fn fit_file<K: Sink>(
     sink: &mut K,
 ) -> u8
     requires bounded { IsBounded file.now }
+    requires numbers { HasNumbers file.now }
     requires log { IfSome log (λ l. length l.now ≤ most_input) }
     ensures { IsAnswered K.written K.faults (with_version file.now (version_of file.now asked.entry.name.now asked.entry.number) (option_map (λ l. l.now) log.entry)) sink.old sink.new result }
 {
@@ -115,7 +116,8 @@ fn fit_version<K: Sink>(
     log: Option<&[u8]>,
     sink: &mut K,
 ) -> u8
-    requires { IfSome log (λ l. length l.now ≤ most_input) }
+    requires numbers { HasNumbers file.now }
+    requires log { IfSome log (λ l. length l.now ≤ most_input) }
     ensures { IsAnswered K.written K.faults (with_log file.now version.now (option_map (λ l. l.now) log.entry)) sink.old sink.new result }
 {
     let Some(log) = log else {

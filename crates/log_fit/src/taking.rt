@@ -9,12 +9,9 @@ use crate::progress::Progress;
 use case_core::{Case, Event};
 use file_model::Name64;
 use log_records::LogEvent;
-use std::alloc::{AllocError, Global};
+use std::alloc::Global;
 use wsm_lists::NoMemory;
 use wsm_sound::Version;
-
-/// So many records of a case are counted. A log has fewer; here one more counts as want of memory.
-const MOST_EVENTS: u32 = 4_000_000_000;
 
 impl Progress {
     /// A case that was just created.
@@ -39,11 +36,9 @@ impl Progress {
         version: &Version,
         event: LogEvent,
     ) -> Result<(), NoMemory>
+        requires { self.old.events < 4000000000 }
         ensures { OnOk result (self.new ≡ reach version.now self.old event) }
     {
-        if self.events >= MOST_EVENTS {
-            return Err(AllocError);
-        }
         if self.next.is_none() {
             return self.go_on(alloc, version, event);
         }

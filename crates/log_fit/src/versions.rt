@@ -6,7 +6,6 @@ ghost use Rattle.log_fit.specs.Versions.{installed_line, installed_lines, is_nam
 ghost use Rattle.wsm_schema.specs.Flat.{cards_of};
 
 use file_model::{Act, File, Line, TypeDecl};
-use file_names::narrow;
 use script_run::defined_kind;
 use std::alloc::Global;
 use turn_cell::Machine;
@@ -99,7 +98,7 @@ pub(crate) fn version_of(
     let Some(decl) = file.types.get(place) else {
         return Ok(None);
     };
-    let kind = kind_of(alloc, file, narrow(place)?, decl)?;
+    let kind = kind_of(alloc, file, place as u32, decl)?;
     match kind.version(number) {
         None => Ok(None),
         Some(version) => Ok(Some(version.share()?)),

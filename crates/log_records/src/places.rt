@@ -1,8 +1,8 @@
 // Where names stand in a list.
-ghost use Rattle.std.specs.Prelude.{◌≡◌, IfOk};
+ghost use Rattle.std.specs.Prelude.{◌≡◌, ◌<◌, ◌^◌, length, IfOk};
 ghost use Rattle.file_names.specs.Names.{place_of};
 
-use file_names::{Names, narrow};
+use file_names::Names;
 use indexmap::IndexMap;
 use std::alloc::Global;
 use std::marker::Model;
@@ -29,12 +29,13 @@ impl<'a> Model for NamePlaces<'a> {
 impl<'a> NamePlaces<'a> {
     /// The names of the list.
     pub fn new(alloc: Global, names: &'a Names) -> Result<NamePlaces<'a>, NoMemory>
+        requires { length names.now < 2 ^ 32 }
         ensures { IfOk result (λ places. places ≡ names.now) }
     {
         let mut places = IndexMap::new(alloc);
         for index in (0..names.len()).rev() {
             let name = Vec::from_slice(alloc, names.as_slice()[index].bytes())?;
-            places.insert(name, narrow(index)?)?;
+            places.insert(name, index as u32)?;
         }
         Ok(NamePlaces { names, places })
     }

@@ -1,6 +1,7 @@
 // The file, once all lines were read.
-ghost use Rattle.std.specs.Prelude.{◌≡◌, [], IfOk};
+ghost use Rattle.std.specs.Prelude.{◌≡◌, ◌<◌, ◌^◌, [], length, IfOk};
 ghost use Rattle.file_model.specs.Reading.{file_of};
+ghost use Rattle.file_model.specs.Sizes.{HasNumbers};
 
 use file_model::{ActorDecl, CaseTable, Contents, File, Phases, TypeDecl};
 use file_names::{DeclaredList, NameTable, Names};
@@ -9,7 +10,8 @@ use wsm_lists::NoMemory;
 
 /// The file of what was read.
 pub fn file_of(contents: Contents, alloc: Global) -> Result<File, NoMemory>
-    ensures { IfOk result (λ file. file ≡ file_of contents contents.phases) }
+    ensures same { IfOk result (λ file. file ≡ file_of contents contents.phases) }
+    ensures numbers { IfOk result (λ file. HasNumbers file) }
 {
     let Contents {
         format,
@@ -52,7 +54,8 @@ fn nameless(
 }
 
 fn named(file: File, nodes: NameTable, elements: NameTable, alloc: Global) -> Result<File, NoMemory>
-    ensures { IfOk result (λ read. read ≡ record file { nodes = nodes; elements = elements }) }
+    ensures same { IfOk result (λ read. read ≡ record file { nodes = nodes; elements = elements }) }
+    ensures numbers { IfOk result (λ read. HasNumbers read) }
 {
     let (nodes, elements) = both_names(nodes, elements, alloc)?;
     Ok(File {
@@ -71,8 +74,12 @@ fn both_names(
     elements: NameTable,
     alloc: Global,
 ) -> Result<(Names, Names), NoMemory>
-    ensures { IfOk result (λ names. names ≡ (nodes, elements)) }
+    ensures same { IfOk result (λ names. names ≡ (nodes, elements)) }
+    ensures numbers { IfOk result (λ names. (length names.0 < 2 ^ 32) × (length names.1 < 2 ^ 32)) }
 {
+    // (each length is only read for what its clause says of it)
+    let _ = nodes.len();
+    let _ = elements.len();
     let nodes = nodes.into_names(alloc)?;
     Ok((nodes, elements.into_names(alloc)?))
 }

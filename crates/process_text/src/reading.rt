@@ -3,7 +3,7 @@ ghost use Rattle.std.specs.Prelude.{◌≡◌, ◌≤◌, length, Ok, Err, IfOk,
 ghost use Rattle.file_model.specs.Outcomes.{Tells};
 ghost use Rattle.file_model.specs.Steps.{at_place, no_contents};
 ghost use Rattle.file_model.specs.Reading.{at_line, file_of, finished, file};
-ghost use Rattle.file_model.specs.Sizes.{IsBounded};
+ghost use Rattle.file_model.specs.Sizes.{HasNumbers, IsBounded};
 ghost use Rattle.process_text.specs.Ends.{MayEnd, MayNotEnd};
 
 use crate::files::file_of;
@@ -54,6 +54,7 @@ fn end_lines(
 
 // What the lines of a file make of the contents, or the first refusal. Here the contents are only borrowed: to let them go
 // where a line is refused would make the proof dear.
+#[tactic(auto, using(crate::proofs::LineRoom::words_take, crate::proofs::LineRoom::step_adds))]
 fn read_lines(contents: &mut Contents, alloc: Global, bytes: &[u8]) -> Result<(), FileRefusal>
     requires begun { contents.old ≡ no_contents }
     requires size { length bytes.now ≤ MAX_FILE_BYTES }
@@ -95,6 +96,7 @@ pub fn read_file(alloc: Global, bytes: &[u8]) -> Result<File, FileRefusal>
     requires { length bytes.now ≤ MAX_FILE_BYTES }
     ensures file { IfOk result (λ read. file bytes.now ≡ Ok read) }
     ensures bounded { IfOk result (λ read. IsBounded read) }
+    ensures numbers { IfOk result (λ read. HasNumbers read) }
     ensures refused { IfErr result (λ refusal. Tells (file bytes.now) refusal) }
 {
     let mut contents = no_contents(alloc)?;

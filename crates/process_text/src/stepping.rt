@@ -1,12 +1,15 @@
 // A line, by where it stands.
-ghost use Rattle.std.specs.Prelude.{◌≡◌, Ok, IfOk, IfErr};
+ghost use Rattle.std.specs.Prelude.{◌≡◌, ◌≤◌, ◌+◌, length, Ok, IfOk, IfErr};
 ghost use Rattle.std.specs.Option.{option_map};
 ghost use Rattle.file_words.specs.Shown.{shown};
 ghost use Rattle.file_forms.specs.Shown.{shown_type_line, shown_script_line, shown_operation};
+ghost use Rattle.file_forms.specs.NamesInForms.{writes_in};
 ghost use Rattle.file_forms.specs.TypeForms.{type_line};
 ghost use Rattle.file_forms.specs.ScriptForms.{script_line};
 ghost use Rattle.file_forms.specs.OperationForms.{operation_line};
 ghost use Rattle.file_model.specs.Outcomes.{Stops};
+ghost use Rattle.file_model.specs.Room.{HasRoom};
+ghost use Rattle.file_model.specs.ShortForms.{IsShortOperation, IsShortScriptLine, IsShortTypeLine};
 ghost use Rattle.file_model.specs.Steps.{at_place};
 ghost use Rattle.file_model.specs.Reading.{why_long, fitting, step_in};
 ghost use Rattle.process_text.specs.Forms.{HasForm, LacksForm};
@@ -43,9 +46,11 @@ fn fitting_line<'a>(draft: &Draft, words: &[&'a [u8]]) -> Option<TypeLine<'a>>
 
 // The form of a line of a type. It is made before what was read so far is taken up, so a line that has none lets a small
 // value go, and no draft.
+#[tactic(auto, using(crate::proofs::ShortLines::short_type_line))]
 fn type_form<'a>(draft: &Draft, line: &[u8], words: &[&'a [u8]]) -> Result<TypeLine<'a>, Stop>
     ensures ok { IfOk result (λ form. HasForm line.now (shown words.now) (fitting draft.now (type_line (shown words.now))) (shown_type_line form)) }
     ensures refused { IfErr result (λ stop. LacksForm line.now (shown words.now) (fitting draft.now (type_line (shown words.now))) stop) }
+    ensures short { IfOk result (λ form. IsShortTypeLine (shown_type_line form)) }
 {
     if !is_text(line) {
         return Err(Stop::Refused(Why::NotText));
@@ -59,6 +64,7 @@ fn type_form<'a>(draft: &Draft, line: &[u8], words: &[&'a [u8]]) -> Result<TypeL
     }
 }
 
+#[tactic(auto, using(crate::proofs::ShortLines::short_script_line, crate::proofs::ShortLines::few_writes))]
 fn script_form<'a>(
     alloc: Global,
     format: u32,
@@ -67,6 +73,8 @@ fn script_form<'a>(
 ) -> Result<ScriptLine<'a>, Stop>
     ensures ok { IfOk result (λ form. HasForm line.now (shown words.now) (script_line format (shown words.now)) (shown_script_line form)) }
     ensures refused { IfErr result (λ stop. LacksForm line.now (shown words.now) (script_line format (shown words.now)) stop) }
+    ensures short { IfOk result (λ form. IsShortScriptLine (shown_script_line form)) }
+    ensures few { IfOk result (λ form. writes_in (shown_script_line form) ≤ length words.now) }
 {
     if !is_text(line) {
         return Err(Stop::Refused(Why::NotText));
@@ -80,9 +88,11 @@ fn script_form<'a>(
     }
 }
 
+#[tactic(auto, using(crate::proofs::ShortLines::short_operation))]
 fn operation_form<'a>(line: &[u8], words: &[&'a [u8]]) -> Result<OperationLine<'a>, Stop>
     ensures ok { IfOk result (λ form. HasForm line.now (shown words.now) (operation_line (shown words.now)) (shown_operation form)) }
     ensures refused { IfErr result (λ stop. LacksForm line.now (shown words.now) (operation_line (shown words.now)) stop) }
+    ensures short { IfOk result (λ form. IsShortOperation (shown_operation form)) }
 {
     if !is_text(line) {
         return Err(Stop::Refused(Why::NotText));
@@ -105,6 +115,7 @@ pub fn step_in(
     words: &[&[u8]],
     place: Section,
 ) -> Result<Section, Stop>
+    requires { HasRoom (length words.now + 5) contents.old }
     ensures ok { IfOk result (λ next. step_in place at line.now (shown words.now) contents.old ≡ Ok (at_place next contents.new)) }
     ensures refused { IfErr result (λ stop. Stops (step_in place at line.now (shown words.now) contents.old) contents.new stop) }
 {
@@ -119,6 +130,7 @@ pub fn step_in(
     }
 }
 
+#[tactic(auto, using(crate::proofs::ShortLines::short_declaration))]
 fn declaration_step(
     contents: &mut Contents,
     alloc: Global,
@@ -126,6 +138,7 @@ fn declaration_step(
     line: &[u8],
     words: &[&[u8]],
 ) -> Result<Section, Stop>
+    requires { HasRoom (length words.now + 5) contents.old }
     ensures ok { IfOk result (λ place. step_in Section.Outside at line.now (shown words.now) contents.old ≡ Ok (at_place place contents.new)) }
     ensures refused { IfErr result (λ stop. Stops (step_in Section.Outside at line.now (shown words.now) contents.old) contents.new stop) }
 {
@@ -149,6 +162,7 @@ fn type_step(
     words: &[&[u8]],
     draft: Draft,
 ) -> Result<Section, Stop>
+    requires { HasRoom (length words.now + 5) contents.old }
     ensures ok { IfOk result (λ place. step_in (Section.InType draft) at line.now (shown words.now) contents.old ≡ Ok (at_place place contents.new)) }
     ensures refused { IfErr result (λ stop. Stops (step_in (Section.InType draft) at line.now (shown words.now) contents.old) contents.new stop) }
 {
@@ -166,6 +180,7 @@ fn script_step(
     words: &[&[u8]],
     lines: Lines,
 ) -> Result<Section, Stop>
+    requires { HasRoom (length words.now + 5) contents.old }
     ensures ok { IfOk result (λ place. step_in (Section.InPhase lines) at line.now (shown words.now) contents.old ≡ Ok (at_place place contents.new)) }
     ensures refused { IfErr result (λ stop. Stops (step_in (Section.InPhase lines) at line.now (shown words.now) contents.old) contents.new stop) }
 {
@@ -184,6 +199,7 @@ fn operation_step(
     lines: Lines,
     group: Group,
 ) -> Result<Section, Stop>
+    requires { HasRoom (length words.now + 5) contents.old }
     ensures ok { IfOk result (λ place. step_in (Section.InGroup lines group) at line.now (shown words.now) contents.old ≡ Ok (at_place place contents.new)) }
     ensures refused { IfErr result (λ stop. Stops (step_in (Section.InGroup lines group) at line.now (shown words.now) contents.old) contents.new stop) }
 {

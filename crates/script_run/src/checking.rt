@@ -1,6 +1,7 @@
 // What the installs of a file come to.
 ghost use Rattle.std.specs.Prelude.{◌≡◌, ◌+◌, ◌*◌, ◌≤◌, true, length, slice_get, IfOk, OnOk};
 ghost use Rattle.std.specs.List.{list_all, list_any};
+ghost use Rattle.file_limits.specs.declared.TheConstants.{MAX_TYPES};
 ghost use Rattle.file_model.specs.Sizes.{IsBounded, is_small, line_effort, phase_effort};
 ghost use Rattle.script_run.specs.Parts.{checking_of};
 ghost use Rattle.script_run.specs.Verdicts.{defined_from, defined_kind, installs, judged, judged_line, judged_phase, some_install, verdicts};
@@ -8,7 +9,6 @@ ghost use Rattle.type_core.specs.Machine.{weight};
 ghost use Rattle.wsm_schema.specs.Flat.{cards_of};
 
 use crate::runs::{Verdict, Verdicts};
-use crate::serial::number_at;
 use file_model::{Act, File, Line, TypeDecl};
 use std::alloc::Global;
 use turn_cell::Machine;
@@ -73,12 +73,13 @@ fn installs(act: &Act) -> bool
 
 // The types behind their definitions, numbered from 0.
 fn defined_kinds(alloc: Global, types: &[TypeDecl]) -> Result<Vec<Kind>, NoMemory>
-    requires { list_all is_small types.now ≡ true }
+    requires few { length types.now ≤ MAX_TYPES }
+    requires small { list_all is_small types.now ≡ true }
     ensures { IfOk result (λ kinds. kinds.items ≡ defined_from 0 types.now) }
 {
     let mut kinds = Vec::new(alloc);
     for (index, decl) in types.iter().enumerate() {
-        kinds.push(defined_kind(alloc, number_at(index)?, decl)?)?;
+        kinds.push(defined_kind(alloc, index as u32, decl)?)?;
     }
     Ok(kinds)
 }

@@ -1,6 +1,7 @@
 // The serial run.
 ghost use Rattle.std.specs.Prelude.{◌≡◌, ◌+◌, ◌≤◌, true, map, length, IfOk, OnOk};
 ghost use Rattle.std.specs.List.{list_all};
+ghost use Rattle.file_limits.specs.declared.TheConstants.{MAX_TYPES};
 ghost use Rattle.file_model.specs.Sizes.{IsBounded, is_small, line_effort, phase_effort};
 ghost use Rattle.script_run.specs.Calls.{acted, worked};
 ghost use Rattle.script_run.specs.Oldest.{oldest};
@@ -13,7 +14,7 @@ use crate::runs::{CaseJournal, ClosedCase, ClosedKind, KindJournal, Run};
 use crate::scripts::Script;
 use case_core::{Case, Event};
 use file_model::{Act, CaseDecl, File, Line, TypeDecl};
-use std::alloc::{AllocError, Global};
+use std::alloc::Global;
 use type_core::{Kind, KindEvent};
 use wsm_lists::NoMemory;
 use wsm_sound::CaseId;
@@ -36,7 +37,7 @@ pub fn serial_run(alloc: Global, file: &File) -> Result<Run, NoMemory>
 
 // The types with their definitions, and the cases before any line.
 fn opening(alloc: Global, file: &File) -> Result<Working, NoMemory>
-    requires { list_all is_small file.now.types ≡ true }
+    requires { IsBounded file.now }
     ensures run { IfOk result (λ new. run_of new ≡ opening file.now) }
     ensures age { IfOk result (λ new. oldest new.cases.items ≡ 0) }
 {
@@ -48,21 +49,15 @@ fn opening(alloc: Global, file: &File) -> Result<Working, NoMemory>
 
 // The types behind their definitions, numbered from 0.
 fn defined_kinds(alloc: Global, types: &[TypeDecl]) -> Result<Vec<ClosedKind>, NoMemory>
-    requires { list_all is_small types.now ≡ true }
+    requires few { length types.now ≤ MAX_TYPES }
+    requires small { list_all is_small types.now ≡ true }
     ensures { IfOk result (λ kinds. kinds.items ≡ kinds_from 0 types.now) }
 {
     let mut kinds = Vec::new(alloc);
     for (index, decl) in types.iter().enumerate() {
-        kinds.push(defined(alloc, number_at(index)?, decl)?)?;
+        kinds.push(defined(alloc, index as u32, decl)?)?;
     }
     Ok(kinds)
-}
-
-// The number of the type at an index. There is no memory for so many types that one would have no number.
-pub fn number_at(index: usize) -> Result<u32, NoMemory>
-    ensures { IfOk result (λ number. number ≡ index) }
-{
-    u32::try_from(index).map_err(|_| AllocError)
 }
 
 // A type behind its definition.

@@ -4,16 +4,13 @@ use Rattle.file_names.proofs.Noted.{found_noted, found_number, absent_listed, ab
 use Rattle.file_names.proofs.name_tables.NameTable.note.Goals as goal
 
 pub returns-in-Some-clause-noted : goal.returns-in-Some-clause-noted
-returns-in-Some-clause-noted c =
-    on_ok c.narrow.result (rw (← c.self.view_is) (sym (found_noted (λ v. v.items) c.args.name.bytes.now c.self.inside.set.keys c.in-Some.index (search rules))))
+returns-in-Some-clause-noted c = rw (← c.self.view_is) (sym (found_noted (λ v. v.items) c.args.name.bytes.now c.self.inside.set.keys c.in-Some.index (search rules)))
 
 pub returns-in-Some-clause-number : goal.returns-in-Some-clause-number
-returns-in-Some-clause-number c =
-    subst (λ (i : ℕ). IfOk c.narrow.result (λ n. n ≡ i))
-    (rw (← c.self.view_is) (found_number (λ v. v.items) c.args.name.bytes.now c.self.inside.set.keys c.in-Some.index (search rules))) c.narrow.ensures
+returns-in-Some-clause-number c = rw (← c.self.view_is) (found_number (λ v. v.items) c.args.name.bytes.now c.self.inside.set.keys c.in-Some.index (search rules))
 
-pub add-requires : goal.add-requires
-add-requires c = rw (← c.self.view_is) (absent_listed (λ v. v.items) c.args.name.bytes.now c.self.inside.set.keys (search rules))
+pub add-requires-clause-new : goal.add-requires-clause-new
+add-requires-clause-new c = rw (← c.self.view_is) (absent_listed (λ v. v.items) c.args.name.bytes.now c.self.inside.set.keys (search rules))
 
 pub returns-in-None-clause-noted : goal.returns-in-None-clause-noted
 returns-in-None-clause-noted c =

@@ -1,4 +1,4 @@
-use Rattle.std.proofs.Common.{◌≡◌, ℕ, ◌+◌, ◌-◌, ◌<◌, ◌∷◌, length, drop, get_or, ◌∙◌, ap, arith, add-one}
+use Rattle.std.proofs.Common.{◌≡◌, ℕ, ◌+◌, ◌-◌, ◌<◌, ◌∷◌, length, drop, get_or, ◌∙◌, ap, refl, arith, add-one}
 use Rattle.std.proofs.Math.Seq.{drop-cons}
 use Rattle.std.specs.Map.{lookup}
 use Rattle.std.specs.Str.{bytes_eq}
@@ -15,4 +15,4 @@ loop-index-preserved c = λ n.
     let first : drop at c.args.names.now ≡ c.bytes.result.now ∷ drop (at + 1) c.args.names.now =
     rw (add-one at, name) (drop-cons c.args.names.now at c.index-as_slice-index.result within) in
     ap (λ es. lookup (λ k. bytes_eq n k.items) es) c.in_ok-insert.ensures.entries
-    ∙ one_more at c.in_ok-narrow.field-0 c.bytes.result.now c.args.names.now c.loop-index.places.entries c.in_ok-name.name (rw up c.loop-index.invariant) first c.in_ok-name.ensures.items c.in_ok-narrow.ensures n
+    ∙ one_more at at c.bytes.result.now c.args.names.now c.loop-index.places.entries c.in_ok-name.name (rw up c.loop-index.invariant) first c.in_ok-name.ensures.items refl n

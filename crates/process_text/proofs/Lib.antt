@@ -1,0 +1,2 @@
+mod ShortLines
+mod LineRoom

@@ -1,0 +1,50 @@
+-- A line without a long word has a form that is short.
+use Rattle.std.proofs.Common.{◌≡◌, ◌≤◌, ℕ, Bool, true, false, List, length, Option, Some, None, map, sym, subst, arith}
+use Rattle.std.proofs.lemmas.List.{length-map}
+use Rattle.std.specs.Prelude.{IfSome, if◌then◌else◌}
+use Rattle.std.specs.Borrow.{Bor}
+use Rattle.file_words.specs.Lengths.{first_long}
+use Rattle.file_words.specs.Lines.{Bytes}
+use Rattle.file_words.specs.Shown.{shown}
+use Rattle.file_forms.specs.DeclarationForms.{declaration_line}
+use Rattle.file_forms.specs.Forms.{Declaration, TypeLine, ScriptLine, OperationLine}
+use Rattle.file_forms.specs.NamesInForms.{writes_in}
+use Rattle.file_forms.specs.OperationForms.{operation_line}
+use Rattle.file_forms.specs.ScriptForms.{script_line}
+use Rattle.file_forms.specs.TypeForms.{type_line}
+use Rattle.file_forms.proofs.FewWrites.{script_line-few}
+use Rattle.file_forms.proofs.NamesInForms.{declaration-has, operation-has, script_line-has, type_line-has}
+use Rattle.file_drafts.specs.Drafts.{around}
+use Rattle.file_drafts.specs.declared.drafts.Draft.{Draft}
+use Rattle.file_model.specs.Reading.{fitting}
+use Rattle.file_model.specs.ShortForms.{IsShort, IsShortDeclaration, IsShortOperation, IsShortScriptLine, IsShortTypeLine, IsShortWrite}
+use Rattle.file_model.specs.Typing.{fits_in}
+use Rattle.file_model.proofs.ShortWords.{words-short}
+
+given : {F : Type 0} (P : F → Type 0) (o : Option F) (f : F) → Some f ≡ o → IfSome o P → P f
+given P o f is h = subst (λ o. IfSome o P) (sym is) h
+
+fitted : (d : Draft) (o : Option TypeLine) → IfSome o IsShortTypeLine → IfSome (fitting d o) IsShortTypeLine
+fitted d None h = tt
+fitted d (Some l) h = by (fits_in (around d.frames) l)
+  where
+    by : (test : Bool) → IfSome (if test then Some l else None) IsShortTypeLine
+    by true = h
+    by false = tt
+
+pub short_declaration : (ws : List Bytes) (f : Declaration) → first_long ws ≡ None → Some f ≡ declaration_line ws → IsShortDeclaration f
+short_declaration ws f none is = given IsShortDeclaration (declaration_line ws) f is (declaration-has IsShort IsShortWrite ws (words-short ws none))
+
+pub short_type_line : (d : Draft) (ws : List Bytes) (f : TypeLine) → first_long ws ≡ None → Some f ≡ fitting d (type_line ws) → IsShortTypeLine f
+short_type_line d ws f none is = given IsShortTypeLine (fitting d (type_line ws)) f is (fitted d (type_line ws) (type_line-has IsShort IsShortWrite ws (words-short ws none)))
+
+pub short_script_line : (format : ℕ) (ws : List Bytes) (f : ScriptLine) → first_long ws ≡ None → Some f ≡ script_line format ws → IsShortScriptLine f
+short_script_line format ws f none is = given IsShortScriptLine (script_line format ws) f is (script_line-has IsShort IsShortWrite format ws (words-short ws none))
+
+pub few_writes : (format : ℕ) (words : List (Bor Bytes)) (f : ScriptLine) → Some f ≡ script_line format (shown words) → writes_in f ≤ length words
+few_writes format words f is =
+    let few : writes_in f ≤ length (shown words) = given (λ l. writes_in l ≤ length (shown words)) (script_line format (shown words)) f is (script_line-few format (shown words)) in
+    omega (arith, few, length-map words (λ (w : Bor Bytes). w.now))
+
+pub short_operation : (ws : List Bytes) (f : OperationLine) → first_long ws ≡ None → Some f ≡ operation_line ws → IsShortOperation f
+short_operation ws f none is = given IsShortOperation (operation_line ws) f is (operation-has IsShort IsShortWrite ws (words-short ws none))
