@@ -10,8 +10,7 @@ use crate::ends::put_end;
 use crate::kind_lines::put_kind_journal;
 use adept_io::{Failed, Sink, Text, put, put_pieces, write_gathered};
 use file_model::{CaseDecl, File, TypeDecl};
-use itoa::Buffer;
-use report_words::{put_case_totals, put_migration_totals, put_type};
+use report_words::{put_case_totals, put_format, put_migration_totals, put_type};
 use script_run::{ClosedCase, ClosedKind, Run};
 
 // The report of a run of the file.
@@ -75,16 +74,7 @@ fn put_report<K: Sink>(sink: &mut K, ok: bool, file: &File, run: &Run) -> bool
 pub fn put_first_line<K: Sink>(sink: &mut K, ok: bool, file: &File) -> bool
     ensures { Gives K.written K.faults ok result sink.old sink.new (first_line file.now) }
 {
-    let mut number = Buffer::new();
-    put_pieces(
-        sink,
-        ok,
-        &[
-            b"adept report ",
-            number.format(file.format).as_bytes(),
-            b"\n",
-        ],
-    )
+    put_format(sink, ok, file.format)
 }
 
 fn put_all_kinds<K: Sink>(sink: &mut K, ok: bool, file: &File, run: &Run) -> bool

@@ -8,6 +8,18 @@ use file_model::File;
 use itoa::Buffer;
 use wsm_schema::State;
 
+/// The first line of a report, which tells the format.
+pub fn put_format<K: Sink>(sink: &mut K, ok: bool, format: u32) -> bool
+    ensures { Gives K.written K.faults ok result sink.old sink.new (codes "adept report " ++ (decimal format ++ codes "\n")) }
+{
+    let mut number = Buffer::new();
+    put_pieces(
+        sink,
+        ok,
+        &[b"adept report ", number.format(format).as_bytes(), b"\n"],
+    )
+}
+
 /// The name of a node, or its number where the file does not name it.
 pub fn node_word<'a>(file: &'a File, node: u32, buffer: &'a mut Buffer) -> &'a [u8]
     ensures { result.now ≡ node_text file.now node }

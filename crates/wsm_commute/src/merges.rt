@@ -7,6 +7,7 @@ ghost use Rattle.wsm_foot.specs.Foot.{least_overlap};
 ghost use Rattle.std.specs.Result.{result_err};
 ghost use Rattle.wsm_commute.specs.declared.refusals.MergeRefusal.TheVariants as refusal;
 ghost use Rattle.wsm_commute.specs.Merging.{in_order, merge_fault, many_fault, in_many};
+ghost use Rattle.wsm_commute.specs.Ordered.{IsOrdered};
 ghost use Rattle.wsm_commute.specs.Refusals.{IsMergeRefusal};
 
 use crate::ordered::read_lists;
@@ -30,13 +31,7 @@ pub fn merge(alloc: Global, base: &Schema, left: &Ops, right: &Ops) -> Result<Sc
 {
     read_lists(base);
     let middle = left_alone(alloc, base, left)?;
-    right_alone(alloc, base, right)?;
-    no_overlap(alloc, left, right)?;
-    match apply(alloc, &middle, right) {
-        Ok(new) => Ok(new),
-        Err(ApplyRefusal::Fault(_)) => unreachable!(),
-        Err(ApplyRefusal::NoMemory) => Err(MergeRefusal::NoMemory),
-    }
+    right_behind(alloc, base, &middle, left, right)
 }
 
 // The schema behind the left list.
@@ -50,6 +45,34 @@ fn left_alone(alloc: Global, base: &Schema, left: &Ops) -> Result<Schema, MergeR
     match apply(alloc, base, left) {
         Ok(new) => Ok(new),
         Err(ApplyRefusal::Fault(fault)) => Err(MergeRefusal::Left(fault)),
+        Err(ApplyRefusal::NoMemory) => Err(MergeRefusal::NoMemory),
+    }
+}
+
+// The schema behind the right list, where that applies behind the left one, which made the middle schema.
+fn right_behind(
+    alloc: Global,
+    base: &Schema,
+    middle: &Schema,
+    left: &Ops,
+    right: &Ops,
+) -> Result<Schema, MergeRefusal>
+    requires ordered { IsOrdered base.now }
+    requires distinct { twice [] (nodes_of (cards_of base.now)) ≡ None }
+    requires left_first { applied base.now left.now ≡ Ok middle.now }
+    requires middle { twice [] (nodes_of (cards_of middle.now)) ≡ None }
+    requires right_length { length right.now < 2 ^ 32 }
+    ensures left_first { IfOk result (λ new. applied middle.now right.now ≡ Ok new) }
+    ensures right_first { IfOk result (λ new. in_order base.now (right.now ∷ left.now ∷ []) ≡ Ok new) }
+    ensures accepted { IfOk result (λ new. merge_fault base.now left.now right.now ≡ None) }
+    ensures refused { IfErr result (IsMergeRefusal (merge_fault base.now left.now right.now)) }
+    ensures distinct { IfOk result (λ new. twice [] (nodes_of (cards_of new)) ≡ None) }
+{
+    right_alone(alloc, base, right)?;
+    no_overlap(alloc, left, right)?;
+    match apply(alloc, middle, right) {
+        Ok(new) => Ok(new),
+        Err(ApplyRefusal::Fault(_)) => unreachable!(),
         Err(ApplyRefusal::NoMemory) => Err(MergeRefusal::NoMemory),
     }
 }

@@ -49,12 +49,12 @@ impl Draft {
         Ok(Draft {
             start: schema.start,
             finish: schema.finish,
-            outline: Outline::of(alloc, pieces_of(alloc, schema)?, operations)?,
             syncs: schema.syncs.copy(alloc)?,
             elements: schema.elements.copy(alloc)?,
             reads: schema.reads.copy(alloc)?,
             writes: schema.writes.copy(alloc)?,
             roles: schema.roles.copy(alloc)?,
+            outline: Outline::of(alloc, pieces_of(alloc, schema)?, operations)?,
         })
     }
 

@@ -168,13 +168,21 @@ fn all_cards(alloc: Global, schema: &Schema) -> Result<Vec<Card>, NoMemory>
     ensures { IfOk result (λ all. all.items ≡ cards_of schema.now) }
 {
     let lists = Lists::of(alloc, schema)?;
+    cards_by(alloc, schema, &lists)
+}
+
+// The cards, by the lists of the same schema.
+fn cards_by(alloc: Global, schema: &Schema, lists: &Lists) -> Result<Vec<Card>, NoMemory>
+    requires { lists.now ≡ schema.now }
+    ensures { IfOk result (λ all. all.items ≡ cards_of schema.now) }
+{
     let mut all = Vec::new(alloc);
     let start = start_place(alloc, schema.start, &schema.body, schema.finish)?;
-    put(alloc, &mut all, &lists, start)?;
+    put(alloc, &mut all, lists, start)?;
     let from = End::plain(schema.start);
-    put_items(alloc, &mut all, &lists, &schema.body, from, schema.finish)?;
+    put_items(alloc, &mut all, lists, &schema.body, from, schema.finish)?;
     let finish = finish_place(alloc, schema.start, &schema.body, schema.finish)?;
-    put(alloc, &mut all, &lists, finish)?;
+    put(alloc, &mut all, lists, finish)?;
     Ok(all)
 }
 

@@ -104,12 +104,12 @@ impl Schema {
         Ok(Schema {
             start: self.start,
             finish: self.finish,
-            body: copy_items(alloc, &self.body)?,
             syncs: self.syncs.copy(alloc)?,
             elements: self.elements.copy(alloc)?,
             reads: self.reads.copy(alloc)?,
             writes: self.writes.copy(alloc)?,
             roles: self.roles.copy(alloc)?,
+            body: copy_items(alloc, &self.body)?,
         })
     }
 }
