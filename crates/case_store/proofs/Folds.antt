@@ -1,6 +1,6 @@
 -- Records that are taken in one after another.
-use Rattle.std.proofs.Common.{◌≡◌, ◌≢◌, inl, inr, ℕ, ◌+◌, ◌<◌, ◌≤◌, ◌^◌, false, true, List, [], ◌∷◌, ◌++◌, length, map, take, drop, refl, sym, ap, subst, ◌∙◌, append_assoc, arith, length-append}
-use Rattle.std.specs.Prelude.{fold}
+use Rattle.std.proofs.Common.{◌≡◌, ◌≢◌, inl, inr, ℕ, ◌+◌, ◌<◌, ◌≤◌, ◌^◌, Bool, false, true, List, [], ◌∷◌, ◌++◌, length, map, take, drop, refl, sym, ap, subst, ◌∙◌, append_assoc, arith, length-append}
+use Rattle.std.specs.Prelude.{IfOk, Ok, Err, Result, fold, if◌then◌else◌}
 use Rattle.std.specs.List.{AllByRecursion}
 use Rattle.std.proofs.lemmas.List.{append-nil, length-drop, length-take-le, map_push}
 use Rattle.std.proofs.lemmas.List.Sums.{fold_push}
@@ -189,6 +189,17 @@ room-for caller e p old same fits = omega (arith, weight-below caller e, ap leng
 
 pub no-older : (caller : ℕ) (e : Stored) (p : Bytes) (old new : ℕ) → payload caller e ≡ p → new ≤ old + stored_weight e → new ≤ old + length p
 no-older caller e p old new same le = omega (arith, weight-below caller e, ap length same, le)
+
+-- what is made of the bytes of a recorded call
+pub takes-in : {E : Type 0} (held new : Held) (p : Bytes) (r : Recorded) (q : Result Bool E) → IsPayloadOf p r.caller r.event → IfOk q (λ named. named ≡ has held.starts held.run r.event)
+    → IfOk q (λ named. new ≡ (if named then record held { run = called held.starts held.run r } else held)) → IfOk q (λ taken. TakesIn held p taken new)
+takes-in held new p r (Ok true) pays named made = (r, (pays, sym named), made)
+takes-in held new p r (Ok false) pays named made = (inr (r, pays, sym named), made)
+takes-in held new p r (Err e) pays named made = tt
+
+pub none-older : {E : Type 0} (caller : ℕ) (e : Stored) (p : Bytes) (old new : ℕ) (q : Result Bool E) → payload caller e ≡ p → IfOk q (λ _. new ≤ old + stored_weight e) → IfOk q (λ _. new ≤ old + length p)
+none-older caller e p old new (Ok b) same le = no-older caller e p old new same le
+none-older caller e p old new (Err x) same le = tt
 
 -- a step: one record more, on the disk and in the run
 module _ {D : Type 0} (content : D → List ℕ) (may_leave : D → List ℕ → Type 0) (counts : List ℕ) where

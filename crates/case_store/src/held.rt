@@ -1,12 +1,12 @@
 // The types and cases of a store, which the records make by fold.
-ghost use Rattle.std.specs.Prelude.{◌≡◌, ℕ, ◌+◌, ◌<◌, ◌≤◌, ◌^◌, List, ◌++◌, ◌∷◌, [], Some, true, length, map, slice_get, sum, IfOk, IfErr, OnErr, OnOk};
+ghost use Rattle.std.specs.Prelude.{◌≡◌, ℕ, ◌+◌, ◌<◌, ◌≤◌, ◌^◌, List, ◌++◌, ◌∷◌, [], Some, true, length, map, slice_get, sum, IfOk, IfErr, OnErr, OnOk, if◌then◌else◌};
 ghost use Rattle.std.specs.Prelude.{replicate};
 ghost use Rattle.std.specs.Option.{is_some, option_copied};
 ghost use Rattle.case_core.specs.Ages.{age, weight};
 ghost use Rattle.case_core.specs.CaseModel.{not_created};
 ghost use Rattle.case_core.specs.Machine.{next_case};
 ghost use Rattle.case_store.specs.Damage.{TakesIn, TellsDamage};
-ghost use Rattle.case_store.specs.Folding.{answer_of, answer_of_case, fresh, fresh_cases, fresh_kinds, has, has_case, has_names, kind_answer, made, on_case, payload_of, place_of, starts_of, stored_weight, version_of};
+ghost use Rattle.case_store.specs.Folding.{answer_of, answer_of_case, called, fresh, fresh_cases, fresh_kinds, has, has_case, has_names, kind_answer, made, on_case, payload_of, place_of, starts_of, stored_weight, version_of};
 ghost use Rattle.case_store.specs.Standing.{IsFoldOf};
 ghost use Rattle.script_run.specs.Calls.{call_case, call_kind, on_kind};
 ghost use Rattle.script_run.specs.Oldest.{oldest};
@@ -29,7 +29,7 @@ use std::alloc::Global;
 use std::marker::Model;
 use std::mem;
 use store_disk::{Frame, frame_in};
-use store_form::{Stored, is_shallow, read_payload};
+use store_form::{Recorded, Stored, is_shallow, read_payload};
 use turn_cell::Machine;
 use type_core::{Kind, KindEvent, KindReply};
 use wsm_sound::{CaseId, Version};
@@ -217,6 +217,17 @@ impl HeldCells {
         let Some(recorded) = read_payload(alloc, payload)? else {
             return Ok(false);
         };
+        self.call_recorded(alloc, &recorded)
+    }
+
+    // Makes a recorded call. False, with no change, where it names what is not there.
+    fn call_recorded(&mut self, alloc: Global, recorded: &Recorded) -> Result<bool, NoMemory>
+        requires plain { HasNoVersion recorded.now.event }
+        requires young { oldest self.old.run.cases + stored_weight recorded.now.event ≤ 4000000000 }
+        ensures named { IfOk result (λ named. named ≡ has self.old.starts self.old.run recorded.now.event) }
+        ensures run { IfOk result (λ named. self.new ≡ (if named then record self.old { run = called self.old.starts self.old.run recorded.now } else self.old)) }
+        ensures young { IfOk result (λ _. oldest self.new.run.cases ≤ oldest self.old.run.cases + stored_weight recorded.now.event) }
+    {
         if !self.has(&recorded.event) {
             return Ok(false);
         }
