@@ -43,7 +43,6 @@ fn fit_behind(
 /// How far the cases of a log go on a version, where nodes and elements have the names of the file. A log is CSV; its first
 /// record names the fields, and each other is an event of a case. The first record that is not of the form, or that is of
 /// the 4,097th case, is told; so is 1 where the log has none.
-#[tactic(auto, using(log_records::proofs::Counts::few_records))]
 pub fn fit(alloc: Global, version: &Version, file: &File, log: &[u8]) -> Result<Fits, FitRefusal>
     requires numbers { HasNumbers file.now }
     requires log { length log.now ≤ 33554432 }

@@ -1,4 +1,4 @@
-use Rattle.std.proofs.Common.{◌≡◌, ◌≤◌, ◌+◌, ◌∙◌, length, sym, ap, refl, true, false, Some, Ok, rules, arith, ◌∷◌}
+use Rattle.std.proofs.Common.{◌≡◌, ◌≤◌, ◌+◌, ◌∙◌, suc, length, sym, ap, refl, true, false, Some, Ok, rules, arith, ◌∷◌}
 use Rattle.file_names.specs.Names.{noted}
 use Rattle.csv.specs.Records.{fields_of}
 use Rattle.log_fit.proofs.Telling.{crowded, ended, even, few, few_cases, moved, start}
@@ -24,7 +24,7 @@ loop-row-preserved c =
     let first : c.loop-row.reader ≡ fields_of c.next.new.row ∷ c.next.new.self = c.in_ok-next.ensures.found c.if-branch.true in
     let is : record_of c.args.nodes.now c.args.elements.now (fields_of c.next.new.row) ≡ Some c.in-Some.record = sym c.in_ok-record.ensures ∙ c.in-Some.is in
     let fine : c.in_ok-take.field-0 ≡ true = search rules in
-    let left : length c.loop-row.reader ≡ length c.next.new.self + 1 = ap length first in
+    let left : length c.loop-row.reader ≡ suc (length c.next.new.self) = ap length first in
     let few : length c.take.new.self.names ≤ 4096 =
     rw (c.in_ok-take.ensures.names fine) (few_cases (noted c.loop-row.table.names c.in-Some.record.case) c.in_ok-take.field-0 c.in_ok-take.ensures.room fine) in
     record {

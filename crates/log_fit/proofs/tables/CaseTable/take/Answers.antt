@@ -10,7 +10,7 @@ index_mut-requires c =
     c.in_ok-place.ensures.number ∙ ap (λ n. number_of (noted c.args.self.now.names n) n) c.word.ensures.bytes in
     let rows : c.add_row.new.rows.items ≡ rows_with c.args.version.now c.args.self.now.rows.items c.in_ok-place.field-0 c.args.logged.case = c.in_ok-add_row.ensures in
     let inside : c.in_ok-place.field-0 < length c.add_row.new.rows.items =
-    rw (rows, place) (in_rows c.args.version.now c.args.self.now.names c.args.self.now.rows.items c.args.logged.case c.requires) in
+    rw (rows, place) (in_rows c.args.version.now c.args.self.now.names c.args.self.now.rows.items c.args.logged.case c.requires.even) in
     search rules
 
 pub returns-clause-rows : goal.returns-clause-rows
