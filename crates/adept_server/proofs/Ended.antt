@@ -13,6 +13,7 @@ use Rattle.adept_server.specs.declared.desks.Desk.{Desk}
 use Rattle.adept_server.specs.declared.servers.Server.{Server}
 use Rattle.adept_server.proofs.Zips.{row_of_case, all_from_places, all_from_cases, beside}
 use Rattle.case_core.specs.CaseModel.{CaseModel}
+use Rattle.case_core.specs.Instances.{CountedCase}
 use Rattle.case_core.specs.declared.events.Event.{Event}
 use Rattle.case_core.specs.declared.replies.Reply.{Reply}
 use Rattle.case_core.specs.declared.views.View.{View}
@@ -52,16 +53,16 @@ even_rows R (x ∷ xs) (y ∷ ys) all =
     let rest = even_rows R xs ys all.1 in
     cc
 
-pub server_closed : (d : Desk) (s : ClosedServer) → AllZip (IsClosedAs kind_after kind_reply (λ k. k)) (views d.kinds.items) s.kinds.items → AllZip (AllZip (IsClosedAs case_after case_reply (λ k. k))) (row_views d.cases.items) (lists_of s.cases.items) → IsClosedServer (desk_view d) s
+pub server_closed : (d : Desk) (s : ClosedServer) → AllZip (IsClosedAs kind_after kind_reply (λ k. k)) (views d.kinds.items) s.kinds.items → AllZip (AllZip (IsClosedAs case_after case_reply (λ (k : CountedCase). k.state))) (row_views d.cases.items) (lists_of s.cases.items) → IsClosedServer (desk_view d) s
 server_closed d s kinds cases = record {
   types = even (IsClosedAs kind_after kind_reply (λ k. k)) (views d.kinds.items) s.kinds.items kinds;
-  rows = even_rows (IsClosedAs case_after case_reply (λ k. k)) (row_views d.cases.items) s.cases.items cases;
+  rows = even_rows (IsClosedAs case_after case_reply (λ (k : CountedCase). k.state)) (row_views d.cases.items) s.cases.items cases;
   kinds = λ t p is. beside (IsClosedAs kind_after kind_reply (λ k. k)) (views d.kinds.items) s.kinds.items t p kinds is;
-  cases = λ c p is. beside_case (IsClosedAs case_after case_reply (λ k. k)) (row_views d.cases.items) (lists_of s.cases.items) c p cases is;
+  cases = λ c p is. beside_case (IsClosedAs case_after case_reply (λ (k : CountedCase). k.state)) (row_views d.cases.items) (lists_of s.cases.items) c p cases is;
 }
 
 -- what is said of rows is said of equal ones
-pub cases_closed : {A : Type 0} {g : _} {ps qs : List (Vec (Pass CaseModel Event Reply View CaseModel g) A)} {cs ds : List (Vec (Closed CaseModel Event Reply View CaseModel) A)} → AllZip (AllZip (IsClosedAs case_after case_reply (λ k. k))) (row_views ps) (lists_of cs)
-    → ps ≡ qs → ds ≡ cs → AllZip (AllZip (IsClosedAs case_after case_reply (λ k. k))) (row_views qs) (lists_of ds)
+pub cases_closed : {A : Type 0} {g : _} {ps qs : List (Vec (Pass CountedCase Event Reply View CaseModel g) A)} {cs ds : List (Vec (Closed CountedCase Event Reply View CaseModel) A)} → AllZip (AllZip (IsClosedAs case_after case_reply (λ (k : CountedCase). k.state))) (row_views ps) (lists_of cs)
+    → ps ≡ qs → ds ≡ cs → AllZip (AllZip (IsClosedAs case_after case_reply (λ (k : CountedCase). k.state))) (row_views qs) (lists_of ds)
 cases_closed {qs = qs} {cs = cs} k before behind =
-    subst (λ rows. AllZip (AllZip (IsClosedAs case_after case_reply (λ k. k))) (row_views qs) (lists_of rows)) (sym behind) (subst (λ rows. AllZip (AllZip (IsClosedAs case_after case_reply (λ k. k))) (row_views rows) (lists_of cs)) before k)
+    subst (λ rows. AllZip (AllZip (IsClosedAs case_after case_reply (λ (k : CountedCase). k.state))) (row_views qs) (lists_of rows)) (sym behind) (subst (λ rows. AllZip (AllZip (IsClosedAs case_after case_reply (λ (k : CountedCase). k.state))) (row_views rows) (lists_of cs)) before k)

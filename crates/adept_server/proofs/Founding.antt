@@ -17,6 +17,7 @@ use Rattle.adept_server.specs.declared.servers.Server.{Server}
 use Rattle.adept_server.proofs.Short.{short_counts}
 use Rattle.adept_server.proofs.Zips.{all_from_places, row_of_case}
 use Rattle.case_core.specs.CaseModel.{CaseModel, not_created}
+use Rattle.case_core.specs.Instances.{CountedCase, uncounted}
 use Rattle.case_core.specs.declared.events.Event.{Event}
 use Rattle.case_core.specs.declared.replies.Reply.{Reply}
 use Rattle.case_core.specs.declared.views.View.{View}
@@ -164,14 +165,14 @@ kinds_opened count ms cs ps many made k = record {
   each = λ t p is. let at = opened_at (λ m. m) ms cs ps k t p is in subst (λ m. IsFirst m p) (made t at.0 at.1) at.2;
 }
 
-pub cases_opened : (type_no count : ℕ) (ms : List CaseModel) {g : _} (cs : List (Cell CaseModel Event Reply View CaseModel)) (ps : List (Pass CaseModel Event Reply View CaseModel g)) → length ms ≡ count → AreMade (λ i. not_created type_no) ms → AreOpened (λ k. k) ms cs ps → AreFirstCases type_no count (views ps)
+pub cases_opened : (type_no count : ℕ) (ms : List CountedCase) {g : _} (cs : List (Cell CountedCase Event Reply View CaseModel)) (ps : List (Pass CountedCase Event Reply View CaseModel g)) → length ms ≡ count → AreMade (λ i. uncounted (not_created type_no)) ms → AreOpened (λ (k : CountedCase). k.state) ms cs ps → AreFirstCases type_no count (views ps)
 cases_opened type_no count ms cs ps many made k = record {
-  many = opened_length (λ m. m) ms cs ps k ∙ many;
-  each = λ i p is. let at = opened_at (λ m. m) ms cs ps k i p is in subst (λ m. IsFirst m p) (made i at.0 at.1) at.2;
+  many = opened_length (λ (m : CountedCase). m.state) ms cs ps k ∙ many;
+  each = λ i p is. let at = opened_at (λ (m : CountedCase). m.state) ms cs ps k i p is in subst (λ (m : CountedCase). IsFirst m.state p) (made i at.0 at.1) at.2;
 }
 
 module _ {A : Type 0} {g : _} where
-  pub none_opened : (cells : List (Vec (Cell CaseModel Event Reply View CaseModel) A)) (firsts : List (Vec (Pass CaseModel Event Reply View CaseModel g) A)) → cells ≡ [] → firsts ≡ [] → AreVecsOf cells firsts × AreFirstsOf [] (row_views firsts)
+  pub none_opened : (cells : List (Vec (Cell CountedCase Event Reply View CaseModel) A)) (firsts : List (Vec (Pass CountedCase Event Reply View CaseModel g) A)) → cells ≡ [] → firsts ≡ [] → AreVecsOf cells firsts × AreFirstsOf [] (row_views firsts)
   none_opened cells firsts no_cells no_firsts =
       let none : AreFirstsOf [] [] = record { many = refl; each = λ c p is. absurd (cc) } in (
         subst (λ cs. AreVecsOf cs firsts) (sym no_cells) (subst (λ ps. AreVecsOf [] ps) (sym no_firsts) tt),
@@ -179,13 +180,13 @@ module _ {A : Type 0} {g : _} where
       )
 
   -- the cells of one type more, and their first passes
-  pub one_more_opened : (counts : List ℕ) (n count : ℕ) (cells cells_then : List (Vec (Cell CaseModel Event Reply View CaseModel) A)) (firsts firsts_then : List (Vec (Pass CaseModel Event Reply View CaseModel g) A)) (row : Vec (Cell CaseModel Event Reply View CaseModel) A)
-      (first_row : Vec (Pass CaseModel Event Reply View CaseModel g) A) → n < length counts → count ≡ get_or counts n count → AreVecsOf cells firsts → AreFirstsOf (take n counts) (row_views firsts) → cells_then ≡ cells ++ row ∷ [] → firsts_then ≡ firsts ++ first_row ∷ []
+  pub one_more_opened : (counts : List ℕ) (n count : ℕ) (cells cells_then : List (Vec (Cell CountedCase Event Reply View CaseModel) A)) (firsts firsts_then : List (Vec (Pass CountedCase Event Reply View CaseModel g) A)) (row : Vec (Cell CountedCase Event Reply View CaseModel) A)
+      (first_row : Vec (Pass CountedCase Event Reply View CaseModel g) A) → n < length counts → count ≡ get_or counts n count → AreVecsOf cells firsts → AreFirstsOf (take n counts) (row_views firsts) → cells_then ≡ cells ++ row ∷ [] → firsts_then ≡ firsts ++ first_row ∷ []
       → AreOf row.items first_row.items → AreFirstCases n count (views first_row.items) → AreVecsOf cells_then firsts_then × AreFirstsOf (take (n + 1) counts) (row_views firsts_then)
   one_more_opened counts n count cells cells_then firsts firsts_then row first_row lt at of are cells_are firsts_are of_row row_is =
       let many : length (take n counts) ≡ n = length-take-le n counts (omega arith) in
       let more = firsts_more (take n counts) (row_views firsts) count (views first_row.items) are (subst (λ k. AreFirstCases k count (views first_row.items)) (sym many) row_is) in
-      let rows : row_views firsts_then ≡ row_views firsts ++ views first_row.items ∷ [] = ap row_views firsts_are ∙ map_push (λ (r : Vec (Pass CaseModel Event Reply View CaseModel g) A). views r.items) firsts first_row in (
+      let rows : row_views firsts_then ≡ row_views firsts ++ views first_row.items ∷ [] = ap row_views firsts_are ∙ map_push (λ (r : Vec (Pass CountedCase Event Reply View CaseModel g) A). views r.items) firsts first_row in (
         rw (cells_are, firsts_are) (vecs-of_push cells firsts row first_row of of_row),
         rw (take_item counts n count lt at, rows) more,
       )

@@ -4,11 +4,13 @@ use Rattle.std.proofs.Crossing.{crosses}
 use Rattle.wsm_schema.proofs.blocks.Block.TheLaws.TheKnot.{crosses as blocks_cross}
 use Rattle.wsm_schema.proofs.flats.Flat.TheSendSync as flat
 use Rattle.wsm_schema.proofs.ranks.Rank.TheSendSync as rank
-use Rattle.case_core.specs.contracts.cases.Case as case
+use Rattle.case_core.specs.contracts.instances.Instance as case
 use Rattle.case_core.specs.contracts.events.Event as event
 use Rattle.case_core.specs.contracts.live.Live as live
-use Rattle.wsm_replay.proofs.Replayed.TheSendSync as replayed
 use Rattle.wsm_trail.proofs.trails.Trail.TheSendSync as trail
+use Rattle.wsm_trail.specs.contracts.trails.Trail as trail_type
+use Rattle.wsm_trail.specs.declared.keeps.TrailKeep as keep
+use Rattle.wsm_trail.specs.declared.reads.TrailReads as reads
 use Rattle.wsm_schema.specs.contracts.schemas.Schema as schema
 use Rattle.wsm_sound.specs.contracts.checked.Checked as checked
 use Rattle.wsm_sound.specs.contracts.versions.Version as version
@@ -33,16 +35,16 @@ version-sync = search (checked-send, checked-sync, sendable, crosses) depth 40 f
 
 -- so may cases and their events
 live-send : IsSend live.the_row
-live-send = search (version-send, version-sync, checked-send, checked-sync, trail.the_send, replayed.the_send, sendable, crosses) depth 40 fits 5000
+live-send = search (version-send, checked-send, checked-sync, sendable, crosses) depth 40 fits 5000
 
 live-sync : IsSync live.the_row
-live-sync = search (version-send, version-sync, checked-send, checked-sync, trail.the_sync, replayed.the_sync, sendable, crosses) depth 40 fits 5000
+live-sync = search (version-sync, checked-send, checked-sync, sendable, crosses) depth 40 fits 5000
 
-pub case-send : IsSend case.the_row
-case-send = search (live-send, sendable, crosses) depth 40 fits 5000
+pub case-send : (k : keep.Ghosts (trail_type.the_row).Denot) (r : reads.Ghosts (trail_type.the_row).Denot) → IsSend (case.the_row trail_type.the_row k r)
+case-send k r = search (live-send, trail.the_send, sendable, crosses) depth 40 fits 5000
 
-pub case-sync : IsSync case.the_row
-case-sync = search (live-sync, sendable, crosses) depth 40 fits 5000
+pub case-sync : (k : keep.Ghosts (trail_type.the_row).Denot) (r : reads.Ghosts (trail_type.the_row).Denot) → IsSync (case.the_row trail_type.the_row k r)
+case-sync k r = search (live-sync, trail.the_sync, sendable, crosses) depth 40 fits 5000
 
 pub event-send : IsSend event.the_row
 event-send = search (version-send, sendable, crosses) depth 40 fits 5000

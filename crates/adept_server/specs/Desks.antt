@@ -3,6 +3,7 @@ use Rattle.std.specs.Prelude.{◌≡◌, ℕ, ◌^◌, ◌<◌, Bool, true, List
 use Rattle.adept_server.specs.declared.desks.Desk.{Desk}
 use Rattle.adept_server.specs.declared.servers.Server.{Server}
 use Rattle.case_core.specs.CaseModel.{CaseModel, not_created}
+use Rattle.case_core.specs.Instances.{CountedCase}
 use Rattle.case_core.specs.Machine.{case_after, case_reply}
 use Rattle.case_core.specs.declared.events.Event.{Event}
 use Rattle.case_core.specs.declared.replies.Reply.{Reply}
@@ -23,7 +24,7 @@ abbrev pub KindPass : Type 0
 KindPass = PassView KindModel KindEvent KindReply ℕ KindModel
 
 abbrev pub CasePass : Type 0
-CasePass = PassView CaseModel Event Reply View CaseModel
+CasePass = PassView CountedCase Event Reply View CaseModel
 
 -- The passes of a desk: of each type, and of each type's cases by their places. All have the desk's number.
 pub record DeskView : Type 0 where

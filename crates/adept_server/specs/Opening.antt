@@ -4,6 +4,7 @@ use Rattle.std.specs.List.{AllZip}
 use Rattle.adept_server.specs.Desks.{KindPass, CasePass, DeskView, at_case, case_pass}
 use Rattle.adept_server.specs.declared.closing.ClosedServer.{ClosedServer}
 use Rattle.case_core.specs.CaseModel.{CaseModel}
+use Rattle.case_core.specs.Instances.{CountedCase}
 use Rattle.case_core.specs.Machine.{case_after, case_reply}
 use Rattle.case_core.specs.declared.events.Event.{Event}
 use Rattle.case_core.specs.declared.replies.Reply.{Reply}
@@ -78,4 +79,4 @@ pub record IsClosedServer (v : DeskView) (s : ClosedServer) : Type 0 where
   pub kinds : (t : ℕ) (p : KindPass) → slice_get v.kinds t ≡ Some p
       → (c : Closed KindModel KindEvent KindReply ℕ KindModel) × (slice_get s.kinds.items t ≡ Some c) × IsClosed kind_after kind_reply (λ k. k) p c.machine c.journal.items.items
   pub cases : (id : CaseId) (p : CasePass) → case_pass v id ≡ Some p
-      → (c : Closed CaseModel Event Reply View CaseModel) × (at_case (map (λ row. row.items) s.cases.items) id ≡ Some c) × IsClosed case_after case_reply (λ k. k) p c.machine c.journal.items.items
+      → (c : Closed CountedCase Event Reply View CaseModel) × (at_case (map (λ row. row.items) s.cases.items) id ≡ Some c) × IsClosed case_after case_reply (λ (k : CountedCase). k.state) p c.machine c.journal.items.items

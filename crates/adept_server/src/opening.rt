@@ -41,7 +41,7 @@ fn open_cases(
 {
     let mut cases = Vec::with_capacity(alloc, count as usize)?;
     for _place in 0..count {
-        cases.push_reserved(Case::new(type_no));
+        cases.push_reserved(Case::new(alloc, type_no));
     }
     open_row(alloc, label, cases)
 }

@@ -107,7 +107,7 @@ fn judge_journal(
         → IfOk result (Follows (case_journal file.now phases decl.now) report.old report.new) }
 {
     let mut case = ClosedCase {
-        machine: Case::new(decl.id.type_no),
+        machine: Case::new(alloc, decl.id.type_no),
         journal: CaseJournal::new(alloc),
     };
     for phase in owed.phases.as_slice() {

@@ -5,7 +5,7 @@ use Rattle.wsm_schema.proofs.blocks.Block.TheLaws.TheKnot.{crosses as blocks_cro
 use Rattle.wsm_schema.proofs.flats.Flat.TheSendSync as flat
 use Rattle.wsm_schema.proofs.ranks.Rank.TheSendSync as rank
 use Rattle.case_audit.specs.contracts.sections.Section as section
-use Rattle.case_core.specs.contracts.cases.Case as case
+use Rattle.case_core.specs.contracts.instances.Instance as case
 use Rattle.case_core.specs.contracts.events.Event as event
 use Rattle.case_core.specs.contracts.live.Live as live
 use Rattle.case_core.proofs.replies.Reply.TheSendSync as reply
@@ -17,6 +17,9 @@ use Rattle.file_model.specs.contracts.files.Line as line_row
 use Rattle.file_model.specs.contracts.files.TypeDecl as type_decl
 use Rattle.script_run.specs.contracts.runs.ClosedCase as closed
 use Rattle.wsm_trail.proofs.trails.Trail.TheSendSync as trail
+use Rattle.wsm_trail.specs.contracts.trails.Trail as trail_type
+use Rattle.wsm_trail.specs.declared.keeps.TrailKeep as keep
+use Rattle.wsm_trail.specs.declared.reads.TrailReads as reads
 use Rattle.wsm_schema.specs.contracts.schemas.Schema as schema
 use Rattle.wsm_sound.specs.contracts.checked.Checked as checked
 use Rattle.wsm_sound.specs.contracts.versions.Version as version
@@ -40,10 +43,10 @@ pub version-sync : IsSync version.the_row
 version-sync = search (checked-send, checked-sync, sendable, crosses) depth 40 fits 5000
 
 live-send : IsSend live.the_row
-live-send = search (version-send, checked-send, checked-sync, trail.the_send, sendable, crosses) depth 40 fits 5000
+live-send = search (version-send, checked-send, checked-sync, sendable, crosses) depth 40 fits 5000
 
-case-send : IsSend case.the_row
-case-send = search (live-send, sendable, crosses) depth 40 fits 5000
+case-send : (k : keep.Ghosts (trail_type.the_row).Denot) (r : reads.Ghosts (trail_type.the_row).Denot) → IsSend (case.the_row trail_type.the_row k r)
+case-send k r = search (live-send, trail.the_send, sendable, crosses) depth 40 fits 5000
 
 event-send : IsSend event.the_row
 event-send = search (version-send, sendable, crosses) depth 40 fits 5000

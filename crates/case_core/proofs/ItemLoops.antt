@@ -3,7 +3,7 @@ use Rattle.std.proofs.Common.{◌≡◌, ℕ, zero, suc, ◌+◌, ◌<◌, ◌�
 use Rattle.std.specs.Prelude.{option_map}
 use Rattle.std.proofs.lemmas.Bool.{cases_Bool, eq-eqb, eqb-true, ne_eqb}
 use Rattle.std.proofs.lemmas.List.{drop_more}
-use Rattle.case_core.specs.KeptItems.{entries_with, item_by, item_for, with_item, work_item}
+use Rattle.case_core.specs.KeptItems.{entries_with, item_by, item_for, item_then, user_then, with_item, work_item}
 use Rattle.case_core.specs.Machine.{user_of}
 use Rattle.case_core.specs.Remarks.{user_at}
 use Rattle.wsm_items.specs.WorkItems.{AreByNode, IsOfNode, item_node}
@@ -79,6 +79,14 @@ of-card n (Some c) m user =
 pub of-node : (cards : List Card) (es : List (ℕ × Entry)) (n : ℕ) (m : Option Mark) → IsOfNode n (item_for cards es n m)
 of-node cards es n m = of-card n (card_at n cards) (mark_or m) (user_at es (mark_or m).started)
 
+pub of-held : (cards : List Card) (next : ℕ) (e : Option Entry) (held : Option Item) (n : ℕ) (m : Option Mark) → IsOfNode n (item_then cards next e held n m)
+of-held cards next e held n m = of-card n (card_at n cards) (mark_or m) (user_then next e held (mark_or m).started)
+
+-- nobody started a node of a trail without entries
+pub nobody : (o : Option ℕ) → user_at [] o ≡ 0
+nobody None = refl
+nobody (Some p) = refl
+
 -- a node with no mark has none
 unmarked-card : (n : ℕ) (o : Option Card) (user : ℕ) → item_by o n no_mark user ≡ None
 unmarked-card n None user = refl
@@ -108,22 +116,23 @@ item-next cards es marks up i d lt now new put n h =
     (λ here none. ap (item_at n) put ∙ with-own n o now (subst (λ k. IsOfNode k o) (eqb-true c.0 n here) (of-node cards es c.0 (Some c.1))) none ∙ ap (λ k. item_for cards es k (Some c.1)) (eqb-true c.0 n here))
     (λ away. ap (item_at n) put ∙ with-other c.0 n o now (of-node cards es c.0 (Some c.1)) away) h
 
-pub change-next : (cards : List Card) (es : List (ℕ × Entry)) (changes : List (ℕ × Option Mark)) → Ascends first changes → (i : ℕ) (d : ℕ × Option Mark) → i < length changes → (now new : List (ℕ × Option Item)) (o : Option Item) →
-    o ≡ item_for cards es (get_or changes i d).0 (get_or changes i d).1 → new ≡ put_row first ((get_or changes i d).0, o) now → (n : ℕ) → Held (option_map (item_for cards es n)) (item_at n (drop i changes)) (item_at n now) (item_at n changes) →
-    Held (option_map (item_for cards es n)) (item_at n (drop (i + 1) changes)) (item_at n new) (item_at n changes)
-change-next cards es changes up i d lt now new o is put n h =
-    let c : ℕ × Option Mark = get_or changes i d in
-    let at : item_at n new ≡ cond (eqb c.0 n) (Some o) (item_at n now) = ap (item_at n) put ∙ item_at-put n (c.0, o) now in
-    held-next (option_map (item_for cards es n)) changes up i d lt n (item_at n now) (item_at n new) (item_at n changes)
-    (λ here none. at ∙ ap (λ b. cond b (Some o) (item_at n now)) here ∙ ap Some is ∙ ap (λ k. Some (item_for cards es k c.1)) (eqb-true c.0 n here))
-    (λ away. at ∙ ap (λ b. cond b (Some o) (item_at n now)) away) h
+module _ (f : ℕ → Option Mark → Option Item) (of : (n : ℕ) (m : Option Mark) → IsOfNode n (f n m)) (changes : List (ℕ × Option Mark)) where
+  pub change-next : Ascends first changes → (i : ℕ) (d : ℕ × Option Mark) → i < length changes → (now new : List (ℕ × Option Item)) (o : Option Item) →
+      o ≡ f (get_or changes i d).0 (get_or changes i d).1 → new ≡ put_row first ((get_or changes i d).0, o) now → (n : ℕ) → Held (option_map (f n)) (item_at n (drop i changes)) (item_at n now) (item_at n changes) →
+      Held (option_map (f n)) (item_at n (drop (i + 1) changes)) (item_at n new) (item_at n changes)
+  change-next up i d lt now new o is put n h =
+      let c : ℕ × Option Mark = get_or changes i d in
+      let at : item_at n new ≡ cond (eqb c.0 n) (Some o) (item_at n now) = ap (item_at n) put ∙ item_at-put n (c.0, o) now in
+      held-next (option_map (f n)) changes up i d lt n (item_at n now) (item_at n new) (item_at n changes)
+      (λ here none. at ∙ ap (λ b. cond b (Some o) (item_at n now)) here ∙ ap Some is ∙ ap (λ k. Some (f k c.1)) (eqb-true c.0 n here))
+      (λ away. at ∙ ap (λ b. cond b (Some o) (item_at n now)) away) h
 
--- each item that is put is of its node
-pub nodes-next : (cards : List Card) (es : List (ℕ × Entry)) (changes : List (ℕ × Option Mark)) (i : ℕ) (d : ℕ × Option Mark) (now new : List (ℕ × Option Item)) (o : Option Item) →
-    o ≡ item_for cards es (get_or changes i d).0 (get_or changes i d).1 → new ≡ put_row first ((get_or changes i d).0, o) now → AreByNode now → AreByNode new
-nodes-next cards es changes i d now new o is put nodes =
-    let c : ℕ × Option Mark = get_or changes i d in
-    subst AreByNode (sym put) (all_put first (λ (r : ℕ × Option Item). IsOfNode r.0 r.1) (c.0, o) now (subst (IsOfNode c.0) (sym is) (of-node cards es c.0 c.1)) nodes)
+  -- each item that is put is of its node
+  pub nodes-next : (i : ℕ) (d : ℕ × Option Mark) (now new : List (ℕ × Option Item)) (o : Option Item) →
+      o ≡ f (get_or changes i d).0 (get_or changes i d).1 → new ≡ put_row first ((get_or changes i d).0, o) now → AreByNode now → AreByNode new
+  nodes-next i d now new o is put nodes =
+      let c : ℕ × Option Mark = get_or changes i d in
+      subst AreByNode (sym put) (all_put first (λ (r : ℕ × Option Item). IsOfNode r.0 r.1) (c.0, o) now (subst (IsOfNode c.0) (sym is) (of c.0 c.1)) nodes)
 
 -- ---- who stands at a position of a trail with one entry more
 last-here : (low next : ℕ) (e : Entry) (es : List (ℕ × Entry)) → Rises low next es → entry_at next (es ++ (next, e) ∷ []) ≡ Some e

@@ -13,3 +13,5 @@ pub mod RoundStarts
 pub mod KeptItems
 pub mod ItemLoops
 pub mod Moving
+pub mod KeptHolders
+pub mod Opened

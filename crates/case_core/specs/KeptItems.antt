@@ -1,7 +1,8 @@
 -- The work items of a case, told by its marks and its trail, and what an event makes of them.
-use Rattle.std.specs.Prelude.{◌≡◌, ℕ, List, Option, Some, None, option_map, if◌then◌else◌}
+use Rattle.std.specs.Prelude.{◌≡◌, ℕ, List, Option, Some, None, option_map, ◌==◌, if◌then◌else◌}
 use Rattle.case_core.specs.CaseModel.{LiveModel}
 use Rattle.case_core.specs.Kept.{marks_in}
+use Rattle.case_core.specs.Machine.{user_of}
 use Rattle.case_core.specs.Remarks.{user_at}
 use Rattle.wsm_items.specs.WorkItems.{item_node}
 use Rattle.wsm_items.specs.declared.work_items.Item.{Item}
@@ -45,6 +46,27 @@ KeepsItems l items = TellsItems (cards_of l.schema) l.trail.entries (marks_in l)
 -- what becomes of the work items of the nodes whose marks change
 abbrev pub ChangesItems : List Card → List (ℕ × Entry) → List (ℕ × Option Mark) → List (ℕ × Option Item) → Type 0
 ChangesItems cards es changes items = (n : ℕ) → item_at n items ≡ option_map (item_for cards es n) (item_at n changes)
+
+-- who holds a node that was started at a position: the user of the entry that comes next, where it stands there, else who held
+-- the node before
+abbrev pub user_in : Option Item → ℕ
+user_in (Some (item.Held n user)) = user
+user_in _ = 0
+
+abbrev pub user_from : ℕ → Option Entry → Option Item → ℕ → ℕ
+user_from next None held p = user_in held
+user_from next (Some e) held p = if p == next then user_of (Some (0, e)) else user_in held
+
+abbrev pub user_then : ℕ → Option Entry → Option Item → Option ℕ → ℕ
+user_then next e held None = 0
+user_then next e held (Some p) = user_from next e held p
+
+abbrev pub item_then : List Card → ℕ → Option Entry → Option Item → ℕ → Option Mark → Option Item
+item_then cards next e held n m = item_by (card_at n cards) n (mark_or m) (user_then next e held (mark_or m).started)
+
+-- the same as `ChangesItems`, told by the work items from before
+abbrev pub MakesItems : List Card → ℕ → Option Entry → List (ℕ × Item) → List (ℕ × Option Mark) → List (ℕ × Option Item) → Type 0
+MakesItems cards next e old changes items = (n : ℕ) → item_at n items ≡ option_map (item_then cards next e (item_at n old) n) (item_at n changes)
 
 -- the entries of a trail that gets one more, or none
 abbrev pub entries_with : TrailModel → Option Entry → List (ℕ × Entry)

@@ -9,3 +9,4 @@ pub mod Promises
 pub mod Journals
 pub mod Rounds
 pub mod KeptItems
+pub mod Instances

@@ -139,8 +139,11 @@ abbrev pub entry_or : Option Entry → Entry
 entry_or None = entry.Wrote []
 entry_or (Some e) = e
 
+abbrev pub blocked_in : TrailModel → ℕ → Reply
+blocked_in t position = reply.Blocked position (entry_or (entry_at position t.entries))
+
 abbrev pub blocked_at : LiveModel → ℕ → Reply
-blocked_at l position = reply.Blocked position (entry_or (entry_at position l.trail.entries))
+blocked_at l position = blocked_in l.trail position
 
 abbrev pub failed_at : Outcome → Option ℕ
 failed_at (whole spots) = None

@@ -1,13 +1,15 @@
 // Changes of a case's schema.
-ghost use Rattle.std.specs.Prelude.{◌≡◌, ◌+◌, ◌<◌, ◌^◌, [], ◌++◌, Ok, length, IfOk, IfErr, OnOk, OnErr};
+ghost use Rattle.std.specs.Prelude.{◌≡◌, ◌+◌, ◌<◌, ◌≤◌, ◌^◌, [], ◌++◌, Ok, length, IfOk, IfErr, OnOk, OnErr};
 ghost use Rattle.case_core.specs.CaseModel.{on_schema};
-ghost use Rattle.case_core.specs.Machine.{blocked_at, change_live, migrate_live, migrate_refusal, overlap_with, taken};
+ghost use Rattle.case_core.specs.Instances.{IsLive, live_in, reads_onto, reads_where};
+ghost use Rattle.case_core.specs.Machine.{blocked_in, change_live, migrate_live, migrate_refusal, overlap_with, taken};
 ghost use Rattle.wsm_ops.specs.Apply.{applied};
 ghost use Rattle.wsm_sound.specs.Faults.{changed_by};
 ghost use Rattle.wsm_sound.specs.Refusals.{IsRefusal};
 ghost use Rattle.wsm_sound.specs.Versions.{ops_after};
 
 use crate::live::Live;
+use crate::live_of::LiveOf;
 use crate::replies::{Reply, both};
 use std::alloc::Global;
 use std::sync::Arc;
@@ -15,49 +17,114 @@ use wsm_foot::{Name, overlap};
 use wsm_ops::{Op, Ops};
 use wsm_schema::{Entry, NoMemory, Writes};
 use wsm_sound::{Checked, SoundRefusal, Version, change};
+use wsm_trail::TrailKeep;
 
 impl Live {
     /// The operations change the case's schema, where its trail replays on what they make.
-    pub fn change(&mut self, alloc: Global, ops: &Ops) -> Result<(Reply, Reply), NoMemory>
-        requires { length self.old.own + length ops.now < 2 ^ 32 }
-        ensures live { IfOk result (λ replies. self.new ≡ (change_live self.old ops.now).0) }
-        ensures first { IfOk result (λ replies. replies.0 ≡ (change_live self.old ops.now).1) }
-        ensures second { IfOk result (λ replies. replies.1 ≡ (change_live self.old ops.now).1) }
-        ensures err { OnErr result (self.new ≡ self.old) }
+    pub(crate) fn change<T: TrailKeep>(
+        &mut self,
+        alloc: Global,
+        trail: &mut T,
+        ops: &Ops,
+    ) -> Result<(Reply, Reply), NoMemory>
+        requires live { IsLive (T.kept trail.old) self.old }
+        requires few { length self.old.own + length ops.now < 2 ^ 32 }
+        ensures kept { IsLive (T.kept trail.new) self.new }
+        ensures live { IfOk result (λ replies. live_in (T.kept trail.new) self.new ≡ (change_live (live_in (T.kept trail.old) self.old) ops.now).0) }
+        ensures first { IfOk result (λ replies. replies.0 ≡ (change_live (live_in (T.kept trail.old) self.old) ops.now).1) }
+        ensures second { IfOk result (λ replies. replies.1 ≡ (change_live (live_in (T.kept trail.old) self.old) ops.now).1) }
+        ensures err { OnErr result (live_in (T.kept trail.new) self.new ≡ live_in (T.kept trail.old) self.old) }
+        ensures rises { T.reads trail.old ≤ T.reads trail.new }
+        ensures reads { T.reads trail.new ≤ T.reads trail.old + reads_where self.old.now.value (changed_by self.old.now.value ops.now) }
     {
-        if self.is_finished() {
+        let case = self.of(trail);
+        if case.is_finished() {
             return both(alloc, Reply::Finished);
         }
-        match changed(alloc, self.checked(), ops) {
+        match changed(alloc, case.checked(), ops) {
             Ok(schema) => {
-                let base = self.base().share()?;
-                let own = joined(alloc, self.own(), ops)?;
-                self.take(alloc, base, own, schema, Reply::Changed)
+                let base = case.base().share()?;
+                let own = joined(alloc, case.own(), ops)?;
+                self.take(alloc, trail, base, own, schema, Reply::Changed)
             }
             Err(refusal) => both(alloc, Reply::Unsound(refusal.fault()?)),
         }
     }
 
     /// The case moves to the version, where its trail replays on what its own operations make of the version's schema.
-    pub fn migrate(&mut self, alloc: Global, version: &Version) -> Result<(Reply, Reply), NoMemory>
-        ensures live { IfOk result (λ replies. self.new ≡ (migrate_live self.old version.now).0) }
-        ensures first { IfOk result (λ replies. replies.0 ≡ (migrate_live self.old version.now).1) }
-        ensures second { IfOk result (λ replies. replies.1 ≡ (migrate_live self.old version.now).1) }
-        ensures err { OnErr result (self.new ≡ self.old) }
+    pub(crate) fn migrate<T: TrailKeep>(
+        &mut self,
+        alloc: Global,
+        trail: &mut T,
+        version: &Version,
+    ) -> Result<(Reply, Reply), NoMemory>
+        requires { IsLive (T.kept trail.old) self.old }
+        ensures kept { IsLive (T.kept trail.new) self.new }
+        ensures live { IfOk result (λ replies. live_in (T.kept trail.new) self.new ≡ (migrate_live (live_in (T.kept trail.old) self.old) version.now).0) }
+        ensures first { IfOk result (λ replies. replies.0 ≡ (migrate_live (live_in (T.kept trail.old) self.old) version.now).1) }
+        ensures second { IfOk result (λ replies. replies.1 ≡ (migrate_live (live_in (T.kept trail.old) self.old) version.now).1) }
+        ensures err { OnErr result (live_in (T.kept trail.new) self.new ≡ live_in (T.kept trail.old) self.old) }
+        ensures rises { T.reads trail.old ≤ T.reads trail.new }
+        ensures reads { T.reads trail.new ≤ T.reads trail.old + reads_where self.old.now.value (changed_by version.now.schema self.old.own) }
     {
-        if let Some(refusal) = self.migrate_refusal(alloc, version)? {
+        let case = self.of(trail);
+        if let Some(refusal) = case.migrate_refusal(alloc, version)? {
             return both(alloc, refusal);
         }
-        match self.schema_on(alloc, version) {
+        match case.schema_on(alloc, version) {
             Ok(schema) => {
-                let own = self.own().copy(alloc)?;
+                let own = case.own().copy(alloc)?;
                 let reply = Reply::Migrated(version.number());
-                self.take(alloc, version.share()?, own, schema, reply)
+                self.take(alloc, trail, version.share()?, own, schema, reply)
             }
             Err(refusal) => both(alloc, Reply::Unsound(refusal.fault()?)),
         }
     }
 
+    // The case on another schema, where its trail replays on it; else the first entry that fails is named.
+    fn take<T: TrailKeep>(
+        &mut self,
+        alloc: Global,
+        trail: &mut T,
+        base: Version,
+        own: Ops,
+        schema: Arc<Checked>,
+        reply: Reply,
+    ) -> Result<(Reply, Reply), NoMemory>
+        requires live { IsLive (T.kept trail.old) self.old }
+        requires own { applied base.schema own ≡ Ok schema.value }
+        requires few { length own < 2 ^ 32 }
+        ensures kept { IsLive (T.kept trail.new) self.new }
+        ensures live { IfOk result (λ replies. live_in (T.kept trail.new) self.new ≡ (taken (live_in (T.kept trail.old) self.old) (on_schema (live_in (T.kept trail.old) self.old) base own schema.value) reply).0) }
+        ensures first { IfOk result (λ replies. replies.0 ≡ (taken (live_in (T.kept trail.old) self.old) (on_schema (live_in (T.kept trail.old) self.old) base own schema.value) reply).1) }
+        ensures second { IfOk result (λ replies. replies.1 ≡ (taken (live_in (T.kept trail.old) self.old) (on_schema (live_in (T.kept trail.old) self.old) base own schema.value) reply).1) }
+        ensures err { OnErr result (live_in (T.kept trail.new) self.new ≡ live_in (T.kept trail.old) self.old) }
+        ensures rises { T.reads trail.old ≤ T.reads trail.new }
+        ensures reads { T.reads trail.new ≤ T.reads trail.old + reads_onto self.old.now.value schema.value }
+    {
+        let replies = both(alloc, reply)?;
+        match self.try_on(alloc, trail, base, own, schema)? {
+            None => Ok(replies),
+            Some(position) => both(alloc, blocked(alloc, trail, position)?),
+        }
+    }
+}
+
+// The reply that names the trail's entry at the position.
+fn blocked<T: TrailKeep>(alloc: Global, trail: &mut T, position: u32) -> Result<Reply, NoMemory>
+    ensures reply { IfOk result (λ reply. reply ≡ blocked_in (T.kept trail.old) position) }
+    ensures trail { T.kept trail.new ≡ T.kept trail.old }
+    ensures rises { T.reads trail.old ≤ T.reads trail.new }
+    ensures reads { T.reads trail.new ≤ T.reads trail.old + 1 }
+{
+    let entry = match trail.entry(position) {
+        Some(entry) => entry.copy(alloc)?,
+        None => nothing_written(alloc),
+    };
+    Ok(Reply::Blocked(position, entry))
+}
+
+impl<'a, T: TrailKeep> LiveOf<'a, T> {
     // The first reason, before any schema is made, why the case may not move to the version.
     fn migrate_refusal(&self, alloc: Global, version: &Version) -> Result<Option<Reply>, NoMemory>
         ensures { IfOk result (λ refusal. refusal ≡ migrate_refusal self.now version.now) }
@@ -98,40 +165,6 @@ impl Live {
             return Ok(version.share_schema()?);
         }
         changed(alloc, version.checked(), self.own())
-    }
-
-    // The case on another schema, where its trail replays on it; else the first entry that fails is named.
-    fn take(
-        &mut self,
-        alloc: Global,
-        base: Version,
-        own: Ops,
-        schema: Arc<Checked>,
-        reply: Reply,
-    ) -> Result<(Reply, Reply), NoMemory>
-        requires own { applied base.schema own ≡ Ok schema.value }
-        requires few { length own < 2 ^ 32 }
-        ensures live { IfOk result (λ replies. self.new ≡ (taken self.old (on_schema self.old base own schema.value) reply).0) }
-        ensures first { IfOk result (λ replies. replies.0 ≡ (taken self.old (on_schema self.old base own schema.value) reply).1) }
-        ensures second { IfOk result (λ replies. replies.1 ≡ (taken self.old (on_schema self.old base own schema.value) reply).1) }
-        ensures err { OnErr result (self.new ≡ self.old) }
-    {
-        let replies = both(alloc, reply)?;
-        match self.try_on(alloc, base, own, schema)? {
-            None => Ok(replies),
-            Some(position) => both(alloc, self.blocked(alloc, position)?),
-        }
-    }
-
-    // The reply that names the entry at the position.
-    fn blocked(&self, alloc: Global, position: u32) -> Result<Reply, NoMemory>
-        ensures { IfOk result (λ reply. reply ≡ blocked_at self.now position) }
-    {
-        let entry = match self.trail().entry(position) {
-            Some(entry) => entry.copy(alloc)?,
-            None => nothing_written(alloc),
-        };
-        Ok(Reply::Blocked(position, entry))
     }
 }
 

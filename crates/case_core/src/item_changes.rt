@@ -1,38 +1,40 @@
-// The work items of nodes, by their marks and by the trail.
-ghost use Rattle.std.specs.Prelude.{◌≡◌, Some, IfOk, OnOk};
+// The work items of nodes, by their marks and by who held them before.
+ghost use Rattle.std.specs.Prelude.{◌≡◌, [], IfOk, OnOk};
 ghost use Rattle.std.specs.Option.{option_copied};
-ghost use Rattle.case_core.specs.KeptItems.{ChangesItems, TellsItems, entries_with, item_by, item_for, with_item, work_item};
-ghost use Rattle.case_core.specs.Remarks.{user_at};
+ghost use Rattle.case_core.specs.KeptItems.{MakesItems, TellsItems, item_by, item_for, item_then, user_from, user_in, user_then, with_item, work_item};
 ghost use Rattle.wsm_items.specs.WorkItems.{AreByNode};
+ghost use Rattle.wsm_lists.specs.ByNumber.{item_at};
 ghost use Rattle.wsm_lists.specs.Keys.{first};
 ghost use Rattle.wsm_lists.specs.Rows.{Ascends};
 ghost use Rattle.wsm_schema.specs.Flat.{cards_of};
 ghost use Rattle.wsm_walk.specs.Kept.{mark_or};
 
 use crate::spots::spot_by;
-use crate::timing::{starter, user_of};
+use crate::timing::user_of;
 use std::alloc::Global;
 use wsm_items::{Item, ItemChanges, Items};
 use wsm_rules::{Changes, Mark, Marks, is_worked_on};
 use wsm_schema::{Card, Entry, NoMemory, State};
 use wsm_sound::Checked;
-use wsm_trail::Trail;
 
-/// The work items of all nodes that have marks.
-pub fn items_on(
-    alloc: Global,
-    checked: &Checked,
-    trail: &Trail,
-    marks: &Marks,
-) -> Result<Items, NoMemory>
-    ensures { IfOk result (λ items. TellsItems (cards_of checked.now) trail.now.trail.entries marks.now.rows items.rows) }
+/// The work items of all nodes that have marks, before anything was started.
+pub fn items_on(alloc: Global, checked: &Checked, marks: &Marks) -> Result<Items, NoMemory>
+    ensures { IfOk result (λ items. TellsItems (cards_of checked.now) [] marks.now.rows items.rows) }
 {
     let mut items = Items::new(alloc);
     for row in marks.as_slice() {
-        let item = item_for(checked, trail, None, row.0, Some(&row.1));
+        let item = first_item(checked, row.0, &row.1);
         put_item(&mut items, item)?;
     }
     Ok(items)
+}
+
+// The work item of a node with that mark, before anything was started.
+#[tactic(auto, using(crate::proofs::ItemLoops::nobody))]
+fn first_item(checked: &Checked, node: u32, mark: &Mark) -> Option<Item>
+    ensures { result ≡ item_for (cards_of checked.now) [] node (Some mark.now) }
+{
+    item_by(checked.flat().card(node), node, Some(mark), 0)
 }
 
 // One more item, where there is one.
@@ -46,37 +48,54 @@ fn put_item(items: &mut Items, item: Option<Item>) -> Result<(), NoMemory>
     Ok(())
 }
 
-/// What becomes of the work items of the nodes whose marks change, where the trail gets that entry, or none.
+/// What becomes of the work items of the nodes whose marks change, where the trail gets that entry at the next position, or
+/// none.
 pub fn changed_items(
     alloc: Global,
     checked: &Checked,
-    trail: &Trail,
+    old: &Items,
+    next: u32,
     entry: Option<&Entry>,
     changes: &Changes,
 ) -> Result<ItemChanges, NoMemory>
-    ensures items { IfOk result (ChangesItems (cards_of checked.now) (entries_with trail.now.trail (option_copied entry.entry)) changes.now) }
+    ensures items { IfOk result (MakesItems (cards_of checked.now) next (option_copied entry.entry) old.now.rows changes.now) }
     ensures nodes { IfOk result AreByNode }
     ensures ascends { Ascends first changes.now }
 {
     let mut items = ItemChanges::new(alloc);
     for change in changes.as_slice() {
-        let item = item_for(checked, trail, entry, change.0, change.1.as_ref());
+        let item = changed_item(checked, old, next, entry, change);
         items.set((change.0, item))?;
     }
     Ok(items)
 }
 
-// The work item of a node with that mark, where the trail gets that entry, or none.
-fn item_for(
+// The work item of a node whose mark changes, where the trail gets that entry at the next position, or none.
+fn changed_item(
     checked: &Checked,
-    trail: &Trail,
+    old: &Items,
+    next: u32,
     entry: Option<&Entry>,
+    change: &(u32, Option<Mark>),
+) -> Option<Item>
+    ensures { result ≡ item_then (cards_of checked.now) next (option_copied entry.entry) (item_at change.now.0 old.now.rows) change.now.0 change.now.1 }
+{
+    let held = old.get(change.0);
+    item_then(checked, next, entry, held, change.0, change.1.as_ref())
+}
+
+// The work item of a node with that mark, where somebody held it before or nobody.
+fn item_then(
+    checked: &Checked,
+    next: u32,
+    entry: Option<&Entry>,
+    held: Option<&Item>,
     node: u32,
     mark: Option<&Mark>,
 ) -> Option<Item>
-    ensures { result ≡ item_for (cards_of checked.now) (entries_with trail.now.trail (option_copied entry.entry)) node (option_copied mark.entry) }
+    ensures { result ≡ item_then (cards_of checked.now) next (option_copied entry.entry) (option_copied held.entry) node (option_copied mark.entry) }
 {
-    let user = starter_with(trail, entry, started(mark));
+    let user = user_then(next, entry, held, started(mark));
     item_by(checked.flat().card(node), node, mark, user)
 }
 
@@ -89,24 +108,37 @@ fn started(mark: Option<&Mark>) -> Option<u32>
     }
 }
 
-// The user of the Start at a position, where the trail gets that entry, or none; else 0.
-fn starter_with(trail: &Trail, entry: Option<&Entry>, position: Option<u32>) -> u32
-    ensures { result ≡ user_at (entries_with trail.now.trail (option_copied entry.entry)) position }
+// Who holds a node that was started at that position: who comes next, or who held it before.
+fn user_then(next: u32, entry: Option<&Entry>, held: Option<&Item>, position: Option<u32>) -> u32
+    ensures { result ≡ user_then next (option_copied entry.entry) (option_copied held.entry) position }
 {
-    match (entry, position) {
-        (Some(entry), Some(position)) => starter_of(trail, entry, position),
-        _ => starter(trail, position),
+    match position {
+        None => 0,
+        Some(position) => user_from(next, entry, held, position),
     }
 }
 
-// The user of the Start at a position of the trail with one entry more; else 0.
-fn starter_of(trail: &Trail, entry: &Entry, position: u32) -> u32
-    ensures { result ≡ user_at (entries_with trail.now.trail (Some entry.now)) (Some position) }
+fn user_from(next: u32, entry: Option<&Entry>, held: Option<&Item>, position: u32) -> u32
+    ensures { result ≡ user_from next (option_copied entry.entry) (option_copied held.entry) position }
 {
-    if position == trail.next() {
-        user_of(entry)
-    } else {
-        starter(trail, Some(position))
+    match entry {
+        None => user_in(held),
+        Some(entry) => {
+            if position == next {
+                user_of(entry)
+            } else {
+                user_in(held)
+            }
+        }
+    }
+}
+
+fn user_in(item: Option<&Item>) -> u32
+    ensures { result ≡ user_in (option_copied item.entry) }
+{
+    match item {
+        Some(Item::Held { user, .. }) => *user,
+        Some(Item::Offered { .. }) | None => 0,
     }
 }
 

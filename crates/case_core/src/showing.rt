@@ -3,12 +3,13 @@ ghost use Rattle.std.specs.Prelude.{◌≡◌, true, Some, IfOk};
 ghost use Rattle.case_core.specs.Promises.{AreLastWrites, IsFair, goes_on};
 ghost use Rattle.case_core.specs.Shown.{shown_live};
 
-use crate::live::Live;
+use crate::live_of::LiveOf;
 use crate::views::View;
 use std::alloc::Global;
 use wsm_schema::NoMemory;
+use wsm_trail::TrailKeep;
 
-impl Live {
+impl<'a, T: TrailKeep> LiveOf<'a, T> {
     /// What the case shows: its version and its own operations, its marking, its values and its work items.
     pub fn view(&self, alloc: Global) -> Result<View, NoMemory>
         ensures view { IfOk result (λ view. view ≡ shown_live (Some self.now)) }

@@ -1,7 +1,7 @@
-// The marks of a case's trail, and who started a node.
+// The marks of a trail, and who made an entry.
 ghost use Rattle.std.specs.Prelude.{◌≡◌, Some, IfOk};
 ghost use Rattle.case_core.specs.Machine.{user_of};
-ghost use Rattle.case_core.specs.Remarks.{IsTimedOn, user_at};
+ghost use Rattle.case_core.specs.Remarks.{IsTimedOn};
 ghost use Rattle.wsm_sound.specs.Flattened.{IsChecked};
 
 use std::alloc::Global;
@@ -9,7 +9,7 @@ use wsm_rules::{Mark, MarkReads, Marks};
 use wsm_schema::{Entry, NoMemory};
 use wsm_settle::{TimedMarks, timed};
 use wsm_sound::Checked;
-use wsm_trail::{Trail, TrailReads};
+use wsm_trail::Trail;
 
 /// Marks, of which no read is counted.
 #[derive(Drop)]
@@ -27,41 +27,12 @@ impl<'a> MarkReads for Uncounted<'a> {
     }
 }
 
-/// A trail, of which no read is counted.
-#[derive(Drop)]
-pub struct UncountedTrail<'a> {
-    pub trail: &'a Trail,
-}
-
-impl<'a> TrailReads for UncountedTrail<'a> {
-    ghost kept = { λ t. t.trail.now.trail };
-
-    ghost reads = { λ t. 0 };
-
-    fn entry(&mut self, position: u32) -> Option<&Entry> {
-        self.trail.entry(position)
-    }
-}
-
 /// The marks of a trail on a sound schema, where it replays.
 pub fn timed_on(alloc: Global, checked: &Checked, trail: &Trail) -> Result<TimedMarks, NoMemory>
     ensures marks { IfOk result (IsTimedOn checked.now trail.now.trail.entries) }
     ensures checked { IsChecked checked.now }
 {
     timed(alloc, checked.flat(), checked.rank(), trail)
-}
-
-/// The user of the Start at a position, else 0.
-pub fn starter(trail: &Trail, position: Option<u32>) -> u32
-    ensures { result ≡ user_at trail.now.trail.entries position }
-{
-    match position {
-        None => 0,
-        Some(position) => match trail.entry(position) {
-            None => 0,
-            Some(entry) => user_of(entry),
-        },
-    }
 }
 
 /// The user of a Start, else 0.

@@ -1,45 +1,131 @@
 // Starts and ends of nodes, and nodes that are given back.
 ghost use Rattle.std.specs.Prelude.{◌≡◌, ◌==◌, ◌+◌, ◌<◌, ◌^◌, ◌||◌, not, IfOk, OnErr};
+ghost use Rattle.case_core.specs.Instances.{IsLive, live_in};
 ghost use Rattle.case_core.specs.Machine.{start_refusal, hold_refusal, end_refusal, start_live, end_live, withdraw_live, may_work, repeats, when_reply, wrong_reply, ended_reply};
 ghost use Rattle.case_core.specs.declared.replies.Reply.TheVariants as reply;
 ghost use Rattle.wsm_schema.specs.Replay.{fits_choice};
 
 use crate::live::Live;
+use crate::live_of::LiveOf;
 use crate::replies::{Reply, both};
 use case_writes::{by_element, is_one_of, wrong_elements};
 use std::alloc::Global;
 use wsm_replay::fits_choice;
 use wsm_schema::{Card, Entry, NoMemory, NodeKind, Nodes, RoleList, State, Writes};
+use wsm_trail::TrailKeep;
 
 impl Live {
     /// A user with these roles starts the node.
-    pub fn start(
+    pub(crate) fn start<T: TrailKeep>(
         &mut self,
         alloc: Global,
+        trail: &mut T,
         node: u32,
         user: u32,
         roles: &RoleList,
     ) -> Result<(Reply, Reply), NoMemory>
-        requires { self.old.trail.next + 1 < 2 ^ 32 }
-        ensures live { IfOk result (λ replies. self.new ≡ (start_live self.old node user roles.now).0) }
-        ensures first { IfOk result (λ replies. replies.0 ≡ (start_live self.old node user roles.now).1) }
-        ensures second { IfOk result (λ replies. replies.1 ≡ (start_live self.old node user roles.now).1) }
-        ensures err { OnErr result (self.new ≡ self.old) }
+        requires live { IsLive (T.kept trail.old) self.old }
+        requires position { (T.kept trail.old).next + 1 < 2 ^ 32 }
+        ensures kept { IsLive (T.kept trail.new) self.new }
+        ensures live { IfOk result (λ replies. live_in (T.kept trail.new) self.new ≡ (start_live (live_in (T.kept trail.old) self.old) node user roles.now).0) }
+        ensures first { IfOk result (λ replies. replies.0 ≡ (start_live (live_in (T.kept trail.old) self.old) node user roles.now).1) }
+        ensures second { IfOk result (λ replies. replies.1 ≡ (start_live (live_in (T.kept trail.old) self.old) node user roles.now).1) }
+        ensures err { OnErr result (live_in (T.kept trail.new) self.new ≡ live_in (T.kept trail.old) self.old) }
+        ensures count { T.reads trail.new ≡ T.reads trail.old }
     {
-        let card = match self.card(node) {
+        let case = self.of(trail);
+        let card = match case.card(node) {
             None => return both(alloc, Reply::NoNode),
             Some(card) => card,
         };
-        if let Some(refusal) = self.start_refusal(card, node, roles) {
+        if let Some(refusal) = case.start_refusal(card, node, roles) {
             return both(alloc, refusal);
         }
-        let reads = self.reads(alloc, card)?;
+        let reads = case.reads(alloc, card)?;
         let replies = both(alloc, Reply::Started(reads.duplicate(alloc)?))?;
-        let changes = self.start_changes(alloc, node)?;
-        self.append(alloc, Entry::Start { node, user, reads }, changes)?;
+        let changes = case.start_changes(alloc, node)?;
+        self.append(alloc, trail, Entry::Start { node, user, reads }, changes)?;
         Ok(replies)
     }
 
+    /// A user ends the node with these values and this choice.
+    pub(crate) fn end<T: TrailKeep>(
+        &mut self,
+        alloc: Global,
+        trail: &mut T,
+        node: u32,
+        user: u32,
+        writes: &Writes,
+        choice: Option<u16>,
+    ) -> Result<(Reply, Reply), NoMemory>
+        requires live { IsLive (T.kept trail.old) self.old }
+        requires position { (T.kept trail.old).next + 1 < 2 ^ 32 }
+        ensures kept { IsLive (T.kept trail.new) self.new }
+        ensures live { IfOk result (λ replies. live_in (T.kept trail.new) self.new ≡ (end_live (live_in (T.kept trail.old) self.old) node user writes.now choice).0) }
+        ensures first { IfOk result (λ replies. replies.0 ≡ (end_live (live_in (T.kept trail.old) self.old) node user writes.now choice).1) }
+        ensures second { IfOk result (λ replies. replies.1 ≡ (end_live (live_in (T.kept trail.old) self.old) node user writes.now choice).1) }
+        ensures err { OnErr result (live_in (T.kept trail.new) self.new ≡ live_in (T.kept trail.old) self.old) }
+        ensures count { T.reads trail.new ≡ T.reads trail.old }
+    {
+        let case = self.of(trail);
+        let card = match case.card(node) {
+            None => return both(alloc, Reply::NoNode),
+            Some(card) => card,
+        };
+        if let Some(refusal) = case.end_refusal(alloc, card, node, user, writes, choice)? {
+            return both(alloc, refusal);
+        }
+        let repeated = repeats(card, choice);
+        let writes = by_element(alloc, writes)?;
+        if repeated {
+            self.repeat(alloc, trail, node, writes)?;
+            return Ok((Reply::Repeated, Reply::Repeated));
+        }
+        let changes = case.end_changes(alloc, node, choice)?;
+        self.append(
+            alloc,
+            trail,
+            Entry::End {
+                node,
+                writes,
+                choice,
+            },
+            changes,
+        )?;
+        Ok((Reply::Ended, Reply::Ended))
+    }
+
+    /// A user gives the node back, which is activated again.
+    pub(crate) fn withdraw<T: TrailKeep>(
+        &mut self,
+        alloc: Global,
+        trail: &mut T,
+        node: u32,
+        user: u32,
+    ) -> Result<(Reply, Reply), NoMemory>
+        requires { IsLive (T.kept trail.old) self.old }
+        ensures kept { IsLive (T.kept trail.new) self.new }
+        ensures live { IfOk result (λ replies. live_in (T.kept trail.new) self.new ≡ (withdraw_live (live_in (T.kept trail.old) self.old) node user).0) }
+        ensures first { IfOk result (λ replies. replies.0 ≡ (withdraw_live (live_in (T.kept trail.old) self.old) node user).1) }
+        ensures second { IfOk result (λ replies. replies.1 ≡ (withdraw_live (live_in (T.kept trail.old) self.old) node user).1) }
+        ensures err { OnErr result (live_in (T.kept trail.new) self.new ≡ live_in (T.kept trail.old) self.old) }
+        ensures count { T.reads trail.new ≡ T.reads trail.old }
+    {
+        let case = self.of(trail);
+        let _ = match case.card(node) {
+            None => return both(alloc, Reply::NoNode),
+            Some(card) => card,
+        };
+        if let Some(refusal) = case.hold_refusal(node, user) {
+            return both(alloc, refusal);
+        }
+        let changes = case.withdraw_changes(alloc, node)?;
+        self.drop_start(alloc, trail, node, changes)?;
+        Ok((Reply::Withdrawn, Reply::Withdrawn))
+    }
+}
+
+impl<'a, T: TrailKeep> LiveOf<'a, T> {
     // The first reason why the user may not start the node of this card.
     fn start_refusal(&self, card: &Card, node: u32, roles: &RoleList) -> Option<Reply>
         ensures { result ≡ start_refusal self.now card.now node roles.now }
@@ -52,47 +138,6 @@ impl Live {
             return Some(Reply::NotAllowed(card.role));
         }
         None
-    }
-
-    /// A user ends the node with these values and this choice.
-    pub fn end(
-        &mut self,
-        alloc: Global,
-        node: u32,
-        user: u32,
-        writes: &Writes,
-        choice: Option<u16>,
-    ) -> Result<(Reply, Reply), NoMemory>
-        requires { self.old.trail.next + 1 < 2 ^ 32 }
-        ensures live { IfOk result (λ replies. self.new ≡ (end_live self.old node user writes.now choice).0) }
-        ensures first { IfOk result (λ replies. replies.0 ≡ (end_live self.old node user writes.now choice).1) }
-        ensures second { IfOk result (λ replies. replies.1 ≡ (end_live self.old node user writes.now choice).1) }
-        ensures err { OnErr result (self.new ≡ self.old) }
-    {
-        let card = match self.card(node) {
-            None => return both(alloc, Reply::NoNode),
-            Some(card) => card,
-        };
-        if let Some(refusal) = self.end_refusal(alloc, card, node, user, writes, choice)? {
-            return both(alloc, refusal);
-        }
-        let repeated = repeats(card, choice);
-        let writes = by_element(alloc, writes)?;
-        if repeated {
-            self.repeat(alloc, node, writes)?;
-            return Ok((Reply::Repeated, Reply::Repeated));
-        }
-        let changes = self.end_changes(alloc, node, choice)?;
-        self.append(
-            alloc,
-            Entry::End {
-                node,
-                writes,
-                choice,
-            },
-            changes,
-        )?;
-        Ok((Reply::Ended, Reply::Ended))
     }
 
     // The first reason why the user may not end the node of this card so.
@@ -134,30 +179,6 @@ impl Live {
             None => Some(Reply::NotRunning(self.state(node))),
             Some(holder) => not_holder(holder, user),
         }
-    }
-
-    /// A user gives the node back, which is activated again.
-    pub fn withdraw(
-        &mut self,
-        alloc: Global,
-        node: u32,
-        user: u32,
-    ) -> Result<(Reply, Reply), NoMemory>
-        ensures live { IfOk result (λ replies. self.new ≡ (withdraw_live self.old node user).0) }
-        ensures first { IfOk result (λ replies. replies.0 ≡ (withdraw_live self.old node user).1) }
-        ensures second { IfOk result (λ replies. replies.1 ≡ (withdraw_live self.old node user).1) }
-        ensures err { OnErr result (self.new ≡ self.old) }
-    {
-        let _ = match self.card(node) {
-            None => return both(alloc, Reply::NoNode),
-            Some(card) => card,
-        };
-        if let Some(refusal) = self.hold_refusal(node, user) {
-            return both(alloc, refusal);
-        }
-        let changes = self.withdraw_changes(alloc, node)?;
-        self.drop_start(alloc, node, changes)?;
-        Ok((Reply::Withdrawn, Reply::Withdrawn))
     }
 }
 

@@ -317,7 +317,7 @@ fn add_cases(
 {
     for _ in 0..count {
         cases.push(ClosedCase {
-            machine: Case::new(type_no),
+            machine: Case::new(alloc, type_no),
             journal: CaseJournal::new(alloc),
         })?;
     }
@@ -393,12 +393,12 @@ fn note_case(
     caller: u32,
     event: Event,
 ) -> Result<Reply, NoMemory>
-    requires { age case.old + weight event ≤ 4000000000 }
-    ensures case { IfOk result (λ _. case.new ≡ (next_case case.old event).0) }
-    ensures age { IfOk result (λ _. age case.new ≤ age case.old + weight event) }
+    requires { age case.old.state + weight event ≤ 4000000000 }
+    ensures case { IfOk result (λ _. case.new.state ≡ (next_case case.old.state event).0) }
+    ensures age { IfOk result (λ _. age case.new.state ≤ age case.old.state + weight event) }
     ensures journal { IfOk result (λ r. journal.new.items ≡ journal.old.items ++ entry caller event r ∷ []) }
-    ensures reply { IfOk result (λ r. r ≡ (next_case case.old event).1) }
-    ensures kept { OnErr result ((case.new ≡ case.old) × (journal.new.items ≡ journal.old.items)) }
+    ensures reply { IfOk result (λ r. r ≡ (next_case case.old.state event).1) }
+    ensures kept { OnErr result ((case.new.state ≡ case.old.state) × (journal.new.items ≡ journal.old.items)) }
 {
     journal.reserve(1)?;
     let (reply, answer) = case.step(alloc, &event)?;

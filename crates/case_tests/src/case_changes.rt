@@ -121,7 +121,7 @@ fn migrated_to_another_type(alloc: Global) -> Option<Answer> {
 
 fn created_on_another_type(alloc: Global) -> Option<Answer> {
     let other = version_of(alloc, 8, in_a_row(alloc))?;
-    Some(created(alloc, &mut Case::new(7), other))
+    Some(created(alloc, &mut Case::new(alloc, 7), other))
 }
 
 #[test]
@@ -156,6 +156,6 @@ fn shows_nothing(alloc: Global, case: &Case) -> bool {
 fn machine_of_a_cell(rt: HostRuntime) -> Result<(), Fail> {
     let alloc = rt.alloc();
     assert!(rt; copied_start(alloc)?);
-    assert!(rt; shows_nothing(alloc, &Case::new(7)));
+    assert!(rt; shows_nothing(alloc, &Case::new(alloc, 7)));
     Ok(())
 }

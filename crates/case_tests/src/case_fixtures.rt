@@ -13,7 +13,7 @@ const TYPE: u32 = 7;
 
 // Whether the case is so young, and the event so light, that a step is allowed.
 fn is_young(case: &Case, event: &Event) -> bool
-    ensures { result ≡ true → age case.now + weight event.now ≤ 4000000000 }
+    ensures { result ≡ true → age case.now.state + weight event.now ≤ 4000000000 }
 {
     is_light(event) && is_short(case)
 }
@@ -32,7 +32,7 @@ fn is_light(event: &Event) -> bool
 }
 
 fn is_short(case: &Case) -> bool
-    ensures { result ≡ true → age case.now ≤ 4000 }
+    ensures { result ≡ true → age case.now.state ≤ 4000 }
 {
     match case.live() {
         None => true,
@@ -93,7 +93,7 @@ pub fn created(alloc: Global, case: &mut Case, version: Version) -> Answer {
 /// A case on a schema.
 pub fn case_on(alloc: Global, schema: Result<Schema, NoMemory>) -> Option<Case> {
     let version = version_of(alloc, TYPE, schema)?;
-    let mut case = Case::new(TYPE);
+    let mut case = Case::new(alloc, TYPE);
     if created(alloc, &mut case, version) == Answer::Created {
         Some(case)
     } else {

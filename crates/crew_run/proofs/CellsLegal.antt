@@ -3,6 +3,7 @@ use Rattle.std.proofs.Common.{◌<◌, ◌∙◌, ◌≡◌, ◌≤◌, ℕ, zer
 use Rattle.std.proofs.lemmas.List.{length-map}
 use Rattle.adept_server.specs.Desks.{CasePass, DeskView, KindPass}
 use Rattle.case_core.specs.CaseModel.{CaseModel, not_created}
+use Rattle.case_core.specs.Instances.{CountedCase}
 use Rattle.case_core.specs.Machine.{case_after, case_reply}
 use Rattle.case_core.specs.declared.events.Event.{Event}
 use Rattle.case_core.specs.declared.replies.Reply.{Reply}
@@ -112,23 +113,23 @@ kind-legal-end f v vs w ws last ps t d r machine journal many sound k js at_last
     history opening closed
 
 -- the history of a case's cell is that of a legal case
-case-end : (f : File) (traces : List Trace) (d : CaseDecl) (p r : CasePass) (machine : CaseModel) (journal : List (Entry CaseModel Event Reply View CaseModel))
+case-end : (f : File) (traces : List Trace) (d : CaseDecl) (p r : CasePass) (machine : CountedCase) (journal : List (Entry CountedCase Event Reply View CaseModel))
     → length traces ≡ length f.phases → p.opening ≡ Some (not_created d.id.type_no) → p.own_calls ≡ []
-    → IsHistory (length f.actors) p.seen p.own_calls (map (λ trace a. calls_of_case d.id (trace a)) traces) journal → r.opening ≡ p.opening → IsClosed case_after case_reply (λ k. k) r machine journal
-    → IsLegalCase f traces d (record { machine = machine; journal = journal })
+    → IsHistory (length f.actors) p.seen p.own_calls (map (λ trace a. calls_of_case d.id (trace a)) traces) journal → r.opening ≡ p.opening → IsClosed case_after case_reply (λ (k : CountedCase). k.state) r machine journal
+    → IsLegalCase f traces d (record { machine = machine.state; journal = journal })
 case-end f traces d p r machine journal phases opens own_is h opening closed = record {
   legal = legal-from case_after case_reply r.opening (not_created d.id.type_no) journal (opening ∙ opens) closed.legal;
-  machine = state-from case_after r.opening (not_created d.id.type_no) machine journal (opening ∙ opens) closed.machine_is;
+  machine = state-from case_after r.opening (not_created d.id.type_no) machine.state journal (opening ∙ opens) closed.machine_is;
   callers = crew-alone f journal h.callers (h.first ∙ own_is);
   calls = by-phases-of (calls_of_case d.id) refl (calls_of_case-append d.id) f (length f.actors) traces journal refl phases h.crew;
 }
 
 -- a case at the end
-pub case-legal-end : (f : File) (v : DeskView) (vs : List DeskView) (w : DeskView) (ws : List DeskView) (last : DeskView) (ps : PhasesDone f f.phases v vs w ws) (d : CaseDecl) (r : CasePass) (machine : CaseModel)
-    (journal : List (Entry CaseModel Event Reply View CaseModel))
-    → length vs ≡ length f.actors → CaseReady v vs d.id → Joins (case_at d.id) w ws last → case_at d.id last ≡ Some r → IsClosed case_after case_reply (λ k. k) r machine journal
-    → IsLegalCase f (traces_of f f.phases v vs w ws ps) d (record { machine = machine; journal = journal })
+pub case-legal-end : (f : File) (v : DeskView) (vs : List DeskView) (w : DeskView) (ws : List DeskView) (last : DeskView) (ps : PhasesDone f f.phases v vs w ws) (d : CaseDecl) (r : CasePass) (machine : CountedCase)
+    (journal : List (Entry CountedCase Event Reply View CaseModel))
+    → length vs ≡ length f.actors → CaseReady v vs d.id → Joins (case_at d.id) w ws last → case_at d.id last ≡ Some r → IsClosed case_after case_reply (λ (k : CountedCase). k.state) r machine journal
+    → IsLegalCase f (traces_of f f.phases v vs w ws ps) d (record { machine = machine.state; journal = journal })
 case-legal-end f v vs w ws last ps d r machine journal many k js at_last closed =
     let phases = phases-at (case_at d.id) (calls_of_case d.id) case_after case_reply (case-heard d.id) (case-same d.id) (case-done d.id) (case-legal d.id) f f.phases v vs w ws ps (λ _. []) k.pass k.there k.met in
-    let (history, opening) = cell-history (case_at d.id) case_after case_reply (λ m. m) (length f.actors) (map (λ trace a. calls_of_case d.id (trace a)) (traces_of f f.phases v vs w ws ps)) v vs w ws last k.pass r machine journal k.there k.past (sym many) k.met phases js at_last closed in
+    let (history, opening) = cell-history (case_at d.id) case_after case_reply (λ (k : CountedCase). k.state) (length f.actors) (map (λ trace a. calls_of_case d.id (trace a)) (traces_of f f.phases v vs w ws ps)) v vs w ws last k.pass r machine journal k.there k.past (sym many) k.met phases js at_last closed in
     case-end f (traces_of f f.phases v vs w ws ps) d k.pass r machine journal (many-traces f f.phases v vs w ws ps) k.opening k.own_calls history opening closed

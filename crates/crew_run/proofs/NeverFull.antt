@@ -7,6 +7,7 @@ use Rattle.adept_actor.specs.Growth.{DeskHasDone, HasDone}
 use Rattle.adept_server.specs.Desks.{DeskView, IsDesk}
 use Rattle.adept_server.specs.Opening.{IsClosedServer, joined_desk}
 use Rattle.adept_server.specs.declared.closing.ClosedServer.{ClosedServer}
+use Rattle.case_core.specs.Instances.{CountedCase}
 use Rattle.case_core.specs.Machine.{case_after, case_reply}
 use Rattle.crew_run.proofs.CellHistory.{cell-history, joins-gather, phases-hold, worked-met}
 use Rattle.crew_run.proofs.CrewTakenIn.{case-joined, cell-last, kind-joined}
@@ -121,5 +122,5 @@ never-overfull f w ws last s workable o joined closed = full o.many
         let (r, at_last, js) = cell-last (case_at id) case_after case_reply (case-joined id) (length f.actors) ps.0 v vs w ws last p at_v (sym o.started.actors) start.2 ps.2 joined in
         let (c, at_c, is) = closed.cases id r at_last in
         let short =
-        cell-few (case_at id) case_after case_reply (λ k. k) (length f.actors) ps.0 ps.1 v vs w ws last p q r c.machine c.journal.items.items at_v start.0 (sym o.started.actors) start.2 ps.2 js at_w at_last is ps.3 in
+        cell-few (case_at id) case_after case_reply (λ (k : CountedCase). k.state) (length f.actors) ps.0 ps.1 v vs w ws last p q r c.machine c.journal.items.items at_v start.0 (sym o.started.actors) start.2 ps.2 js at_w at_last is ps.3 in
         omega (arith, short, start.1, ps.4, workable.lines, many, max-is)

@@ -3,6 +3,7 @@ use Rattle.std.specs.Prelude.{◌≡◌, ℕ, List, length, map, Some, slice_get
 use Rattle.adept_server.specs.Desks.{at_case}
 use Rattle.adept_server.specs.declared.closing.ClosedServer.{ClosedServer}
 use Rattle.case_core.specs.CaseModel.{CaseModel}
+use Rattle.case_core.specs.Instances.{CountedCase}
 use Rattle.case_core.specs.declared.events.Event.{Event}
 use Rattle.case_core.specs.declared.replies.Reply.{Reply}
 use Rattle.case_core.specs.declared.views.View.{View}
@@ -20,12 +21,12 @@ use Rattle.type_core.specs.declared.replies.KindReply.{KindReply}
 abbrev pub closed_kind : Closed KindModel KindEvent KindReply ℕ KindModel → ClosedKind
 closed_kind c = record { machine = c.machine; journal = c.journal.items.items }
 
-abbrev pub closed_case : Closed CaseModel Event Reply View CaseModel → ClosedCase
-closed_case c = record { machine = c.machine; journal = c.journal.items.items }
+abbrev pub closed_case : Closed CountedCase Event Reply View CaseModel → ClosedCase
+closed_case c = record { machine = c.machine.state; journal = c.journal.items.items }
 
 -- what a declared case left, in rows of closed cases
-abbrev pub IsClosedAt : List (List (Closed CaseModel Event Reply View CaseModel)) → CaseDecl → ClosedCase → Type 0
-IsClosedAt rows d k = (c : Closed CaseModel Event Reply View CaseModel) × (at_case rows d.id ≡ Some c) × (k ≡ closed_case c)
+abbrev pub IsClosedAt : List (List (Closed CountedCase Event Reply View CaseModel)) → CaseDecl → ClosedCase → Type 0
+IsClosedAt rows d k = (c : Closed CountedCase Event Reply View CaseModel) × (at_case rows d.id ≡ Some c) × (k ≡ closed_case c)
 
 -- the types in their order, and each case where it was declared
 pub record IsRunOf (f : File) (s : ClosedServer) (r : Run) : Type 0 where

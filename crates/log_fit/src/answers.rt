@@ -47,11 +47,11 @@ pub(crate) fn answer(
     version: &Version,
     event: LogEvent,
 ) -> Result<Reply, NoMemory>
-    requires { age machine.old + 1 ≤ 4000000000 }
-    ensures machine { OnOk result (machine.new ≡ (answered version.now machine.old event).0) }
-    ensures reply { IfOk result (λ reply. reply ≡ (answered version.now machine.old event).1) }
-    ensures age { OnOk result (age machine.new ≤ age machine.old + 1) }
-    ensures err { OnErr result (machine.new ≡ machine.old) }
+    requires { age machine.old.state + 1 ≤ 4000000000 }
+    ensures machine { OnOk result (machine.new.state ≡ (answered version.now machine.old.state event).0) }
+    ensures reply { IfOk result (λ reply. reply ≡ (answered version.now machine.old.state event).1) }
+    ensures age { OnOk result (age machine.new.state ≤ age machine.old.state + 1) }
+    ensures err { OnErr result (machine.new.state ≡ machine.old.state) }
 {
     match event_on(alloc, version, event)? {
         None => Ok(Reply::NoNode),

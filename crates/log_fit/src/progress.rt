@@ -25,7 +25,7 @@ impl Model for Progress {
 
     ghost coded = { Prim.hlevel (codes, case_code) };
 
-    ghost view = { λ a. record { name = a.name; machine = a.machine; events = a.events; fits = a.fits; next = a.next } };
+    ghost view = { λ a. record { name = a.name; machine = a.machine.state; events = a.events; fits = a.fits; next = a.next } };
 
-    ghost invariant = { λ a. (age a.machine ≤ a.events) × (a.fits ≤ a.events) };
+    ghost invariant = { λ a. (age a.machine.state ≤ a.events) × (a.fits ≤ a.events) };
 }

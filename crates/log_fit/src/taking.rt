@@ -18,7 +18,7 @@ impl Progress {
     pub(crate) fn new(alloc: Global, version: &Version, name: Name64) -> Result<Progress, NoMemory>
         ensures { IfOk result (λ new. new ≡ opened_row version.now name) }
     {
-        let mut machine = Case::new(version.type_no());
+        let mut machine = Case::new(alloc, version.type_no());
         let _ = machine.step(alloc, &Event::Create(version.share()?))?;
         Ok(Progress {
             name,

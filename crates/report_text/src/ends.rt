@@ -1,6 +1,5 @@
 // How a case ended.
 ghost use Rattle.std.specs.Prelude.{◌≡◌, ℕ, ◌++◌, flat_map, codes};
-ghost use Rattle.std.specs.Option.{option_copied};
 ghost use Rattle.adept_io.specs.Written.{Gives};
 ghost use Rattle.wsm_items.specs.declared.work_items.Item.TheVariants as item;
 ghost use Rattle.case_core.specs.Shown.{is_finished};
@@ -8,23 +7,23 @@ ghost use Rattle.report_text.specs.Ends.{end_text, item_text, items_line, live_t
 ghost use Rattle.wsm_schema.specs.Flat.{cards_of};
 
 use adept_io::{Sink, put, put_number, put_pieces};
-use case_core::{Item, Live};
+use case_core::{Item, LiveCase};
 use file_model::File;
 use itoa::Buffer;
 use report_words::{caller_word, letter, put_assigned, put_node};
 use wsm_schema::{Card, ElementKind, State};
 
 /// The lines that say how a case ended: one where it was not created, and else four.
-pub fn put_end<K: Sink>(sink: &mut K, ok: bool, file: &File, live: Option<&Live>) -> bool
-    ensures { Gives K.written K.faults ok result sink.old sink.new (end_text file.now (option_copied live.entry)) }
+pub fn put_end<K: Sink>(sink: &mut K, ok: bool, file: &File, live: Option<LiveCase<'_>>) -> bool
+    ensures { Gives K.written K.faults ok result sink.old sink.new (end_text file.now live.entry) }
 {
     match live {
         None => put(sink, ok, b"state none\n"),
-        Some(live) => put_live(sink, ok, file, live),
+        Some(live) => put_live(sink, ok, file, &live),
     }
 }
 
-fn put_live<K: Sink>(sink: &mut K, ok: bool, file: &File, live: &Live) -> bool
+fn put_live<K: Sink>(sink: &mut K, ok: bool, file: &File, live: &LiveCase<'_>) -> bool
     ensures { Gives K.written K.faults ok result sink.old sink.new (live_text file.now live.now) }
 {
     let ok = put_state_line(sink, ok, live);
@@ -33,7 +32,7 @@ fn put_live<K: Sink>(sink: &mut K, ok: bool, file: &File, live: &Live) -> bool
     put_items_line(sink, ok, file, live)
 }
 
-fn put_state_line<K: Sink>(sink: &mut K, ok: bool, live: &Live) -> bool
+fn put_state_line<K: Sink>(sink: &mut K, ok: bool, live: &LiveCase<'_>) -> bool
     ensures { Gives K.written K.faults ok result sink.old sink.new (state_line live.now) }
 {
     let mut number = Buffer::new();
@@ -58,7 +57,7 @@ fn progress(finished: bool) -> &'static [u8]
     if finished { b" finished" } else { b" running" }
 }
 
-fn put_marking_line<K: Sink>(sink: &mut K, ok: bool, file: &File, live: &Live) -> bool
+fn put_marking_line<K: Sink>(sink: &mut K, ok: bool, file: &File, live: &LiveCase<'_>) -> bool
     ensures { Gives K.written K.faults ok result sink.old sink.new (marking_line file.now live.now) }
 {
     let ok = put(sink, ok, b"marking");
@@ -66,7 +65,13 @@ fn put_marking_line<K: Sink>(sink: &mut K, ok: bool, file: &File, live: &Live) -
     put(sink, ok, b"\n")
 }
 
-fn put_marks<K: Sink>(sink: &mut K, ok: bool, file: &File, live: &Live, cards: &[Card]) -> bool
+fn put_marks<K: Sink>(
+    sink: &mut K,
+    ok: bool,
+    file: &File,
+    live: &LiveCase<'_>,
+    cards: &[Card],
+) -> bool
     ensures { Gives K.written K.faults ok result sink.old sink.new (flat_map (mark_text file.now live.now) cards.now) }
 {
     let mut well = ok;
@@ -77,14 +82,14 @@ fn put_marks<K: Sink>(sink: &mut K, ok: bool, file: &File, live: &Live, cards: &
 }
 
 #[tactic(auto, using(adept_io::proofs::Sent::gives_then))]
-fn put_mark<K: Sink>(sink: &mut K, ok: bool, file: &File, live: &Live, card: &Card) -> bool
+fn put_mark<K: Sink>(sink: &mut K, ok: bool, file: &File, live: &LiveCase<'_>, card: &Card) -> bool
     ensures { Gives K.written K.faults ok result sink.old sink.new (mark_text file.now live.now card.now) }
 {
     let ok = put_node(sink, ok, file, card.node, b"=");
     put(sink, ok, letter(live.state(card.node)))
 }
 
-fn put_values_line<K: Sink>(sink: &mut K, ok: bool, file: &File, live: &Live) -> bool
+fn put_values_line<K: Sink>(sink: &mut K, ok: bool, file: &File, live: &LiveCase<'_>) -> bool
     ensures { Gives K.written K.faults ok result sink.old sink.new (values_line file.now live.now) }
 {
     let ok = put(sink, ok, b"values");
@@ -97,7 +102,7 @@ fn put_values<K: Sink>(
     sink: &mut K,
     ok: bool,
     file: &File,
-    live: &Live,
+    live: &LiveCase<'_>,
     elements: &[(u32, ElementKind)],
 ) -> bool
     ensures { Gives K.written K.faults ok result sink.old sink.new (flat_map (value_now_text file.now live.now) elements.now) }
@@ -114,7 +119,7 @@ fn put_value_now<K: Sink>(
     sink: &mut K,
     ok: bool,
     file: &File,
-    live: &Live,
+    live: &LiveCase<'_>,
     element: &(u32, ElementKind),
 ) -> bool
     ensures { Gives K.written K.faults ok result sink.old sink.new (value_now_text file.now live.now element.now) }
@@ -125,7 +130,7 @@ fn put_value_now<K: Sink>(
     }
 }
 
-fn put_items_line<K: Sink>(sink: &mut K, ok: bool, file: &File, live: &Live) -> bool
+fn put_items_line<K: Sink>(sink: &mut K, ok: bool, file: &File, live: &LiveCase<'_>) -> bool
     ensures { Gives K.written K.faults ok result sink.old sink.new (items_line file.now live.now) }
 {
     let ok = put(sink, ok, b"items");

@@ -5,3 +5,4 @@ pub mod Parts
 pub mod Places
 pub mod Serial
 pub mod Verdicts
+pub mod CaseEnds

@@ -1,5 +1,6 @@
 // What a run leaves behind.
 use case_core::Case;
+use std::marker::Model;
 use turn_cell::Entry;
 use type_core::{Kind, KindReply};
 use wsm_lists::Listing;
@@ -21,6 +22,19 @@ pub type KindJournal = Listing<KindEntry>;
 pub struct ClosedCase {
     pub machine: Case,
     pub journal: CaseJournal,
+}
+
+impl Model for ClosedCase {
+    ghost use Rattle.std.specs.Coded.{codes};
+    ghost use Rattle.case_core.specs.Codes.{case_code};
+    ghost use Rattle.case_core.specs.contracts.events.Event as event;
+    ghost use Rattle.script_run.specs.CaseEnds.{CaseEnd};
+
+    ghost Value = { CaseEnd };
+
+    ghost coded = { Prim.hlevel (codes, case_code, event.the_row.coded) };
+
+    ghost view = { λ a. record { machine = a.machine.state; journal = a.journal } };
 }
 
 /// A type at the end of a run, and the calls that were made of it.

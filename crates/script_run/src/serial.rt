@@ -81,7 +81,7 @@ fn uncalled_cases(alloc: Global, decls: &[CaseDecl]) -> Result<Vec<ClosedCase>, 
     let mut cases = Vec::new(alloc);
     for decl in decls {
         cases.push(ClosedCase {
-            machine: Case::new(decl.id.type_no),
+            machine: Case::new(alloc, decl.id.type_no),
             journal: CaseJournal::new(alloc),
         })?;
     }

@@ -2,6 +2,7 @@ use Rattle.std.proofs.Common.{◌≡◌, ◌+◌, ◌≤◌, length, ap, ◌∙�
 use Rattle.std.proofs.lemmas.List.{length_push}
 use Rattle.std.proofs.lemmas.Result.{IfOk-weaker}
 use Rattle.case_core.specs.CaseModel.{not_created}
+use Rattle.case_core.specs.Instances.{CountedCase, uncounted}
 use Rattle.turn_rows.specs.Rows.{AreOpened, views}
 use Rattle.case_core.specs.Ages.{age}
 use Rattle.turn_cell.specs.declared.limits.TheConstants.{MAX_OPENING_AGE}
@@ -15,7 +16,7 @@ use Rattle.adept_server.proofs.opening.open_cases.Goals as goal
 pub loop-place-init : goal.loop-place-init
 loop-place-init c = record {
   many = ap length c.in_ok-cases.ensures.items;
-  made = none_made (λ i. not_created c.args.type_no) c.in_ok-cases.cases.items c.in_ok-cases.ensures.items;
+  made = none_made (λ i. uncounted (not_created c.args.type_no)) c.in_ok-cases.cases.items c.in_ok-cases.ensures.items;
   room = omega (arith, c.in_ok-cases.ensures.len, c.in_ok-cases.ensures.exact);
 }
 
@@ -25,7 +26,7 @@ loop-place-preserved c =
     let push = c.push_reserved.ensures in
     record {
       many = ap length push.items ∙ (length_push l.cases.items c.new.result ∙ ap (λ n. n + 1) l.invariant.many);
-      made = one_made (λ i. not_created c.args.type_no) l.cases.items c.push_reserved.new.self.items l._place c.new.result l.invariant.many push.items c.new.ensures.case l.invariant.made;
+      made = one_made (λ i. uncounted (not_created c.args.type_no)) l.cases.items c.push_reserved.new.self.items l._place c.new.result l.invariant.many push.items c.new.ensures.case l.invariant.made;
       room = omega (arith, l.invariant.room, push.len, push.capacity);
     }
 
@@ -36,7 +37,7 @@ returns c =
     record {
       cells = c.open_row.ensures.cells;
       firsts =
-          IfOk-weaker c.open_row.result (λ r. AreOpened (λ k. k) l.cases.items r.0.items r.1.items) (λ r. AreFirstCases c.args.type_no c.args.count (views r.1.items))
+          IfOk-weaker c.open_row.result (λ r. AreOpened (λ (k : CountedCase). k.state) l.cases.items r.0.items r.1.items) (λ r. AreFirstCases c.args.type_no c.args.count (views r.1.items))
           (λ r k. cases_opened c.args.type_no c.args.count l.cases.items r.0.items r.1.items (l.invariant.many ∙ done) l.invariant.made k) c.open_row.ensures.opened;
     }
 
@@ -53,4 +54,4 @@ pub open_row-requires-sync-M-Event : goal.open_row-requires-sync-M-Event
 open_row-requires-sync-M-Event c κs = search (event-sync, sendable, crosses) depth 30
 
 pub open_row-requires-clause-young : goal.open_row-requires-clause-young
-open_row-requires-clause-young c κs = made_all (λ i. not_created c.args.type_no) (λ m. age m ≤ MAX_OPENING_AGE) c.loop-place.cases.items c.loop-place.invariant.made (λ i. omega arith)
+open_row-requires-clause-young c κs = made_all (λ i. uncounted (not_created c.args.type_no)) (λ (m : CountedCase). age m.state ≤ MAX_OPENING_AGE) c.loop-place.cases.items c.loop-place.invariant.made (λ i. omega arith)

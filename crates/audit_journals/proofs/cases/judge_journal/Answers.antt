@@ -8,6 +8,7 @@ use Rattle.audit_steps.proofs.Modest.{steady-begun}
 use Rattle.audit_steps.specs.Cases.{GrowsTo, InPhases, IsSteady, PhaseJudged, StopsAt}
 use Rattle.audit_steps.specs.Lines.{IsModest}
 use Rattle.case_core.specs.CaseModel.{CaseModel}
+use Rattle.case_core.specs.Instances.{CountedCase}
 use Rattle.script_run.specs.Entries.{CaseEntry}
 use Rattle.script_run.specs.Serial.{uncalled}
 use Rattle.script_run.specs.declared.runs.ClosedCase.{ClosedCase}
@@ -19,9 +20,9 @@ made_of machine journal = record { machine = machine; journal = journal }
 
 pub loop-phase-init : goal.loop-phase-init
 loop-phase-init c =
-    let begun : made_of c.new.result c.new-2.result ≡ uncalled c.args.decl.now = ap (λ m. made_of m c.new-2.result) c.new.ensures.case ∙ ap (made_of _) c.new-2.ensures in
+    let begun : made_of c.new.result.state c.new-2.result ≡ uncalled c.args.decl.now = ap (λ (k : CountedCase). made_of k.state c.new-2.result) c.new.ensures.case ∙ ap (made_of _) c.new-2.ensures in
     record {
-      judged = phases-begun c.args.file.now (made_of c.new.result c.new-2.result) c.args.report.now (owed_of c.args.owed.now);
+      judged = phases-begun c.args.file.now (made_of c.new.result.state c.new-2.result) c.args.report.now (owed_of c.args.owed.now);
       steady = subst IsSteady (sym begun) (steady-begun c.args.decl.now.id.type_no);
       few = omega (arith, ap length c.new-2.ensures, c.requires.few);
     }
@@ -55,8 +56,8 @@ returns-then-not-branch c = λ phases same.
     let judged = subst (λ b. PhaseJudged f c.loop-phase.case c.loop-phase.report c.judge_phase.new.case c.judge_phase.new.report (calls_in p) b) c.if-not-branch.true
     (subst (λ ls. PhaseJudged f c.loop-phase.case c.loop-phase.report c.judge_phase.new.case c.judge_phase.new.report (asked_in ls) c.in_ok-judge_phase.field-0) c.as_slice.ensures.value c.in_ok-judge_phase.ensures.judged) in
     let d = c.args.decl.now in
-    let from = made_of c.new.result c.new-2.result in
-    let begun : from ≡ uncalled d = ap (λ m. made_of m c.new-2.result) c.new.ensures.case ∙ ap (made_of _) c.new-2.ensures in
+    let from = made_of c.new.result.state c.new-2.result in
+    let begun : from ≡ uncalled d = ap (λ (k : CountedCase). made_of k.state c.new-2.result) c.new.ensures.case ∙ ap (made_of _) c.new-2.ensures in
     let new = c.judge_phase.new.report in
     case-stopped f phases d c.args.report.now new (owed_of owed) same
     (subst (λ (k : ClosedCase). StopsAt f k c.args.report.now new (λ (later : List (List Asked)). owed_of owed ++ later)) begun
@@ -73,7 +74,7 @@ loop-phase-preserved c =
     let judged = subst (λ b. PhaseJudged f c.loop-phase.case c.loop-phase.report c.judge_phase.new.case c.judge_phase.new.report (calls_in p) b) c.if-not-branch.false
     (subst (λ ls. PhaseJudged f c.loop-phase.case c.loop-phase.report c.judge_phase.new.case c.judge_phase.new.report (asked_in ls) c.in_ok-judge_phase.field-0) c.as_slice.ensures.value c.in_ok-judge_phase.ensures.judged) in
     record {
-      judged = phase-on f (made_of c.new.result c.new-2.result) c.loop-phase.case c.judge_phase.new.case c.args.report.now c.loop-phase.report c.judge_phase.new.report (owed_of owed) n (calls_in p) (phase-low owed n low) (phase-is owed n p low is) c.loop-phase.invariant.judged judged;
+      judged = phase-on f (made_of c.new.result.state c.new-2.result) c.loop-phase.case c.judge_phase.new.case c.args.report.now c.loop-phase.report c.judge_phase.new.report (owed_of owed) n (calls_in p) (phase-low owed n low) (phase-is owed n p low is) c.loop-phase.invariant.judged judged;
       steady = c.in_ok-judge_phase.ensures.steady;
       few = omega (arith, c.loop-phase.invariant.few, c.in_ok-judge_phase.ensures.longer, phase-many owed n p low is, ap length c.as_slice.ensures.value);
     }
@@ -83,8 +84,8 @@ returns c = λ phases same.
     let f = c.args.file.now in
     let d = c.args.decl.now in
     let owed = c.args.owed.now in
-    let from = made_of c.new.result c.new-2.result in
-    let begun : from ≡ uncalled d = ap (λ m. made_of m c.new-2.result) c.new.ensures.case ∙ ap (made_of _) c.new-2.ensures in
+    let from = made_of c.new.result.state c.new-2.result in
+    let begun : from ≡ uncalled d = ap (λ (k : CountedCase). made_of k.state c.new-2.result) c.new.ensures.case ∙ ap (made_of _) c.new-2.ensures in
     let all = phase-end owed c.loop-phase.phase-index c.as_slice-phase-items.result.now c.as_slice-phase-items.ensures.value c.loop-phase-test.false c.loop-phase.auto.phase-index-end in
     case-whole f phases d c.loop-phase.case c.args.report.now c.loop-phase.report (owed_of owed) same
     (subst (λ (k : ClosedCase). GrowsTo f k c.args.report.now c.loop-phase.case c.loop-phase.report (λ (later : List (List Asked)). owed_of owed ++ later) (λ (later : List (List Asked)). later)) begun

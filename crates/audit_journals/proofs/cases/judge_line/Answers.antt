@@ -10,6 +10,7 @@ use Rattle.audit_steps.specs.Lines.{IsModest, line_of}
 use Rattle.case_core.specs.Machine.{case_reply}
 use Rattle.line_followers.specs.Follows.{left_of}
 use Rattle.line_followers.specs.Turns.{behind_front, queue_of}
+use Rattle.script_run.specs.CaseEnds.{CaseEnd}
 use Rattle.script_run.specs.Entries.{CaseEntry}
 use Rattle.turn_cell.specs.History.{entry}
 use Rattle.wsm_lists.specs.Rows.{AllRows}
@@ -20,7 +21,7 @@ returns-in_default-clause-judged c = λ phase some turns.
     let f = c.args.file.now in
     let from = c.args.case.now in
     let old = c.args.report.now in
-    let place = c.next_place-place.ensures ∙ ap (λ (es : List CaseEntry). length es + 1) c.as_slice.ensures in
+    let place = c.next_place-place.ensures ∙ ap (λ (es : List CaseEntry). length es + 1) (c.as_slice.ensures ∙ ap (λ (k : CaseEnd). k.journal) c.case.view_is) in
     let shows = shows-in f c.caller_in.result c.next_place-place.result (length from.journal + 1) c.rest.result.now (left_of old) c.caller_in.ensures place c.rest.ensures in
     case-without-caller f c.requires.workable c.requires.auditable from old phase some (sym shows ∙ c.in_default.is)
 
@@ -29,7 +30,7 @@ returns-in_default-next-clause-judged c = λ phase some turns.
     let f = c.args.file.now in
     let from = c.args.case.now in
     let old = c.args.report.now in
-    let place = c.next_place-place.ensures ∙ ap (λ (es : List CaseEntry). length es + 1) c.as_slice.ensures in
+    let place = c.next_place-place.ensures ∙ ap (λ (es : List CaseEntry). length es + 1) (c.as_slice.ensures ∙ ap (λ (k : CaseEnd). k.journal) c.case.view_is) in
     let shows = shows-in f c.caller_in.result c.next_place-place.result (length from.journal + 1) c.rest.result.now (left_of old) c.caller_in.ensures place c.rest.ensures in
     let queues = queues_of c.args.turns.now in
     let a = c.in-Some.caller in
@@ -50,7 +51,7 @@ returns-in-None-clause-judged c = λ phase some turns.
     let f = c.args.file.now in
     let from = c.args.case.now in
     let old = c.args.report.now in
-    let place = c.next_place-place.ensures ∙ ap (λ (es : List CaseEntry). length es + 1) c.as_slice.ensures in
+    let place = c.next_place-place.ensures ∙ ap (λ (es : List CaseEntry). length es + 1) (c.as_slice.ensures ∙ ap (λ (k : CaseEnd). k.journal) c.case.view_is) in
     let shows = shows-in f c.caller_in.result c.next_place-place.result (length from.journal + 1) c.rest.result.now (left_of old) c.caller_in.ensures place c.rest.ensures in
     let queues = queues_of c.args.turns.now in
     let a = c.in-Some.caller in
@@ -74,7 +75,7 @@ returns-in-Some-2-clause-judged c = λ phase some turns.
     let f = c.args.file.now in
     let from = c.args.case.now in
     let old = c.args.report.now in
-    let place = c.next_place-place.ensures ∙ ap (λ (es : List CaseEntry). length es + 1) c.as_slice.ensures in
+    let place = c.next_place-place.ensures ∙ ap (λ (es : List CaseEntry). length es + 1) (c.as_slice.ensures ∙ ap (λ (k : CaseEnd). k.journal) c.case.view_is) in
     let shows = shows-in f c.caller_in.result c.next_place-place.result (length from.journal + 1) c.rest.result.now (left_of old) c.caller_in.ensures place c.rest.ensures in
     let queues = queues_of c.args.turns.now in
     let a = c.in-Some.caller in

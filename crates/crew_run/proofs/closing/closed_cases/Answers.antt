@@ -3,6 +3,7 @@ use Rattle.std.proofs.lemmas.List.{get_or-map, length-map, map-set}
 use Rattle.std.proofs.lemmas.Option.{slice_get-get_or, same_Some}
 use Rattle.std.proofs.lemmas.Simd.{map-map}
 use Rattle.case_core.specs.CaseModel.{CaseModel}
+use Rattle.case_core.specs.Instances.{CountedCase}
 use Rattle.case_core.specs.declared.events.Event.{Event}
 use Rattle.case_core.specs.declared.replies.Reply.{Reply}
 use Rattle.case_core.specs.declared.views.View.{View}
@@ -15,9 +16,9 @@ use Rattle.turn_cell.specs.declared.journal.Closed.{Closed}
 use Rattle.crew_run.proofs.closing.closed_cases.Goals as goal
 
 abbrev Row : Type 0
-Row = Vec (Closed CaseModel Event Reply View CaseModel) Global
+Row = Vec (Closed CountedCase Event Reply View CaseModel) Global
 
-abbrev items_of : Row → List (Closed CaseModel Event Reply View CaseModel)
+abbrev items_of : Row → List (Closed CountedCase Event Reply View CaseModel)
 items_of row = row.items
 
 -- the declaration at a place
@@ -25,7 +26,7 @@ declared : (ds cases : List CaseDecl) (k : _) (d : CaseDecl) → ds ≡ cases �
 declared ds cases k d same lt = ap (λ xs. slice_get xs k) (sym same) ∙ slice_get-get_or ds k d lt
 
 lists_counted : (f : File) (rows : List Row) → AreCounts f (map (λ row. length (items_of row)) rows) → AreCounts f (map length (map items_of rows))
-lists_counted f rows counts = rw (map-map (length {A = Closed CaseModel Event Reply View CaseModel}) items_of rows) counts
+lists_counted f rows counts = rw (map-map (length {A = Closed CountedCase Event Reply View CaseModel}) items_of rows) counts
 
 -- a row that is read is one of the lists
 row_in : (rows : List Row) (t : ℕ) (row : Row) → t < length rows → row ≡ get_or rows t row → row.items ≡ get_or (map items_of rows) t row.items

@@ -1,34 +1,32 @@
-use Rattle.std.proofs.Common.{◌≡◌, ◌∙◌, ℕ, List, length, ap, sym, subst}
-use Rattle.case_core.proofs.KeptItems.{left-items, keeps-of, told-of}
+use Rattle.std.proofs.Common.{◌≡◌, ◌∙◌, ℕ, List, None, refl, ap}
+use Rattle.case_core.proofs.KeptHolders.{left-made}
+use Rattle.case_core.proofs.KeptItems.{keeps-of, left-items, told-of}
 use Rattle.case_core.proofs.Marked.{after-event}
 use Rattle.case_core.specs.CaseModel.{LiveModel}
-use Rattle.case_core.specs.Kept.{Kept, marks_in}
-use Rattle.case_core.specs.KeptItems.{KeepsItems}
+use Rattle.case_core.specs.Instances.{live_in}
+use Rattle.case_core.specs.KeptItems.{ChangesItems, KeepsItems, entries_with}
 use Rattle.case_core.specs.Machine.{with_trail}
 use Rattle.wsm_items.specs.declared.work_items.Item.{Item}
 use Rattle.wsm_lists.specs.ByNumber.{changed, item_after, item_at}
+use Rattle.wsm_schema.specs.Flat.{cards_of}
 use Rattle.wsm_schema.specs.Trail.{TrailModel}
-use Rattle.wsm_trail.specs.Withdrawn.{starts_of, withdrawn}
+use Rattle.wsm_trail.specs.Withdrawn.{withdrawn}
 use Rattle.case_core.proofs.live.Live.drop_start.Goals as goal
 
-pub drop_start-requires : goal.drop_start-requires
-drop_start-requires c =
-    record { one = subst (λ (t : TrailModel). length (starts_of c.args.node t.entries) ≡ 1) (sym (ap (λ (k : LiveModel). k.trail) c.self.view_is)) c.requires.one }
-
-pub invariant_of-self-2 : goal.invariant_of-self-2
-invariant_of-self-2 c =
-    let l : LiveModel = c.args.self.now in
-    let kept : Kept l = subst Kept c.self.view_is c.self.invariant.0 in
-    let new : TrailModel = withdrawn c.args.node l.trail in
-    let k : LiveModel = record { base = c.self.inside.base; own = c.self.inside.own; schema = c.self.inside.schema.value; trail = c.self.inside.trail.trail } in
-    let m : LiveModel = record { base = c.self.inside.base; own = c.self.inside.own; schema = c.self.inside.schema.value; trail = c.drop_start.new.self.trail } in
-    let trail : c.drop_start.new.self.trail ≡ new = c.drop_start.ensures.trail ∙ ap (λ (x : LiveModel). withdrawn c.args.node x.trail) c.self.view_is in
-    let same : m ≡ with_trail l new =
-    ap (λ (t : TrailModel). record { base = c.self.inside.base; own = c.self.inside.own; schema = c.self.inside.schema.value; trail = t }) trail ∙ ap (λ (x : LiveModel). with_trail x new) c.self.view_is in
-    let marks = after-event l m new c.self.inside.marks.rows c.take_in.new.self.rows c.args.changes same (c.self.invariant.1.0 ∙ ap marks_in c.self.view_is)
+pub returns-clause-live : goal.returns-clause-live
+returns-clause-live g c =
+    let t : TrailModel = g.T.TrailReads.kept c.args.trail.now in
+    let l : LiveModel = live_in t c.args.self.now in
+    let new : TrailModel = withdrawn c.args.node t in
+    let m : LiveModel = live_in (g.T.TrailReads.kept c.drop_start.new.self) c.args.self.now in
+    let same : m ≡ with_trail l new = ap (λ t. live_in t c.args.self.now) c.drop_start.ensures.trail in
+    let marks = after-event l m new c.args.self.now.marks.rows c.take_in.new.self.rows c.args.changes same c.requires.live.1.0
     (c.take_in.ensures.rows ∙ ap (changed c.args.changes) c.reserve.ensures.same) c.requires.kept c.requires.marks in
-    let old : KeepsItems l c.self.inside.items.rows = keeps-of k l c.self.view_is c.self.inside.marks.rows c.self.invariant.1.0 c.self.inside.items.rows c.self.invariant.1.1 in
+    let olds : List (ℕ × Item) = c.args.self.now.items.rows in
+    let old : KeepsItems l olds = keeps-of l l refl c.args.self.now.marks.rows c.requires.live.1.0 olds c.requires.live.1.1 in
+    let made : ChangesItems (cards_of l.schema) (entries_with l.trail None) c.args.changes c.in_ok-items.items =
+    left-made l c.requires.live.0 olds old c.args.node c.requires.kept c.args.changes c.changed_items.ensures.ascends c.requires.marks c.next.result c.in_ok-items.items c.in_ok-items.ensures.items in
     let items : KeepsItems (with_trail l new) c.take_in-2.new.self.rows =
-    left-items l kept c.args.node c.requires.kept c.args.changes c.changed_items.ensures.ascends c.requires.marks c.self.inside.items.rows c.take_in-2.new.self.rows c.in_ok-items.items old c.in_ok-items.ensures.items
+    left-items l c.requires.live.0 c.args.node c.requires.kept c.args.changes c.changed_items.ensures.ascends c.requires.marks olds c.take_in-2.new.self.rows c.in_ok-items.items old made
     (λ n. c.take_in-2.ensures.items n ∙ ap (λ (rs : List (ℕ × Item)). item_after (item_at n c.in_ok-items.items) (item_at n rs)) c.reserve-2.ensures.same) in
     (marks.0, (marks.1, told-of (with_trail l new) m same c.take_in.new.self.rows marks.1 c.take_in-2.new.self.rows items))

@@ -5,8 +5,8 @@ use Rattle.wsm_sound.specs.Faults.{changed_by}
 use Rattle.case_core.proofs.live.Live.migrate.Goals as goal
 
 pub take-requires-clause-own : goal.take-requires-clause-own
-take-requires-clause-own c =
-    let l = c.args.self.now in
+take-requires-clause-own g c =
+    let l = c.of-case.result in
     let v = c.args.version.now in
     let made : changed_by v.schema l.own ≡ Ok c.in-Ok.schema.value = search rules in
     let both : applied v.schema l.own ≡ Ok c.in-Ok.schema.value = (taken_parts v.schema c.in-Ok.schema.value l.own made).0 in

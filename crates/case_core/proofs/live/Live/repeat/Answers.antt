@@ -1,21 +1,36 @@
 use Rattle.std.proofs.Common.{◌≡◌, ◌∙◌, List, ℕ, ap, sym, subst}
 use Rattle.case_core.specs.CaseModel.{LiveModel}
+use Rattle.case_core.specs.Instances.{live_in}
 use Rattle.case_core.specs.Kept.{Kept}
 use Rattle.case_core.specs.Machine.{with_trail}
-use Rattle.case_core.specs.Remarks.{Remarks}
+use Rattle.case_core.specs.Remarks.{Remarks, RunsLoop}
 use Rattle.wsm_schema.specs.Flat.{FlatModel, flat_of, loop_nodes}
-use Rattle.wsm_schema.specs.Trail.{pushed, cut_by}
+use Rattle.wsm_schema.specs.Trail.{TrailModel, pushed, cut_by}
 use Rattle.wsm_schema.specs.declared.entries.Entry.TheVariants.{Again}
+use Rattle.wsm_trail.specs.Cuts.{StaysBelow}
 use Rattle.case_core.proofs.live.Live.repeat.Goals as goal
 
+pub again_changes-requires : goal.again_changes-requires
+again_changes-requires g c = subst (λ (k : LiveModel). RunsLoop k c.args.node) (sym c.of-case.ensures) c.requires.running
+
 pub cut_and_append-requires-clause-kept : goal.cut_and_append-requires-clause-kept
-cut_and_append-requires-clause-kept c =
-    let l : LiveModel = c.args.self.now in
-    let body : c.in_ok-body.body ≡ loop_nodes (flat_of l.schema).cards c.args.node = c.in_ok-body.ensures ∙ ap (λ (f : FlatModel). loop_nodes f.cards c.args.node) (c.flat.ensures.flat ∙ ap flat_of c.checked.ensures) in
-    subst (λ (b : List ℕ). Kept (with_trail l (pushed (Again c.args.node c.args.writes) (cut_by b l.trail)))) (sym body) c.requires.kept
+cut_and_append-requires-clause-kept g c =
+    let t : TrailModel = g.T.TrailReads.kept c.args.trail.now in
+    let l : LiveModel = live_in t c.args.self.now in
+    let body : c.in_ok-body.body ≡ loop_nodes (flat_of l.schema).cards c.args.node =
+    c.in_ok-body.ensures ∙ ap (λ (f : FlatModel). loop_nodes f.cards c.args.node) (c.flat.ensures.flat ∙ ap flat_of (c.checked.ensures ∙ ap (λ (k : LiveModel). k.schema) c.of-case.ensures)) in
+    subst (λ (b : List ℕ). Kept (with_trail l (pushed (Again c.args.node c.args.writes) (cut_by b t)))) (sym body) c.requires.kept
 
 pub cut_and_append-requires-clause-marks : goal.cut_and_append-requires-clause-marks
-cut_and_append-requires-clause-marks c =
-    let l : LiveModel = c.args.self.now in
-    let body : c.in_ok-body.body ≡ loop_nodes (flat_of l.schema).cards c.args.node = c.in_ok-body.ensures ∙ ap (λ (f : FlatModel). loop_nodes f.cards c.args.node) (c.flat.ensures.flat ∙ ap flat_of c.checked.ensures) in
-    subst (λ (b : List ℕ). Remarks l (pushed (Again c.args.node c.args.writes) (cut_by b l.trail)) c.in_ok-changes.changes) (sym body) (c.in_ok-changes.ensures c.args.writes)
+cut_and_append-requires-clause-marks g c =
+    let t : TrailModel = g.T.TrailReads.kept c.args.trail.now in
+    let l : LiveModel = live_in t c.args.self.now in
+    let body : c.in_ok-body.body ≡ loop_nodes (flat_of l.schema).cards c.args.node =
+    c.in_ok-body.ensures ∙ ap (λ (f : FlatModel). loop_nodes f.cards c.args.node) (c.flat.ensures.flat ∙ ap flat_of (c.checked.ensures ∙ ap (λ (k : LiveModel). k.schema) c.of-case.ensures)) in
+    subst (λ (b : List ℕ). Remarks l (pushed (Again c.args.node c.args.writes) (cut_by b t)) c.in_ok-changes.changes) (sym body)
+    (subst (λ (k : LiveModel). Remarks k (pushed (Again c.args.node c.args.writes) (cut_by (loop_nodes (flat_of k.schema).cards c.args.node) k.trail)) c.in_ok-changes.changes) c.of-case.ensures (c.in_ok-changes.ensures c.args.writes))
+
+pub cut_and_append-requires-clause-stays : goal.cut_and_append-requires-clause-stays
+cut_and_append-requires-clause-stays g c =
+    subst (λ (b : List ℕ). StaysBelow c.first_seen-first.result b (g.T.TrailReads.kept c.args.trail.now).entries) c.as_slice.ensures
+    (subst (λ (k : LiveModel). StaysBelow c.first_seen-first.result c.as_slice.result.now k.trail.entries) c.of-case.ensures c.first_seen-first.ensures)

@@ -1,0 +1,30 @@
+use Rattle.std.proofs.Common.{◌≡◌, ◌+◌, ◌≤◌, subst, sym}
+use Rattle.std.proofs.lemmas.Result.{IfOk-weaker}
+use Rattle.case_core.specs.Ages.{age, weight}
+use Rattle.case_core.specs.Machine.{next_case}
+use Rattle.case_core.proofs.AgesOfSteps.{age-next_case}
+use Rattle.case_core.proofs.Starts.{starts-filled}
+use Rattle.case_core.proofs.TrailFacts.{names-entry}
+use Rattle.case_core.specs.Promises.{NamesEntryIn, StartsFilled}
+use Rattle.case_core.proofs.instances.Instance.step.Goals as goal
+
+pub returns-clause-age : goal.returns-clause-age
+returns-clause-age g c =
+    let old = c.args.self.now.state in
+    let e = c.args.event.now in
+    IfOk-weaker c.answer.result (λ r. c.answer.new.self.state ≡ (next_case old e).0) (λ r. age c.answer.new.self.state ≤ age old + weight e)
+    (λ r is. subst (λ s. age s ≤ age old + weight e) (sym is) (age-next_case old e)) c.answer.ensures.case
+
+pub returns-clause-filled : goal.returns-clause-filled
+returns-clause-filled g c =
+    let old = c.args.self.now.state in
+    let e = c.args.event.now in
+    IfOk-weaker c.answer.result (λ r. r.0 ≡ (next_case old e).1) (λ r. StartsFilled old.live e r.0)
+    (λ r is. subst (StartsFilled old.live e) (sym is) (starts-filled old e c.live.ensures.kept)) c.answer.ensures.first
+
+pub returns-clause-named : goal.returns-clause-named
+returns-clause-named g c =
+    let old = c.args.self.now.state in
+    let e = c.args.event.now in
+    IfOk-weaker c.answer.result (λ r. r.0 ≡ (next_case old e).1) (λ r. NamesEntryIn old.live r.0)
+    (λ r is. subst (NamesEntryIn old.live) (sym is) (names-entry old e)) c.answer.ensures.first

@@ -1,9 +1,0 @@
-use Rattle.std.proofs.Common.{◌≡◌, drop}
-use Rattle.std.specs.List.{fold}
-use Rattle.case_core.specs.CaseModel.{shown_spots}
-use Rattle.wsm_lists.specs.Rows.{put_row}
-use Rattle.wsm_schema.specs.Rules.{by_node, spot_in}
-use Rattle.case_core.proofs.live.Live.marking.Given as goal
-
-abbrev pub invariant-loop-card : goal.invariant-loop-card
-invariant-loop-card l = fold (λ m c. put_row by_node (spot_in c.node (shown_spots l.self)) m) l.spots (drop l.card-index l.card-items) ≡ shown_spots l.self

@@ -1,6 +1,0 @@
-use Rattle.std.proofs.Common.{◌∙◌, ap}
-use Rattle.case_core.specs.Kept.{marks_in}
-use Rattle.case_core.proofs.live.Live.marks.Goals as goal
-
-pub returns-clause-rows : goal.returns-clause-rows
-returns-clause-rows c = c.self.invariant.1.0 ∙ ap marks_in c.self.view_is

@@ -1,0 +1,19 @@
+use Rattle.std.proofs.Common.{◌≡◌, ◌∙◌, ap}
+use Rattle.std.proofs.lemmas.Result.{IfOk-weaker}
+use Rattle.case_core.proofs.Marked.{start-remarks}
+use Rattle.case_core.specs.CaseModel.{LiveModel}
+use Rattle.case_core.specs.Kept.{Kept}
+use Rattle.case_core.specs.Remarks.{StartRemarks}
+use Rattle.wsm_schema.specs.Flat.{flat_of}
+use Rattle.wsm_schema.specs.Trail.{TrailModel}
+use Rattle.wsm_settle.specs.Events.{StartsRight}
+use Rattle.case_core.proofs.live_of.LiveOf.start_changes.Goals as goal
+
+pub returns : goal.returns
+returns g c =
+    let l : LiveModel = c.args.self.now in
+    let kept : Kept l = c.marks.ensures.kept in
+    let flat : c.flat.result.now ≡ flat_of l.schema = c.flat.ensures.flat ∙ ap flat_of c.checked.ensures in
+    let position : c.next.result ≡ l.trail.next = c.next.ensures.next ∙ ap (λ (t : TrailModel). t.next) c.trail.ensures.trail in
+    IfOk-weaker c.after_start.result (StartsRight c.flat.result.now c.marks.result.now.rows c.args.node c.next.result) (StartRemarks l c.args.node)
+    (start-remarks l kept kept.checked.rank kept.checked.ranked c.marks.result.now.rows c.marks.ensures.rows c.flat.result.now flat c.next.result position c.args.node) c.after_start.ensures.changes

@@ -1,0 +1,15 @@
+use Rattle.std.proofs.lemmas.Result.{IfOk-weaker}
+use Rattle.case_core.proofs.Marked.{withdraw-remarks}
+use Rattle.case_core.specs.CaseModel.{LiveModel}
+use Rattle.case_core.specs.Kept.{Kept}
+use Rattle.case_core.specs.Remarks.{Remarks}
+use Rattle.wsm_settle.specs.Events.{WithdrawsRight}
+use Rattle.wsm_trail.specs.Withdrawn.{withdrawn}
+use Rattle.case_core.proofs.live_of.LiveOf.withdraw_changes.Goals as goal
+
+pub returns : goal.returns
+returns g c =
+    let l : LiveModel = c.args.self.now in
+    let kept : Kept l = c.marks.ensures.kept in
+    IfOk-weaker c.after_withdraw.result (WithdrawsRight c.marks.result.now.rows c.args.node) (Remarks l (withdrawn c.args.node l.trail))
+    (withdraw-remarks l kept kept.checked.rank kept.checked.ranked c.marks.result.now.rows c.marks.ensures.rows c.args.node c.requires) c.after_withdraw.ensures.changes
