@@ -9,7 +9,7 @@ ghost use Rattle.wsm_lists.specs.Rows.{Ascends, put_row, drop_row, row_at};
 use crate::NoMemory;
 use crate::keys::{ByNode, Keys};
 use crate::roles::Roles;
-use crate::tables::Table;
+use crate::tables::{Table, are_below};
 use std::alloc::Global;
 use std::collections::BTreeMap;
 use std::marker::Model;
@@ -120,15 +120,7 @@ impl<K: Keys> GrowingTable<K> {
 fn goes_into_list<K: Keys>(list: &Table<K>, key: (u32, u32)) -> bool
     ensures { result ≡ false → is_some (row_at K.key_of key list.now) ≡ false }
 {
-    list.len() < FEW_ROWS || is_behind::<K>(list.as_slice(), key) || list.has(key)
-}
-
-// Whether the key is behind those of all rows, which ascend. It has no clause: in the list or in the map, a row is there.
-fn is_behind<K: Keys>(rows: &[K::Row], key: (u32, u32)) -> bool {
-    match rows.last() {
-        None => true,
-        Some(row) => K::key(row) < key,
-    }
+    list.len() < FEW_ROWS || are_below::<K>(list.as_slice(), key) || list.has(key)
 }
 
 // The rows of the map as a table.
