@@ -5,7 +5,7 @@ use Rattle.audit_model.specs.Asked.{Asked}
 use Rattle.audit_model.specs.ReportReader.{case_journal, case_reader, given}
 use Rattle.audit_steps.proofs.Fronts.{given-follows, given-stops, given-then, given-wrong}
 use Rattle.audit_steps.specs.Judging.{FollowedBy}
-use Rattle.audit_journals.proofs.WholeLines.{end-ends, head-ends}
+use Rattle.audit_model.proofs.WholeLines.{end-ends, head-ends}
 use Rattle.file_model.specs.declared.files.CaseDecl.{CaseDecl}
 use Rattle.file_model.specs.declared.files.File.{File}
 use Rattle.line_followers.proofs.Reaching.{follows-stopped, follows-then}

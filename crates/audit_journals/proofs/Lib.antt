@@ -2,6 +2,5 @@ pub mod Names
 pub mod AllTurns
 pub mod Exits
 pub mod OwedPhases
-pub mod WholeLines
 pub mod KindParts
 pub mod CaseParts

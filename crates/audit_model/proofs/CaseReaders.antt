@@ -33,31 +33,11 @@ use Rattle.audit_model.proofs.CaseCalls.{asked_actor}
 use Rattle.audit_model.proofs.CaseRuns.{case-answers, case-callers}
 use Rattle.audit_model.proofs.KindReaders.{IsTaken, TellsCallers, kinds-taken}
 use Rattle.audit_model.proofs.Texts.{EndsLine, case-line, ending-append, ending-lines, ends-behind, line-feed, numbered-lines}
+use Rattle.audit_model.proofs.WholeLines.{end-ends, head-ends, header-ends, summary-ends}
 use Rattle.audit_model.specs.Asked.{Asked, asked_phases, case_event_of, owed_case}
 use Rattle.audit_model.specs.Printed.{caller_in, case_shown}
 use Rattle.audit_model.specs.ReportReader.{case_journal, case_made, case_reader, cases_behind, cases_reader, given, kinds_reader, report_reader, telling}
 use Rattle.audit_model.specs.Reports.{IsReport}
-
--- ---- texts that are whole lines
-head-ends : (f : File) (d : CaseDecl) → EndsLine (case_head f d)
-head-ends f d = ends-behind (codes "case ") _ (ends-behind d.name _ (ends-behind (codes " " ++ type_text f d.id.type_no) (codes "\n") line-feed))
-
-end-ends : (f : File) (o : Option LiveModel) → EndsLine (end_text f o)
-end-ends f None = record { before = codes "state none"; is = refl }
-end-ends f (Some l) =
-    ends-behind (state_line l) (marking_line f l ++ (values_line f l ++ items_line f l))
-    (ends-behind (marking_line f l) (values_line f l ++ items_line f l)
-    (ends-behind (values_line f l) (items_line f l)
-    (ends-behind (codes "items") (flat_map (item_text f) (items_of l) ++ codes "\n") (ends-behind (flat_map (item_text f) (items_of l)) (codes "\n") line-feed))))
-
-summary-ends : (f : File) (r : Run) → EndsLine (summary f r)
-summary-ends f r =
-    ends-behind (case_totals r.cases) _ (ends-behind (codes "migrated=") _ (ends-behind (decimal (sum_by (with_fate fate.Migrated) r.cases)) _
-    (ends-behind (codes " blocked=") _ (ends-behind (decimal (sum_by (with_fate fate.Blocked) r.cases)) _
-    (ends-behind (codes " overlap=") _ (ends-behind (decimal (sum_by (with_fate fate.Overlap) r.cases)) (codes "\n") line-feed))))))
-
-header-ends : (f : File) → EndsLine (first_line f)
-header-ends f = ends-behind (codes "adept report ") _ (ends-behind (decimal f.format) (codes "\n") line-feed)
 
 abbrev pub case_lines : File → ℕ → List CaseEntry → List Bytes
 case_lines f k es = lines_from case_after case_reply asked_actor (case_event_of f) (caller_in f) (case_shown f) k es

@@ -1,7 +1,7 @@
 -- The parts of a report, one behind another.
 use Rattle.std.proofs.Common.{◌≡◌, ℕ, ◌++◌, Bool, true, false, List, Some, None, refl, subst}
 use Rattle.std.specs.Prelude.{Option, option_map}
-use Rattle.audit_journals.proofs.WholeLines.{header-ends, summary-ends}
+use Rattle.audit_model.proofs.WholeLines.{header-ends, summary-ends}
 use Rattle.audit_model.specs.Asked.{asked_phases}
 use Rattle.audit_model.specs.ReportReader.{cases_behind, cases_reader, given, kinds_reader, report_reader, telling}
 use Rattle.audit_steps.proofs.Fronts.{given-follows, given-stops, given-then, given-wrong}

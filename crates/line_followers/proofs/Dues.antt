@@ -3,6 +3,7 @@ use Rattle.std.proofs.Common.{◌≡◌, ℕ, zero, suc, ◌+◌, Bool, true, fa
 use Rattle.std.specs.Option.{is_some}
 use Rattle.file_words.specs.Lines.{Bytes}
 use Rattle.line_readers.proofs.Owed.{Due, is-due, nothing, some}
+use Rattle.line_readers.proofs.Walks.{map_first, walk-mapped}
 use Rattle.line_readers.specs.FirstWrong.{ended}
 use Rattle.line_readers.specs.Journals.{behind, journal, one_more, shown, with_entry}
 use Rattle.line_readers.specs.Owed.{due, how_many}
@@ -20,19 +21,6 @@ pub record AreSame {A : Type 0} (r q : Reader A) : Type 0 where
 
 pub same-reader : {A : Type 0} (r : Reader A) → AreSame r r
 same-reader r = record { taken_same = λ ls. refl; walk_same = λ ls. refl }
-
-abbrev map_first : {A B : Type 0} → (A → B) → Option (A × List Bytes) → Option (B × List Bytes)
-map_first f None = None
-map_first f (Some p) = Some (f p.0, p.1)
-
-walk-mapped : {A B : Type 0} (f : A → B) (r : Reader A) (ls : List Bytes) → walk (mapped f r) ls ≡ map_first f (walk r ls)
-walk-mapped f (done a) ls = refl
-walk-mapped f (takes p go) [] = refl
-walk-mapped {A} {B} f (takes p go) (l ∷ ls) = by (p l) (walk-mapped f (go l) ls)
-  where
-    by : (test : Bool) → walk (mapped f (go l)) ls ≡ map_first f (walk (go l) ls) → (if test then walk (mapped f (go l)) ls else None) ≡ map_first f (if test then walk (go l) ls else None)
-    by true same = same
-    by false same = refl
 
 taken-mapped : {A B : Type 0} (f : A → B) (r : Reader A) (ls : List Bytes) → taken (mapped f r) ls ≡ taken r ls
 taken-mapped f (done a) ls = refl

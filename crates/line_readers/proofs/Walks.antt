@@ -54,11 +54,11 @@ goes-then {A} {B} more r a old mid new counted between count o h k =
     by (Some b) walked left is = (walked ∙ is.0, is.1 ∙ left)
 
 -- ---- a reader whose value is made from another's
-abbrev map_first : {A B : Type 0} → (A → B) → Option (A × List Bytes) → Option (B × List Bytes)
+abbrev pub map_first : {A B : Type 0} → (A → B) → Option (A × List Bytes) → Option (B × List Bytes)
 map_first f None = None
 map_first f (Some p) = Some (f p.0, p.1)
 
-walk-mapped : {A B : Type 0} (f : A → B) (r : Reader A) (ls : List Bytes) → walk (mapped f r) ls ≡ map_first f (walk r ls)
+pub walk-mapped : {A B : Type 0} (f : A → B) (r : Reader A) (ls : List Bytes) → walk (mapped f r) ls ≡ map_first f (walk r ls)
 walk-mapped f (done a) ls = refl
 walk-mapped f (takes p go) [] = refl
 walk-mapped {A} {B} f (takes p go) (l ∷ ls) = by (p l) (walk-mapped f (go l) ls)

@@ -21,13 +21,14 @@ use Rattle.wsm_walk.specs.Kept.{timed_of}
 use Rattle.wsm_walk.specs.Touches.{edges_fit, reads_fit}
 use Rattle.wsm_walk.proofs.Kept.{timed_of-by}
 use Rattle.wsm_walk.proofs.Touches.{edges-fit}
+use Rattle.wsm_walk.proofs.Regions.{kinds-fit}
 use Rattle.wsm_adapt.specs.Adapting.{Changes}
 use Rattle.wsm_adapt.specs.Border.{is_known}
 use Rattle.wsm_adapt.specs.Misfits.{again_misfit, again_misfit_in, early_in, early_start, end_misfit, misfit_of, reads_in, start_misfit, unless}
 use Rattle.wsm_adapt.specs.Walking.{Standing, loop_end}
 use Rattle.wsm_adapt.specs.declared.walks.Found.{Found}
 use Rattle.wsm_adapt.proofs.Fitted.{again-fitted, end-fitted, start-fitted}
-use Rattle.wsm_adapt.proofs.KnownMisfits.{again-same, fit, kept-time, kinds-fit, known-new}
+use Rattle.wsm_adapt.proofs.KnownMisfits.{again-same, fit, kept-time, known-new}
 use Rattle.wsm_adapt.proofs.Least.{Below, below-eq, below-then, lesser-glb, lesser-left, lesser-right}
 use Rattle.wsm_adapt.proofs.LoopEnds.{end-behind}
 use Rattle.wsm_adapt.proofs.OldMarks.{goal, kept, m1, m2}

@@ -41,15 +41,6 @@ use Rattle.wsm_adapt.proofs.OldMarks.{goal, kept, m1, m2, old-facts, same-time}
 use Rattle.wsm_adapt.proofs.Partners.{end-of_start, start-of_end}
 use Rattle.wsm_adapt.proofs.Visiting.{shown}
 
--- writes to elements of the same kinds fit alike
-pub kinds-fit : (elements1 elements2 : List (ℕ × ElementKind)) (ws : Written) (ds : List ℕ) → AllRows (λ d. kind_in d elements1 ≡ kind_in d elements2) ds → fits_edges elements1 ws ds ≡ fits_edges elements2 ws ds
-kinds-fit elements1 elements2 [] [] same = refl
-kinds-fit elements1 elements2 [] (d ∷ ds) same = refl
-kinds-fit elements1 elements2 (w ∷ ws) [] same = refl
-kinds-fit elements1 elements2 (w ∷ ws) (d ∷ ds) same =
-    ap (λ k. (eqb w.0 d && is_of_kind k w.1) && fits_edges elements1 ws ds) same.0
-    ∙ ap (λ x. (eqb w.0 d && is_of_kind (kind_in d elements2) w.1) && x) (kinds-fit elements1 elements2 ws ds same.1)
-
 -- nothing fits a node that is gone, whatever its time
 gone-start : (es : Entries) (x y : Timed) (o : Option ℕ) → start_misfit es None x o ≡ start_misfit es None y o
 gone-start es x y None = refl

@@ -1,5 +1,5 @@
 -- The place of a key among rows that ascend.
-use Rattle.std.proofs.Common.{◌≡◌, ◌≢◌, ℕ, suc, ◌+◌, ◌<◌, ◌≤◌, Bool, true, false, cond, ◌&&◌, eqb, ltb, leb, leb-true, leb-false, ◌==◌, List, [], ◌∷◌, length, filter, take, drop, zero, get_or, set, refl, ap, sym, ◌∙◌, inl, inr, ◌⊎◌, arith, Option, Some, None, Result, Ok, Err, OnOk, OnErr}
+use Rattle.std.proofs.Common.{◌≡◌, ◌≢◌, ℕ, suc, ◌+◌, ◌-◌, ◌<◌, ◌≤◌, Bool, true, false, cond, ◌&&◌, eqb, ltb, leb, leb-true, leb-false, ◌==◌, List, [], ◌∷◌, length, filter, take, drop, zero, get_or, set, refl, ap, sym, ◌∙◌, inl, inr, ◌⊎◌, arith, Option, Some, None, Result, Ok, Err, OnOk, OnErr}
 use Rattle.std.specs.List.{insert, remove, slice_get, slice_range}
 use Rattle.std.specs.List.Sorted.{IsPartitionedBy, IsPartitionPoint}
 use Rattle.std.specs.Option.{is_some}
@@ -238,6 +238,12 @@ module _ {X : Type 0} (key : X → ℕ × ℕ) where
                 rw (y_is_x, same) refl
           ]
 
+  -- a row behind the first one has a greater key
+  behind-first : (y x : X) (zs : List X) (m : ℕ) → AllRows (λ z. key_lt (key y) (key z) ≡ true) zs → slice_get zs m ≡ Some x → key_lt (key y) (key x) ≡ true
+  behind-first y x [] m all is = cc
+  behind-first y x (z ∷ zs) zero all is = let same : z ≡ x = cc in rw (sym same) all.0
+  behind-first y x (z ∷ zs) (suc m) all is = behind-first y x zs m all.1 is
+
   -- a row stands where those with keys below its own end
   pub row-place : (xs : List X) (n : ℕ) (x : X) → Ascends key xs → slice_get xs n ≡ Some x → n ≡ rows_below key (key x) xs
   row-place [] n x s there = cc
@@ -251,12 +257,19 @@ module _ {X : Type 0} (key : X → ℕ × ℕ) where
             | inl below ↦ absurd (elim (lt_means k k below) [ inl h ↦ omega arith | inr h ↦ omega arith ])
             | inr not_below ↦ not_below
           ]
-  row-place (y ∷ ys) (suc n) x s there = rw (all-there ys n s.0 there) (ap suc (row-place ys n x s.1 there))
-    where
-      all-there : (zs : List X) (m : ℕ) → AllRows (λ z. key_lt (key y) (key z) ≡ true) zs → slice_get zs m ≡ Some x → key_lt (key y) (key x) ≡ true
-      all-there [] m all is = cc
-      all-there (z ∷ zs) zero all is = let same : z ≡ x = cc in rw (sym same) all.0
-      all-there (z ∷ zs) (suc m) all is = all-there zs m all.1 is
+  row-place (y ∷ ys) (suc n) x s there = rw (behind-first y x ys n s.0 there) (ap suc (row-place ys n x s.1 there))
+
+  -- all rows are below a key that the last one is below
+  below-last : (k : ℕ × ℕ) (xs : List X) (n : ℕ) (x : X) → Ascends key xs → slice_get xs n ≡ Some x → length xs ≡ n + 1 → key_lt (key x) k ≡ true → rows_below key k xs ≡ length xs
+  below-last k [] n x s there many lt = refl
+  below-last k (y ∷ []) zero x s there many lt = let same : y ≡ x = cc in rw (same, lt) refl
+  below-last k (y ∷ z ∷ zs) zero x s there many lt = absurd (omega (arith, many))
+  below-last k (y ∷ ys) (suc n) x s there many lt =
+      rw (lt_trans (key y) (key x) k (behind-first y x ys n s.0 there) lt) (ap suc (below-last k ys n x s.1 there (omega (arith, many)) lt))
+
+  pub ends-below : (k : ℕ × ℕ) (xs : List X) (x : X) → Ascends key xs → slice_get xs (length xs - 1) ≡ Some x → key_lt (key x) k ≡ true → rows_below key k xs ≡ length xs
+  ends-below k [] x s there lt = refl
+  ends-below k (y ∷ ys) x s there lt = below-last k (y ∷ ys) (length (y ∷ ys) - 1) x s there (omega arith) lt
 
   -- where there is no row at that place, or one with another key, no row has this one
   pub row_at-absent : (k : ℕ × ℕ) (xs : List X) (n : ℕ) → n ≡ rows_below key k xs → Ascends key xs → is_row_at key k (slice_get xs n) ≡ false → row_at key k xs ≡ None

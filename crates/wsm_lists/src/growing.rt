@@ -1,5 +1,5 @@
 // Tables while many rows are put, one after another and in any order.
-ghost use Rattle.std.specs.Prelude.{◌≡◌, ◌<◌, ℕ, [], not, OnErr, OnOk, IfOk, if◌then◌else◌};
+ghost use Rattle.std.specs.Prelude.{◌≡◌, ◌<◌, ℕ, [], false, not, OnErr, OnOk, IfOk, if◌then◌else◌};
 ghost use Rattle.std.specs.Option.{is_some, option_copied};
 ghost use Rattle.wsm_lists.specs.Entries.{Keyed, rows_of};
 ghost use Rattle.wsm_lists.specs.Keys.{put_role};
@@ -9,20 +9,20 @@ ghost use Rattle.wsm_lists.specs.Rows.{Ascends, put_row, drop_row, row_at};
 use crate::NoMemory;
 use crate::keys::{ByNode, Keys};
 use crate::roles::Roles;
-use crate::tables::Table;
+use crate::tables::{Table, are_below};
 use std::alloc::Global;
 use std::collections::BTreeMap;
 use std::marker::Model;
 
 /// A table that grows: a row is put in a time that grows with the logarithm of the number of rows. Its first rows stand in a
-/// list, since most tables stay that small.
+/// list, since most tables stay that small, and so do those that come in order, since no others are moved for them.
 #[derive(Drop)]
 pub struct GrowingTable<K: Keys> {
     few: Table<K>,
     more: BTreeMap<(u32, u32), K::Row>,
 }
 
-/// How many rows stand in a list before others go into a map.
+/// How many rows stand in a list, in whatever order they come, before others go into a map.
 const FEW_ROWS: usize = 16;
 
 impl<K: Keys> Model for GrowingTable<K> {
@@ -85,7 +85,7 @@ impl<K: Keys> GrowingTable<K> {
         ensures ok { OnOk result (self.new ≡ put_row K.key_of row self.old) }
         ensures err { OnErr result (self.new ≡ self.old) }
     {
-        if self.few.len() < FEW_ROWS || self.few.has(K::key(&row)) {
+        if goes_into_list::<K>(&self.few, K::key(&row)) {
             return self.few.set(row);
         }
         put_in_map::<K>(&mut self.more, row)?;
@@ -113,6 +113,14 @@ impl<K: Keys> GrowingTable<K> {
         put_all_in_map::<K>(&mut more, few.into_vec())?;
         table_of::<K>(alloc, more)
     }
+}
+
+// Whether a row of that key goes into the list: while that is short, where its key is behind all that are there, and where
+// it is there.
+fn goes_into_list<K: Keys>(list: &Table<K>, key: (u32, u32)) -> bool
+    ensures { result ≡ false → is_some (row_at K.key_of key list.now) ≡ false }
+{
+    list.len() < FEW_ROWS || are_below::<K>(list.as_slice(), key) || list.has(key)
 }
 
 // The rows of the map as a table.

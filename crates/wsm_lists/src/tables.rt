@@ -111,36 +111,45 @@ impl<K: Keys> Table<K> {
         run_of::<K>(&self.rows, number)
     }
 
+    // Whether the row of that key stands at the place that it would have.
+    fn has_at(&self, at: usize, key: (u32, u32)) -> bool
+        requires { at ≡ rows_below K.key_of key self.now }
+        ensures { result ≡ is_some (row_at K.key_of key self.now) }
+    {
+        row_with::<K>(&self.rows, at, key).is_some()
+    }
+
     /// One more row at its place. False, with no change, where its key is there.
     pub fn put(&mut self, row: K::Row) -> Result<bool, NoMemory>
         ensures added { IfOk result (λ added. added ≡ not (is_some (row_at K.key_of (K.key_of row) self.old))) }
         ensures rows { IfOk result (λ added. self.new ≡ (if added then put_row K.key_of row self.old else self.old)) }
         ensures err { OnErr result (self.new ≡ self.old) }
     {
-        if self.has(K::key(&row)) {
+        let at = self.place(K::key(&row));
+        if self.has_at(at, K::key(&row)) {
             return Ok(false);
         }
-        self.add(row)?;
+        self.add(at, row)?;
         Ok(true)
     }
 
     // One more row at its place, where its key is not there.
-    fn add(&mut self, row: K::Row) -> Result<(), NoMemory>
-        requires { is_some (row_at K.key_of (K.key_of row) self.old) ≡ false }
+    fn add(&mut self, at: usize, row: K::Row) -> Result<(), NoMemory>
+        requires place { at ≡ rows_below K.key_of (K.key_of row) self.old }
+        requires absent { is_some (row_at K.key_of (K.key_of row) self.old) ≡ false }
         ensures ok { OnOk result (self.new ≡ put_row K.key_of row self.old) }
         ensures err { OnErr result (self.new ≡ self.old) }
     {
-        let at = self.place(K::key(&row));
         self.rows.insert(at, row)?;
         Ok(())
     }
 
     // The row in place of the one with its key.
-    fn replace(&mut self, row: K::Row)
-        requires { is_some (row_at K.key_of (K.key_of row) self.old) ≡ true }
+    fn replace(&mut self, at: usize, row: K::Row)
+        requires place { at ≡ rows_below K.key_of (K.key_of row) self.old }
+        requires there { is_some (row_at K.key_of (K.key_of row) self.old) ≡ true }
         ensures { self.new ≡ put_row K.key_of row self.old }
     {
-        let at = self.place(K::key(&row));
         self.rows[at] = row;
     }
 
@@ -149,11 +158,12 @@ impl<K: Keys> Table<K> {
         ensures ok { OnOk result (self.new ≡ put_row K.key_of row self.old) }
         ensures err { OnErr result (self.new ≡ self.old) }
     {
-        if self.has(K::key(&row)) {
-            self.replace(row);
+        let at = self.place(K::key(&row));
+        if self.has_at(at, K::key(&row)) {
+            self.replace(at, row);
             return Ok(());
         }
-        self.add(row)
+        self.add(at, row)
     }
 
     /// Without the row of that key.
@@ -188,8 +198,31 @@ where
     }
 }
 
-// How many rows have a key below `key`, by a binary search.
+// How many rows have a key below `key`: all, where the last one's is, since rows mostly come in order.
 fn place_of<K: Keys>(rows: &[K::Row], key: (u32, u32)) -> usize
+    requires { Ascends K.key_of rows.now }
+    ensures { result ≡ rows_below K.key_of key rows.now }
+{
+    if are_below::<K>(rows, key) {
+        rows.len()
+    } else {
+        searched_place::<K>(rows, key)
+    }
+}
+
+// Whether all rows have keys below `key`, as the last one tells.
+pub(crate) fn are_below<K: Keys>(rows: &[K::Row], key: (u32, u32)) -> bool
+    requires { Ascends K.key_of rows.now }
+    ensures { result ≡ true → rows_below K.key_of key rows.now ≡ length rows.now }
+{
+    match rows.last() {
+        None => true,
+        Some(row) => is_below(K::key(row), key),
+    }
+}
+
+// How many rows have a key below `key`, by a binary search.
+fn searched_place<K: Keys>(rows: &[K::Row], key: (u32, u32)) -> usize
     requires { Ascends K.key_of rows.now }
     ensures { result ≡ rows_below K.key_of key rows.now }
 {

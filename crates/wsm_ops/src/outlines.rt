@@ -3,7 +3,7 @@ ghost use Rattle.std.specs.Prelude.{◌≡◌, ◌<◌, ◌≤◌, ◌++◌, len
 ghost use Rattle.std.specs.List.{remove};
 ghost use Rattle.std.specs.Option.{option_copied};
 ghost use Rattle.wsm_ops.specs.Outline.{is_node, at_gap, seat_at, has_head, behind, before, without_node, IsOnce};
-ghost use Rattle.wsm_ops.specs.Places.{seat_there, place_of, IsPlace, IsFound, IsNoted};
+ghost use Rattle.wsm_ops.specs.Places.{seat_there, place_of, passes, IsPlace, IsFound, IsNoted};
 ghost use Rattle.wsm_ops.specs.declared.operations.Gap.TheVariants.{After};
 
 use crate::operations::Gap;
@@ -13,14 +13,13 @@ use std::alloc::Global;
 use std::marker::Model;
 use wsm_schema::NoMemory;
 
-/// The pieces of a schema, in document order. Where it is noted where nodes were put, a node is looked for there, and is not
-/// far from there: as many places further on as pieces were put since, or as many before as were taken.
+/// The pieces of a schema, in document order. Where it is noted where nodes were put, a node is looked for around that place,
+/// and is not far from it: no farther than pieces were put or taken since.
 #[derive(Drop)]
 pub struct Outline {
     pieces: Vec<Piece>,
     is_noted: bool,
     places: Places,
-    taken: usize,
 }
 
 impl Model for Outline {
@@ -47,7 +46,6 @@ impl Outline {
             pieces,
             is_noted,
             places,
-            taken: 0,
         })
     }
 
@@ -85,11 +83,7 @@ impl Outline {
         }
         match self.places.get(node) {
             None => None,
-            Some(at) => place_from(
-                &self.pieces,
-                at.saturating_sub(self.taken),
-                Gap::After(node),
-            ),
+            Some(at) => place_around(&self.pieces, at, Gap::After(node)),
         }
     }
 
@@ -154,7 +148,6 @@ impl Outline {
     {
         let mut all = self;
         all.pieces.remove(at);
-        all.taken = all.taken.saturating_add(1);
         all
     }
 }
@@ -173,26 +166,41 @@ fn places_of(alloc: Global, pieces: &[Piece], is_noted: bool) -> Result<Places, 
     Ok(places)
 }
 
-// Where a piece stands that the gap is behind, which is looked for from a place on first.
-fn place_from(pieces: &[Piece], from: usize, gap: Gap) -> Option<usize>
+// Where a piece stands that the gap is behind, which is looked for around a place first.
+fn place_around(pieces: &[Piece], around: usize, gap: Gap) -> Option<usize>
     ensures { IsPlace (at_gap gap) pieces.now result }
 {
-    match later_place(pieces, from, gap) {
+    match near_place(pieces, around, gap) {
         None => first_place(pieces, gap),
         found => found,
     }
 }
 
-// Such a place that is not before the given one, if there is one.
-fn later_place(pieces: &[Piece], from: usize, gap: Gap) -> Option<usize>
+// Such a place, of those that are nearest to the given one, if there is one near.
+fn near_place(pieces: &[Piece], around: usize, gap: Gap) -> Option<usize>
     ensures { IsFound (at_gap gap) pieces.now result }
 {
-    for at in from..pieces.len() {
-        if pieces[at].is_at(gap) {
-            return Some(at);
+    for far in 0..pieces.len() {
+        let behind = around.saturating_add(far);
+        if is_place(pieces, behind, gap) {
+            return Some(behind);
+        }
+        let before = around.saturating_sub(far);
+        if is_place(pieces, before, gap) {
+            return Some(before);
         }
     }
     None
+}
+
+// Whether a piece that the gap is behind stands there.
+fn is_place(pieces: &[Piece], at: usize, gap: Gap) -> bool
+    ensures { result ≡ passes (at_gap gap) (slice_get pieces.now at) }
+{
+    match piece_in(pieces, at) {
+        None => false,
+        Some(piece) => piece.is_at(gap),
+    }
 }
 
 // The first such place.
@@ -202,8 +210,22 @@ fn first_place(pieces: &[Piece], gap: Gap) -> Option<usize>
     pieces.iter().position(|piece| piece.is_at(gap))
 }
 
-// New pieces at a place, in their order.
+// New pieces at a place, in their order. One piece only moves those behind it.
 fn put_all(pieces: &mut Vec<Piece>, at: usize, new: &[Piece]) -> Result<(), NoMemory>
+    requires { at ≤ length pieces.old.items }
+    ensures { OnOk result (pieces.new.items ≡ take at pieces.old.items ++ (new.now ++ drop at pieces.old.items)) }
+{
+    match new {
+        [piece] => {
+            pieces.insert(at, *piece)?;
+            Ok(())
+        }
+        _ => put_many(pieces, at, new),
+    }
+}
+
+// New pieces at a place, in their order, behind which the others are copied.
+fn put_many(pieces: &mut Vec<Piece>, at: usize, new: &[Piece]) -> Result<(), NoMemory>
     requires { at ≤ length pieces.old.items }
     ensures { OnOk result (pieces.new.items ≡ take at pieces.old.items ++ (new.now ++ drop at pieces.old.items)) }
 {

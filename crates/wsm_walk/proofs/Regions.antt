@@ -25,7 +25,7 @@ use Rattle.wsm_walk.specs.Untouched.{Untouched}
 use Rattle.wsm_walk.proofs.Reached.{reached-closed, reached-keeps}
 
 -- writes to elements of the same kinds fit alike
-kinds-fit : (elements1 elements2 : List (ℕ × ElementKind)) (ws : Written) (ds : List ℕ) → AllRows (λ d. kind_in d elements1 ≡ kind_in d elements2) ds → fits_edges elements1 ws ds ≡ fits_edges elements2 ws ds
+pub kinds-fit : (elements1 elements2 : List (ℕ × ElementKind)) (ws : Written) (ds : List ℕ) → AllRows (λ d. kind_in d elements1 ≡ kind_in d elements2) ds → fits_edges elements1 ws ds ≡ fits_edges elements2 ws ds
 kinds-fit elements1 elements2 [] [] same = refl
 kinds-fit elements1 elements2 [] (d ∷ ds) same = refl
 kinds-fit elements1 elements2 (w ∷ ws) [] same = refl

@@ -2,7 +2,6 @@
 use Rattle.std.proofs.Common.{◌≡◌, ◌++◌, flat_map, Option, Some, None, refl}
 use Rattle.std.specs.Prelude.{codes, decimal}
 use Rattle.std.specs.List.{sum_by}
-use Rattle.audit_model.proofs.Texts.{EndsLine, ends-behind, line-feed}
 use Rattle.case_core.specs.CaseModel.{LiveModel}
 use Rattle.case_core.specs.Shown.{items_of}
 use Rattle.file_model.specs.declared.files.CaseDecl.{CaseDecl}
@@ -14,6 +13,7 @@ use Rattle.report_words.specs.Totals.{case_totals}
 use Rattle.report_words.specs.Words.{type_text}
 use Rattle.report_words.specs.declared.totals.Fate.TheVariants as fate
 use Rattle.script_run.specs.declared.runs.Run.{Run}
+use Rattle.audit_model.proofs.Texts.{EndsLine, ends-behind, line-feed}
 
 pub head-ends : (f : File) (d : CaseDecl) → EndsLine (case_head f d)
 head-ends f d = ends-behind (codes "case ") _ (ends-behind d.name _ (ends-behind (codes " " ++ type_text f d.id.type_no) (codes "\n") line-feed))

@@ -2,7 +2,7 @@ use Rattle.std.proofs.Common.{rules, of_calls}
 use Rattle.std.proofs.lemmas.List.Sorted.{IsPartitionPoint-from_clause}
 use Rattle.wsm_lists.specs.Rows.{key_lt}
 use Rattle.wsm_lists.proofs.Rows.{ascends-partitioned, rows_below-point}
-use Rattle.wsm_lists.proofs.tables.place_of.Goals as goal
+use Rattle.wsm_lists.proofs.tables.searched_place.Goals as goal
 
 pub returns : goal.returns
 returns g c =
