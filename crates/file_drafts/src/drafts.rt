@@ -40,15 +40,16 @@ pub struct Draft {
 
 impl Draft {
     /// A type of this name, before its first line.
-    pub fn new(alloc: Global, name: Name64) -> Draft
-        ensures { result ≡ new_draft name }
+    pub fn new(alloc: Global, name: Name64) -> Result<Draft, NoMemory>
+        ensures { IfOk result (λ draft. draft ≡ new_draft name) }
     {
-        Draft {
+        let schema = GrowingSchema::new(alloc, START, FINISH)?;
+        Ok(Draft {
             name,
             frames: Frames::new(alloc),
             here: Sequence::new(alloc),
-            schema: GrowingSchema::new(alloc, START, FINISH),
-        }
+            schema,
+        })
     }
 
     /// How many blocks are open.

@@ -12,9 +12,9 @@ use std::marker::Model;
 use wsm_lists::{ByEdge, ByElement, ByRead, ElementKind, GrowingRoles, GrowingTable, NoMemory};
 use wsm_schema::{Items, Schema};
 
-/// The lists of a schema between two nodes, while rows are put in any order.
+// What a growing schema holds.
 #[derive(Drop)]
-pub struct GrowingSchema {
+struct GrowingLists {
     start: u32,
     finish: u32,
     syncs: GrowingTable<ByEdge>,
@@ -22,6 +22,12 @@ pub struct GrowingSchema {
     reads: GrowingTable<ByRead>,
     writes: GrowingTable<ByEdge>,
     roles: GrowingRoles,
+}
+
+/// The lists of a schema between two nodes, while rows are put in any order. They lie in a box, so a draft is small.
+#[derive(Drop)]
+pub struct GrowingSchema {
+    lists: Box<GrowingLists>,
 }
 
 impl Model for GrowingSchema {
@@ -32,23 +38,27 @@ impl Model for GrowingSchema {
 
     ghost coded = { schema_code };
 
-    ghost view = { λ a. record { start = a.start; finish = a.finish; body = nothing; syncs = a.syncs; elements = a.elements; reads = a.reads; writes = a.writes; roles = a.roles } };
+    ghost view = { λ a. record { start = a.lists.value.start; finish = a.lists.value.finish; body = nothing; syncs = a.lists.value.syncs; elements = a.lists.value.elements; reads = a.lists.value.reads; writes = a.lists.value.writes; roles = a.lists.value.roles } };
 }
 
 impl GrowingSchema {
     /// A schema between two nodes, with empty lists.
-    pub fn new(alloc: Global, start: u32, finish: u32) -> GrowingSchema
-        ensures { result ≡ plain start finish nothing }
+    pub fn new(alloc: Global, start: u32, finish: u32) -> Result<GrowingSchema, NoMemory>
+        ensures { IfOk result (λ schema. schema ≡ plain start finish nothing) }
     {
-        GrowingSchema {
-            start,
-            finish,
-            syncs: GrowingTable::new(alloc),
-            elements: GrowingTable::new(alloc),
-            reads: GrowingTable::new(alloc),
-            writes: GrowingTable::new(alloc),
-            roles: GrowingRoles::new(alloc),
-        }
+        let lists = Box::new(
+            alloc,
+            GrowingLists {
+                start,
+                finish,
+                syncs: GrowingTable::new(alloc),
+                elements: GrowingTable::new(alloc),
+                reads: GrowingTable::new(alloc),
+                writes: GrowingTable::new(alloc),
+                roles: GrowingRoles::new(alloc),
+            },
+        )?;
+        Ok(GrowingSchema { lists })
     }
 
     /// One more sync edge. False, with no change, where the edge is there.
@@ -57,7 +67,7 @@ impl GrowingSchema {
         ensures rows { IfOk result (λ added. self.new ≡ (if added then record self.old { syncs = put_row both (source, target) self.old.syncs } else self.old)) }
         ensures err { OnErr result (self.new ≡ self.old) }
     {
-        self.syncs.put((source, target))
+        self.lists.syncs.put((source, target))
     }
 
     /// One more element. False, with no change, where it is there.
@@ -66,7 +76,7 @@ impl GrowingSchema {
         ensures rows { IfOk result (λ added. self.new ≡ (if added then record self.old { elements = put_row first (element, kind) self.old.elements } else self.old)) }
         ensures err { OnErr result (self.new ≡ self.old) }
     {
-        self.elements.put((element, kind))
+        self.lists.elements.put((element, kind))
     }
 
     /// One more read. False, with no change, where the node's read of the element is there.
@@ -75,7 +85,7 @@ impl GrowingSchema {
         ensures rows { IfOk result (λ added. self.new ≡ (if added then record self.old { reads = put_row first_two (node, element, mandatory) self.old.reads } else self.old)) }
         ensures err { OnErr result (self.new ≡ self.old) }
     {
-        self.reads.put((node, element, mandatory))
+        self.lists.reads.put((node, element, mandatory))
     }
 
     /// One more write. False, with no change, where the node's write of the element is there.
@@ -84,7 +94,7 @@ impl GrowingSchema {
         ensures rows { IfOk result (λ added. self.new ≡ (if added then record self.old { writes = put_row both (node, element) self.old.writes } else self.old)) }
         ensures err { OnErr result (self.new ≡ self.old) }
     {
-        self.writes.put((node, element))
+        self.lists.writes.put((node, element))
     }
 
     /// The role of the node is then `role`, where 0 lets everybody work on it.
@@ -92,22 +102,23 @@ impl GrowingSchema {
         ensures ok { OnOk result (self.new ≡ record self.old { roles = put_role node role self.old.roles }) }
         ensures err { OnErr result (self.new ≡ self.old) }
     {
-        self.roles.put(node, role)
+        self.lists.roles.put(node, role)
     }
 
     /// The schema with these lists and this body, which grows no more.
     pub fn into_schema(self, alloc: Global, body: Items) -> Result<Schema, NoMemory>
         ensures { IfOk result (λ schema. schema ≡ record self { body = parts_of body.items }) }
     {
+        let lists = Box::into_inner(self.lists);
         Ok(Schema {
-            start: self.start,
-            finish: self.finish,
+            start: lists.start,
+            finish: lists.finish,
             body,
-            syncs: self.syncs.into_table(alloc)?,
-            elements: self.elements.into_table(alloc)?,
-            reads: self.reads.into_table(alloc)?,
-            writes: self.writes.into_table(alloc)?,
-            roles: self.roles.into_roles(alloc)?,
+            syncs: lists.syncs.into_table(alloc)?,
+            elements: lists.elements.into_table(alloc)?,
+            reads: lists.reads.into_table(alloc)?,
+            writes: lists.writes.into_table(alloc)?,
+            roles: lists.roles.into_roles(alloc)?,
         })
     }
 }

@@ -64,7 +64,7 @@ fn with_type(contents: &mut Contents, alloc: Global, name: NameWord<'_>) -> Resu
     if contents.types.items.len() >= MAX_TYPES {
         return Err(Stop::Refused(Why::Limit(FileLimit::Types)));
     }
-    let draft = Draft::new(alloc, Name64::of_word(alloc, name)?);
+    let draft = Draft::new(alloc, Name64::of_word(alloc, name)?)?;
     Ok(Section::InType(draft))
 }
 

@@ -1,3 +1,4 @@
 pub mod Examples
 pub mod LineSplits
 pub mod WordSplits
+pub mod WordLengths

@@ -1,8 +1,8 @@
 -- The first word of a line, and those behind it.
-use Rattle.std.proofs.Common.{◌≡◌, ℕ, suc, true, false, List, [], ◌∷◌, filter, take, drop, length, refl, ap, sym, ◌∙◌, IsTrue, inl, inr, arith, ◌<◌, rules}
+use Rattle.std.proofs.Common.{◌≡◌, ℕ, suc, ◌+◌, true, false, List, [], ◌∷◌, filter, take, drop, length, refl, ap, sym, ◌∙◌, IsTrue, inl, inr, arith, ◌<◌, ◌==◌, rules}
 use Rattle.std.proofs.lemmas.Bool.{cases_Bool}
 use Rattle.file_words.specs.Lines.{Bytes}
-use Rattle.file_words.specs.Words.{cuts, behind, fields, is_word, words_of, word_end, begins_word}
+use Rattle.file_words.specs.Words.{cuts, behind, fields, is_word, words_of, word_end, is_bare, bare_end, begins_word}
 use Rattle.file_words.specs.declared.words.Quote.{Quote}
 use Rattle.file_words.specs.declared.words.Quote.TheVariants.{Outside, Inside, Escaped}
 
@@ -42,3 +42,21 @@ first_word_split (b ∷ bs) w more =
     let no_cut : cuts Outside b ≡ false = begun b bs w in
     let behind_it : filter is_word split.0 ≡ words_of (drop (suc (word_end (behind Outside b) bs)) (b ∷ bs)) = rw no_cut at split.2 in
     ap (filter is_word) split.1 ∙ rw no_cut (ap (λ ws. (b ∷ take (word_end (behind Outside b) bs) bs) ∷ ws) behind_it)
+
+-- a bare byte cuts nothing, and what follows it stands outside as well
+pub bare_is_no_blank : (b : ℕ) → is_bare b ≡ true → cuts Outside b ≡ false
+bare_is_no_blank b is = grind arith
+
+pub bare_is_no_quote : (b : ℕ) → is_bare b ≡ true → (b == 34) ≡ false
+bare_is_no_quote b is = grind arith
+
+-- behind its bare bytes the word goes on as from its front
+pub bare_first : (bs : Bytes) → bare_end bs + word_end Outside (drop (bare_end bs) bs) ≡ word_end Outside bs
+bare_first [] = refl
+bare_first (b ∷ bs) =
+    elim (cases_Bool (is_bare b)) [
+      | inl is ↦
+          let rest : suc (bare_end bs) + word_end Outside (drop (bare_end bs) bs) ≡ suc (word_end Outside bs) = omega (arith, bare_first bs) in
+          rw (is, bare_is_no_blank b is, bare_is_no_quote b is) rest
+      | inr other ↦ rw other (omega arith)
+    ]

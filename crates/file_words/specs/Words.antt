@@ -53,6 +53,14 @@ abbrev pub word_end : Quote → Bytes → ℕ
 word_end q [] = 0
 word_end q (b ∷ bs) = if cuts q b then 0 else suc (word_end (behind q b) bs)
 
+-- a byte that neither separates words nor begins a quoted text, and how many stand before the first other one
+abbrev pub is_bare : ℕ → Bool
+is_bare b = not (is_blank b || b == 34)
+
+abbrev pub bare_end : Bytes → ℕ
+bare_end [] = 0
+bare_end (b ∷ bs) = if is_bare b then suc (bare_end bs) else 0
+
 -- nothing, or no blank at the front
 abbrev pub begins_word : Bytes → Bool
 begins_word [] = true

@@ -24,10 +24,13 @@ fn has_long_text(word: &[u8]) -> bool
     }
 }
 
-/// What a word has that is too long.
+/// What a word has that is too long: nothing, where it is no longer than a name may be, since its parts are shorter.
 fn long(word: &[u8]) -> Option<TooLong>
     ensures { result ≡ long word.now }
 {
+    if word.len() <= MAX_NAME {
+        return None;
+    }
     let (name, value) = parts_at_equals(word).unwrap_or((word, b""));
     if name.len() > MAX_NAME {
         Some(TooLong::Name)

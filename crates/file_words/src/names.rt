@@ -10,11 +10,22 @@ fn starts_name(byte: u8) -> bool
     matches!(byte, b'a'..=b'z' | b'A'..=b'Z' | b'_')
 }
 
+// Each byte that may stand in a name stands at its own place, and a comma at every other place.
+static IN_NAMES: [u8; 256] = *b"\
+    ,,,,,,,,,,,,,,,,,,,,,,,,,,,,,,,,\
+    ,,,,,,,,,,,,,-.,0123456789,,,,,,\
+    ,ABCDEFGHIJKLMNOPQRSTUVWXYZ,,,,_\
+    ,abcdefghijklmnopqrstuvwxyz,,,,,\
+    ,,,,,,,,,,,,,,,,,,,,,,,,,,,,,,,,\
+    ,,,,,,,,,,,,,,,,,,,,,,,,,,,,,,,,\
+    ,,,,,,,,,,,,,,,,,,,,,,,,,,,,,,,,\
+    ,,,,,,,,,,,,,,,,,,,,,,,,,,,,,,,,";
+
 /// Also a digit, `-` or `.`.
 fn in_name(byte: u8) -> bool
     ensures { result ≡ in_name byte }
 {
-    starts_name(byte) || matches!(byte, b'0'..=b'9' | b'-' | b'.')
+    IN_NAMES[byte as usize] != b','
 }
 
 fn all_in_name(word: &[u8]) -> bool

@@ -1,7 +1,7 @@
 // Words of a line.
 ghost use Rattle.std.specs.Prelude.{◌≡◌, ◌≤◌, length, IfOk, OnOk, IsTrue, MatchOption, [], ◌∷◌};
 ghost use Rattle.file_words.specs.declared.words.Quote.TheVariants.{Outside};
-ghost use Rattle.file_words.specs.Words.{cuts, behind, words_of, word_end, begins_word, is_comment, is_skipped};
+ghost use Rattle.file_words.specs.Words.{cuts, behind, words_of, word_end, is_bare, bare_end, begins_word, is_comment, is_skipped};
 ghost use Rattle.file_words.specs.Shown.{shown};
 
 use std::alloc::Global;
@@ -56,13 +56,32 @@ fn skip_blanks(line: &[u8]) -> &[u8]
     rest
 }
 
+/// A byte that neither separates words nor begins a quoted text.
+fn is_bare(byte: u8) -> bool
+    ensures { result ≡ is_bare byte }
+{
+    byte > b'"' || !matches!(byte, b' ' | b'\t' | b'"')
+}
+
+/// How many bare bytes the line begins with.
+fn bare_end(line: &[u8]) -> usize
+    ensures within { result ≤ length line.now }
+    ensures end { result ≡ bare_end line.now }
+{
+    let mut i = 0;
+    while i < line.len() && is_bare(line[i]) {
+        i += 1;
+    }
+    i
+}
+
 /// How long the word is that begins the line.
 fn word_end(line: &[u8]) -> usize
     ensures within { result ≤ length line.now }
     ensures end { result ≡ word_end Outside line.now }
 {
     let mut quote = Quote::Outside;
-    let mut i = 0;
+    let mut i = bare_end(line);
     while i < line.len() && !cuts(quote, line[i]) {
         quote = behind(quote, line[i]);
         i += 1;

@@ -29,7 +29,7 @@ fn blocks(alloc: Global, draft: Draft) -> Result<usize, NoMemory> {
 }
 
 fn closed(alloc: Global, name: Name64) -> Result<(usize, usize), NoMemory> {
-    depth_and_blocks(alloc, Draft::new(alloc, name))
+    depth_and_blocks(alloc, Draft::new(alloc, name)?)
 }
 
 #[test]
