@@ -7,7 +7,8 @@ use Rattle.wsm_schema.specs.Tree.{Part, Parts, Lanes, act, gate, loop, nothing, 
 use Rattle.wsm_schema.specs.SchemaModel.{SchemaModel}
 use Rattle.wsm_schema.specs.Flat.{cards_of}
 use Rattle.wsm_schema.proofs.TreeNodes.{part_nodes, parts_nodes, lanes_nodes, nodes-of_tree}
-use Rattle.wsm_block.specs.Sizes.{part_size, parts_size, lanes_size, room_behind}
+use Rattle.wsm_schema.specs.Sizes.{part_size, parts_size, lanes_size}
+use Rattle.wsm_block.specs.Sizes.{room_behind}
 
 mutual
   part-size : (p : Part) → length (part_nodes p) ≡ part_size p

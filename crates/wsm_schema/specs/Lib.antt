@@ -1,6 +1,7 @@
 pub mod Tree
 pub mod Tokens
 pub mod TreeOf
+pub mod Sizes
 pub mod Ends
 pub mod Kinds
 pub mod SchemaModel

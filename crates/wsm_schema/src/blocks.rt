@@ -1,5 +1,7 @@
 // The tree of blocks between start and finish.
-ghost use Rattle.std.specs.Prelude.{◌≡◌, IfOk};
+ghost use Rattle.std.specs.Prelude.{◌≡◌, ◌-◌, ◌^◌, min, IfOk};
+ghost use Rattle.wsm_schema.specs.Sizes.{part_size, parts_size, lanes_size};
+ghost use Rattle.wsm_schema.specs.Tree.{lanes};
 ghost use Rattle.wsm_schema.specs.TreeOf.{part_of, parts_of, lanes_of};
 ghost use Rattle.wsm_schema.specs.Ends.{first_node, first_of, last_of};
 ghost use Rattle.wsm_schema.specs.Places.{leaving};
@@ -89,6 +91,41 @@ pub fn leaving(items: &[Block], from: End) -> End
         last = End::plain(block.last());
     }
     last
+}
+
+/// How many nodes the items have.
+#[cycle(count)]
+pub fn nodes_in(items: &[Block]) -> usize
+    ensures { result ≡ min (parts_size (parts_of items.now)) (2 ^ 64 - 1) }
+{
+    let mut count: usize = 0;
+    for i in 0..items.len() {
+        count = count.saturating_add(nodes_in_block(&items[i]));
+    }
+    count
+}
+
+#[cycle(count)]
+fn nodes_in_block(block: &Block) -> usize
+    ensures { result ≡ min (part_size (part_of block.now)) (2 ^ 64 - 1) }
+{
+    match block {
+        Block::Act(_) => 1,
+        Block::And { branches, .. } => nodes_in_branches(branches).saturating_add(2),
+        Block::Xor { branches, .. } => nodes_in_branches(branches).saturating_add(2),
+        Block::Loop { body, .. } => nodes_in(body).saturating_add(2),
+    }
+}
+
+#[cycle(count)]
+fn nodes_in_branches(branches: &[Branch]) -> usize
+    ensures { result ≡ min (lanes_size (lanes (lanes_of branches.now))) (2 ^ 64 - 1) }
+{
+    let mut count: usize = 0;
+    for i in 0..branches.len() {
+        count = count.saturating_add(nodes_in(&branches[i].items));
+    }
+    count
 }
 
 #[cycle(copy)]

@@ -6,7 +6,7 @@ ghost use Rattle.wsm_schema.specs.Tree.{lanes};
 ghost use Rattle.wsm_schema.specs.TreeOf.{part_of, parts_of, lanes_of};
 ghost use Rattle.wsm_schema.specs.Enclosures.{enclosure, parts_round, part_ways, are_bound, are_free, innermost_loop, part_walk, parts_walk, lanes_walk, schema_walk};
 
-use crate::blocks::{Block, Branch};
+use crate::blocks::{Block, Branch, nodes_in};
 use crate::cards::NodeKind;
 use crate::flats::Flat;
 use crate::schemas::Schema;
@@ -169,7 +169,7 @@ fn innermost_loop(blocks: &[Enclosure]) -> Option<u32>
 fn walk(alloc: Global, body: &[Block]) -> Result<Vec<Enclosing>, NoMemory>
     ensures { IfOk result (λ all. all.items ≡ schema_walk (parts_of body.now)) }
 {
-    let mut all = Vec::new(alloc);
+    let mut all = Vec::with_capacity(alloc, nodes_in(body).saturating_add(2))?;
     put(alloc, &mut all, &[])?;
     put_items(alloc, &mut all, body, &[])?;
     put(alloc, &mut all, &[])?;

@@ -8,7 +8,7 @@ ghost use Rattle.wsm_schema.specs.Places.{part_places, parts_places, lanes_place
 ghost use Rattle.wsm_schema.specs.Groups.{numbered};
 ghost use Rattle.wsm_schema.specs.Flat.{card_of, flat_of, cards_of, card_at, kind_in, loop_nodes, loop_start, up_to_node, from_node};
 
-use crate::blocks::{Block, Branch, first_node};
+use crate::blocks::{Block, Branch, first_node, nodes_in};
 use crate::card_lists::Lists;
 use crate::cards::{Card, End, NodeKind};
 use crate::groups::Groups;
@@ -47,8 +47,7 @@ impl Flat {
         ensures { IfOk result (λ flat. flat ≡ flat_of schema.now) }
     {
         let elements = schema.elements.copy(alloc)?;
-        let mut cards = all_cards(alloc, schema)?;
-        cards.shrink_to_fit();
+        let cards = all_cards(alloc, schema)?;
         let index = Groups::of(numbered(alloc, &cards)?)?;
         Ok(Flat {
             cards,
@@ -142,7 +141,7 @@ fn card_in(cards: &[Card], place: usize) -> Option<&Card>
 fn numbered(alloc: Global, cards: &[Card]) -> Result<Vec<(u32, usize)>, NoMemory>
     ensures { IfOk result (λ new. new.items ≡ numbered 0 cards.now) }
 {
-    let mut all = Vec::new(alloc);
+    let mut all = Vec::with_capacity(alloc, cards.len())?;
     for (place, card) in cards.iter().enumerate() {
         all.push((card.node, place))?;
     }
@@ -176,7 +175,7 @@ fn cards_by(alloc: Global, schema: &Schema, lists: &Lists) -> Result<Vec<Card>, 
     requires { lists.now ≡ schema.now }
     ensures { IfOk result (λ all. all.items ≡ cards_of schema.now) }
 {
-    let mut all = Vec::new(alloc);
+    let mut all = Vec::with_capacity(alloc, nodes_in(&schema.body).saturating_add(2))?;
     let start = start_place(alloc, schema.start, &schema.body, schema.finish)?;
     put(alloc, &mut all, lists, start)?;
     let from = End::plain(schema.start);

@@ -151,7 +151,7 @@ pub fn loop_end_place(
 fn heads(alloc: Global, branches: &[Branch], join: u32) -> Result<Ends, NoMemory>
     ensures { IfOk result (λ new. new ≡ branch_heads (lanes (lanes_of branches.now)) join) }
 {
-    let mut all = Vec::new(alloc);
+    let mut all = Vec::with_capacity(alloc, branches.len())?;
     for branch in branches {
         let next = first_node(&branch.items, join);
         all.push(End::labelled(next, branch.code))?;
@@ -163,7 +163,7 @@ fn heads(alloc: Global, branches: &[Branch], join: u32) -> Result<Ends, NoMemory
 fn tails(alloc: Global, branches: &[Branch], split: u32) -> Result<Ends, NoMemory>
     ensures { IfOk result (λ new. new ≡ branch_tails (lanes (lanes_of branches.now)) split) }
 {
-    let mut all = Vec::new(alloc);
+    let mut all = Vec::with_capacity(alloc, branches.len())?;
     for branch in branches {
         let from = End::labelled(split, branch.code);
         all.push(leaving(&branch.items, from))?;

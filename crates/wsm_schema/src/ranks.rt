@@ -57,7 +57,7 @@ impl Rank {
 fn placed(alloc: Global, nodes: &[u32]) -> Result<Vec<(u32, usize)>, NoMemory>
     ensures { IfOk result (λ new. new.items ≡ placed 0 nodes.now) }
 {
-    let mut all = Vec::new(alloc);
+    let mut all = Vec::with_capacity(alloc, nodes.len())?;
     for (place, node) in nodes.iter().enumerate() {
         all.push((*node, place))?;
     }

@@ -1,7 +1,8 @@
 use Rattle.std.proofs.Common.{◌≡◌, drop}
 use Rattle.wsm_schema.specs.Tree.{lanes}
 use Rattle.wsm_schema.specs.TreeOf.{parts_of, lanes_of}
-use Rattle.wsm_block.specs.Sizes.{parts_size, lanes_size, room_behind}
+use Rattle.wsm_schema.specs.Sizes.{parts_size, lanes_size}
+use Rattle.wsm_block.specs.Sizes.{room_behind}
 use Rattle.wsm_block.proofs.limits.+room.Given as goal
 
 abbrev pub invariant-room_behind-loop-i : goal.invariant-room_behind-loop-i
