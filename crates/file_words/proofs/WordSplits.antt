@@ -1,5 +1,5 @@
 -- The first word of a line, and those behind it.
-use Rattle.std.proofs.Common.{◌≡◌, ℕ, suc, ◌+◌, true, false, List, [], ◌∷◌, filter, take, drop, length, refl, ap, sym, ◌∙◌, IsTrue, inl, inr, arith, ◌<◌, ◌==◌, rules}
+use Rattle.std.proofs.Common.{◌≡◌, ℕ, suc, ◌+◌, true, false, List, [], ◌∷◌, filter, take, drop, length, refl, ap, sym, ◌∙◌, IsTrue, inl, inr, arith, ◌<◌, ◌==◌, get_or, rules}
 use Rattle.std.proofs.lemmas.Bool.{cases_Bool}
 use Rattle.file_words.specs.Lines.{Bytes}
 use Rattle.file_words.specs.Words.{cuts, behind, fields, is_word, words_of, word_end, is_bare, bare_end, begins_word}
@@ -59,4 +59,21 @@ bare_first (b ∷ bs) =
           let rest : suc (bare_end bs) + word_end Outside (drop (bare_end bs) bs) ≡ suc (word_end Outside bs) = omega (arith, bare_first bs) in
           rw (is, bare_is_no_blank b is, bare_is_no_quote b is) rest
       | inr other ↦ rw other (omega arith)
+    ]
+
+-- any other byte but a quotation mark cuts
+pub other_cuts : (b : ℕ) → is_bare b ≡ false → (b ≡ 34 → ⊥) → cuts Outside b ≡ true
+other_cuts b other no_quote = grind arith
+
+-- where no quotation mark stands behind them, they are the word
+pub bare_whole : (bs : Bytes) → (bare_end bs < length bs → get_or bs (bare_end bs) 0 ≡ 34 → ⊥) → word_end Outside bs ≡ bare_end bs
+bare_whole [] no_quote = refl
+bare_whole (b ∷ bs) no_quote =
+    elim (cases_Bool (is_bare b)) [
+      | inl is ↦
+          let further : bare_end bs < length bs → get_or bs (bare_end bs) 0 ≡ 34 → ⊥ = λ lt same. (rw is at no_quote) (omega arith) same in
+          rw (is, bare_is_no_blank b is, bare_is_no_quote b is) (ap suc (bare_whole bs further))
+      | inr other ↦
+          let cut_here : cuts Outside b ≡ true = other_cuts b other (λ same. (rw other at no_quote) (omega arith) same) in
+          rw (other, cut_here) refl
     ]

@@ -1,5 +1,5 @@
 // Words of a line.
-ghost use Rattle.std.specs.Prelude.{◌≡◌, ◌≤◌, length, IfOk, OnOk, IsTrue, MatchOption, [], ◌∷◌};
+ghost use Rattle.std.specs.Prelude.{◌≡◌, ◌≤◌, ◌+◌, length, drop, IfOk, OnOk, IsTrue, MatchOption, [], ◌∷◌};
 ghost use Rattle.file_words.specs.declared.words.Quote.TheVariants.{Outside};
 ghost use Rattle.file_words.specs.Words.{cuts, behind, words_of, word_end, is_bare, bare_end, begins_word, is_comment, is_skipped};
 ghost use Rattle.file_words.specs.Shown.{shown};
@@ -75,18 +75,32 @@ fn bare_end(line: &[u8]) -> usize
     i
 }
 
-/// How long the word is that begins the line.
-fn word_end(line: &[u8]) -> usize
+/// Where a word ends that goes on at `front`, outside of a quoted text.
+fn quoted_end(line: &[u8], front: usize) -> usize
+    requires within { front ≤ length line.now }
     ensures within { result ≤ length line.now }
-    ensures end { result ≡ word_end Outside line.now }
+    ensures end { result ≡ front + word_end Outside (drop front line.now) }
 {
     let mut quote = Quote::Outside;
-    let mut i = bare_end(line);
+    let mut i = front;
     while i < line.len() && !cuts(quote, line[i]) {
         quote = behind(quote, line[i]);
         i += 1;
     }
     i
+}
+
+/// How long the word is that begins the line.
+fn word_end(line: &[u8]) -> usize
+    ensures within { result ≤ length line.now }
+    ensures end { result ≡ word_end Outside line.now }
+{
+    let front = bare_end(line);
+    if front < line.len() && line[front] == b'"' {
+        quoted_end(line, front)
+    } else {
+        front
+    }
 }
 
 /// The first word, and the line behind it.
