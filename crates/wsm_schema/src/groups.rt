@@ -1,5 +1,5 @@
 // Rows grouped by a number.
-ghost use Rattle.std.specs.Prelude.{◌≡◌, ◌≤◌, ◌↔◌, length, slice_get, IfOk, IfSome, IsTrue};
+ghost use Rattle.std.specs.Prelude.{◌≡◌, ◌≤◌, length, slice_get, IfOk, IfSome};
 ghost use Rattle.std.specs.Option.{option_copied};
 ghost use Rattle.std.specs.List.Sorted.{IsNonDecreasingBy};
 ghost use Rattle.wsm_schema.specs.Groups.{has_number, rows_with, starts_at, SameGroups, IsStart, IsEnd};
@@ -29,9 +29,6 @@ impl<T: Drop> Groups<T> {
     pub fn of(mut rows: Vec<(u32, T)>) -> Result<Self, NoMemory>
         ensures { IfOk result (λ new. SameGroups rows.items new) }
     {
-        if ascend(&rows) {
-            return Ok(Groups { rows });
-        }
         rows.sort_by_key(|row| row.0)?;
         Ok(Groups { rows })
     }
@@ -50,18 +47,6 @@ impl<T: Drop> Groups<T> {
         let at = start_of(&self.rows, number);
         row_with(&self.rows, at, number)
     }
-}
-
-// Whether no row has a smaller number than the one before it.
-fn ascend<T>(rows: &[(u32, T)]) -> bool
-    ensures { IsTrue result ↔ IsNonDecreasingBy (λ r. r.0) rows.now }
-{
-    for i in 1..rows.len() {
-        if rows[i].0 < rows[i - 1].0 {
-            return false;
-        }
-    }
-    true
 }
 
 // The rows of a number.
