@@ -83,7 +83,11 @@ fn onto(
 fn nodes_of(alloc: Global, cards: &[Card]) -> Result<Vec<u32>, NoMemory>
     ensures { IfOk result (λ nodes. nodes.items ≡ nodes_of cards.now) }
 {
-    cards.iter().map(|card| card.node).collect(alloc)
+    let mut nodes = Vec::with_capacity(alloc, cards.len())?;
+    for card in cards {
+        nodes.push(card.node)?;
+    }
+    Ok(nodes)
 }
 
 // The control edges, each with its source and target.

@@ -6,6 +6,7 @@ pub mod Ends
 pub mod Kinds
 pub mod SchemaModel
 pub mod Places
+pub mod Few
 pub mod Flat
 pub mod Rules
 pub mod Trail

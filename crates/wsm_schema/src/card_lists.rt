@@ -4,13 +4,13 @@ ghost use Rattle.wsm_lists.specs.Keys.{role_in};
 ghost use Rattle.wsm_schema.specs.Flat.{card_of};
 ghost use Rattle.wsm_schema.specs.Groups.{reversed};
 
-use crate::cards::{Card, CardReads};
+use crate::cards::{Card, CardNumbers, CardReads};
 use crate::groups::Groups;
 use crate::places::Place;
 use crate::schemas::Schema;
 use std::alloc::Global;
 use std::marker::Model;
-use wsm_lists::{NoMemory, Nodes};
+use wsm_lists::NoMemory;
 
 /// A schema whose sync edges are grouped by their targets too.
 #[derive(Drop)]
@@ -62,20 +62,18 @@ impl<'a> Lists<'a> {
     }
 
     // The nodes from which sync edges lead to a node.
-    fn syncs_into(&self, alloc: Global, node: u32) -> Result<Nodes, NoMemory>
+    fn syncs_into(&self, alloc: Global, node: u32) -> Result<CardNumbers, NoMemory>
         ensures { IfOk result (λ new. new ≡ map (λ e. e.0) (filter (λ e. e.1 == node) self.now.syncs)) }
     {
-        let sources = seconds_of(alloc, self.incoming.rows_with(node))?;
-        Ok(Nodes::from_vec(sources))
+        seconds_of(alloc, self.incoming.rows_with(node))
     }
 
     // The nodes to which sync edges lead from a node.
-    fn syncs_from(&self, alloc: Global, node: u32) -> Result<Nodes, NoMemory>
+    fn syncs_from(&self, alloc: Global, node: u32) -> Result<CardNumbers, NoMemory>
         ensures { IfOk result (λ new. new ≡ map (λ e. e.1) (filter (λ e. e.0 == node) self.now.syncs)) }
     {
         let schema = self.schema;
-        let targets = seconds_of(alloc, schema.syncs.rows_of(node))?;
-        Ok(Nodes::from_vec(targets))
+        seconds_of(alloc, schema.syncs.rows_of(node))
     }
 
     // The elements that a node reads.
@@ -83,17 +81,15 @@ impl<'a> Lists<'a> {
         ensures { IfOk result (λ new. new ≡ map (λ r. (r.1, r.2)) (filter (λ r. r.0 == node) self.now.reads)) }
     {
         let schema = self.schema;
-        let reads = reads_of(alloc, schema.reads.rows_of(node))?;
-        Ok(CardReads::from_vec(reads))
+        reads_of(alloc, schema.reads.rows_of(node))
     }
 
     // The elements that a node writes.
-    fn writes_by(&self, alloc: Global, node: u32) -> Result<Nodes, NoMemory>
+    fn writes_by(&self, alloc: Global, node: u32) -> Result<CardNumbers, NoMemory>
         ensures { IfOk result (λ new. new ≡ map (λ w. w.1) (filter (λ w. w.0 == node) self.now.writes)) }
     {
         let schema = self.schema;
-        let elements = seconds_of(alloc, schema.writes.rows_of(node))?;
-        Ok(Nodes::from_vec(elements))
+        seconds_of(alloc, schema.writes.rows_of(node))
     }
 
     // The role of a node.
@@ -113,14 +109,34 @@ fn reversed(alloc: Global, edges: &[(u32, u32)]) -> Result<Vec<(u32, u32)>, NoMe
 }
 
 // The second numbers of rows.
-fn seconds_of(alloc: Global, rows: &[(u32, u32)]) -> Result<Vec<u32>, NoMemory>
+fn seconds_of(alloc: Global, rows: &[(u32, u32)]) -> Result<CardNumbers, NoMemory>
+    ensures { IfOk result (λ new. new ≡ map (λ r. r.1) rows.now) }
+{
+    match rows {
+        [] => Ok(CardNumbers::new()),
+        [row] => Ok(CardNumbers::of_one(row.1)),
+        _ => CardNumbers::from_vec(alloc, list_seconds(alloc, rows)?),
+    }
+}
+
+fn list_seconds(alloc: Global, rows: &[(u32, u32)]) -> Result<Vec<u32>, NoMemory>
     ensures { IfOk result (λ new. new.items ≡ map (λ r. r.1) rows.now) }
 {
     rows.iter().map(|row| row.1).collect(alloc)
 }
 
 // The elements of reads, and whether each is mandatory.
-fn reads_of(alloc: Global, reads: &[(u32, u32, bool)]) -> Result<Vec<(u32, bool)>, NoMemory>
+fn reads_of(alloc: Global, reads: &[(u32, u32, bool)]) -> Result<CardReads, NoMemory>
+    ensures { IfOk result (λ new. new ≡ map (λ r. (r.1, r.2)) reads.now) }
+{
+    match reads {
+        [] => Ok(CardReads::new()),
+        [read] => Ok(CardReads::of_one((read.1, read.2))),
+        _ => CardReads::from_vec(alloc, list_reads(alloc, reads)?),
+    }
+}
+
+fn list_reads(alloc: Global, reads: &[(u32, u32, bool)]) -> Result<Vec<(u32, bool)>, NoMemory>
     ensures { IfOk result (λ new. new.items ≡ map (λ r. (r.1, r.2)) reads.now) }
 {
     reads.iter().map(|r| (r.1, r.2)).collect(alloc)

@@ -2,7 +2,7 @@
 ghost use Rattle.std.specs.Prelude.{◌≡◌};
 ghost use Rattle.wsm_schema.specs.Places.{labelled, plain_end};
 
-use wsm_lists::{Listing, Nodes};
+use crate::few::Few;
 
 /// The kinds of node. Activity, XorSplit and LoopEnd are worked on: an actor starts and ends them. The others are silent.
 #[derive(Clone, Copy, PartialEq, Eq, Debug)]
@@ -26,10 +26,13 @@ pub struct End {
 }
 
 /// Control edges into a node, or out of it, in the order of branches.
-pub type Ends = Listing<End>;
+pub type Ends = Few<End>;
 
 /// The elements that a node reads, and whether each read is mandatory, ascending by element.
-pub type CardReads = Listing<(u32, bool)>;
+pub type CardReads = Few<(u32, bool)>;
+
+/// The nodes at the other ends of a node's sync edges, or the elements that it writes, ascending.
+pub type CardNumbers = Few<u32>;
 
 /// A node with its edges, its data and its role. The partner of a split is its join, that of a loop's start its end, and the other way round.
 #[derive(Drop)]
@@ -39,10 +42,10 @@ pub struct Card {
     pub partner: Option<u32>,
     pub ins: Ends,
     pub outs: Ends,
-    pub syncs_in: Nodes,
-    pub syncs_out: Nodes,
+    pub syncs_in: CardNumbers,
+    pub syncs_out: CardNumbers,
     pub reads: CardReads,
-    pub writes: Nodes,
+    pub writes: CardNumbers,
     pub role: u32,
 }
 

@@ -176,11 +176,11 @@ fn cards_by(alloc: Global, schema: &Schema, lists: &Lists) -> Result<Vec<Card>, 
     ensures { IfOk result (λ all. all.items ≡ cards_of schema.now) }
 {
     let mut all = Vec::with_capacity(alloc, nodes_in(&schema.body).saturating_add(2))?;
-    let start = start_place(alloc, schema.start, &schema.body, schema.finish)?;
+    let start = start_place(schema.start, &schema.body, schema.finish);
     put(alloc, &mut all, lists, start)?;
     let from = End::plain(schema.start);
     put_items(alloc, &mut all, lists, &schema.body, from, schema.finish)?;
-    let finish = finish_place(alloc, schema.start, &schema.body, schema.finish)?;
+    let finish = finish_place(schema.start, &schema.body, schema.finish);
     put(alloc, &mut all, lists, finish)?;
     Ok(all)
 }
@@ -249,7 +249,7 @@ fn put_block(
 {
     match block {
         Block::Act(node) => {
-            let activity = activity_place(alloc, *node, from, to)?;
+            let activity = activity_place(*node, from, to);
             put(alloc, all, lists, activity)
         }
         Block::And {
@@ -271,10 +271,10 @@ fn put_block(
             put_gate(alloc, all, lists, opening, branches, closing)
         }
         Block::Loop { start, end, body } => {
-            let opening = loop_start_place(alloc, *start, *end, body, from)?;
+            let opening = loop_start_place(*start, *end, body, from);
             put(alloc, all, lists, opening)?;
             put_items(alloc, all, lists, body, End::plain(*start), *end)?;
-            let closing = loop_end_place(alloc, *start, *end, body, to)?;
+            let closing = loop_end_place(*start, *end, body, to);
             put(alloc, all, lists, closing)
         }
     }

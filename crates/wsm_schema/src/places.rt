@@ -21,52 +21,42 @@ pub struct Place {
 }
 
 /// The start of a schema, with the edge to its items or to its finish.
-pub fn start_place(
-    alloc: Global,
-    start: u32,
-    body: &[Block],
-    finish: u32,
-) -> Result<Place, NoMemory>
-    ensures { IfOk result (λ new. new ≡ place start NodeKind.Start None [] (plain_end (first_node (parts_of body.now) finish) ∷ [])) }
+pub fn start_place(start: u32, body: &[Block], finish: u32) -> Place
+    ensures { result ≡ place start NodeKind.Start None [] (plain_end (first_node (parts_of body.now) finish) ∷ []) }
 {
-    Ok(Place {
+    Place {
         node: start,
         kind: NodeKind::Start,
         partner: None,
-        ins: Ends::new(alloc),
-        outs: Ends::of_one(alloc, End::plain(first_node(body, finish)))?,
-    })
+        ins: Ends::new(),
+        outs: Ends::of_one(End::plain(first_node(body, finish))),
+    }
 }
 
 /// The finish of a schema, with the edge from its items or from its start.
-pub fn finish_place(
-    alloc: Global,
-    start: u32,
-    body: &[Block],
-    finish: u32,
-) -> Result<Place, NoMemory>
-    ensures { IfOk result (λ new. new ≡ place finish NodeKind.Finish None (leaving (parts_of body.now) (plain_end start) ∷ []) []) }
+pub fn finish_place(start: u32, body: &[Block], finish: u32) -> Place
+    ensures { result ≡ place finish NodeKind.Finish None (leaving (parts_of body.now) (plain_end start) ∷ []) [] }
 {
-    Ok(Place {
+    Place {
         node: finish,
         kind: NodeKind::Finish,
         partner: None,
-        ins: Ends::of_one(alloc, leaving(body, End::plain(start)))?,
-        outs: Ends::new(alloc),
-    })
+        ins: Ends::of_one(leaving(body, End::plain(start))),
+        outs: Ends::new(),
+    }
 }
 
 /// An activity.
-pub fn activity_place(alloc: Global, node: u32, from: End, to: u32) -> Result<Place, NoMemory>
-    ensures { IfOk result (λ new. new ≡ place node NodeKind.Activity None (from ∷ []) (plain_end to ∷ [])) }
+pub fn activity_place(node: u32, from: End, to: u32) -> Place
+    ensures { result ≡ place node NodeKind.Activity None (from ∷ []) (plain_end to ∷ []) }
 {
-    Ok(Place {
+    Place {
         node,
         kind: NodeKind::Activity,
         partner: None,
-        ins: Ends::of_one(alloc, from)?,
-        outs: Ends::of_one(alloc, End::plain(to))?,
-    })
+        ins: Ends::of_one(from),
+        outs: Ends::of_one(End::plain(to)),
+    }
 }
 
 /// A split, with an edge into each of its branches.
@@ -84,7 +74,7 @@ pub fn split_place(
         node: split,
         kind,
         partner: Some(join),
-        ins: Ends::of_one(alloc, from)?,
+        ins: Ends::of_one(from),
         outs: heads(alloc, branches, join)?,
     })
 }
@@ -105,46 +95,34 @@ pub fn join_place(
         kind,
         partner: Some(split),
         ins: tails(alloc, branches, split)?,
-        outs: Ends::of_one(alloc, End::plain(to))?,
+        outs: Ends::of_one(End::plain(to)),
     })
 }
 
 /// The start of a loop.
-pub fn loop_start_place(
-    alloc: Global,
-    start: u32,
-    end: u32,
-    body: &[Block],
-    from: End,
-) -> Result<Place, NoMemory>
-    ensures { IfOk result (λ new. new ≡ place start NodeKind.LoopStart (Some end) (from ∷ []) (plain_end (first_node (parts_of body.now) end) ∷ [])) }
+pub fn loop_start_place(start: u32, end: u32, body: &[Block], from: End) -> Place
+    ensures { result ≡ place start NodeKind.LoopStart (Some end) (from ∷ []) (plain_end (first_node (parts_of body.now) end) ∷ []) }
 {
-    Ok(Place {
+    Place {
         node: start,
         kind: NodeKind::LoopStart,
         partner: Some(end),
-        ins: Ends::of_one(alloc, from)?,
-        outs: Ends::of_one(alloc, End::plain(first_node(body, end)))?,
-    })
+        ins: Ends::of_one(from),
+        outs: Ends::of_one(End::plain(first_node(body, end))),
+    }
 }
 
 /// The end of a loop. No edge leads back to its start.
-pub fn loop_end_place(
-    alloc: Global,
-    start: u32,
-    end: u32,
-    body: &[Block],
-    to: u32,
-) -> Result<Place, NoMemory>
-    ensures { IfOk result (λ new. new ≡ place end NodeKind.LoopEnd (Some start) (leaving (parts_of body.now) (plain_end start) ∷ []) (plain_end to ∷ [])) }
+pub fn loop_end_place(start: u32, end: u32, body: &[Block], to: u32) -> Place
+    ensures { result ≡ place end NodeKind.LoopEnd (Some start) (leaving (parts_of body.now) (plain_end start) ∷ []) (plain_end to ∷ []) }
 {
-    Ok(Place {
+    Place {
         node: end,
         kind: NodeKind::LoopEnd,
         partner: Some(start),
-        ins: Ends::of_one(alloc, leaving(body, End::plain(start)))?,
-        outs: Ends::of_one(alloc, End::plain(to))?,
-    })
+        ins: Ends::of_one(leaving(body, End::plain(start))),
+        outs: Ends::of_one(End::plain(to)),
+    }
 }
 
 // The edges out of a split.
@@ -156,7 +134,7 @@ fn heads(alloc: Global, branches: &[Branch], join: u32) -> Result<Ends, NoMemory
         let next = first_node(&branch.items, join);
         all.push(End::labelled(next, branch.code))?;
     }
-    Ok(Ends::from_vec(all))
+    Ends::from_vec(alloc, all)
 }
 
 // The edges into a join.
@@ -168,5 +146,5 @@ fn tails(alloc: Global, branches: &[Branch], split: u32) -> Result<Ends, NoMemor
         let from = End::labelled(split, branch.code);
         all.push(leaving(&branch.items, from))?;
     }
-    Ok(Ends::from_vec(all))
+    Ends::from_vec(alloc, all)
 }

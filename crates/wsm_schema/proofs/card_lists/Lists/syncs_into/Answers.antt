@@ -1,9 +1,11 @@
-use Rattle.std.proofs.Common.{ℕ, map, ap, ◌∙◌, refl}
+use Rattle.std.proofs.Common.{◌≡◌, ℕ, List, map, ap, ◌∙◌, refl, subst}
+use Rattle.std.specs.Prelude.{IfOk}
 use Rattle.wsm_schema.proofs.Runs.{sources-reversed}
 use Rattle.wsm_schema.proofs.card_lists.Lists.syncs_into.Goals as goal
 
 pub returns : goal.returns
 returns c =
     let rows = c.rows_with.ensures ∙ c.self.invariant.same c.args.node in
-    c.from_vec.ensures ∙ c.in_ok-sources.ensures ∙ ap (map (λ (r : ℕ × ℕ). r.1)) rows ∙ sources-reversed c.args.node c.self.inside.schema.now.syncs
-    ∙ rw c.self.view_is refl
+    subst (λ (ns : List ℕ). IfOk c.seconds_of.result (λ new. new ≡ ns))
+    (ap (map (λ (r : ℕ × ℕ). r.1)) rows ∙ sources-reversed c.args.node c.self.inside.schema.now.syncs ∙ rw c.self.view_is refl)
+    c.seconds_of.ensures
