@@ -20,10 +20,10 @@ pub fn grown_rank(alloc: Global, flat: &Flat, syncs: &[(u32, u32)]) -> Result<Ra
     ensures same { IfOk result (λ rank. SameNodes rank (nodes_of flat.now.cards)) }
     ensures fault { IfErr result (λ refusal. IsBlockFault (cycle_in flat.now.cards syncs.now) refusal) }
 {
-    let nodes = nodes_of(alloc, flat.cards())?;
     if syncs.is_empty() {
-        return Ok(Rank::from_vec(alloc, nodes)?);
+        return Ok(flat.document_rank(alloc)?);
     }
+    let nodes = nodes_of(alloc, flat.cards())?;
     let control = control_edges(alloc, flat.cards())?;
     let front = longest_front(alloc, flat, nodes, &control, syncs)?;
     let (begun, rest) = syncs.split_at(front.count);

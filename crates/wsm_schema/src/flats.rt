@@ -16,6 +16,7 @@ use crate::places::{
     Place, activity_place, finish_place, join_place, loop_end_place, loop_start_place, split_place,
     start_place,
 };
+use crate::ranks::Rank;
 use crate::schemas::Schema;
 use std::alloc::Global;
 use std::marker::Model;
@@ -71,6 +72,16 @@ impl Flat {
             Some(row) => Some(row.1),
             None => None,
         }
+    }
+
+    /// The nodes in document order, as a rank: whoever asks for it knows that they are one. The places of nodes are those of
+    /// their cards, so they are not grouped again.
+    pub fn document_rank(&self, alloc: Global) -> Result<Rank, NoMemory>
+        ensures { IfOk result (λ rank. rank ≡ map (λ c. c.node) self.now.cards) }
+    {
+        let index = self.index.copy(alloc)?;
+        let nodes = nodes_of(alloc, &self.cards)?;
+        Ok(Rank::with_places(nodes, index))
     }
 
     /// The first card of the node.
@@ -135,6 +146,17 @@ fn card_in(cards: &[Card], place: usize) -> Option<&Card>
     ensures { option_copied result ≡ slice_get cards.now place }
 {
     cards.get(place)
+}
+
+// The nodes of the cards.
+fn nodes_of(alloc: Global, cards: &[Card]) -> Result<Vec<u32>, NoMemory>
+    ensures { IfOk result (λ nodes. nodes.items ≡ map (λ c. c.node) cards.now) }
+{
+    let mut nodes = Vec::with_capacity(alloc, cards.len())?;
+    for card in cards {
+        nodes.push(card.node)?;
+    }
+    Ok(nodes)
 }
 
 // The nodes of the cards, each with the card's place.

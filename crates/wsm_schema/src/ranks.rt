@@ -1,7 +1,7 @@
 // Ranks of a net's nodes.
 ghost use Rattle.std.specs.Prelude.{◌≡◌, ◌==◌, IfOk};
 ghost use Rattle.std.specs.List.{position_from};
-ghost use Rattle.wsm_schema.specs.Groups.{placed};
+ghost use Rattle.wsm_schema.specs.Groups.{placed, SameGroups};
 
 use crate::groups::Groups;
 use std::alloc::Global;
@@ -50,6 +50,14 @@ impl Rank {
     {
         let index = Groups::of(placed(alloc, &nodes)?)?;
         Ok(Rank { list: nodes, index })
+    }
+
+    /// The rank of these nodes, whose places are grouped by node already.
+    pub(crate) fn with_places(nodes: Vec<u32>, index: Groups<usize>) -> Rank
+        requires { SameGroups (placed 0 nodes.items) index }
+        ensures { result ≡ nodes.items }
+    {
+        Rank { list: nodes, index }
     }
 }
 
