@@ -15,15 +15,14 @@ use crate::naming::note_lines;
 use crate::workers::Worker;
 use adept_actor::work;
 use adept_server::{CallFlags, Desk, Server};
-use file_limits::MAX_ACTORS;
 use file_model::{File, Lines};
 use std::alloc::Global;
 use std::sync::Wait;
-use std::thread::{Threads, for_each_mut};
+use std::thread::{Threads, available_parallelism, for_each_mut};
 use turn_cell::{CallFault, Gate};
 
-/// Works the phases one after another, each in a thread for each worker. Behind each of them all have met, at the cells that
-/// its lines name.
+/// Works the phases one after another, each in threads among which the workers are shared. Behind each of them all have met, at
+/// the cells that its lines name.
 pub fn work_phases<R: Threads + Wait + Sync, G: Gate + Sync>(
     rt: &R,
     alloc: Global,
@@ -42,10 +41,24 @@ pub fn work_phases<R: Threads + Wait + Sync, G: Gate + Sync>(
     ensures full { IfErr result (λ fault. fault ≡ CallFault.Full → SeesMany (desk_view first.new)) }
     ensures done { OnOk result (PhasesDone file.now file.now.phases (desk_view first.old) (desks_of crew.old) (desk_view first.new) (desks_of crew.new)) }
 {
+    let threads = thread_count(rt);
     for lines in file.phases.as_slice() {
-        work_phase(rt, alloc, server, file, first, crew, called, lines, gate)?;
+        work_phase(
+            rt, alloc, server, file, first, crew, called, lines, threads, gate,
+        )?;
     }
     Ok(())
+}
+
+// In how many threads a phase is worked: as many as there are processors, since more would wait for one another and cost their
+// start. One processor has two, so that actors work side by side there too.
+fn thread_count<R: Threads>(rt: &R) -> usize
+    ensures { 0 < result }
+{
+    match available_parallelism(rt) {
+        Ok(count) => count.get().max(2),
+        Err(_) => 2,
+    }
 }
 
 fn work_phase<R: Threads + Wait + Sync, G: Gate + Sync>(
@@ -57,8 +70,10 @@ fn work_phase<R: Threads + Wait + Sync, G: Gate + Sync>(
     crew: &mut [Worker],
     called: &mut CallFlags,
     lines: &Lines,
+    threads: usize,
     gate: &G,
 ) -> Result<(), CallFault>
+    requires threads { 0 < threads }
     requires file { IsWorkable file.now }
     requires lines { AllRows (IsKnown (length file.now.types) (length file.now.actors) file.now.cases) lines.now }
     requires crew { IsCrew server.now file.now first.old crew.old }
@@ -69,7 +84,7 @@ fn work_phase<R: Threads + Wait + Sync, G: Gate + Sync>(
     ensures full { IfErr result (λ fault. fault ≡ CallFault.Full → SeesMany (desk_view first.new)) }
     ensures done { OnOk result (PhaseDone (AreCallsOfActor file.now lines.now) (desk_view first.old) (desks_of crew.old) (desk_view first.new) (desks_of crew.new)) }
 {
-    work_lines(rt, alloc, server, file, crew, lines, gate);
+    work_lines(rt, alloc, server, file, crew, lines, threads, gate);
     note_lines(called, lines);
     meet_all(server, called, first, crew);
     outcome(crew)
@@ -112,8 +127,10 @@ fn work_lines<R: Threads + Wait + Sync, G: Gate + Sync>(
     file: &File,
     crew: &mut [Worker],
     lines: &Lines,
+    threads: usize,
     gate: &G,
 )
+    requires threads { 0 < threads }
     requires actors { length crew.old ≡ length file.now.actors }
     requires ready { (i : _) (d : _) → i < length crew.old → IsReadyAt server.now lines.now i (slice_index_or crew.old i d) }
     ensures { (i : _) (d : _) → i < length crew.old → HasWorkedLines server.now file.now lines.now (slice_index_or crew.old i d) (slice_index_or crew.new i d) }
@@ -125,5 +142,5 @@ fn work_lines<R: Threads + Wait + Sync, G: Gate + Sync>(
         let roles = &file.actors.as_slice()[index].roles;
         worker.fault = work(rt, alloc, server, &mut worker.desk, roles, lines, gate).err();
     };
-    for_each_mut(rt, crew, MAX_ACTORS, &work_own);
+    for_each_mut(rt, crew, threads, &work_own);
 }
