@@ -91,21 +91,21 @@ module _ {M E R W S : Type 0} (state : M → S) (after : S → E → S) (reply :
   abbrev Rule : State (Option (Guarded M E R W S)) (SeatView M E R W S) → Type 0
   Rule s = IsKept state after reply age s
 
-  pub opens : (h : Guarded M E R W S) → h.journal.items.items ≡ [] → age (state h.machine) ≤ 60000000 → Rule (opening (0 ∷ 0 ∷ []) (Some h ∷ []) (first (state h.machine)))
+  pub opens : (h : Guarded M E R W S) → h.journal.items.items ≡ [] → age (state h.machine.value) ≤ 60000000 → Rule (opening (0 ∷ 0 ∷ []) (Some h ∷ []) (first (state h.machine.value)))
   opens h empty young =
-      let v : SeatView M E R W S = first (state h.machine) in
+      let v : SeatView M E R W S = first (state h.machine.value) in
       let one_there : (id : ℕ) (d : SeatView M E R W S) → get_elem? (v ∷ []) id ≡ some d → v ≡ d = only v in
-      let fit : Fits (state h.machine) [] v = record { same = refl; seen = prefix_self []; told = prefix_self []; whole = λ _. refl } in
+      let fit : Fits (state h.machine.value) [] v = record { same = refl; seen = prefix_self []; told = prefix_self []; whole = λ _. refl } in
       let mine : FitsPass [] (v ∷ []) v = record { calls = (refl, refl, tt); past = λ ne. absurd (ne refl); made = λ _. omega arith; below = λ _ n le. let x : one_if (eqb 0 n) ≡ 0 = ap one_if (ne_eqb 0 n (λ e. absurd (omega arith))) in omega arith } in
       record {
-        opening = state h.machine;
+        opening = state h.machine.value;
         log = [];
         busy = 0;
         words = refl;
         legal = tt;
         young = omega arith;
         short = omega arith;
-        live = λ id d e l. subst (Fits (state h.machine) []) (one_there id d e) fit;
+        live = λ id d e l. subst (Fits (state h.machine.value) []) (one_there id d e) fit;
         pass = λ id d e l. subst (FitsPass [] (v ∷ [])) (one_there id d e) mine;
         turn = refl;
         one = omega arith;
@@ -163,7 +163,7 @@ module _ {M E R W S : Type 0} (state : M → S) (after : S → E → S) (reply :
 
   -- what the slot has where the table was closed with the last pass
   pub closed : (id : ℕ) (v : SeatView M E R W S) (ws : List ℕ) (xs : List (Option (Guarded M E R W S))) → Final (Seen Rule id v) ws xs → v.phase ≡ Idle → v.number ≡ 0 → v.made ≡ v.taken + 1
-      → (slot : Option (Guarded M E R W S)) → get_elem? xs 0 ≡ some slot → (cell : TableId) (kept : Option (Result R CallFault)) → (h : Guarded M E R W S) × (slot ≡ Some h) × IsClosed after reply state (view_at cell kept v) h.machine h.journal.items.items
+      → (slot : Option (Guarded M E R W S)) → get_elem? xs 0 ≡ some slot → (cell : TableId) (kept : Option (Result R CallFault)) → (h : Guarded M E R W S) × (slot ≡ Some h) × IsClosed after reply state (view_at cell kept v) h.machine.value h.journal.items.items
   closed id v ws xs f waits zero_is all slot lies cell kept =
       let s = f.0 in
       let r = f.1.0 in
@@ -180,7 +180,7 @@ module _ {M E R W S : Type 0} (state : M → S) (after : S → E → S) (reply :
         same,
         record {
           whole = log_is ∙ whole;
-          machine_is = subst (λ (o : Option S). IsStateAfter after o h.journal.items.items (state h.machine)) (sym was.same) (c.1.2.1 ∙ ap (state_after after r.opening) (sym log_is));
+          machine_is = subst (λ (o : Option S). IsStateAfter after o h.journal.items.items (state h.machine.value)) (sym was.same) (c.1.2.1 ∙ ap (state_after after r.opening) (sym log_is));
           legal = subst (λ (o : Option S). IsLegalFrom after reply o h.journal.items.items) (sym was.same) (subst (IsLegal after reply r.opening) (sym log_is) r.legal);
           own = ap (calls_of 0) log_is ∙ (ap (λ (n : ℕ). calls_of n r.log) (sym zero_is) ∙ fit.calls.0);
           past = subst (λ (zs : List (Entry M E R W S)). All (λ p. calls_of p.0 zs ≡ p.1) v.past) (sym log_is) (all_calls r.log v.seen v.past fit.calls.2);

@@ -209,7 +209,7 @@ module _ {M E R W S : Type 0} (state : M → S) (after : S → E → S) (reply :
       let homes_is : s.homes ≡ some (Some h) ∷ [] = home.1 in
       let xs : List (Entry M E R W S) = h.journal.items.items in
       let all : xs ≡ r.log = home.2.0 in
-      let st_is : state h.machine ≡ state_after after r.opening r.log = home.2.1 in
+      let st_is : state h.machine.value ≡ state_after after r.opening r.log = home.2.1 in
       let w : SeatView M E R W S = moved v Inside xs v.met in (
         w,
         takes 0 (Some h),
@@ -226,7 +226,7 @@ module _ {M E R W S : Type 0} (state : M → S) (after : S → E → S) (reply :
           seat = refl;
           count = ap (λ (ws : List ℕ). get_or ws 0 0) r.words ∙ ap length (sym all);
           more = subst (IsPrefix v.seen) (sym all) was.seen;
-          state_is = subst (λ (p : Option S). IsStateAfter after p xs (state h.machine)) (sym was.same) (st_is ∙ ap (state_after after r.opening) (sym all));
+          state_is = subst (λ (p : Option S). IsStateAfter after p xs (state h.machine.value)) (sym was.same) (st_is ∙ ap (state_after after r.opening) (sym all));
           legal = from_opening v.opening r.opening xs was.same (subst (IsLegal after reply r.opening) (sym all) r.legal);
           own = ap (calls_of v.number) all ∙ calls.0;
           young = subst (λ (t : S). age t ≤ 60000000 + 60000 * length xs) (sym st_is) (subst (λ (ys : List (Entry M E R W S)). age (state_after after r.opening r.log) ≤ 60000000 + 60000 * length ys) (sym all) r.young);
@@ -234,7 +234,7 @@ module _ {M E R W S : Type 0} (state : M → S) (after : S → E → S) (reply :
         },
       )
 
-  pub releases : (slots id : ℕ) (me : Seated M E R W S) (h : Guarded M E R W S) → me.0.phase ≡ Inside → me.1 ≡ (0, Some h) ∷ [] → h.journal.items.items ≡ me.0.seen → IsStateAfter after me.0.opening me.0.seen (state h.machine)
+  pub releases : (slots id : ℕ) (me : Seated M E R W S) (h : Guarded M E R W S) → me.0.phase ≡ Inside → me.1 ≡ (0, Some h) ∷ [] → h.journal.items.items ≡ me.0.seen → IsStateAfter after me.0.opening me.0.seen (state h.machine.value)
       → Allows Rule slots id me 1 (λ _. 0) (λ _. released (step slots 1 0 0 none) me 0)
   releases n id me h is has same st_is s r _ at _ =
       let v = me.0 in
@@ -246,7 +246,7 @@ module _ {M E R W S : Type 0} (state : M → S) (after : S → E → S) (reply :
       let homes_is : s.homes ≡ none ∷ [] = r.away (omega arith) in
       let whole : v.seen ≡ r.log = was.whole is in
       let w : SeatView M E R W S = moved v Idle v.seen v.met in
-      let held : IsHeld state after reply age r.opening r.log h = (same ∙ whole, of_state v.opening r.opening v.seen (state h.machine) was.same st_is ∙ ap (state_after after r.opening) whole) in
+      let held : IsHeld state after reply age r.opening r.log h = (same ∙ whole, of_state v.opening r.opening v.seen (state h.machine.value) was.same st_is ∙ ap (state_after after r.opening) whole) in
       let kept : Rule record { words = set s.words 1 0; homes = some (Some h) ∷ []; views = set s.views id w } =
       subst (λ (ws : List ℕ). Rule record { words = set ws 1 0; homes = some (Some h) ∷ []; views = set s.views id w }) (sym r.words)
       (steady s r id v Idle v.seen v.met 0 (some (Some h) ∷ []) at pass refl was.told was.seen (λ is. absurd (cc)) (calls_at s r id v at pass) (omega arith) (omega arith)
@@ -261,7 +261,7 @@ module _ {M E R W S : Type 0} (state : M → S) (after : S → E → S) (reply :
 
   -- a call is committed while the slot is out
   pub commits : (slots id : ℕ) (me : Seated M E R W S) (h : Guarded M E R W S) (e : Entry M E R W S) (new : ℕ) → me.0.phase ≡ Inside → me.1 ≡ (0, Some h) ∷ [] → h.journal.items.items ≡ me.0.seen ++ e ∷ [] → e.caller ≡ me.0.number
-      → new ≡ length h.journal.items.items → IsLegalFrom after reply me.0.opening h.journal.items.items → IsStateAfter after me.0.opening h.journal.items.items (state h.machine) → age (state h.machine) ≤ 60000000 + 60000 * length h.journal.items.items → length h.journal.items.items ≤ 65536
+      → new ≡ length h.journal.items.items → IsLegalFrom after reply me.0.opening h.journal.items.items → IsStateAfter after me.0.opening h.journal.items.items (state h.machine.value) → age (state h.machine.value) ≤ 60000000 + 60000 * length h.journal.items.items → length h.journal.items.items ≤ 65536
       → Allows Rule slots id me 0 (λ _. new) (λ _. committed (step slots 0 new 0 none) me new)
   commits n id me h e new is has grown own count legal st_is young short s r _ at _ =
       let v = me.0 in
@@ -324,7 +324,7 @@ module _ {M E R W S : Type 0} (state : M → S) (after : S → E → S) (reply :
         busy = r.busy;
         words = refl;
         legal = subst (IsLegal after reply r.opening) longer (of_opening v.opening r.opening xs was.same legal);
-        young = subst (IsYoung state after reply age r.opening) longer (subst (λ (q : S). age q ≤ 60000000 + 60000 * length xs) (of_state v.opening r.opening xs (state h.machine) was.same st_is) young);
+        young = subst (IsYoung state after reply age r.opening) longer (subst (λ (q : S). age q ≤ 60000000 + 60000 * length xs) (of_state v.opening r.opening xs (state h.machine.value) was.same st_is) young);
         short = subst (λ (ys : List (Entry M E R W S)). length ys ≤ 65536) longer short;
         live = λ j d z l. ⊎_elim (λ (q : (j ≡ id) × (w' ≡ d)). subst (Fits r.opening log') q.1 here') (λ (q : (j ≢ id) × (get_elem? vs j ≡ some d)). more j d q.0 q.1 (r.live j d q.1 l)) (at_set vs id j w' d z);
         pass = λ j d z l. ⊎_elim (λ (q : (j ≡ id) × (w' ≡ d)). subst (FitsPass log' ws) q.1 mine') (λ (q : (j ≢ id) × (get_elem? vs j ≡ some d)). more_pass j d q.0 q.1 l) (at_set vs id j w' d z);

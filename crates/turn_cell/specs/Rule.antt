@@ -106,7 +106,7 @@ module _ {M E R W S : Type 0} where
 module _ {M E R W S : Type 0} (state : M → S) (after : S → E → S) (reply : S → E → R) (age : S → ℕ) where
   -- the slot has the journal, and the machine in the state after it
   abbrev pub IsHeld : S → List (Entry M E R W S) → Guarded M E R W S → Type 0
-  IsHeld opening log h = (h.journal.items.items ≡ log) × (state h.machine ≡ state_after after opening log)
+  IsHeld opening log h = (h.journal.items.items ≡ log) × (state h.machine.value ≡ state_after after opening log)
 
   -- the machine has aged by the events of the journal alone
   abbrev pub IsYoung : S → List (Entry M E R W S) → Type 0
@@ -208,10 +208,10 @@ module _ {M E R W S : Type 0} where
       pub seat : m' ≡ (record m.0 { phase = Inside; seen = held.journal.items.items }, (0, Some held) ∷ m.1)
       pub count : r ≡ length held.journal.items.items
       pub more : IsPrefix m.0.seen held.journal.items.items
-      pub state_is : IsStateAfter after m.0.opening held.journal.items.items (state held.machine)
+      pub state_is : IsStateAfter after m.0.opening held.journal.items.items (state held.machine.value)
       pub legal : IsLegalFrom after reply m.0.opening held.journal.items.items
       pub own : calls_of m.0.number held.journal.items.items ≡ m.0.own_calls
-      pub young : age (state held.machine) ≤ MAX_OPENING_AGE + MAX_WEIGHT * length held.journal.items.items
+      pub young : age (state held.machine.value) ≤ MAX_OPENING_AGE + MAX_WEIGHT * length held.journal.items.items
       pub short : length held.journal.items.items ≤ MAX_ENTRIES
 
     -- the step that takes the slot out
@@ -223,8 +223,8 @@ module _ {M E R W S : Type 0} where
       pub view : m'.0 ≡ record m.0 { phase = Inside; seen = g.journal.items.items }
       pub slot : m'.1 ≡ (0, None) ∷ []
       pub more : IsPrefix m.0.seen g.journal.items.items
-      pub state_is : IsStateAfter after m.0.opening g.journal.items.items (state g.machine)
+      pub state_is : IsStateAfter after m.0.opening g.journal.items.items (state g.machine.value)
       pub legal : IsLegalFrom after reply m.0.opening g.journal.items.items
       pub own : calls_of m.0.number g.journal.items.items ≡ m.0.own_calls
-      pub young : age (state g.machine) ≤ MAX_OPENING_AGE + MAX_WEIGHT * length g.journal.items.items
+      pub young : age (state g.machine.value) ≤ MAX_OPENING_AGE + MAX_WEIGHT * length g.journal.items.items
       pub short : length g.journal.items.items ≤ MAX_ENTRIES

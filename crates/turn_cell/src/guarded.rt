@@ -11,7 +11,7 @@ use std::alloc::Global;
 /// The machine and its journal, which lie in the slot of a cell. Who has the turn may take them out.
 #[derive(Drop)]
 pub struct Guarded<M: Machine> {
-    pub machine: M,
+    pub machine: Box<M>,
     pub journal: Journal<M>,
 }
 
@@ -23,14 +23,14 @@ impl<M: Machine> Guarded<M> {
         caller: u32,
         event: &M::Event,
     ) -> Result<M::Reply, CallFault>
-        requires young { M.age (M.state self.old.machine) ≤ MAX_OPENING_AGE + MAX_WEIGHT * length self.old.journal.items.items }
+        requires young { M.age (M.state self.old.machine.value) ≤ MAX_OPENING_AGE + MAX_WEIGHT * length self.old.journal.items.items }
         requires light { M.weight event.now ≤ MAX_WEIGHT }
         ensures journal { IfOk result (λ r. self.new.journal.items.items ≡ self.old.journal.items.items ++ entry caller event.now r ∷ []) }
-        ensures reply { IfOk result (λ r. r ≡ M.reply (M.state self.old.machine) event.now) }
-        ensures state { OnOk result (M.state self.new.machine ≡ M.after (M.state self.old.machine) event.now) }
-        ensures young { OnOk result (M.age (M.state self.new.machine) ≤ MAX_OPENING_AGE + MAX_WEIGHT * (length self.old.journal.items.items + 1)) }
+        ensures reply { IfOk result (λ r. r ≡ M.reply (M.state self.old.machine.value) event.now) }
+        ensures state { OnOk result (M.state self.new.machine.value ≡ M.after (M.state self.old.machine.value) event.now) }
+        ensures young { OnOk result (M.age (M.state self.new.machine.value) ≤ MAX_OPENING_AGE + MAX_WEIGHT * (length self.old.journal.items.items + 1)) }
         ensures room { OnOk result (length self.old.journal.items.items < MAX_ENTRIES) }
-        ensures kept { OnErr result ((self.new.journal.items.items ≡ self.old.journal.items.items) × (M.state self.new.machine ≡ M.state self.old.machine)) }
+        ensures kept { OnErr result ((self.new.journal.items.items ≡ self.old.journal.items.items) × (M.state self.new.machine.value ≡ M.state self.old.machine.value)) }
         ensures full { IfErr result (λ f. f ≡ CallFault.Full → MAX_ENTRIES ≤ length self.old.journal.items.items) }
         ensures memory { IfErr result (λ f. f ≡ CallFault.NoMemory → length self.old.journal.items.items < MAX_ENTRIES) }
     {

@@ -22,6 +22,7 @@ impl<M: Machine> Cell<M> {
         ensures { IfOk result (λ r. view_of r.1 ≡ first_of (cell_id r.0) (M.state machine)) }
     {
         let opening = Snapshot::of(&machine);
+        let machine = Box::new(alloc, machine)?;
         let mut slots = Vec::with_capacity(alloc, 1)?;
         slots.push_reserved(Some(Guarded {
             machine,
@@ -116,6 +117,9 @@ impl<M: Machine> Cell<M> {
         let slot = closed.take(GUARDED);
         closed.free();
         let Guarded { machine, journal } = slot.unwrap();
-        Closed { machine, journal }
+        Closed {
+            machine: Box::into_inner(machine),
+            journal,
+        }
     }
 }

@@ -40,7 +40,7 @@ impl<M: Machine> Cell<M> {
     pub(crate) fn put_back(&self, seat: &mut PassSeat<M>, guarded: Guarded<M>)
         requires cell { seat.old.table_id ≡ self.now.table.shared.table_id }
         requires turn { (seat.old.me.0.phase ≡ Inside) × (seat.old.me.1 ≡ (0, None) ∷ []) }
-        requires same { (guarded.journal.items.items ≡ seat.old.me.0.seen) × IsStateAfter M.after seat.old.me.0.opening seat.old.me.0.seen (M.state guarded.machine) }
+        requires same { (guarded.journal.items.items ≡ seat.old.me.0.seen) × IsStateAfter M.after seat.old.me.0.opening seat.old.me.0.seen (M.state guarded.machine.value) }
         ensures cell { seat.new.table_id ≡ seat.old.table_id }
         ensures left { seat.new.me ≡ (record seat.old.me.0 { phase = Idle }, []) }
     {
@@ -55,8 +55,8 @@ impl<M: Machine> Cell<M> {
         requires count { count ≡ length seat.old.me.0.seen + 1 }
         requires grown { (e : _) × (guarded.journal.items.items ≡ seat.old.me.0.seen ++ e ∷ []) × (e.caller ≡ seat.old.me.0.number) }
         requires legal { IsLegalFrom M.after M.reply seat.old.me.0.opening guarded.journal.items.items }
-        requires state { IsStateAfter M.after seat.old.me.0.opening guarded.journal.items.items (M.state guarded.machine) }
-        requires young { M.age (M.state guarded.machine) ≤ MAX_OPENING_AGE + MAX_WEIGHT * length guarded.journal.items.items }
+        requires state { IsStateAfter M.after seat.old.me.0.opening guarded.journal.items.items (M.state guarded.machine.value) }
+        requires young { M.age (M.state guarded.machine.value) ≤ MAX_OPENING_AGE + MAX_WEIGHT * length guarded.journal.items.items }
         requires short { length guarded.journal.items.items ≤ MAX_ENTRIES }
         ensures cell { seat.new.table_id ≡ seat.old.table_id }
         ensures left { seat.new.me ≡ (with_log guarded.journal.items.items (record seat.old.me.0 { phase = Idle }), []) }

@@ -1,12 +1,12 @@
 -- Rows that are put over others: which row a key has, and the same rows put in another order.
-use Rattle.std.proofs.Common.{◌≡◌, ℕ, true, false, cond, List, [], ◌∷◌, refl, ap, sym, ◌∙◌, subst, inl, inr, Option, Some, None, Result, Ok, Err, OnOk}
+use Rattle.std.proofs.Common.{◌≡◌, ℕ, Bool, true, false, cond, List, [], ◌∷◌, refl, ap, sym, ◌∙◌, subst, inl, inr, Option, Some, None, Result, Ok, Err, OnOk, not}
 use Rattle.std.specs.Option.{is_some}
 use Rattle.std.proofs.lemmas.Bool.{cases_Bool, both_ways}
 use Rattle.wsm_lists.specs.PutOver.{put_over}
 use Rattle.wsm_lists.specs.Rows.{AllRows, Ascends, drop_row, key_eq, key_lt, put_row, row_at}
 use Rattle.wsm_lists.proofs.Ascending.{ascending-same, below-absent, tail-absent}
 use Rattle.wsm_lists.proofs.ByNumber.{row_at-put}
-use Rattle.wsm_lists.proofs.Rows.{ascends_drop, ascends_put, eq_from, eq_means}
+use Rattle.wsm_lists.proofs.Rows.{ascends_drop, ascends_put, eq_from, eq_means, lt_not_eq, lt_trans}
 
 -- the first of two rows
 abbrev pub or_else : {X : Type 0} → Option X → Option X → Option X
@@ -20,6 +20,11 @@ or_else-none (Some x) = refl
 none_of : {X : Type 0} (o : Option X) → is_some o ≡ false → o ≡ None
 none_of None h = refl
 none_of (Some x) h = absurd (cc)
+
+-- what stands behind a row that is there makes no difference
+hidden : {X : Type 0} (o p q : Option X) → is_some o ≡ true → or_else o p ≡ or_else o q
+hidden None p q there = absurd (cc)
+hidden (Some x) p q there = refl
 
 module _ {X : Type 0} (key : X → ℕ × ℕ) where
   one-key : (a b : ℕ × ℕ) → key_eq a b ≡ true → a ≡ b
@@ -60,6 +65,10 @@ module _ {X : Type 0} (key : X → ℕ × ℕ) where
         ]
       ]
 
+  pub ascends-put-if : (b : Bool) (x : X) (xs : List X) → Ascends key xs → Ascends key (cond b (put_row key x xs) xs)
+  ascends-put-if true x xs s = ascends_put key x xs s
+  ascends-put-if false x xs s = s
+
   -- a row that is put over both is put over the first
   pub over-put : (x : X) (xs ys : List X) → Ascends key ys → put_over key (put_row key x xs) ys ≡ put_row key x (put_over key xs ys)
   over-put x xs ys s =
@@ -84,6 +93,31 @@ module _ {X : Type 0} (key : X → ℕ × ℕ) where
       ]
       ∙ sym (row_at-put key (key z) x (put_over key xs ys)))
 
+  -- a row that is below all others is put in front
+  put-first : (x : X) (ys : List X) → AllRows (λ y. key_lt (key x) (key y) ≡ true) ys → put_row key x ys ≡ x ∷ ys
+  put-first x [] below = refl
+  put-first x (y ∷ ys) below =
+      let back : key_lt (key y) (key x) ≡ false = elim (cases_Bool (key_lt (key y) (key x))) [
+        | inl less ↦ absurd (both_ways _ (lt_not_eq (key x) (key x) (lt_trans (key x) (key y) (key x) below.0 less)) (eq_from (key x) (key x) refl refl))
+        | inr fine ↦ fine
+      ] in
+      let apart : key_eq (key y) (key x) ≡ false = elim (cases_Bool (key_eq (key y) (key x))) [
+        | inl same ↦ let e = eq_means (key y) (key x) same in absurd (both_ways _ (lt_not_eq (key x) (key y) below.0) (eq_from (key x) (key y) (sym e.0) (sym e.1)))
+        | inr fine ↦ fine
+      ] in
+      rw (back, apart) refl
+
+  -- a row whose key is there is not seen below
+  over-there : (x : X) (xs ys : List X) → Ascends key (x ∷ ys) → is_some (row_at key (key x) xs) ≡ true → put_over key xs (x ∷ ys) ≡ put_over key xs ys
+  over-there x xs ys s there =
+      ascending-same key _ _ (ascends-over xs (x ∷ ys) s) (ascends-over xs ys s.1) (λ z.
+      row_at-over (key z) xs (x ∷ ys)
+      ∙ elim (cases_Bool (key_eq (key x) (key z))) [
+        | inl here ↦ rw here (hidden (row_at key (key z) xs) (Some x) (row_at key (key z) ys) (subst (λ k. is_some (row_at key k xs) ≡ true) (one-key (key x) (key z) here) there))
+        | inr away ↦ rw away refl
+      ]
+      ∙ sym (row_at-over (key z) xs ys))
+
   -- the first row's key is no other's
   pub head-absent : (x : X) (xs : List X) → AllRows (λ y. key_lt (key x) (key y) ≡ true) xs → is_some (row_at key (key x) xs) ≡ false
   head-absent x xs rows = ap is_some (below-absent key (key x) xs rows)
@@ -93,6 +127,18 @@ module _ {X : Type 0} (key : X → ℕ × ℕ) where
   step-over x ys {all} {xs} {zs} {to} first order put s done =
       let head : Ascends key (x ∷ xs) = subst (Ascends key) first order in
       ap (put_over key xs) put ∙ put-under x xs ys s (head-absent x xs head.0) ∙ sym (ap (λ l. put_over key l ys) first) ∙ done
+
+  -- one row of those that others are put over goes to the others, unless its key is there
+  pub step-under : (x : X) (xs ys : List X) {zs : List X} → Ascends key xs → Ascends key (x ∷ ys) → zs ≡ cond (not (is_some (row_at key (key x) xs))) (put_row key x xs) xs → put_over key zs ys ≡ put_over key xs (x ∷ ys)
+  step-under x xs ys {zs} sx sy put =
+      elim (cases_Bool (is_some (row_at key (key x) xs))) [
+        | inl there ↦
+            let same : zs ≡ xs = put ∙ rw there refl in
+            ap (λ l. put_over key l ys) same ∙ sym (over-there x xs ys sy there)
+        | inr absent ↦
+            let more : zs ≡ put_row key x xs = put ∙ rw absent refl in
+            ap (λ l. put_over key l ys) more ∙ over-put x xs ys sy.1 ∙ sym (put-under x xs ys sy.1 absent) ∙ ap (put_over key xs) (put-first x ys sy.0)
+      ]
 
   pub over-none : (xs : List X) → Ascends key xs → put_over key xs [] ≡ xs
   over-none xs s = ascending-same key _ _ (ascends-over xs [] tt) s (λ z. row_at-over (key z) xs [] ∙ or_else-none (row_at key (key z) xs))

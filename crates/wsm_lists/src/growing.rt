@@ -105,9 +105,13 @@ impl<K: Keys> GrowingTable<K> {
     pub fn into_table(self, alloc: Global) -> Result<Table<K>, NoMemory>
         ensures { IfOk result (λ table. table ≡ self) }
     {
-        let GrowingTable { few, mut more } = self;
+        let GrowingTable { mut few, mut more } = self;
         let _ = few.as_slice();
         if more.is_empty() {
+            return Ok(few);
+        }
+        if more.len() < FEW_ROWS {
+            put_under::<K>(&mut few, table_of::<K>(alloc, more)?.into_vec())?;
             return Ok(few);
         }
         put_all_in_map::<K>(&mut more, few.into_vec())?;
@@ -121,6 +125,18 @@ fn goes_into_list<K: Keys>(list: &Table<K>, key: (u32, u32)) -> bool
     ensures { result ≡ false → is_some (row_at K.key_of key list.now) ≡ false }
 {
     list.len() < FEW_ROWS || are_below::<K>(list.as_slice(), key) || list.has(key)
+}
+
+// Some more rows, but for those whose keys are there.
+fn put_under<K: Keys>(table: &mut Table<K>, rows: Vec<K::Row>) -> Result<(), NoMemory>
+    requires { Ascends K.key_of rows.items }
+    ensures { OnOk result (table.new ≡ put_over K.key_of table.old rows.items) }
+{
+    let _ = table.as_slice();
+    for row in rows {
+        table.put(row)?;
+    }
+    Ok(())
 }
 
 // The rows of the map as a table.

@@ -17,4 +17,5 @@ pub mod Touched
 pub mod Rank
 pub mod Pass
 pub mod Groups
+pub mod CardPlaces
 pub mod Enclosures

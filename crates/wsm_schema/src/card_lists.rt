@@ -65,6 +65,10 @@ impl<'a> Lists<'a> {
     fn syncs_into(&self, alloc: Global, node: u32) -> Result<CardNumbers, NoMemory>
         ensures { IfOk result (λ new. new ≡ map (λ e. e.0) (filter (λ e. e.1 == node) self.now.syncs)) }
     {
+        let schema = self.schema;
+        if schema.syncs.is_empty() {
+            return Ok(CardNumbers::new());
+        }
         seconds_of(alloc, self.incoming.rows_with(node))
     }
 
@@ -73,6 +77,9 @@ impl<'a> Lists<'a> {
         ensures { IfOk result (λ new. new ≡ map (λ e. e.1) (filter (λ e. e.0 == node) self.now.syncs)) }
     {
         let schema = self.schema;
+        if schema.syncs.is_empty() {
+            return Ok(CardNumbers::new());
+        }
         seconds_of(alloc, schema.syncs.rows_of(node))
     }
 
@@ -81,6 +88,9 @@ impl<'a> Lists<'a> {
         ensures { IfOk result (λ new. new ≡ map (λ r. (r.1, r.2)) (filter (λ r. r.0 == node) self.now.reads)) }
     {
         let schema = self.schema;
+        if schema.reads.is_empty() {
+            return Ok(CardReads::new());
+        }
         reads_of(alloc, schema.reads.rows_of(node))
     }
 
@@ -89,6 +99,9 @@ impl<'a> Lists<'a> {
         ensures { IfOk result (λ new. new ≡ map (λ w. w.1) (filter (λ w. w.0 == node) self.now.writes)) }
     {
         let schema = self.schema;
+        if schema.writes.is_empty() {
+            return Ok(CardNumbers::new());
+        }
         seconds_of(alloc, schema.writes.rows_of(node))
     }
 

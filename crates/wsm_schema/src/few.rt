@@ -1,5 +1,6 @@
 // Lists of which most have one item or none.
 ghost use Rattle.std.specs.Prelude.{◌≡◌, [], ◌∷◌, IfOk, IsTrue, ◌↔◌};
+ghost use Rattle.std.specs.Cmp.Lexicographic.{pointwise};
 ghost use Rattle.std.specs.Slice.Iter.{iter_rest};
 
 use std::alloc::Global;
@@ -79,5 +80,18 @@ impl<T: Drop> Few<T> {
         ensures { iter_rest result ≡ self.now }
     {
         self.as_slice().iter()
+    }
+}
+
+impl<T: PartialEq + Drop> Few<T> {
+    /// Whether two lists have equal items.
+    pub fn is_same(&self, other: &Few<T>) -> bool
+        ensures { result ≡ pointwise T.eq self.now other.now }
+    {
+        match (&self.held, &other.held) {
+            (Held::Empty, Held::Empty) => true,
+            (Held::One([one]), Held::One([other])) => one == other,
+            _ => *self.as_slice() == *other.as_slice(),
+        }
     }
 }

@@ -1,11 +1,12 @@
 // The flat form of a schema: a card for each node, in document order.
-ghost use Rattle.std.specs.Prelude.{◌≡◌, [], ◌∷◌, ◌++◌, IfOk, OnOk, map, slice_get, ◌==◌};
+ghost use Rattle.std.specs.Prelude.{◌≡◌, ℕ, [], ◌∷◌, ◌++◌, true, Some, IfOk, IfSome, OnOk, map, option_map, slice_get, ◌==◌};
 ghost use Rattle.std.specs.List.{position_from};
 ghost use Rattle.std.specs.Option.{option_copied};
 ghost use Rattle.wsm_schema.specs.TreeOf.{part_of, parts_of, lanes_of};
 ghost use Rattle.wsm_schema.specs.Tree.{lanes};
 ghost use Rattle.wsm_schema.specs.Places.{part_places, parts_places, lanes_places};
-ghost use Rattle.wsm_schema.specs.Groups.{numbered};
+ghost use Rattle.wsm_schema.specs.Groups.{SameGroups, numbered, rows_with};
+ghost use Rattle.wsm_schema.specs.CardPlaces.{EachFirst};
 ghost use Rattle.wsm_schema.specs.Flat.{card_of, flat_of, cards_of, card_at, kind_in, loop_nodes, loop_start, up_to_node, from_node};
 
 use crate::blocks::{Block, Branch, first_node, nodes_in};
@@ -27,6 +28,8 @@ use wsm_lists::{ElementKind, Elements, NoMemory, Nodes};
 pub struct Flat {
     cards: Vec<Card>,
     index: Groups<usize>,
+    // Whether each card is known to be the first of its node.
+    apart: bool,
     elements: Elements,
 }
 
@@ -35,11 +38,11 @@ impl Model for Flat {
 
     ghost Value = { FlatModel };
 
-    ghost use Rattle.wsm_schema.specs.Groups.{SameGroups, numbered};
+    ghost use Rattle.wsm_schema.specs.CardPlaces.{IsIndexed};
 
     ghost view = { λ a. record { cards = a.cards.items; elements = a.elements } };
 
-    ghost invariant = { λ a. SameGroups (numbered 0 a.cards.items) a.index };
+    ghost invariant = { λ a. IsIndexed a.cards.items a.index a.apart };
 }
 
 impl Flat {
@@ -50,9 +53,11 @@ impl Flat {
         let elements = schema.elements.copy(alloc)?;
         let cards = all_cards(alloc, schema)?;
         let index = Groups::of(numbered(alloc, &cards)?)?;
+        let apart = are_apart(&cards, &index);
         Ok(Flat {
             cards,
             index,
+            apart,
             elements,
         })
     }
@@ -68,10 +73,7 @@ impl Flat {
     pub fn place(&self, node: u32) -> Option<usize>
         ensures { result ≡ position_from (λ c. c.node == node) 0 self.now.cards }
     {
-        match self.index.first_with(node) {
-            Some(row) => Some(row.1),
-            None => None,
-        }
+        place_in(&self.index, node)
     }
 
     /// The nodes in document order, as a rank: whoever asks for it knows that they are one. The places of nodes are those of
@@ -91,6 +93,32 @@ impl Flat {
         match self.place(node) {
             Some(place) => card_in(&self.cards, place),
             None => None,
+        }
+    }
+
+    /// The first card of the node, as `card` gives it. It is looked for at two places before any other, for who goes along the
+    /// cards of two schemas of which one was made of the other.
+    pub fn card_near(&self, node: u32, one: usize, other: usize) -> Option<&Card>
+        ensures { option_copied result ≡ card_at node self.now.cards }
+    {
+        match self.card_there(node, one) {
+            Some(card) => Some(card),
+            None => match self.card_there(node, other) {
+                Some(card) => Some(card),
+                None => self.card(node),
+            },
+        }
+    }
+
+    // The card at a place, where it is known to be the first of the node.
+    fn card_there(&self, node: u32, place: usize) -> Option<&Card>
+        ensures { IfSome result (λ card. card_at node self.now.cards ≡ Some card.now) }
+    {
+        let card = card_in(&self.cards, place)?;
+        if self.apart && card.node == node {
+            Some(card)
+        } else {
+            None
         }
     }
 
@@ -139,6 +167,29 @@ impl Flat {
             None => None,
         }
     }
+}
+
+// The place of the node's first card, by the places of all cards.
+fn place_in(index: &Groups<usize>, node: u32) -> Option<usize>
+    ensures { result ≡ option_map (λ (row : ℕ × ℕ). row.1) (slice_get (rows_with node index.now) 0) }
+{
+    match index.first_with(node) {
+        Some(row) => Some(row.1),
+        None => None,
+    }
+}
+
+// Whether each card is the first of its node, by the places of all cards.
+fn are_apart(cards: &[Card], index: &Groups<usize>) -> bool
+    requires { SameGroups (numbered 0 cards.now) index.now }
+    ensures { result ≡ true → EachFirst cards.now }
+{
+    for (place, card) in cards.iter().enumerate() {
+        if place_in(index, card.node) != Some(place) {
+            return false;
+        }
+    }
+    true
 }
 
 // The card at a place.

@@ -48,8 +48,10 @@ pub fn touched(alloc: Global, old: &Flat, new: &Flat) -> Result<Nodes, NoMemory>
 fn put_touched(nodes: &mut GrowingTable<ByNumber>, old: &Flat, new: &Flat) -> Result<(), NoMemory>
     ensures { OnOk result (nodes.new ≡ put_all (filter (is_touched old.now new.now) (nodes_in old.now.cards)) nodes.old) }
 {
-    for card in old.cards() {
-        put_if(nodes, card.node, is_touched(old, new, card.node))?;
+    let more = new.cards().len().wrapping_sub(old.cards().len());
+    for (place, card) in old.cards().iter().enumerate() {
+        let chosen = is_touched(old, new, card.node, place, place.wrapping_add(more));
+        put_if(nodes, card.node, chosen)?;
     }
     Ok(())
 }
@@ -62,8 +64,10 @@ fn put_absent(
 ) -> Result<(), NoMemory>
     ensures { OnOk result (nodes.new ≡ put_all (filter (λ n. not (is_some (card_at n schema.now.cards))) (nodes_in cards.now)) nodes.old) }
 {
-    for card in cards {
-        put_if(nodes, card.node, schema.card(card.node).is_none())?;
+    let fewer = schema.cards().len().wrapping_sub(cards.len());
+    for (place, card) in cards.iter().enumerate() {
+        let there = schema.card_near(card.node, place, place.wrapping_add(fewer));
+        put_if(nodes, card.node, there.is_none())?;
     }
     Ok(())
 }
@@ -78,11 +82,14 @@ fn put_if(nodes: &mut GrowingTable<ByNumber>, node: u32, chosen: bool) -> Result
     Ok(())
 }
 
-// Whether a node is touched.
-fn is_touched(old: &Flat, new: &Flat, node: u32) -> bool
+// Whether a node is touched. Its card is looked for at a place of the old schema, and at that and another of the new one.
+fn is_touched(old: &Flat, new: &Flat, node: u32, place: usize, moved: usize) -> bool
     ensures { result ≡ is_touched old.now new.now node }
 {
-    match (old.card(node), new.card(node)) {
+    match (
+        old.card_near(node, place, place),
+        new.card_near(node, place, moved),
+    ) {
         (None, None) => false,
         (Some(one), Some(other)) => !same_card(one, other)
             || !same_kinds(old, new, one.writes.as_slice()),

@@ -20,16 +20,14 @@ fn same_place(one: &Card, other: &Card) -> bool
 fn same_edges(one: &Card, other: &Card) -> bool
     ensures { result ≡ same_edges one.now other.now }
 {
-    *one.ins.as_slice() == *other.ins.as_slice()
-        && *one.outs.as_slice() == *other.outs.as_slice()
-        && *one.syncs_in.as_slice() == *other.syncs_in.as_slice()
-        && *one.syncs_out.as_slice() == *other.syncs_out.as_slice()
+    one.ins.is_same(&other.ins)
+        && one.outs.is_same(&other.outs)
+        && one.syncs_in.is_same(&other.syncs_in)
+        && one.syncs_out.is_same(&other.syncs_out)
 }
 
 fn same_data(one: &Card, other: &Card) -> bool
     ensures { result ≡ same_data one.now other.now }
 {
-    *one.reads.as_slice() == *other.reads.as_slice()
-        && *one.writes.as_slice() == *other.writes.as_slice()
-        && one.role == other.role
+    one.reads.is_same(&other.reads) && one.writes.is_same(&other.writes) && one.role == other.role
 }

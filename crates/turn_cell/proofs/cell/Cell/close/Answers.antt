@@ -20,4 +20,5 @@ returns g c =
     let p = c.args.last in
     let k = closed m.state m.after m.reply m.age p.seat.id p.seat.me.0 (slots_items z.words) (slots_items z.slots) c.close_with-closed.ensures.values.2 p.idle.0 c.requires.first c.requires.all c.take-slot.result c.take-slot.ensures.value p.seat.table_id p.kept in
     let same : k.0 ≡ c.unwrap-machine.result = cc (k.1, c.unwrap-machine.ensures) in
-    subst (λ h. IsClosed m.after m.reply m.state (view_of p) h.machine h.journal.items.items) same k.2
+    subst (λ x. IsClosed m.after m.reply m.state (view_of p) x c.unwrap-machine.result.journal.items.items) (sym c.into_inner.ensures)
+    (subst (λ h. IsClosed m.after m.reply m.state (view_of p) h.machine.value h.journal.items.items) same k.2)

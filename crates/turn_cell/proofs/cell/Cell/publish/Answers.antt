@@ -21,7 +21,7 @@ store-requires g c =
           (ap (λ z. z.phase) view ∙ c.requires.turn.0) slot (c.requires.grown.1 ∙ sym (ap (λ z. z.seen ++ e ∷ []) view)) (c.requires.grown.2 ∙ sym (ap (λ z. z.number) view))
           (c.requires.count ∙ sym long)
           (subst (λ z. IsLegalFrom m.after m.reply z.opening xs) (sym view) c.requires.legal)
-          (subst (λ z. IsStateAfter m.after z.opening xs (m.state c.args.guarded.machine)) (sym view) c.requires.state)
+          (subst (λ z. IsStateAfter m.after z.opening xs (m.state c.args.guarded.machine.value)) (sym view) c.requires.state)
           c.requires.young c.requires.short,
     )
 
@@ -33,7 +33,7 @@ store-requires-2 g c =
     let v = c.exchange.new.seat.me in
     let w = c.store.new.seat.me in
     let xs = c.args.guarded.journal.items.items in
-    let st = m.state c.args.guarded.machine in
+    let st = m.state c.args.guarded.machine.value in
     let slot : v.1 ≡ (0, Some c.args.guarded) ∷ [] = ap (λ z. z.1) t.3 ∙ ap (λ zs. (0, Some c.args.guarded) ∷ rest zs) c.requires.turn.1 in
     let opening : w.0.opening ≡ c.args.seat.now.me.0.opening = ap (λ z. z.0.opening) a.2 ∙ ap (λ z. z.0.opening) t.3 in
     let seen : w.0.seen ≡ xs = ap (λ z. z.0.seen) a.2 ∙ ap carried_log slot in (

@@ -15,5 +15,5 @@ store-requires g c =
       omega (arith, c.args.self.now.counts.0),
       releases m.state m.after m.reply m.age c.args.self.now.table.shared.table_id.slots c.exchange.new.seat.id v c.args.guarded
           (ap (λ z. z.phase) view ∙ c.requires.turn.0) slot (c.requires.same.0 ∙ sym (ap (λ z. z.seen) view))
-          (subst (λ z. IsStateAfter m.after z.opening z.seen (m.state c.args.guarded.machine)) (sym view) c.requires.same.1),
+          (subst (λ z. IsStateAfter m.after z.opening z.seen (m.state c.args.guarded.machine.value)) (sym view) c.requires.same.1),
     )

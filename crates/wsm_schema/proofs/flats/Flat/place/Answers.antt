@@ -1,19 +1,12 @@
-use Rattle.std.proofs.Common.{ℕ, eqb, sym, ◌∙◌, ap}
+use Rattle.std.proofs.Common.{ℕ, eqb, ◌∙◌, ap}
 use Rattle.std.specs.Prelude.{slice_get, option_map}
-use Rattle.std.specs.Option.{option_copied}
 use Rattle.std.specs.List.{position_from}
 use Rattle.wsm_schema.specs.Flat.{FlatModel}
 use Rattle.wsm_schema.proofs.Runs.{place-numbered}
 use Rattle.wsm_schema.proofs.flats.Flat.place.Goals as goal
 
-pub returns-in-None : goal.returns-in-None
-returns-in-None c =
-    let first = ap (λ rows. slice_get rows 0) (sym (c.self.invariant.same c.args.node)) ∙ sym c.first_with.ensures ∙ ap option_copied c.in-None.is in
-    ap (option_map (λ (r : ℕ × ℕ). r.1)) (sym first) ∙ place-numbered c.args.node 0 c.self.inside.cards.items
-    ∙ ap (λ (f : FlatModel). position_from (λ d. eqb d.node c.args.node) 0 f.cards) c.self.view_is
-
-pub returns-in-Some : goal.returns-in-Some
-returns-in-Some c =
-    let first = ap (λ rows. slice_get rows 0) (sym (c.self.invariant.same c.args.node)) ∙ sym c.first_with.ensures ∙ ap option_copied c.in-Some.is in
-    ap (option_map (λ (r : ℕ × ℕ). r.1)) (sym first) ∙ place-numbered c.args.node 0 c.self.inside.cards.items
+pub returns : goal.returns
+returns c =
+    c.place_in.ensures ∙ ap (λ rows. option_map (λ (r : ℕ × ℕ). r.1) (slice_get rows 0)) (c.self.invariant.placed.same c.args.node)
+    ∙ place-numbered c.args.node 0 c.self.inside.cards.items
     ∙ ap (λ (f : FlatModel). position_from (λ d. eqb d.node c.args.node) 0 f.cards) c.self.view_is
