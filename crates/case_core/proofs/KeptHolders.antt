@@ -1,14 +1,14 @@
 -- Who holds a node after an event, told by the work items from before it.
 use Rattle.std.proofs.Common.{◌≡◌, ℕ, Bool, true, false, eqb, List, [], ◌∷◌, ◌++◌, refl, ap, sym, ◌∙◌, subst, inl, inr, Option, Some, None}
 use Rattle.std.specs.Prelude.{option_map, ◌==◌}
-use Rattle.std.proofs.lemmas.Bool.{both_ways, cases_Bool, eq-eqb, eqb-true, ne_eqb}
+use Rattle.std.proofs.lemmas.Bool.{both_ways, cases_Bool, eq-eqb, eqb-true}
 use Rattle.std.proofs.lemmas.Option.{same_Some}
 use Rattle.case_core.specs.CaseModel.{LiveModel, on_schema, state_of}
 use Rattle.case_core.specs.Kept.{Kept, marks_in}
 use Rattle.case_core.specs.KeptItems.{ChangesItems, KeepsItems, MakesItems, entries_with, held_in, item_by, item_for, item_then, user_from, user_in, user_then}
 use Rattle.case_core.specs.Machine.{holder_of, with_trail}
 use Rattle.case_core.specs.Remarks.{Moves, Remarks, started_in, user_at}
-use Rattle.case_core.specs.Shown.{held_by, shown_holder, shown_state_of}
+use Rattle.case_core.specs.Shown.{held_by, shown_state_of}
 use Rattle.case_core.proofs.ItemLoops.{user-of_next, user-of_other}
 use Rattle.case_core.proofs.KeptItems.{held-are}
 use Rattle.case_core.proofs.Marked.{current, holder-kept, spot-marked}
@@ -26,13 +26,12 @@ use Rattle.wsm_schema.specs.Flat.{card_at, cards_of, flat_of}
 use Rattle.wsm_schema.specs.Kinds.{worked_on}
 use Rattle.wsm_schema.specs.Marks.{facts_of, is_end_of, is_start_of, mark_of, position_of}
 use Rattle.wsm_schema.specs.SchemaModel.{SchemaModel}
-use Rattle.wsm_schema.specs.Trail.{TrailModel, cut_by, is_one_of, pushed}
+use Rattle.wsm_schema.specs.Trail.{cut_by, is_one_of, pushed}
 use Rattle.wsm_schema.specs.declared.cards.Card.{Card}
 use Rattle.wsm_schema.specs.declared.entries.Entry.{Entry}
 use Rattle.wsm_schema.specs.declared.entries.Entry.TheVariants as entry
 use Rattle.wsm_schema.specs.declared.marks.Mark.{Mark}
 use Rattle.wsm_schema.specs.declared.states.Spot.{Spot}
-use Rattle.wsm_schema.specs.declared.states.State.{State}
 use Rattle.wsm_schema.specs.declared.states.State.TheVariants as state
 use Rattle.wsm_sound.specs.VersionModel.{VersionModel}
 use Rattle.wsm_trail.specs.Withdrawn.{withdrawn, without_start}

@@ -1,5 +1,5 @@
 -- A case that begins on a version is what a case keeps.
-use Rattle.std.proofs.Common.{◌≡◌, ◌<◌, ◌^◌, ℕ, List, [], length, refl, ap, sym, ◌∙◌, subst, arith, Ok}
+use Rattle.std.proofs.Common.{◌≡◌, ◌<◌, ◌^◌, List, [], length, refl, ap, sym, ◌∙◌, subst, arith, Ok}
 use Rattle.case_core.specs.Instances.{IsLive}
 use Rattle.case_core.specs.KeptItems.{TellsItems}
 use Rattle.case_core.specs.Remarks.{IsTimedOn}

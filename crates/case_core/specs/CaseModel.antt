@@ -1,5 +1,5 @@
 -- A case as contracts see it.
-use Rattle.std.specs.Prelude.{ℕ, Bool, List, [], Option, None}
+use Rattle.std.specs.Prelude.{ℕ, Bool, List, [], Option, None, is_some, if◌then◌else◌}
 use Rattle.wsm_schema.specs.SchemaModel.{SchemaModel}
 use Rattle.wsm_schema.specs.Flat.{flat_of, cards_of}
 use Rattle.wsm_schema.specs.Replay.{Outcome, whole, fails, replay_of}
@@ -36,6 +36,10 @@ created_on version = record { base = version; own = []; schema = version.schema;
 -- a case on another version or schema keeps its trail
 abbrev pub on_schema : LiveModel → VersionModel → List Op → SchemaModel → LiveModel
 on_schema l base own schema = record { base = base; own = own; schema = schema; trail = l.trail }
+
+-- a case that was tried on another version or schema: as before where an entry of its trail fails, else on it
+abbrev pub tried_on : LiveModel → VersionModel → List Op → SchemaModel → Option ℕ → LiveModel
+tried_on l base own schema failed = if is_some failed then l else on_schema l base own schema
 
 -- the states of a case's nodes are those of the replay of its trail on its schema
 abbrev pub replay_of_case : LiveModel → Outcome

@@ -1,6 +1,6 @@
 // A created case on another schema.
-ghost use Rattle.std.specs.Prelude.{◌≡◌, ◌+◌, ◌<◌, ◌≤◌, ◌^◌, Ok, is_some, length, IfOk, OnOk, OnErr, if◌then◌else◌};
-ghost use Rattle.case_core.specs.CaseModel.{on_schema, replay_of_case};
+ghost use Rattle.std.specs.Prelude.{◌≡◌, ◌+◌, ◌<◌, ◌≤◌, ◌^◌, Ok, length, IfOk, OnOk, OnErr};
+ghost use Rattle.case_core.specs.CaseModel.{on_schema, replay_of_case, tried_on};
 ghost use Rattle.case_core.specs.Instances.{IsLive, live_in};
 ghost use Rattle.case_core.specs.Kept.{Kept};
 ghost use Rattle.case_core.specs.Machine.{failed_at};
@@ -40,7 +40,7 @@ impl Live {
         ensures kept { IsLive (T.kept trail.new) self.new }
         ensures trail { T.kept trail.new ≡ T.kept trail.old }
         ensures failed { IfOk result (λ failed. failed ≡ failed_at (replay_of_case (on_schema (live_in (T.kept trail.old) self.old) base own schema.value))) }
-        ensures live { IfOk result (λ failed. live_in (T.kept trail.new) self.new ≡ (if is_some failed then live_in (T.kept trail.old) self.old else on_schema (live_in (T.kept trail.old) self.old) base own schema.value)) }
+        ensures live { IfOk result (λ failed. live_in (T.kept trail.new) self.new ≡ tried_on (live_in (T.kept trail.old) self.old) base own schema.value failed) }
         ensures err { OnErr result (live_in (T.kept trail.new) self.new ≡ live_in (T.kept trail.old) self.old) }
         ensures rises { T.reads trail.old ≤ T.reads trail.new }
         ensures reads { T.reads trail.new ≤ T.reads trail.old + length (touched_nodes (flat_of self.old.now.value) (flat_of schema.value)) }
