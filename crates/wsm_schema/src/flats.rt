@@ -21,13 +21,14 @@ use crate::ranks::Rank;
 use crate::schemas::Schema;
 use std::alloc::Global;
 use std::marker::Model;
+use std::sync::Arc;
 use wsm_lists::{ElementKind, Elements, NoMemory, Nodes};
 
 /// The cards of a schema's nodes in document order, and its elements.
 #[derive(Drop)]
 pub struct Flat {
     cards: Vec<Card>,
-    index: Groups<usize>,
+    index: Arc<Groups<u32>>,
     // Whether each card is known to be the first of its node.
     apart: bool,
     elements: Elements,
@@ -42,7 +43,7 @@ impl Model for Flat {
 
     ghost view = { λ a. record { cards = a.cards.items; elements = a.elements } };
 
-    ghost invariant = { λ a. IsIndexed a.cards.items a.index a.apart };
+    ghost invariant = { λ a. IsIndexed a.cards.items a.index.value a.apart };
 }
 
 impl Flat {
@@ -56,7 +57,7 @@ impl Flat {
         let apart = are_apart(&cards, &index);
         Ok(Flat {
             cards,
-            index,
+            index: Arc::new(alloc, index)?,
             apart,
             elements,
         })
@@ -77,11 +78,11 @@ impl Flat {
     }
 
     /// The nodes in document order, as a rank: whoever asks for it knows that they are one. The places of nodes are those of
-    /// their cards, so they are not grouped again.
+    /// their cards, which the rank shares with the flat form.
     pub fn document_rank(&self, alloc: Global) -> Result<Rank, NoMemory>
         ensures { IfOk result (λ rank. rank ≡ map (λ c. c.node) self.now.cards) }
     {
-        let index = self.index.copy(alloc)?;
+        let index = Arc::try_clone(&self.index)?;
         let nodes = nodes_of(alloc, &self.cards)?;
         Ok(Rank::with_places(nodes, index))
     }
@@ -170,17 +171,17 @@ impl Flat {
 }
 
 // The place of the node's first card, by the places of all cards.
-fn place_in(index: &Groups<usize>, node: u32) -> Option<usize>
+fn place_in(index: &Groups<u32>, node: u32) -> Option<usize>
     ensures { result ≡ option_map (λ (row : ℕ × ℕ). row.1) (slice_get (rows_with node index.now) 0) }
 {
     match index.first_with(node) {
-        Some(row) => Some(row.1),
+        Some(row) => Some(row.1 as usize),
         None => None,
     }
 }
 
 // Whether each card is the first of its node, by the places of all cards.
-fn are_apart(cards: &[Card], index: &Groups<usize>) -> bool
+fn are_apart(cards: &[Card], index: &Groups<u32>) -> bool
     requires { SameGroups (numbered 0 cards.now) index.now }
     ensures { result ≡ true → EachFirst cards.now }
 {
@@ -210,13 +211,16 @@ fn nodes_of(alloc: Global, cards: &[Card]) -> Result<Vec<u32>, NoMemory>
     Ok(nodes)
 }
 
-// The nodes of the cards, each with the card's place.
-fn numbered(alloc: Global, cards: &[Card]) -> Result<Vec<(u32, usize)>, NoMemory>
+// The nodes of the cards, each with the card's place. So many cards that their places do not fit would not fit into memory.
+fn numbered(alloc: Global, cards: &[Card]) -> Result<Vec<(u32, u32)>, NoMemory>
     ensures { IfOk result (λ new. new.items ≡ numbered 0 cards.now) }
 {
+    if cards.len() > u32::MAX as usize {
+        return Err(NoMemory);
+    }
     let mut all = Vec::with_capacity(alloc, cards.len())?;
     for (place, card) in cards.iter().enumerate() {
-        all.push((card.node, place))?;
+        all.push((card.node, place as u32))?;
     }
     Ok(all)
 }

@@ -4,7 +4,6 @@ ghost use Rattle.std.specs.Option.{option_copied};
 ghost use Rattle.std.specs.List.Sorted.{IsNonDecreasingBy};
 ghost use Rattle.wsm_schema.specs.Groups.{has_number, rows_with, starts_at, SameGroups, IsStart, IsEnd};
 
-use std::alloc::Global;
 use std::marker::Model;
 use wsm_lists::NoMemory;
 
@@ -47,17 +46,6 @@ impl<T: Drop> Groups<T> {
     {
         let at = start_of(&self.rows, number);
         row_with(&self.rows, at, number)
-    }
-}
-
-impl<T: Copy + Drop> Groups<T> {
-    /// Equal groups.
-    pub fn copy(&self, alloc: Global) -> Result<Self, NoMemory>
-        ensures { IfOk result (λ new. new ≡ self.now) }
-    {
-        Ok(Groups {
-            rows: Vec::from_slice(alloc, &self.rows)?,
-        })
     }
 }
 

@@ -9,4 +9,4 @@ with_places-requires c =
     let nodes = c.in_ok-nodes.nodes.items in
     let listed : nodes ≡ map (λ k. k.node) cards = c.in_ok-nodes.ensures ∙ ap (map (λ k. k.node)) c.deref.ensures.value in
     let rows : placed 0 nodes ≡ numbered 0 cards = ap (placed 0) listed ∙ placed-cards 0 cards in
-    subst (SameGroups (placed 0 nodes)) (sym c.in_ok-index.ensures) (subst (λ rs. SameGroups rs c.self.inside.index) (sym rows) c.self.invariant.placed)
+    subst (SameGroups (placed 0 nodes)) (sym c.in_ok-index.ensures) (subst (λ rs. SameGroups rs c.self.inside.index.value) (sym rows) c.self.invariant.placed)
