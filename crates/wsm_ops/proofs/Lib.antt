@@ -15,3 +15,4 @@ pub mod Distinct
 pub mod OnePlace
 pub mod OncePieces
 pub mod NotedNodes
+pub mod JoinedRuns

@@ -7,3 +7,4 @@ pub mod Readings
 pub mod Putting
 pub mod Wrapped
 pub mod Places
+pub mod Runs

@@ -54,7 +54,7 @@ impl Draft {
             reads: schema.reads.copy(alloc)?,
             writes: schema.writes.copy(alloc)?,
             roles: schema.roles.copy(alloc)?,
-            outline: Outline::of(alloc, pieces_of(alloc, schema)?, operations)?,
+            outline: Outline::of(alloc, &pieces_of(alloc, schema)?, operations)?,
         })
     }
 
@@ -65,7 +65,7 @@ impl Draft {
         Ok(Schema {
             start: self.start,
             finish: self.finish,
-            body: tree_of(alloc, self.outline.into_pieces())?,
+            body: tree_of(alloc, self.outline.pieces(alloc)?)?,
             syncs: self.syncs,
             elements: self.elements,
             reads: self.reads,

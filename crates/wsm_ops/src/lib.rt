@@ -13,6 +13,7 @@ mod places;
 mod readers;
 mod refusals;
 mod removals;
+mod runs;
 mod walks;
 mod wraps;
 

@@ -1,23 +1,26 @@
 // The pieces of a schema in document order, and edits of them.
-ghost use Rattle.std.specs.Prelude.{◌≡◌, ◌<◌, ◌≤◌, ◌++◌, length, take, drop, slice_get, position, OnOk, IfOk, IsTrue};
-ghost use Rattle.std.specs.List.{remove};
-ghost use Rattle.std.specs.Option.{option_copied};
+ghost use Rattle.std.specs.Prelude.{◌≡◌, IfOk, IsTrue};
 ghost use Rattle.wsm_ops.specs.Outline.{is_node, at_gap, seat_at, has_head, behind, before, without_node, IsOnce};
-ghost use Rattle.wsm_ops.specs.Places.{seat_there, place_of, passes, IsPlace, IsFound, IsNoted};
+ghost use Rattle.wsm_ops.specs.Places.{place_of, IsNoted};
+ghost use Rattle.wsm_ops.specs.Runs.{joined, IsSpot};
 ghost use Rattle.wsm_ops.specs.declared.operations.Gap.TheVariants.{After};
 
 use crate::operations::Gap;
 use crate::pieces::{Piece, Seat};
 use crate::places::Places;
+use crate::runs::{
+    Spot, first_spot, has_head_in, pieces_in, put_before, put_behind, runs_of, seat_in,
+    spot_around, take_from,
+};
 use std::alloc::Global;
 use std::marker::Model;
 use wsm_schema::NoMemory;
 
-/// The pieces of a schema, in document order. Where it is noted where nodes were put, a node is looked for around that place,
-/// and is not far from it: no farther than pieces were put or taken since.
+/// The pieces of a schema, in document order. They lie in short runs, so that an edit moves few of them. Where it is noted in
+/// which runs nodes were put, a node is looked for in its run alone.
 #[derive(Drop)]
 pub struct Outline {
-    pieces: Vec<Piece>,
+    runs: Vec<Vec<Piece>>,
     is_noted: bool,
     places: Places,
 }
@@ -25,35 +28,37 @@ pub struct Outline {
 impl Model for Outline {
     ghost use Rattle.std.specs.Prelude.{List, IsTrue};
     ghost use Rattle.wsm_ops.specs.Places.{place_of, IsNoted};
+    ghost use Rattle.wsm_ops.specs.Runs.{joined};
     ghost use Rattle.wsm_ops.specs.declared.pieces.Piece.{Piece};
 
     ghost Value = { List Piece };
 
-    ghost view = { λ o. o.pieces.items };
+    ghost view = { λ o. joined o.runs.items };
 
-    ghost invariant = { λ o. IsTrue o.is_noted → IsNoted (place_of o.places) o.pieces.items };
+    ghost invariant = { λ o. IsTrue o.is_noted → IsNoted (place_of o.places) (joined o.runs.items) };
 }
 
 impl Outline {
     /// The outline with these pieces, for so many operations. For a few of them it is not noted where nodes are, since that
     /// takes as long as some dozen passes over the pieces.
-    pub fn of(alloc: Global, pieces: Vec<Piece>, operations: usize) -> Result<Outline, NoMemory>
-        ensures { IfOk result (λ o. o ≡ pieces.items) }
+    pub fn of(alloc: Global, pieces: &[Piece], operations: usize) -> Result<Outline, NoMemory>
+        ensures { IfOk result (λ o. o ≡ pieces.now) }
     {
+        let runs = runs_of(alloc, pieces)?;
         let is_noted = operations > FEW;
-        let places = places_of(alloc, &pieces, is_noted)?;
+        let places = places_of(alloc, &runs, is_noted)?;
         Ok(Outline {
-            pieces,
+            runs,
             is_noted,
             places,
         })
     }
 
     /// All pieces.
-    pub fn into_pieces(self) -> Vec<Piece>
-        ensures { result.items ≡ self }
+    pub fn pieces(&self, alloc: Global) -> Result<Vec<Piece>, NoMemory>
+        ensures { IfOk result (λ pieces. pieces.items ≡ self.now) }
     {
-        self.pieces
+        pieces_in(alloc, &self.runs)
     }
 
     /// What the node is.
@@ -61,9 +66,9 @@ impl Outline {
         requires { IsOnce (at_gap (After node)) self.now }
         ensures { result ≡ seat_at node self.now }
     {
-        match self.node_place(node) {
+        match node_spot(&self.runs, self.is_noted, &self.places, node) {
             None => None,
-            Some(at) => seat_in(&self.pieces, at, node),
+            Some(spot) => seat_in(&self.runs, spot, node),
         }
     }
 
@@ -71,30 +76,7 @@ impl Outline {
     pub fn has_head(&self, split: u32, code: u16) -> bool
         ensures { result ≡ has_head split code self.now }
     {
-        self.pieces.iter().any(|piece| piece.is_head(split, code))
-    }
-
-    // Where the node stands.
-    fn node_place(&self, node: u32) -> Option<usize>
-        ensures { IsPlace (at_gap (After node)) self.now result }
-    {
-        if !self.is_noted {
-            return first_place(&self.pieces, Gap::After(node));
-        }
-        match self.places.get(node) {
-            None => None,
-            Some(at) => place_around(&self.pieces, at, Gap::After(node)),
-        }
-    }
-
-    // Where the piece stands that the gap is behind.
-    fn place(&self, gap: Gap) -> Option<usize>
-        ensures { IsPlace (at_gap gap) self.now result }
-    {
-        match gap {
-            Gap::After(node) => self.node_place(node),
-            Gap::Head(..) => first_place(&self.pieces, gap),
-        }
+        has_head_in(&self.runs, split, code)
     }
 
     /// New pieces at the gap.
@@ -102,9 +84,14 @@ impl Outline {
         requires { IsOnce (at_gap gap) self }
         ensures { IfOk result (λ o. o ≡ behind (at_gap gap) new.now self) }
     {
-        match self.place(gap) {
-            None => Ok(self),
-            Some(at) => self.put_at(at + 1, new),
+        let mut all = self;
+        match gap_spot(&all.runs, all.is_noted, &all.places, gap) {
+            None => Ok(all),
+            Some(spot) => {
+                all.places.note_all(new, spot.run)?;
+                put_behind(&mut all.runs, spot, new)?;
+                Ok(all)
+            }
         }
     }
 
@@ -113,21 +100,15 @@ impl Outline {
         requires { IsOnce (at_gap (After node)) self }
         ensures { IfOk result (λ o. o ≡ before (is_node node) new.now self) }
     {
-        match self.node_place(node) {
-            None => Ok(self),
-            Some(at) => self.put_at(at, new),
-        }
-    }
-
-    // New pieces at a place.
-    fn put_at(self, at: usize, new: &[Piece]) -> Result<Outline, NoMemory>
-        requires { at ≤ length self }
-        ensures { IfOk result (λ o. o ≡ take at self ++ (new.now ++ drop at self)) }
-    {
         let mut all = self;
-        all.places.note_all(new, at)?;
-        put_all(&mut all.pieces, at, new)?;
-        Ok(all)
+        match node_spot(&all.runs, all.is_noted, &all.places, node) {
+            None => Ok(all),
+            Some(spot) => {
+                all.places.note_all(new, spot.run)?;
+                put_before(&mut all.runs, spot, new)?;
+                Ok(all)
+            }
+        }
     }
 
     /// The pieces without the node.
@@ -135,118 +116,49 @@ impl Outline {
         requires { IsOnce (at_gap (After node)) self }
         ensures { result ≡ without_node node self }
     {
-        match self.node_place(node) {
-            None => self,
-            Some(at) => self.taken_from(at),
-        }
-    }
-
-    // The pieces without the one at that place.
-    fn taken_from(self, at: usize) -> Outline
-        requires { at < length self }
-        ensures { result ≡ remove self at }
-    {
         let mut all = self;
-        all.pieces.remove(at);
+        if let Some(spot) = node_spot(&all.runs, all.is_noted, &all.places, node) {
+            take_from(&mut all.runs, spot);
+        }
         all
+    }
+}
+
+// Where the node stands, which is looked for in the run where it is noted, if it is.
+fn node_spot(runs: &[Vec<Piece>], is_noted: bool, places: &Places, node: u32) -> Option<Spot>
+    requires { IsTrue is_noted → IsNoted (place_of places.now) (joined runs.now) }
+    ensures { IsSpot (at_gap (After node)) runs.now result }
+{
+    if !is_noted {
+        return first_spot(runs, Gap::After(node));
+    }
+    match places.get(node) {
+        None => None,
+        Some(run) => spot_around(runs, run, Gap::After(node)),
+    }
+}
+
+// Where the piece stands that the gap is behind.
+fn gap_spot(runs: &[Vec<Piece>], is_noted: bool, places: &Places, gap: Gap) -> Option<Spot>
+    requires { IsTrue is_noted → IsNoted (place_of places.now) (joined runs.now) }
+    ensures { IsSpot (at_gap gap) runs.now result }
+{
+    match gap {
+        Gap::After(node) => node_spot(runs, is_noted, places, node),
+        Gap::Head(..) => first_spot(runs, gap),
     }
 }
 
 // So many operations look for nodes by passes over the pieces.
 const FEW: usize = 16;
 
-// Where the nodes of the pieces stand, where that is to be noted.
-fn places_of(alloc: Global, pieces: &[Piece], is_noted: bool) -> Result<Places, NoMemory>
-    ensures { IfOk result (λ places. IsTrue is_noted → IsNoted (place_of places) pieces.now) }
+// In which runs the nodes stand, where that is to be noted.
+fn places_of(alloc: Global, runs: &[Vec<Piece>], is_noted: bool) -> Result<Places, NoMemory>
+    ensures { IfOk result (λ places. IsTrue is_noted → IsNoted (place_of places) (joined runs.now)) }
 {
     let mut places = Places::new(alloc);
     if is_noted {
-        places.note_all(pieces, 0)?;
+        places.note_runs(runs)?;
     }
     Ok(places)
-}
-
-// Where a piece stands that the gap is behind, which is looked for around a place first.
-fn place_around(pieces: &[Piece], around: usize, gap: Gap) -> Option<usize>
-    ensures { IsPlace (at_gap gap) pieces.now result }
-{
-    match near_place(pieces, around, gap) {
-        None => first_place(pieces, gap),
-        found => found,
-    }
-}
-
-// Such a place, of those that are nearest to the given one, if there is one near.
-fn near_place(pieces: &[Piece], around: usize, gap: Gap) -> Option<usize>
-    ensures { IsFound (at_gap gap) pieces.now result }
-{
-    for far in 0..pieces.len() {
-        let behind = around.saturating_add(far);
-        if is_place(pieces, behind, gap) {
-            return Some(behind);
-        }
-        let before = around.saturating_sub(far);
-        if is_place(pieces, before, gap) {
-            return Some(before);
-        }
-    }
-    None
-}
-
-// Whether a piece that the gap is behind stands there.
-fn is_place(pieces: &[Piece], at: usize, gap: Gap) -> bool
-    ensures { result ≡ passes (at_gap gap) (slice_get pieces.now at) }
-{
-    match piece_in(pieces, at) {
-        None => false,
-        Some(piece) => piece.is_at(gap),
-    }
-}
-
-// The first such place.
-fn first_place(pieces: &[Piece], gap: Gap) -> Option<usize>
-    ensures { result ≡ position (at_gap gap) pieces.now }
-{
-    pieces.iter().position(|piece| piece.is_at(gap))
-}
-
-// New pieces at a place, in their order. One piece only moves those behind it.
-fn put_all(pieces: &mut Vec<Piece>, at: usize, new: &[Piece]) -> Result<(), NoMemory>
-    requires { at ≤ length pieces.old.items }
-    ensures { OnOk result (pieces.new.items ≡ take at pieces.old.items ++ (new.now ++ drop at pieces.old.items)) }
-{
-    match new {
-        [piece] => {
-            pieces.insert(at, *piece)?;
-            Ok(())
-        }
-        _ => put_many(pieces, at, new),
-    }
-}
-
-// New pieces at a place, in their order, behind which the others are copied.
-fn put_many(pieces: &mut Vec<Piece>, at: usize, new: &[Piece]) -> Result<(), NoMemory>
-    requires { at ≤ length pieces.old.items }
-    ensures { OnOk result (pieces.new.items ≡ take at pieces.old.items ++ (new.now ++ drop at pieces.old.items)) }
-{
-    let mut rest = pieces.split_off(at)?;
-    pieces.extend_from_slice(new)?;
-    pieces.append(&mut rest)?;
-    Ok(())
-}
-
-// What a piece there says of the node.
-fn seat_in(pieces: &[Piece], at: usize, node: u32) -> Option<Seat>
-    ensures { result ≡ seat_there node (slice_get pieces.now at) }
-{
-    match piece_in(pieces, at) {
-        None => None,
-        Some(piece) => piece.seat(node),
-    }
-}
-
-fn piece_in(pieces: &[Piece], at: usize) -> Option<&Piece>
-    ensures { option_copied result ≡ slice_get pieces.now at }
-{
-    pieces.get(at)
 }

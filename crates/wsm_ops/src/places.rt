@@ -1,14 +1,15 @@
-// Where nodes were put, which is where to look for them first.
-ghost use Rattle.std.specs.Prelude.{◌≡◌, ◌<◌, ◌^◌, ℕ, Some, None, OnOk, if◌then◌else◌};
+// In which runs nodes were put, which is where to look for them first.
+ghost use Rattle.std.specs.Prelude.{◌≡◌, ℕ, Some, None, OnOk, if◌then◌else◌};
 ghost use Rattle.wsm_ops.specs.Outline.{is_node};
 ghost use Rattle.wsm_ops.specs.Places.{place_of, Noted};
+ghost use Rattle.wsm_ops.specs.Runs.{joined};
 
 use crate::pieces::Piece;
 use std::alloc::Global;
 use std::collections::HashMap;
 use wsm_schema::NoMemory;
 
-/// Where each node stood when it was put.
+/// The run that each node was put into.
 #[derive(Drop)]
 pub struct Places {
     nodes: HashMap<u32, usize>,
@@ -24,7 +25,7 @@ impl Places {
         }
     }
 
-    /// Where the node stood.
+    /// The run that the node was put into.
     pub fn get(&self, node: u32) -> Option<usize>
         ensures { result ≡ place_of self.now node }
     {
@@ -32,25 +33,34 @@ impl Places {
     }
 
     /// The piece stands there.
-    fn note(&mut self, piece: Piece, at: usize) -> Result<(), NoMemory>
-        ensures { OnOk result ((n : ℕ) → place_of self.new n ≡ (if is_node n piece then Some at else place_of self.old n)) }
+    fn note(&mut self, piece: Piece, run: usize) -> Result<(), NoMemory>
+        ensures { OnOk result ((n : ℕ) → place_of self.new n ≡ (if is_node n piece then Some run else place_of self.old n)) }
     {
         match piece {
             Piece::Node { node, .. } => {
-                self.nodes.insert(node, at)?;
+                self.nodes.insert(node, run)?;
             }
             Piece::Head { .. } => {}
         }
         Ok(())
     }
 
-    /// The pieces stand there, one behind another.
-    pub fn note_all(&mut self, pieces: &[Piece], from: usize) -> Result<(), NoMemory>
-        requires { from < 2 ^ 63 }
+    /// The pieces stand in that run.
+    pub fn note_all(&mut self, pieces: &[Piece], run: usize) -> Result<(), NoMemory>
         ensures { OnOk result (Noted (place_of self.old) pieces.now (place_of self.new)) }
     {
-        for (i, piece) in pieces.iter().enumerate() {
-            self.note(*piece, from + i)?;
+        for piece in pieces {
+            self.note(*piece, run)?;
+        }
+        Ok(())
+    }
+
+    /// The pieces stand in these runs.
+    pub fn note_runs(&mut self, runs: &[Vec<Piece>]) -> Result<(), NoMemory>
+        ensures { OnOk result (Noted (place_of self.old) (joined runs.now) (place_of self.new)) }
+    {
+        for (i, run) in runs.iter().enumerate() {
+            self.note_all(run, i)?;
         }
         Ok(())
     }

@@ -11,7 +11,8 @@ use std::alloc::Global;
 use std::mem;
 use wsm_schema::{Block, Branch, Branches, Items, NoMemory, NodeKind};
 
-// The items and the branches that have been read of an open block, last ones first.
+// The items and the branches that have been read of an open block, last ones first. They grow as they are read, and are handed on
+// without spare room, since a schema is kept as long as its case.
 #[derive(Drop)]
 struct Open {
     items: Items,
@@ -34,6 +35,7 @@ impl Open {
         ensures { parts_of result.items ≡ (level_of self).items }
     {
         let mut items = self.items;
+        items.shrink_to_fit();
         items.reverse();
         items
     }
@@ -43,6 +45,7 @@ impl Open {
         ensures { lanes (lanes_of result.items) ≡ (level_of self).branches }
     {
         let mut branches = self.branches;
+        branches.shrink_to_fit();
         branches.reverse();
         branches
     }
@@ -99,6 +102,7 @@ impl Reader {
         ensures { OnOk result (levels_of self.new ≡ read_token (a_branch code) (levels_of self.old)) }
     {
         let mut items = mem::replace(&mut self.inner.items, Vec::new(alloc));
+        items.shrink_to_fit();
         items.reverse();
         self.inner.branches.push(Branch { code, items })?;
         Ok(())

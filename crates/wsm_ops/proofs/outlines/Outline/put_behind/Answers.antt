@@ -1,22 +1,46 @@
-use Rattle.std.proofs.Common.{◌≡◌, sym, subst, arith, IfOk}
+use Rattle.std.proofs.Common.{◌≡◌, ◌+◌, ◌++◌, true, false, take, drop, ap, sym, ◌∙◌, subst, slice_get}
+use Rattle.std.specs.List.{list_any}
 use Rattle.wsm_ops.specs.Outline.{at_gap}
-use Rattle.wsm_ops.specs.Places.{IsPlace}
-use Rattle.wsm_ops.proofs.OnePlace.{behind-none, behind-found, place-within}
+use Rattle.wsm_ops.specs.Places.{place_of, passes, IsNoted}
+use Rattle.wsm_ops.specs.Runs.{IsSpot, joined, place_at}
+use Rattle.wsm_ops.proofs.JoinedRuns.{spot-place, spot-run, spot-within}
+use Rattle.wsm_ops.proofs.NotedNodes.{put-noted}
+use Rattle.wsm_ops.proofs.OnePlace.{behind-found, behind-none}
 use Rattle.wsm_ops.proofs.outlines.Outline.put_behind.Goals as goal
+
+pub put_behind-requires-clause-run : goal.put_behind-requires-clause-run
+put_behind-requires-clause-run c =
+    let t = at_gap c.args.gap in
+    let runs = c.all.inside.runs.items in
+    spot-run t runs c.in-Some.spot.run c.in-Some.spot.at (subst (IsSpot t runs) c.in-Some.is (subst (λ rs. IsSpot t rs c.gap_spot.result) c.deref.ensures.value c.gap_spot.ensures))
+
+pub put_behind-requires-clause-within : goal.put_behind-requires-clause-within
+put_behind-requires-clause-within c =
+    let t = at_gap c.args.gap in
+    let runs = c.all.inside.runs.items in
+    spot-within t runs c.in-Some.spot.run c.in-Some.spot.at (subst (IsSpot t runs) c.in-Some.is (subst (λ rs. IsSpot t rs c.gap_spot.result) c.deref.ensures.value c.gap_spot.ensures))
+
+pub invariant_of-all : goal.invariant_of-all
+invariant_of-all c =
+    let runs = c.all.inside.runs.items in
+    let old = place_of c.all.inside.places in
+    let new = place_of c.note_all.new.self in
+    λ is. subst (IsNoted new) (sym c.in_ok-put_behind-in-Some.ensures) (put-noted old new (place_at runs c.in-Some.spot.run c.in-Some.spot.at + 1) c.args.new.now (joined runs) (c.all.invariant is) c.in_ok-note_all-in-Some.ensures)
 
 pub returns-in-None : goal.returns-in-None
 returns-in-None c =
     let t = at_gap c.args.gap in
-    sym (behind-none t c.args.new.now c.args.self (subst (IsPlace t c.args.self) c.in-None.is c.place.ensures))
+    let runs = c.all.inside.runs.items in
+    let none : list_any t (joined runs) ≡ false = subst (IsSpot t runs) c.in-None.is (subst (λ rs. IsSpot t rs c.gap_spot.result) c.deref.ensures.value c.gap_spot.ensures) in
+    let v : joined runs ≡ c.args.self = c.all.view_is in
+    sym (behind-none t c.args.new.now c.args.self (subst (λ ps. list_any t ps ≡ false) v none))
 
-pub put_at-requires : goal.put_at-requires
-put_at-requires c =
+pub returns-in_ok-put_behind-in-Some : goal.returns-in_ok-put_behind-in-Some
+returns-in_ok-put_behind-in-Some c =
     let t = at_gap c.args.gap in
-    let within = place-within t c.args.self c.in-Some.at (subst (IsPlace t c.args.self) c.in-Some.is c.place.ensures) in
-    omega (arith, within)
-
-pub returns-in-Some : goal.returns-in-Some
-returns-in-Some c =
-    let t = at_gap c.args.gap in
-    let found = subst (IsPlace t c.args.self) c.in-Some.is c.place.ensures in
-    subst (λ ps. IfOk c.put_at.result (λ o. o ≡ ps)) (sym (behind-found t c.args.new.now c.args.self c.in-Some.at c.requires found)) c.put_at.ensures
+    let runs = c.all.inside.runs.items in
+    let p = place_at runs c.in-Some.spot.run c.in-Some.spot.at in
+    let spot = subst (IsSpot t runs) c.in-Some.is (subst (λ rs. IsSpot t rs c.gap_spot.result) c.deref.ensures.value c.gap_spot.ensures) in
+    let v : joined runs ≡ c.args.self = c.all.view_is in
+    let found = subst (λ ps. passes t (slice_get ps p) ≡ true) v (spot-place t runs c.in-Some.spot.run c.in-Some.spot.at spot) in
+    c.in_ok-put_behind-in-Some.ensures ∙ ap (λ ps. take (p + 1) ps ++ (c.args.new.now ++ drop (p + 1) ps)) v ∙ sym (behind-found t c.args.new.now c.args.self p c.requires found)

@@ -5,6 +5,6 @@ use Rattle.wsm_ops.specs.Places.{place_of, is_known}
 use Rattle.wsm_ops.proofs.places.Places.note_all.Given as goal
 
 -- of the nodes so far a place is known
-abbrev pub invariant-loop-i : goal.invariant-loop-i
-invariant-loop-i l =
-    (n : ℕ) → (list_any (is_node n) (drop l.i l.pieces) || is_known (place_of l.self) n) ≡ (list_any (is_node n) l.pieces || is_known (place_of l.initial.self) n)
+abbrev pub invariant-loop-piece : goal.invariant-loop-piece
+invariant-loop-piece l =
+    (n : ℕ) → (list_any (is_node n) (drop l.piece-index l.pieces) || is_known (place_of l.self) n) ≡ (list_any (is_node n) l.pieces || is_known (place_of l.initial.self) n)
