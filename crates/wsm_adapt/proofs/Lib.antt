@@ -18,3 +18,4 @@ pub mod AdaptsRight
 pub mod TouchedRows
 pub mod RegionReads
 pub mod Finding
+pub mod KnownRows

@@ -1,6 +1,6 @@
 -- Marks are read where they are not known, one after another.
 use Rattle.std.proofs.Common.{◌≡◌, ℕ, ◌+◌, ◌<◌, ◌≤◌, Bool, true, false, cond, eqb, List, [], ◌∷◌, drop, get_or, length, refl, ap, sym, ◌∙◌, subst, inl, inr, arith, Option, Some, None}
-use Rattle.std.specs.Prelude.{is_some}
+use Rattle.std.specs.Prelude.{is_some, if◌then◌else◌}
 use Rattle.std.proofs.lemmas.Bool.{cases_Bool, both_ways, eqb-true, eq-eqb}
 use Rattle.std.proofs.lemmas.List.{drop_more}
 use Rattle.wsm_lists.specs.ByNumber.{item_at}
@@ -139,3 +139,16 @@ few-next node xs i d lt old now reads reads' reads'' before one all among =
 -- what is paid for is no more than what may be read
 pub few-spent : (asked : List ℕ → Type 0) (reads : ℕ) (old : List (ℕ × Option Mark)) (reads' : ℕ) (new : List (ℕ × Option Mark)) → SpendsAmong asked reads old reads' new → FewAmong asked reads old reads'
 few-spent asked reads old reads' new spent all among = let a = spent all among in omega (arith, a)
+
+-- ---- rows that tell the same of each node
+pub more-like : (kept : List (ℕ × Mark)) (old mid new : List (ℕ × Option Mark)) → ReadsMore kept old mid → ((n : ℕ) → item_at n new ≡ item_at n mid) → ReadsMore kept old new
+more-like kept old mid new more like n =
+    elim (more n) [
+      | inl same ↦ inl (like n ∙ same)
+      | inr came ↦ inr (came.0, like n ∙ came.1)
+    ]
+
+pub unknown-like : (old new : List (ℕ × Option Mark)) → ((n : ℕ) → item_at n new ≡ item_at n old) → (all : List ℕ) → unknown_in new all ≡ unknown_in old all
+unknown-like old new like [] = refl
+unknown-like old new like (n ∷ ns) =
+    ap (λ (o : Option (Option Mark)). (if is_some o then 0 else 1) + unknown_in new ns) (like n) ∙ ap (λ k. unknown old n + k) (unknown-like old new like ns)

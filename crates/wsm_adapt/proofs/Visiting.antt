@@ -162,7 +162,7 @@ module _ (cards : List Card) (rank : List ℕ) (is : IsRank cards rank) (p n d :
       }
 
       -- it has another
-      module _ (m : Mark) (h : Found) (known_is : h.known ≡ put_row first (c.node, said m) g.known) (changes_are : h.changes ≡ put_row first (c.node, said m) g.changes) (nodes_are : h.nodes ≡ g.nodes) (keys' : List ℕ)
+      module _ (m : Mark) (h : Found) (known_is : (k : ℕ) → item_at k h.known ≡ item_at k (put_row first (c.node, said m) g.known)) (changes_are : h.changes ≡ put_row first (c.node, said m) g.changes) (nodes_are : h.nodes ≡ g.nodes) (keys' : List ℕ)
           (handed : Handed rank (λ k. is_named (loop_end c) k || leads_to c k) (p + 1) keys keys') where
         changes_were : h.changes ≡ put_row first (c.node, said m) f.changes
         changes_were = changes_are ∙ ap (λ l. put_row first (c.node, said m) l) v.changes
@@ -195,7 +195,7 @@ module _ (cards : List Card) (rank : List ℕ) (is : IsRank cards rank) (p n d :
           stands =
               walks-new cards rank p n d keys' lt here behind' kept f.changes c found (Some m) (revised-read (Some m) revised) m refl (said m) refl h.changes changes_were keys'
               (record { stay = λ q there. there; come = λ k leads in_rank far. handed.come k (or_right (is_named (loop_end c) k) (leads_to c k) leads) in_rank far; only = λ q there. inl there }) goal aim more;
-          known = λ k o at. new-known k o (sym (ap (item_at k) known_is ∙ item_at-put k (c.node, said m) g.known) ∙ at) (eqb n k) refl;
+          known = λ k o at. new-known k o (sym (known_is k ∙ item_at-put k (c.node, said m) g.known) ∙ at) (eqb n k) refl;
           asked = λ k it. still-known k (known-stays kept f.known g.known v.more k (st.asked k it));
           visited = λ k among. elim (among-visited k kept v (subst (λ l. is_one_of k l ≡ true) nodes_are among)) [
             | inl old ↦ still-known k (known-stays kept f.known g.known v.more k (st.visited k old))
@@ -216,7 +216,7 @@ module _ (cards : List Card) (rank : List ℕ) (is : IsRank cards rank) (p n d :
         }
           where
             still-known : (k : ℕ) → is_known g.known k ≡ true → is_known h.known k ≡ true
-            still-known k known = ap (λ l. is_known l k) known_is ∙ known-put k (c.node, said m) g.known known
+            still-known k known = ap is_some (known_is k) ∙ known-put k (c.node, said m) g.known known
 
             new-known : (k : ℕ) (o : Option Mark) → cond (eqb c.node k) (Some (said m)) (item_at k g.known) ≡ Some o → (b : Bool) → eqb n k ≡ b → mark_or o ≡ seen kept h.changes k
             new-known k o at true same =
@@ -232,7 +232,7 @@ module _ (cards : List Card) (rank : List ℕ) (is : IsRank cards rank) (p n d :
     pub goes-same : (kept : List (ℕ × Mark)) → IsVisit kept c f g → (o : Option Mark) → IsRevised cards (seen [] g.known) c o → o ≡ None → GoesOn cards rank kept (p ∷ keys) f keys g
     goes-same kept v o revised none goal touched aim st = goes-same-at kept goal touched aim st v o revised none
 
-    pub goes-new : (kept : List (ℕ × Mark)) → IsVisit kept c f g → (o : Option Mark) → IsRevised cards (seen [] g.known) c o → (m : Mark) → o ≡ Some m → (h : Found) → h.known ≡ put_row first (c.node, said m) g.known →
+    pub goes-new : (kept : List (ℕ × Mark)) → IsVisit kept c f g → (o : Option Mark) → IsRevised cards (seen [] g.known) c o → (m : Mark) → o ≡ Some m → (h : Found) → ((k : ℕ) → item_at k h.known ≡ item_at k (put_row first (c.node, said m) g.known)) →
         h.changes ≡ put_row first (c.node, said m) g.changes → h.nodes ≡ g.nodes → (keys' : List ℕ) → Handed rank (λ k. is_named (loop_end c) k || leads_to c k) (p + 1) keys keys' → GoesOn cards rank kept (p ∷ keys) f keys' h
     goes-new kept v o revised m some h known_is changes_are nodes_are keys' handed goal touched aim st =
         goes-new-at kept goal touched aim st v m h known_is changes_are nodes_are keys' handed (subst (IsRevised cards (seen [] g.known) c) some revised)

@@ -10,6 +10,7 @@ ghost use Rattle.wsm_schema.specs.Trail.{is_one_of};
 ghost use Rattle.wsm_walk.specs.RankPlaces.{Handed};
 
 use crate::border::read_nodes;
+use crate::known::Known;
 use crate::walks::{Found, walk};
 use std::alloc::Global;
 use wsm_lists::{GrowingTable, NoMemory};
@@ -34,7 +35,7 @@ pub fn marks_found<M: MarkReads>(
     ensures few { M.reads marks.new ≤ M.reads marks.old + marks_to_read flat.now rank.now touched.now }
 {
     let mut found = Found {
-        known: GrowingTable::new(alloc),
+        known: Known::new(alloc),
         changes: GrowingTable::new(alloc),
         nodes: Nodes::new(alloc),
     };
@@ -70,7 +71,7 @@ fn find<M: MarkReads>(
 fn note_known(
     flat: &Flat,
     nodes: &[u32],
-    known: &Overlay,
+    known: &Known,
     changes: &mut Overlay,
 ) -> Result<(), NoMemory>
     ensures { OnOk result (changes.new ≡ begun_rows flat.now.cards known.now nodes.now changes.old) }
@@ -93,7 +94,7 @@ fn begun_pending(
 ) -> Result<Pending, NoMemory>
     ensures { IfOk result (λ pending. Handed rank.now (λ k. is_one_of k nodes.now || list_any (λ m. is_led (card_at m flat.now.cards) k) nodes.now) 0 [] pending.keys) }
 {
-    let mut pending = Pending::new(alloc);
+    let mut pending = Pending::expecting(alloc, nodes.len(), rank.nodes().len())?;
     hand_to(rank, nodes, None, &mut pending)?;
     hand_on_all(flat, rank, nodes, &mut pending)?;
     Ok(pending)

@@ -3,16 +3,16 @@ ghost use Rattle.std.specs.Prelude.{◌≡◌, ◌≤◌, true, OnOk};
 ghost use Rattle.wsm_adapt.specs.Border.{AllAmong, AllKnown, FewAmong, ReadsMore, SourcesAmong, SourcesKnown, SpendsAmong, end_node, is_known, own};
 ghost use Rattle.wsm_schema.specs.Trail.{is_one_of};
 
+use crate::known::Known;
 use wsm_lists::NoMemory;
 use wsm_rules::MarkReads;
 use wsm_schema::{Card, End};
-use wsm_settle::Overlay;
 
 /// The marks of the nodes from which edges lead to the card's node.
 pub fn read_card_sources<M: MarkReads>(
     marks: &mut M,
     card: &Card,
-    known: &mut Overlay,
+    known: &mut Known,
 ) -> Result<(), NoMemory>
     ensures more { OnOk result (ReadsMore (M.kept marks.old) known.old known.new) }
     ensures sources { OnOk result (SourcesKnown known.new card.now) }
@@ -25,7 +25,7 @@ pub fn read_card_sources<M: MarkReads>(
     read_nodes(marks, card.syncs_in.as_slice(), known)
 }
 
-fn read_ends<M: MarkReads>(marks: &mut M, ends: &[End], known: &mut Overlay) -> Result<(), NoMemory>
+fn read_ends<M: MarkReads>(marks: &mut M, ends: &[End], known: &mut Known) -> Result<(), NoMemory>
     ensures more { OnOk result (ReadsMore (M.kept marks.old) known.old known.new) }
     ensures sources { OnOk result (AllKnown known.new end_node ends.now) }
     ensures same { M.kept marks.new ≡ M.kept marks.old }
@@ -43,7 +43,7 @@ fn read_ends<M: MarkReads>(marks: &mut M, ends: &[End], known: &mut Overlay) -> 
 pub fn read_nodes<M: MarkReads>(
     marks: &mut M,
     nodes: &[u32],
-    known: &mut Overlay,
+    known: &mut Known,
 ) -> Result<(), NoMemory>
     ensures more { OnOk result (ReadsMore (M.kept marks.old) known.old known.new) }
     ensures sources { OnOk result (AllKnown known.new own nodes.now) }
@@ -62,7 +62,7 @@ pub fn read_nodes<M: MarkReads>(
 pub fn read_unknown<M: MarkReads>(
     marks: &mut M,
     node: u32,
-    known: &mut Overlay,
+    known: &mut Known,
 ) -> Result<(), NoMemory>
     ensures more { OnOk result (ReadsMore (M.kept marks.old) known.old known.new) }
     ensures there { OnOk result (is_known known.new node ≡ true) }
@@ -71,9 +71,9 @@ pub fn read_unknown<M: MarkReads>(
     ensures spent { OnOk result (SpendsAmong (λ all. is_one_of node all ≡ true) (M.reads marks.old) known.old (M.reads marks.new) known.new) }
     ensures few { FewAmong (λ all. is_one_of node all ≡ true) (M.reads marks.old) known.old (M.reads marks.new) }
 {
-    if known.has((node, 0)) {
+    if known.has(node) {
         return Ok(());
     }
     let mark = marks.get(node);
-    known.set((node, mark))
+    known.set(node, mark)
 }

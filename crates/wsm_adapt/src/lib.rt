@@ -5,6 +5,7 @@ mod adapting;
 mod begins;
 mod border;
 mod fits;
+mod known;
 mod misfits;
 mod walks;
 

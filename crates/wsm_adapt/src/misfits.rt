@@ -10,9 +10,10 @@ ghost use Rattle.wsm_walk.specs.Listed.{seen};
 ghost use Rattle.wsm_walk.specs.Walk.{facts_by, times_by};
 
 use crate::fits::{end_fits, is_ready_before, start_fits};
+use crate::known::Known;
 use wsm_rules::{Mark, is_worked_on};
 use wsm_schema::{Card, Entry, Flat, NodeKind};
-use wsm_settle::{NoMarks, Overlay, Timed, mark_at, time_of};
+use wsm_settle::{NoMarks, Timed, mark_at, time_of};
 use wsm_trail::TrailReads;
 
 /// The first position at which what was started, ended or repeated of touched nodes does not fit. It reads the trail at most once
@@ -20,7 +21,7 @@ use wsm_trail::TrailReads;
 pub fn touched_misfit<T: TrailReads>(
     old: &Flat,
     new: &Flat,
-    known: &Overlay,
+    known: &Known,
     trail: &mut T,
     nodes: &[u32],
 ) -> Option<u32>
@@ -38,7 +39,7 @@ pub fn touched_misfit<T: TrailReads>(
 }
 
 /// The first position at which a node was started or repeated too early.
-pub fn early_misfit(new: &Flat, known: &Overlay, nodes: &[u32]) -> Option<u32>
+pub fn early_misfit(new: &Flat, known: &Known, nodes: &[u32]) -> Option<u32>
     ensures { result ≡ least (map (early_in new.now known.now) nodes.now) }
 {
     let mut first = None;
@@ -51,7 +52,7 @@ pub fn early_misfit(new: &Flat, known: &Overlay, nodes: &[u32]) -> Option<u32>
 fn node_misfit<T: TrailReads>(
     old: &Flat,
     new: &Flat,
-    known: &Overlay,
+    known: &Known,
     trail: &mut T,
     node: u32,
 ) -> Option<u32>
@@ -68,7 +69,7 @@ fn node_misfit<T: TrailReads>(
     lesser(start, lesser(end, again))
 }
 
-fn node_early(new: &Flat, known: &Overlay, node: u32) -> Option<u32>
+fn node_early(new: &Flat, known: &Known, node: u32) -> Option<u32>
     ensures { result ≡ early_in new.now known.now node }
 {
     let mark = mark_at(&mut NoMarks, known, node);
@@ -140,7 +141,7 @@ fn end_misfit(
     }
 }
 
-fn again_misfit(new: &Flat, known: &Overlay, card: Option<&Card>, again: Option<u32>) -> Option<u32>
+fn again_misfit(new: &Flat, known: &Known, card: Option<&Card>, again: Option<u32>) -> Option<u32>
     ensures { result ≡ again_misfit_in new.now.cards known.now (option_copied card.entry) again }
 {
     match again {
@@ -150,7 +151,7 @@ fn again_misfit(new: &Flat, known: &Overlay, card: Option<&Card>, again: Option<
 }
 
 // Whether the repeat at a position of the loop that ends with the card's node fits.
-fn again_fits(new: &Flat, known: &Overlay, card: Option<&Card>, position: u32) -> bool
+fn again_fits(new: &Flat, known: &Known, card: Option<&Card>, position: u32) -> bool
     ensures { result ≡ again_known new.now.cards known.now (option_copied card.entry) position }
 {
     match card {
@@ -162,16 +163,16 @@ fn again_fits(new: &Flat, known: &Overlay, card: Option<&Card>, position: u32) -
 }
 
 // Whether the start of a loop is done before a position: what is not known of the loop's start is as it was.
-fn partner_fits(new: &Flat, known: &Overlay, partner: Option<u32>, position: u32) -> bool
+fn partner_fits(new: &Flat, known: &Known, partner: Option<u32>, position: u32) -> bool
     ensures { result ≡ partner_in new.now.cards known.now position partner }
 {
     match partner {
         None => false,
-        Some(node) => !known.has((node, 0)) || is_done(new, known, node, position),
+        Some(node) => !known.has(node) || is_done(new, known, node, position),
     }
 }
 
-fn is_done(new: &Flat, known: &Overlay, node: u32, position: u32) -> bool
+fn is_done(new: &Flat, known: &Known, node: u32, position: u32) -> bool
     ensures { result ≡ partner_done new.now.cards (facts_by (seen [] known.now)) (times_by (seen [] known.now)) position (Some node) }
 {
     match new.card(node) {

@@ -1,7 +1,8 @@
 // A walk over a change, in the order of the rank, which stops where no mark changes.
-ghost use Rattle.std.specs.Prelude.{◌≡◌, ◌<◌, ◌≤◌, ◌+◌, ◌∷◌, ◌++◌, ◌||◌, [], length, OnOk};
+ghost use Rattle.std.specs.Prelude.{◌≡◌, ℕ, ◌<◌, ◌≤◌, ◌+◌, ◌∷◌, ◌||◌, [], length, OnOk};
 ghost use Rattle.wsm_adapt.specs.Border.{FewAmong, SpendsAmong};
 ghost use Rattle.wsm_adapt.specs.Walking.{GoesOn, IsVisit, KeepsTold, ReadsFew, SpendsOn, StaysInside, VisitAmong, is_named, loop_end};
+ghost use Rattle.wsm_lists.specs.ByNumber.{item_at};
 ghost use Rattle.wsm_lists.specs.Keys.{first};
 ghost use Rattle.wsm_lists.specs.Rows.{put_row};
 ghost use Rattle.wsm_walk.specs.Listed.{said};
@@ -9,6 +10,7 @@ ghost use Rattle.wsm_walk.specs.RankPlaces.{AllBehind, AllWithin, Handed};
 ghost use Rattle.wsm_walk.specs.Targets.{leads_to};
 
 use crate::border::{read_card_sources, read_unknown};
+use crate::known::Known;
 use std::alloc::Global;
 use wsm_lists::NoMemory;
 use wsm_rules::{Mark, MarkReads};
@@ -18,7 +20,7 @@ use wsm_settle::{NoMarks, Overlay, Pending, hand_on, hand_to, revised, said};
 /// What a walk finds: the marks that are known, those of them that changed or are asked for, and the nodes that were visited.
 #[derive(Drop)]
 pub struct Found {
-    pub known: Overlay,
+    pub known: Known,
     pub changes: Overlay,
     pub nodes: Nodes,
 }
@@ -99,12 +101,12 @@ fn read_visited<M: MarkReads>(marks: &mut M, card: &Card, found: &mut Found) -> 
 
 // The node has another mark.
 fn note(node: u32, mark: Mark, found: &mut Found) -> Result<(), NoMemory>
-    ensures known { OnOk result (found.new.known ≡ put_row first (node, said mark) found.old.known) }
+    ensures known { OnOk result ((n : ℕ) → item_at n found.new.known ≡ item_at n (put_row first (node, said mark) found.old.known)) }
     ensures changes { OnOk result (found.new.changes ≡ put_row first (node, said mark) found.old.changes) }
     ensures nodes { OnOk result (found.new.nodes ≡ found.old.nodes) }
 {
     let said = said(mark);
-    found.known.set((node, said))?;
+    found.known.set(node, said)?;
     found.changes.set((node, said))
 }
 

@@ -5,3 +5,4 @@ pub mod AllPlaces
 pub mod Begins
 pub mod TrailMarks
 pub mod Waiting
+pub mod Flagged

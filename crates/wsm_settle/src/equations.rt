@@ -5,7 +5,7 @@ ghost use Rattle.wsm_settle.specs.Signals.{AllOf, awaited_signals, signal_by};
 ghost use Rattle.wsm_walk.specs.Walk.{time_by};
 ghost use Rattle.wsm_walk.specs.Listed.{seen};
 
-use crate::overlays::Overlay;
+use crate::overlays::MarkRows;
 use crate::sources::{Timed, edge_signal, read_source};
 use std::alloc::Global;
 use wsm_lists::NoMemory;
@@ -13,14 +13,14 @@ use wsm_rules::{Flow, MarkReads, Verdict, judge};
 use wsm_schema::{Card, End, Flat, NodeKind};
 
 /// Since when a node is ready or skipped, by what its edges signal over these marks. It reads at most one mark for each edge.
-pub fn equation<M: MarkReads>(
+pub fn equation<M: MarkReads, R: MarkRows>(
     alloc: Global,
     flat: &Flat,
     marks: &mut M,
-    changes: &Overlay,
+    changes: &R,
     card: &Card,
 ) -> Result<Timed, NoMemory>
-    ensures timed { IfOk result (λ timed. timed ≡ time_by flat.now.cards (seen (M.kept marks.old) changes.now) card.now) }
+    ensures timed { IfOk result (λ timed. timed ≡ time_by flat.now.cards (seen (M.kept marks.old) (R.rows changes.now)) card.now) }
     ensures same { M.kept marks.new ≡ M.kept marks.old }
     ensures rises { M.reads marks.old ≤ M.reads marks.new }
     ensures count { M.reads marks.new ≤ M.reads marks.old + (length card.now.ins + length card.now.syncs_in) }
@@ -47,14 +47,14 @@ fn only_edge(card: &Card) -> Option<&End>
 }
 
 // The equation of a node, by all of its edges. It waits where a control edge signals nothing yet, whatever the others signal.
-fn equation_of_all<M: MarkReads>(
+fn equation_of_all<M: MarkReads, R: MarkRows>(
     alloc: Global,
     flat: &Flat,
     marks: &mut M,
-    changes: &Overlay,
+    changes: &R,
     card: &Card,
 ) -> Result<Timed, NoMemory>
-    ensures timed { IfOk result (λ timed. timed ≡ time_by flat.now.cards (seen (M.kept marks.old) changes.now) card.now) }
+    ensures timed { IfOk result (λ timed. timed ≡ time_by flat.now.cards (seen (M.kept marks.old) (R.rows changes.now)) card.now) }
     ensures same { M.kept marks.new ≡ M.kept marks.old }
     ensures rises { M.reads marks.old ≤ M.reads marks.new }
     ensures count { M.reads marks.new ≤ M.reads marks.old + (length card.now.ins + length card.now.syncs_in) }
@@ -79,14 +79,14 @@ fn awaited_ends(card: &Card) -> &[End]
 }
 
 // The signals of the control edges that the node waits for. None as soon as one of them signals nothing.
-fn control_signals<M: MarkReads>(
+fn control_signals<M: MarkReads, R: MarkRows>(
     alloc: Global,
     flat: &Flat,
     marks: &mut M,
-    changes: &Overlay,
+    changes: &R,
     card: &Card,
 ) -> Result<Option<Vec<Timed>>, NoMemory>
-    ensures signals { IfOk result (λ all. AllOf (awaited_signals flat.now.cards (seen (M.kept marks.old) changes.now) card.now) (option_map (λ v. v.items) all)) }
+    ensures signals { IfOk result (λ all. AllOf (awaited_signals flat.now.cards (seen (M.kept marks.old) (R.rows changes.now)) card.now) (option_map (λ v. v.items) all)) }
     ensures same { M.kept marks.new ≡ M.kept marks.old }
     ensures rises { M.reads marks.old ≤ M.reads marks.new }
     ensures count { M.reads marks.new ≤ M.reads marks.old + length card.now.ins }
@@ -103,14 +103,14 @@ fn control_signals<M: MarkReads>(
     Ok(Some(all))
 }
 
-fn sync_signals<M: MarkReads>(
+fn sync_signals<M: MarkReads, R: MarkRows>(
     alloc: Global,
     flat: &Flat,
     marks: &mut M,
-    changes: &Overlay,
+    changes: &R,
     card: &Card,
 ) -> Result<Vec<Timed>, NoMemory>
-    ensures signals { IfOk result (λ all. all.items ≡ map (signal_by flat.now.cards (seen (M.kept marks.old) changes.now) None) card.now.syncs_in) }
+    ensures signals { IfOk result (λ all. all.items ≡ map (signal_by flat.now.cards (seen (M.kept marks.old) (R.rows changes.now)) None) card.now.syncs_in) }
     ensures same { M.kept marks.new ≡ M.kept marks.old }
     ensures rises { M.reads marks.old ≤ M.reads marks.new }
     ensures count { M.reads marks.new ≤ M.reads marks.old + length card.now.syncs_in }

@@ -3,6 +3,7 @@
 
 mod ends;
 mod equations;
+mod flags;
 mod overlays;
 mod pending;
 mod places;
@@ -14,7 +15,7 @@ mod walks;
 
 pub use ends::after_end;
 pub use equations::equation;
-pub use overlays::{Overlay, mark_at, said};
+pub use overlays::{MarkRows, Overlay, mark_at, said};
 pub use pending::{hand_on, hand_to};
 pub use places::Pending;
 pub use repeats::after_again;

@@ -1,8 +1,10 @@
 // The places in a rank that a walk still goes to.
-ghost use Rattle.std.specs.Prelude.{◌≡◌, ◌<◌, [], ◌∷◌, All, IfNone, IfSome, OnErr, OnOk};
+ghost use Rattle.std.specs.Prelude.{◌≡◌, ◌<◌, [], ◌∷◌, All, IfNone, IfOk, IfSome, OnErr, OnOk};
 ghost use Rattle.std.specs.BTreeSet.{insert_key};
 ghost use Rattle.std.specs.Ordering.{nat_cmp};
+ghost use Rattle.wsm_settle.specs.Places.{waiting};
 
+use crate::flags::{no_flags, set_flag, take_flag};
 use std::alloc::Global;
 use std::collections::BTreeSet;
 use std::marker::Model;
@@ -12,18 +14,57 @@ use wsm_lists::NoMemory;
 #[derive(Drop)]
 pub struct Pending {
     least: Option<usize>,
-    others: BTreeSet<usize>,
+    others: Others,
 }
+
+// The other places: where there may be few, in a set; where there are many, as flags of all places.
+#[derive(Drop)]
+enum Others {
+    Few(BTreeSet<usize>),
+    Many(Vec<bool>),
+}
+
+impl Others {
+    // One place more, if it is not there.
+    fn insert(&mut self, place: usize) -> Result<(), NoMemory>
+        ensures ok { OnOk result (waiting self.new ≡ insert_key nat_cmp (waiting self.old) place) }
+        ensures err { OnErr result (waiting self.new ≡ waiting self.old) }
+    {
+        match self {
+            Others::Few(places) => {
+                places.insert(place)?;
+                Ok(())
+            }
+            Others::Many(flags) => set_flag(flags, place),
+        }
+    }
+
+    // The least place, which is then there no more. All are above that one.
+    fn pop_first(&mut self, above: usize) -> Option<usize>
+        requires { All (λ y. above < y) (waiting self.old) }
+        ensures removal { IfSome result (λ place. waiting self.old ≡ place ∷ waiting self.new) }
+        ensures above { IfSome result (λ place. All (λ y. place < y) (waiting self.new)) }
+        ensures none { IfNone result ((waiting self.old ≡ []) × (waiting self.new ≡ [])) }
+    {
+        match self {
+            Others::Few(places) => places.pop_first(),
+            Others::Many(flags) => take_flag(flags, above),
+        }
+    }
+}
+
+// So many places are many, where they are also at least this part of all.
+const MANY: usize = 8;
 
 impl Model for Pending {
     ghost use Rattle.std.specs.Prelude.{◌≡◌, ◌<◌, [], All, IfNone, IfSome};
-    ghost use Rattle.wsm_settle.specs.Places.{Places, least_first};
+    ghost use Rattle.wsm_settle.specs.Places.{Places, least_first, waiting};
 
     ghost Value = { Places };
 
-    ghost view = { λ a. record { keys = least_first a.least a.others.keys } };
+    ghost view = { λ a. record { keys = least_first a.least (waiting a.others) } };
 
-    ghost invariant = { λ a. IfNone a.least (a.others.keys ≡ []) × IfSome a.least (λ place. All (λ y. place < y) a.others.keys) };
+    ghost invariant = { λ a. IfNone a.least (waiting a.others ≡ []) × IfSome a.least (λ place. All (λ y. place < y) (waiting a.others)) };
 }
 
 impl Pending {
@@ -33,8 +74,22 @@ impl Pending {
     {
         Pending {
             least: None,
-            others: BTreeSet::new(alloc),
+            others: Others::Few(BTreeSet::new(alloc)),
         }
+    }
+
+    /// No place, where about so many of the places of a rank are to come. Where these are many, there is a flag for each place
+    /// of the rank, which costs less than a set.
+    pub fn expecting(alloc: Global, count: usize, places: usize) -> Result<Pending, NoMemory>
+        ensures { IfOk result (λ pending. pending.keys ≡ []) }
+    {
+        if count < MANY || count < places / MANY {
+            return Ok(Pending::new(alloc));
+        }
+        Ok(Pending {
+            least: None,
+            others: Others::Many(no_flags(alloc, places)?),
+        })
     }
 
     /// One place more, if it is not there.
@@ -63,7 +118,7 @@ impl Pending {
         ensures none { IfNone result (self.old.keys ≡ []) }
     {
         let first = self.least?;
-        self.least = self.others.pop_first();
+        self.least = self.others.pop_first(first);
         Some(first)
     }
 }

@@ -28,9 +28,10 @@ pub fn after_again<M: MarkReads>(
     ensures few { RepeatsFew flat.now rank.now node (M.reads marks.old) (M.reads marks.new) }
 {
     let body = flat.loop_body(alloc, node)?;
-    let mut changes = all_freed(alloc, body.as_slice(), node, position)?;
-    let mut pending = Pending::new(alloc);
-    hand_to(rank, body.as_slice(), None, &mut pending)?;
+    let nodes = body.as_slice();
+    let mut changes = all_freed(alloc, nodes, node, position)?;
+    let mut pending = Pending::expecting(alloc, nodes.len(), rank.nodes().len())?;
+    hand_to(rank, nodes, None, &mut pending)?;
     walk(alloc, flat, rank, marks, &mut changes, &mut pending)?;
     changes.into_table(alloc)
 }

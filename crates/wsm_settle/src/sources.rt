@@ -6,7 +6,7 @@ ghost use Rattle.wsm_settle.specs.Sources.{IsSource, KnowsSource, signal_of};
 ghost use Rattle.wsm_walk.specs.Kept.{timed_of};
 ghost use Rattle.wsm_walk.specs.Listed.{seen};
 
-use crate::overlays::{Overlay, mark_at};
+use crate::overlays::{MarkRows, mark_at};
 use wsm_rules::{Flow, Mark, MarkReads, is_worked_on};
 use wsm_schema::{End, Flat, NodeKind};
 
@@ -33,16 +33,16 @@ impl Source {
 }
 
 /// What an edge signals, and since when. Its source is read where it is not the one that is known, and is known then.
-pub fn edge_signal<M: MarkReads>(
+pub fn edge_signal<M: MarkReads, R: MarkRows>(
     flat: &Flat,
     marks: &mut M,
-    changes: &Overlay,
+    changes: &R,
     known: &mut Option<Source>,
     end: &End,
 ) -> Timed
-    requires { KnowsSource flat.now.cards (seen (M.kept marks.old) changes.now) known.old }
-    ensures signal { result ≡ signal_by flat.now.cards (seen (M.kept marks.old) changes.now) end.now.label end.now.node }
-    ensures known { KnowsSource flat.now.cards (seen (M.kept marks.old) changes.now) known.new }
+    requires { KnowsSource flat.now.cards (seen (M.kept marks.old) (R.rows changes.now)) known.old }
+    ensures signal { result ≡ signal_by flat.now.cards (seen (M.kept marks.old) (R.rows changes.now)) end.now.label end.now.node }
+    ensures known { KnowsSource flat.now.cards (seen (M.kept marks.old) (R.rows changes.now)) known.new }
     ensures same { M.kept marks.new ≡ M.kept marks.old }
     ensures rises { M.reads marks.old ≤ M.reads marks.new }
     ensures count { M.reads marks.new ≤ M.reads marks.old + 1 }
@@ -58,8 +58,13 @@ pub fn edge_signal<M: MarkReads>(
 }
 
 /// The node as a source of edges.
-pub fn read_source<M: MarkReads>(flat: &Flat, marks: &mut M, changes: &Overlay, node: u32) -> Source
-    ensures source { IsSource flat.now.cards (seen (M.kept marks.old) changes.now) result }
+pub fn read_source<M: MarkReads, R: MarkRows>(
+    flat: &Flat,
+    marks: &mut M,
+    changes: &R,
+    node: u32,
+) -> Source
+    ensures source { IsSource flat.now.cards (seen (M.kept marks.old) (R.rows changes.now)) result }
     ensures node { result.node ≡ node }
     ensures same { M.kept marks.new ≡ M.kept marks.old }
     ensures rises { M.reads marks.old ≤ M.reads marks.new }

@@ -9,7 +9,7 @@ ghost use Rattle.wsm_walk.specs.Spent.{ReadsFew, Spends, visit_cost};
 ghost use Rattle.wsm_walk.specs.Walk.{Walks, with_time};
 
 use crate::equations::equation;
-use crate::overlays::{Overlay, mark_at, said};
+use crate::overlays::{MarkRows, Overlay, mark_at, said};
 use crate::pending::hand_on;
 use crate::places::Pending;
 use crate::sources::{Timed, time_of};
@@ -71,7 +71,7 @@ fn revise_at<M: MarkReads>(
 {
     match flat.card(rank.nodes()[place]) {
         None => Ok(()),
-        Some(card) => match revised(alloc, flat, marks, changes, card)? {
+        Some(card) => match revised(alloc, flat, marks, &*changes, card)? {
             None => Ok(()),
             Some(mark) => changes.set((card.node, said(mark))),
         },
@@ -101,7 +101,7 @@ fn visit<M: MarkReads>(
 {
     match flat.card(rank.nodes()[place]) {
         None => Ok(()),
-        Some(card) => match revised(alloc, flat, marks, changes, card)? {
+        Some(card) => match revised(alloc, flat, marks, &*changes, card)? {
             None => Ok(()),
             Some(mark) => {
                 changes.set((card.node, said(mark)))?;
@@ -112,14 +112,14 @@ fn visit<M: MarkReads>(
 }
 
 /// The node's mark with the time of its equation. None where it has that time.
-pub fn revised<M: MarkReads>(
+pub fn revised<M: MarkReads, R: MarkRows>(
     alloc: Global,
     flat: &Flat,
     marks: &mut M,
-    changes: &Overlay,
+    changes: &R,
     card: &Card,
 ) -> Result<Option<Mark>, NoMemory>
-    ensures mark { IfOk result (λ mark. IsRevised flat.now.cards (seen (M.kept marks.old) changes.now) card.now mark) }
+    ensures mark { IfOk result (λ mark. IsRevised flat.now.cards (seen (M.kept marks.old) (R.rows changes.now)) card.now mark) }
     ensures same { M.kept marks.new ≡ M.kept marks.old }
     ensures rises { M.reads marks.old ≤ M.reads marks.new }
     ensures count { M.reads marks.new ≤ M.reads marks.old + (1 + (length card.now.ins + length card.now.syncs_in)) }

@@ -1,4 +1,5 @@
-use Rattle.std.proofs.Common.{◌≡◌, false, true, List, ℕ, ap, sym, ◌∙◌, subst, Option, arith}
+use Rattle.std.specs.Prelude.{is_some}
+use Rattle.std.proofs.Common.{◌≡◌, false, true, List, ℕ, ap, sym, ◌∙◌, Option, arith}
 use Rattle.wsm_lists.specs.ByNumber.{item_at}
 use Rattle.wsm_lists.specs.Keys.{first}
 use Rattle.wsm_lists.specs.Rows.{put_row}
@@ -6,23 +7,23 @@ use Rattle.wsm_schema.specs.declared.marks.Mark.{Mark}
 use Rattle.wsm_settle.proofs.Results.{on_ok}
 use Rattle.wsm_schema.specs.Trail.{is_one_of}
 use Rattle.wsm_adapt.specs.Border.{ReadsMore, SpendsAmong, is_known}
-use Rattle.wsm_adapt.proofs.ReadBorder.{few-one, known-has, known-one, more-one, spends-one}
+use Rattle.wsm_adapt.proofs.ReadBorder.{few-one, known-one, more-like, more-one, spends-one, unknown-like}
 use Rattle.wsm_adapt.proofs.border.read_unknown.Goals as goal
 
 pub returns-clause-more : goal.returns-clause-more
 returns-clause-more g c =
     let kept : List (ℕ × Mark) = g.M.MarkReads.kept c.args.marks.now in
     let old : List (ℕ × Option Mark) = c.args.known.now in
-    let none : is_known old c.args.node ≡ false = known-has c.args.node old false (sym c.has.ensures ∙ c.if-has.false) in
-    on_ok (c.set.new.self ≡ put_row first (c.args.node, c.get-mark.result) old) (ReadsMore kept old c.set.new.self)
-    (λ put. subst (λ l. ReadsMore kept old l) (ap (λ o. put_row first (c.args.node, o) old) (sym c.get-mark.ensures.mark) ∙ sym put) (more-one kept old c.args.node none))
-    c.set.result c.set.ensures.ok
+    let none : is_known old c.args.node ≡ false = (sym c.has.ensures ∙ c.if-has.false) in
+    on_ok ((n : ℕ) → item_at n c.set.new.self ≡ item_at n (put_row first (c.args.node, c.get-mark.result) old)) (ReadsMore kept old c.set.new.self)
+    (λ put. more-like kept old (put_row first (c.args.node, item_at c.args.node kept) old) c.set.new.self (more-one kept old c.args.node none) (λ n. put n ∙ ap (λ o. item_at n (put_row first (c.args.node, o) old)) c.get-mark.ensures.mark))
+    c.set.result c.set.ensures
 
 pub returns-clause-there : goal.returns-clause-there
 returns-clause-there g c =
-    on_ok (c.set.new.self ≡ put_row first (c.args.node, c.get-mark.result) c.args.known.now) (is_known c.set.new.self c.args.node ≡ true)
-    (λ put. ap (λ l. is_known l c.args.node) put ∙ known-one c.args.known.now c.args.node c.get-mark.result)
-    c.set.result c.set.ensures.ok
+    on_ok ((n : ℕ) → item_at n c.set.new.self ≡ item_at n (put_row first (c.args.node, c.get-mark.result) c.args.known.now)) (is_known c.set.new.self c.args.node ≡ true)
+    (λ put. ap is_some (put c.args.node) ∙ known-one c.args.known.now c.args.node c.get-mark.result)
+    c.set.result c.set.ensures
 
 pub returns-then-has-clause-spent : goal.returns-then-has-clause-spent
 returns-then-has-clause-spent g c = λ all among. omega arith
@@ -34,11 +35,14 @@ pub returns-clause-spent : goal.returns-clause-spent
 returns-clause-spent g c =
     let kept : List (ℕ × Mark) = g.M.MarkReads.kept c.args.marks.now in
     let old : List (ℕ × Option Mark) = c.args.known.now in
-    let none : is_known old c.args.node ≡ false = known-has c.args.node old false (sym c.has.ensures ∙ c.if-has.false) in
-    on_ok (c.set.new.self ≡ put_row first (c.args.node, c.get-mark.result) old) (SpendsAmong (λ all. is_one_of c.args.node all ≡ true) (g.M.MarkReads.reads c.args.marks.now) old (g.M.MarkReads.reads c.get-mark.new.self) c.set.new.self)
-    (λ put. subst (λ l. SpendsAmong (λ all. is_one_of c.args.node all ≡ true) (g.M.MarkReads.reads c.args.marks.now) old (g.M.MarkReads.reads c.get-mark.new.self) l) (ap (λ o. put_row first (c.args.node, o) old) (sym c.get-mark.ensures.mark) ∙ sym put)
-    (spends-one kept old (put_row first (c.args.node, item_at c.args.node kept) old) c.args.node _ _ (more-one kept old c.args.node none) none (known-one old c.args.node (item_at c.args.node kept)) c.get-mark.ensures.count))
-    c.set.result c.set.ensures.ok
+    let none : is_known old c.args.node ≡ false = (sym c.has.ensures ∙ c.if-has.false) in
+    on_ok ((n : ℕ) → item_at n c.set.new.self ≡ item_at n (put_row first (c.args.node, c.get-mark.result) old)) (SpendsAmong (λ all. is_one_of c.args.node all ≡ true) (g.M.MarkReads.reads c.args.marks.now) old (g.M.MarkReads.reads c.get-mark.new.self) c.set.new.self)
+    (λ put all among.
+    let rows = put_row first (c.args.node, item_at c.args.node kept) old in
+    let like = unknown-like rows c.set.new.self (λ n. put n ∙ ap (λ o. item_at n (put_row first (c.args.node, o) old)) c.get-mark.ensures.mark) all in
+    let spent = spends-one kept old rows c.args.node (g.M.MarkReads.reads c.args.marks.now) (g.M.MarkReads.reads c.get-mark.new.self) (more-one kept old c.args.node none) none (known-one old c.args.node (item_at c.args.node kept)) c.get-mark.ensures.count all among in
+    omega (arith, like, spent))
+    c.set.result c.set.ensures
 
 pub returns-clause-few : goal.returns-clause-few
-returns-clause-few g c = few-one c.args.known.now c.args.node _ _ (known-has c.args.node c.args.known.now false (sym c.has.ensures ∙ c.if-has.false)) c.get-mark.ensures.count
+returns-clause-few g c = few-one c.args.known.now c.args.node _ _ (sym c.has.ensures ∙ c.if-has.false) c.get-mark.ensures.count

@@ -6,6 +6,7 @@ use Rattle.wsm_settle.proofs.Handing.{handed-within}
 use Rattle.wsm_settle.proofs.Results.{on_ok}
 use Rattle.wsm_adapt.specs.Border.{unknown_in}
 use Rattle.wsm_adapt.specs.Walking.{GoesOn, KeepsTold, SpendsOn, StaysInside, is_named, loop_end}
+use Rattle.wsm_adapt.proofs.ReadBorder.{unknown-like}
 use Rattle.wsm_adapt.proofs.Visiting.{few-visit, goes-new, goes-none, goes-same, keeps-put, put-less, spends-visit, stays-new, stays-same}
 use Rattle.wsm_adapt.proofs.walks.visit.Goals as goal
 
@@ -86,7 +87,7 @@ returns-in_ok-note-in-Some-2-clause-spent g c =
     (λ handed inside all ranked covered con.
     spends-visit c.args.flat.now.cards c.args.rank.now ranked c.args.place (slice_index c.nodes.result.now c.args.place) 0 c.args.pending.now.keys c.requires.place (ap (λ l. get_or l c.args.place 0) (sym c.nodes.ensures)) c.requires.behind
     c.in-Some.card.now (sym c.card.ensures ∙ ap option_copied c.in-Some.is) c.args.found.now c.read_visited.new.found (g.M.MarkReads.reads c.args.marks.now) (g.M.MarkReads.reads c.read_visited.new.marks) c.in_ok-read_visited-in-Some.ensures.spent c.note.new.found
-    (λ ns. subst (λ l. unknown_in l ns ≤ unknown_in c.read_visited.new.found.known ns) (sym c.in_ok-note-in-Some-2.ensures.known) (put-less c.read_visited.new.found.known _ ns)) inside all ranked covered con)
+    (λ ns. subst (λ k. k ≤ unknown_in c.read_visited.new.found.known ns) (sym (unknown-like _ c.note.new.found.known c.in_ok-note-in-Some-2.ensures.known ns)) (put-less c.read_visited.new.found.known _ ns)) inside all ranked covered con)
     c.hand_all.result c.hand_all.ensures.handed
 
 pub returns-in_ok-note-in-Some-2-clause-within : goal.returns-in_ok-note-in-Some-2-clause-within

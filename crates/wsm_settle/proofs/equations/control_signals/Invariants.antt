@@ -10,6 +10,6 @@ invariant-loop-end g l =
     (g.M.MarkReads.kept l.marks ≡ g.M.MarkReads.kept l.fn.marks)
     × (g.M.MarkReads.reads l.fn.marks ≤ g.M.MarkReads.reads l.marks)
     × (g.M.MarkReads.reads l.marks ≤ g.M.MarkReads.reads l.fn.marks + l.end-index)
-    × (l.all.items ++ map (λ e. signal_by l.flat.cards (seen (g.M.MarkReads.kept l.fn.marks) l.changes) e.label e.node) (drop l.end-index (awaited l.card.kind l.card.ins))
-    ≡ awaited_signals l.flat.cards (seen (g.M.MarkReads.kept l.fn.marks) l.changes) l.card)
-    × KnowsSource l.flat.cards (seen (g.M.MarkReads.kept l.marks) l.changes) l.known
+    × (l.all.items ++ map (λ e. signal_by l.flat.cards (seen (g.M.MarkReads.kept l.fn.marks) (g.R.MarkRows.rows l.changes)) e.label e.node) (drop l.end-index (awaited l.card.kind l.card.ins))
+    ≡ awaited_signals l.flat.cards (seen (g.M.MarkReads.kept l.fn.marks) (g.R.MarkRows.rows l.changes)) l.card)
+    × KnowsSource l.flat.cards (seen (g.M.MarkReads.kept l.marks) (g.R.MarkRows.rows l.changes)) l.known

@@ -12,7 +12,7 @@ use Rattle.wsm_settle.proofs.equations.equation_of_all.Goals as goal
 pub returns-in-None-clause-timed : goal.returns-in-None-clause-timed
 returns-in-None-clause-timed g c =
     let card = c.args.card.now in
-    let mark = seen (g.M.MarkReads.kept c.args.marks.now) c.args.changes.now in
+    let mark = seen (g.M.MarkReads.kept c.args.marks.now) (g.R.MarkRows.rows c.args.changes.now) in
     let f = (λ (e : End). signal_by c.args.flat.now.cards mark e.label e.node) in
     sym (awaited-none f card.kind card.ins (map (signal_by c.args.flat.now.cards mark None) card.syncs_in)
     (lacks-of _ (map f (awaited card.kind card.ins)) _ c.in-None.is c.in_ok-control_signals.ensures.signals))
@@ -22,7 +22,7 @@ returns-in_ok-syncs-in-Some-clause-timed g c =
     let cards = c.args.flat.now.cards in
     let card = c.args.card.now in
     let kept = g.M.MarkReads.kept c.args.marks.now in
-    let changes = c.args.changes.now in
+    let changes = (g.R.MarkRows.rows c.args.changes.now) in
     let syncs = c.deref-in-Some.result.now in
     if_ok _ (λ (timed : Timed). timed ≡ time_by cards (seen kept changes) card)
     (λ timed is.

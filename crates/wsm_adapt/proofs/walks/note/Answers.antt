@@ -1,0 +1,10 @@
+use Rattle.std.proofs.Common.{ap, ◌∙◌}
+use Rattle.std.proofs.lemmas.Result.{on_ok_weaker}
+use Rattle.wsm_lists.specs.ByNumber.{item_at}
+use Rattle.wsm_lists.specs.Keys.{first}
+use Rattle.wsm_lists.specs.Rows.{put_row}
+use Rattle.wsm_adapt.proofs.walks.note.Goals as goal
+
+pub returns-clause-known : goal.returns-clause-known
+returns-clause-known c =
+    on_ok_weaker c.set-2.result (λ put n. c.in_ok-set.ensures n ∙ ap (λ o. item_at n (put_row first (c.args.node, o) c.args.found.now.known)) c.said-said.ensures) c.set-2.ensures.ok

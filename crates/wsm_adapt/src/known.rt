@@ -1,0 +1,62 @@
+// The marks that are known while a change is walked.
+ghost use Rattle.std.specs.Prelude.{◌≡◌, ℕ, [], OnOk};
+ghost use Rattle.wsm_adapt.specs.Border.{is_known};
+ghost use Rattle.wsm_lists.specs.ByNumber.{item_at};
+ghost use Rattle.wsm_lists.specs.Keys.{first};
+ghost use Rattle.wsm_lists.specs.Rows.{put_row};
+
+use std::alloc::Global;
+use std::collections::HashMap;
+use std::marker::Model;
+use wsm_lists::NoMemory;
+use wsm_rules::Mark;
+use wsm_settle::MarkRows;
+
+/// What is known of marks: that a node has a mark, or that it has none. A row is found in a time that does not grow with their number.
+#[derive(Drop)]
+pub struct Known {
+    marks: HashMap<u32, Option<Mark>>,
+}
+
+impl Model for Known {
+    ghost use Rattle.std.specs.Prelude.{ℕ, List, Option};
+    ghost use Rattle.wsm_schema.specs.declared.marks.Mark.{Mark};
+
+    ghost Value = { List (ℕ × Option Mark) };
+
+    ghost view = { λ a. a.marks.entries };
+}
+
+impl Known {
+    /// Nothing is known.
+    pub fn new(alloc: Global) -> Known
+        ensures { result ≡ [] }
+    {
+        Known {
+            marks: HashMap::new(alloc),
+        }
+    }
+
+    /// Whether the node has a row.
+    pub fn has(&self, node: u32) -> bool
+        ensures { result ≡ is_known self.now node }
+    {
+        self.row(node).is_some()
+    }
+
+    /// That is known of the node from now on.
+    pub fn set(&mut self, node: u32, mark: Option<Mark>) -> Result<(), NoMemory>
+        ensures { OnOk result ((n : ℕ) → item_at n self.new ≡ item_at n (put_row first (node, mark) self.old)) }
+    {
+        self.marks.insert(node, mark)?;
+        Ok(())
+    }
+}
+
+impl MarkRows for Known {
+    ghost rows = { λ rows. rows };
+
+    fn row(&self, node: u32) -> Option<Option<Mark>> {
+        self.marks.get(&node).copied()
+    }
+}

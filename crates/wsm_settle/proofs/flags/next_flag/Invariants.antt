@@ -1,0 +1,7 @@
+use Rattle.std.proofs.Common.{◌≡◌, drop}
+use Rattle.wsm_settle.specs.Places.{flagged}
+use Rattle.wsm_settle.proofs.flags.next_flag.Given as goal
+
+-- none of the flags so far is raised
+abbrev pub invariant-loop-place : goal.invariant-loop-place
+invariant-loop-place l = flagged l.place (drop l.place l.flags) ≡ flagged 0 l.flags
