@@ -185,7 +185,8 @@ fn ops_after(alloc: Global, version: &Version, number: u32) -> Result<Ops, NoMem
 fn joined(alloc: Global, first: &Ops, more: &Ops) -> Result<Ops, NoMemory>
     ensures { IfOk result (λ ops. ops ≡ first.now ++ more.now) }
 {
-    let mut all = Vec::from_slice(alloc, first.as_slice())?;
+    let mut all = Vec::with_capacity(alloc, first.len().saturating_add(more.len()))?;
+    append(&mut all, first)?;
     append(&mut all, more)?;
     Ok(Ops::from_vec(all))
 }

@@ -13,6 +13,6 @@ pub use contents::{no_contents, refusal};
 pub use declaring::{declared, headed};
 pub use file_model::{Contents, FileRefusal, Group, Lines, Phases, Section, Stop, Why};
 pub use operating::operated;
-pub use scripting::scripted;
+pub use scripting::{scripted, without_room};
 pub use typing::{fits_in, typed};
 pub use wsm_lists::NoMemory;

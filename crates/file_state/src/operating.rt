@@ -15,7 +15,7 @@ use file_model::{Act, Contents, FileLimit, Group, Line, Lines, Section, Stop, Ta
 use file_words::NameWord;
 use std::alloc::Global;
 use wsm_lists::{ElementKind, NoMemory};
-use wsm_ops::{Gap, Op};
+use wsm_ops::{Gap, Op, Ops};
 
 // The script line of a group that has ended.
 fn line_of_group(group: Group) -> Line
@@ -56,11 +56,12 @@ pub fn operated(
     ensures refused { IfErr result (λ stop. Stops (operated (shown_operation line.entry) group lines contents.old) contents.new stop) }
 {
     let found = operation(contents, alloc, line)?;
-    grouped(contents, lines, group, found)
+    grouped(contents, alloc, lines, group, found)
 }
 
 fn grouped(
     contents: &mut Contents,
+    alloc: Global,
     lines: Lines,
     group: Group,
     found: Option<Op>,
@@ -70,12 +71,13 @@ fn grouped(
 {
     match found {
         None => Ok(Section::InPhase(ended(lines, group)?)),
-        Some(op) => with_operation(contents, lines, group, op),
+        Some(op) => with_operation(contents, alloc, lines, group, op),
     }
 }
 
 fn with_operation(
     contents: &mut Contents,
+    alloc: Global,
     lines: Lines,
     group: Group,
     op: Op,
@@ -87,8 +89,20 @@ fn with_operation(
         return Err(Stop::Refused(Why::Limit(FileLimit::Ops)));
     }
     let mut longer = group;
-    longer.ops.push(op)?;
+    longer.ops = with_one(alloc, longer.ops, op)?;
     Ok(Section::InGroup(lines, longer))
+}
+
+// One more operation. Most groups have one alone, and take no room for more.
+fn with_one(alloc: Global, ops: Ops, op: Op) -> Result<Ops, NoMemory>
+    ensures { IfOk result (λ longer. longer ≡ ops ++ op ∷ []) }
+{
+    if ops.is_empty() {
+        return Ops::of_one(alloc, op);
+    }
+    let mut longer = ops;
+    longer.push(op)?;
+    Ok(longer)
 }
 
 // The operation of a line. None where the group ends.

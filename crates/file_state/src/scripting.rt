@@ -89,8 +89,17 @@ fn phase_line(contents: &mut Contents, alloc: Global, lines: Lines) -> Result<Se
     if contents.phases.len() >= MAX_PHASES - 1 {
         return Err(Stop::Refused(Why::Limit(FileLimit::Phases)));
     }
-    contents.phases.push(lines)?;
+    contents.phases.push(without_room(lines))?;
     Ok(Section::InPhase(Lines::new(alloc)))
+}
+
+/// The lines of a phase that has ended, without room for more.
+pub fn without_room(lines: Lines) -> Lines
+    ensures { result ≡ lines }
+{
+    let mut items = lines.into_vec();
+    items.shrink_to_fit();
+    Lines::from_vec(items)
 }
 
 // The number of an actor, from 1.

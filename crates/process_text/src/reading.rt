@@ -10,7 +10,7 @@ use crate::files::file_of;
 use crate::stepping::step_in;
 use file_limits::MAX_FILE_BYTES;
 use file_model::{Contents, File, FileRefusal, Lines, Section, Stop, Why};
-use file_state::{no_contents, refusal};
+use file_state::{no_contents, refusal, without_room};
 use file_words::{first_line, is_skipped, read_words, without_return};
 use std::alloc::Global;
 
@@ -45,7 +45,7 @@ fn end_lines(
     match last_phase(place, left) {
         Ok(None) => Ok(()),
         Ok(Some(lines)) => {
-            contents.phases.push(lines)?;
+            contents.phases.push(without_room(lines))?;
             Ok(())
         }
         Err(why) => Err(refusal(contents, alloc, at, why)),

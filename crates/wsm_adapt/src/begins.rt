@@ -35,7 +35,7 @@ pub fn marks_found<M: MarkReads>(
     ensures few { M.reads marks.new ≤ M.reads marks.old + marks_to_read flat.now rank.now touched.now }
 {
     let mut found = Found {
-        known: Known::new(alloc),
+        known: Known::with_room(alloc, touched.len().saturating_mul(2))?,
         changes: GrowingTable::new(alloc),
         nodes: Nodes::new(alloc),
     };

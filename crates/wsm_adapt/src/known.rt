@@ -1,5 +1,5 @@
 // The marks that are known while a change is walked.
-ghost use Rattle.std.specs.Prelude.{◌≡◌, ℕ, [], OnOk};
+ghost use Rattle.std.specs.Prelude.{◌≡◌, ℕ, [], IfOk, OnOk};
 ghost use Rattle.wsm_adapt.specs.Border.{is_known};
 ghost use Rattle.wsm_lists.specs.ByNumber.{item_at};
 ghost use Rattle.wsm_lists.specs.Keys.{first};
@@ -28,13 +28,13 @@ impl Model for Known {
 }
 
 impl Known {
-    /// Nothing is known.
-    pub fn new(alloc: Global) -> Known
-        ensures { result ≡ [] }
+    /// Nothing is known, with room for so many nodes.
+    pub fn with_room(alloc: Global, nodes: usize) -> Result<Known, NoMemory>
+        ensures { IfOk result (λ known. known ≡ []) }
     {
-        Known {
-            marks: HashMap::new(alloc),
-        }
+        Ok(Known {
+            marks: HashMap::with_capacity(alloc, nodes)?,
+        })
     }
 
     /// Whether the node has a row.
@@ -56,7 +56,7 @@ impl Known {
 impl MarkRows for Known {
     ghost rows = { λ rows. rows };
 
-    fn row(&self, node: u32) -> Option<Option<Mark>> {
-        self.marks.get(&node).copied()
+    fn row(&self, node: u32) -> Option<&Option<Mark>> {
+        self.marks.get(&node)
     }
 }

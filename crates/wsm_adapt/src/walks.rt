@@ -15,7 +15,7 @@ use std::alloc::Global;
 use wsm_lists::NoMemory;
 use wsm_rules::{Mark, MarkReads};
 use wsm_schema::{Card, Flat, NodeKind, Nodes, Rank};
-use wsm_settle::{NoMarks, Overlay, Pending, hand_on, hand_to, revised, said};
+use wsm_settle::{NoMarks, Overlay, Pending, hand_on, hand_to, mark_at, revise, said};
 
 /// What a walk finds: the marks that are known, those of them that changed or are asked for, and the nodes that were visited.
 #[derive(Drop)]
@@ -75,13 +75,12 @@ fn visit<M: MarkReads>(
         None => Ok(()),
         Some(card) => {
             read_visited(marks, card, found)?;
-            match revised(alloc, flat, &mut NoMarks, &found.known, card)? {
-                None => Ok(()),
-                Some(mark) => {
-                    note(card.node, mark, found)?;
-                    hand_all(rank, card, place, pending)
-                }
+            let mut mark = mark_at(&mut NoMarks, &found.known, card.node);
+            if !revise(alloc, flat, &mut NoMarks, &found.known, card, &mut mark)? {
+                return Ok(());
             }
+            note(card.node, mark, found)?;
+            hand_all(rank, card, place, pending)
         }
     }
 }

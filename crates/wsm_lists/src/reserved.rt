@@ -107,7 +107,7 @@ pub(crate) fn set_row<T: Drop>(rows: &mut Vec<(u32, T)>, row: (u32, T))
     ensures len { vec_len rows.new ≡ vec_len rows.old + (if is_some (item_at row.0 rows.old.items) then 0 else 1) }
 {
     let at = place_of(rows, row.0);
-    if has(rows, row.0) {
+    if is_there(rows, at, row.0) {
         rows[at] = row;
     } else {
         insert_row(rows, at, row);
@@ -127,24 +127,54 @@ fn insert_row<T: Drop>(rows: &mut Vec<(u32, T)>, at: usize, row: (u32, T))
     }
 }
 
-// How many rows have a smaller number: told by the first row where numbers have no gaps before it, else by a binary search.
+// How many rows have a smaller number: told by the last row or by the first where numbers have no gaps between, else by a binary
+// search.
 fn place_of<T>(rows: &[(u32, T)], number: u32) -> usize
     requires { Ascends first rows.now }
     ensures { result ≡ rows_below first (number, 0) rows.now }
 {
-    match gapless_place(rows, number) {
+    match place_before_last(rows, number) {
         Some(at) => at,
-        None => searched_place(rows, number),
+        None => match place_behind_first(rows, number) {
+            Some(at) => at,
+            None => searched_place(rows, number),
+        },
+    }
+}
+
+// Where the row of that number stands if the numbers from it to the last have no gaps, or if it is greater than them. None if it
+// does not stand there.
+fn place_before_last<T>(rows: &[(u32, T)], number: u32) -> Option<usize>
+    requires { Ascends first rows.now }
+    ensures { IfSome result (λ at. at ≡ rows_below first (number, 0) rows.now) }
+{
+    match rows.last() {
+        None => None,
+        Some(last) => {
+            if last.0 < number {
+                return Some(rows.len());
+            }
+            let at = (rows.len() - 1).checked_sub((last.0 - number) as usize)?;
+            place_if_there(rows, at, number)
+        }
     }
 }
 
 // Where the row of that number stands if the numbers before it have no gaps. None if it does not stand there.
-fn gapless_place<T>(rows: &[(u32, T)], number: u32) -> Option<usize>
+fn place_behind_first<T>(rows: &[(u32, T)], number: u32) -> Option<usize>
     requires { Ascends first rows.now }
     ensures { IfSome result (λ at. at ≡ rows_below first (number, 0) rows.now) }
 {
     let least = rows.first()?.0;
     let at = number.checked_sub(least)? as usize;
+    place_if_there(rows, at, number)
+}
+
+// The place, where the row there has the number.
+fn place_if_there<T>(rows: &[(u32, T)], at: usize, number: u32) -> Option<usize>
+    requires { Ascends first rows.now }
+    ensures { IfSome result (λ at. at ≡ rows_below first (number, 0) rows.now) }
+{
     match row_at(rows, at) {
         Some(row) => { if row.0 == number { Some(at) } else { None } }
         None => None,
@@ -165,12 +195,30 @@ pub(crate) fn has<T>(rows: &[(u32, T)], number: u32) -> bool
     find(rows, number).is_some()
 }
 
-// What the row of that number holds, by a binary search.
+// Whether there is a row of that number, where it stands at the place if there is one.
+fn is_there<T>(rows: &[(u32, T)], at: usize, number: u32) -> bool
+    requires ascends { Ascends first rows.now }
+    requires place { at ≡ rows_below first (number, 0) rows.now }
+    ensures { result ≡ is_some (item_at number rows.now) }
+{
+    item_if_there(rows, at, number).is_some()
+}
+
+// What the row of that number holds.
 pub(crate) fn find<T>(rows: &[(u32, T)], number: u32) -> Option<&T>
     requires { Ascends first rows.now }
     ensures { option_copied result ≡ item_at number rows.now }
 {
     let at = place_of(rows, number);
+    item_if_there(rows, at, number)
+}
+
+// What the row of that number holds, where it stands at the place if there is one.
+fn item_if_there<T>(rows: &[(u32, T)], at: usize, number: u32) -> Option<&T>
+    requires ascends { Ascends first rows.now }
+    requires place { at ≡ rows_below first (number, 0) rows.now }
+    ensures { option_copied result ≡ item_at number rows.now }
+{
     match row_at(rows, at) {
         Some(row) => { if row.0 == number { Some(&row.1) } else { None } }
         None => None,

@@ -46,7 +46,7 @@ impl Outline {
     {
         let runs = runs_of(alloc, pieces)?;
         let is_noted = operations > FEW;
-        let places = places_of(alloc, &runs, is_noted)?;
+        let places = places_of(alloc, &runs, pieces.len(), is_noted)?;
         Ok(Outline {
             runs,
             is_noted,
@@ -152,13 +152,19 @@ fn gap_spot(runs: &[Vec<Piece>], is_noted: bool, places: &Places, gap: Gap) -> O
 // So many operations look for nodes by passes over the pieces.
 const FEW: usize = 16;
 
-// In which runs the nodes stand, where that is to be noted.
-fn places_of(alloc: Global, runs: &[Vec<Piece>], is_noted: bool) -> Result<Places, NoMemory>
+// In which runs the nodes stand, where that is to be noted. So many pieces there are about.
+fn places_of(
+    alloc: Global,
+    runs: &[Vec<Piece>],
+    count: usize,
+    is_noted: bool,
+) -> Result<Places, NoMemory>
     ensures { IfOk result (λ places. IsTrue is_noted → IsNoted (place_of places) (joined runs.now)) }
 {
-    let mut places = Places::new(alloc);
-    if is_noted {
-        places.note_runs(runs)?;
+    if !is_noted {
+        return Ok(Places::new(alloc));
     }
+    let mut places = Places::with_room(alloc, count)?;
+    places.note_runs(runs)?;
     Ok(places)
 }

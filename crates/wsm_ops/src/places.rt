@@ -1,5 +1,5 @@
 // In which runs nodes were put, which is where to look for them first.
-ghost use Rattle.std.specs.Prelude.{◌≡◌, ℕ, Some, None, OnOk, if◌then◌else◌};
+ghost use Rattle.std.specs.Prelude.{◌≡◌, ℕ, Some, None, IfOk, OnOk, if◌then◌else◌};
 ghost use Rattle.wsm_ops.specs.Outline.{is_node};
 ghost use Rattle.wsm_ops.specs.Places.{place_of, Noted};
 ghost use Rattle.wsm_ops.specs.Runs.{joined};
@@ -23,6 +23,15 @@ impl Places {
         Places {
             nodes: HashMap::new(alloc),
         }
+    }
+
+    /// No nodes, with room for so many.
+    pub fn with_room(alloc: Global, nodes: usize) -> Result<Places, NoMemory>
+        ensures { IfOk result (λ places. (n : ℕ) → place_of places n ≡ None) }
+    {
+        Ok(Places {
+            nodes: HashMap::with_capacity(alloc, nodes)?,
+        })
     }
 
     /// The run that the node was put into.

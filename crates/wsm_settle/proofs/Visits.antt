@@ -39,6 +39,10 @@ revised-same cards c now old timed own old_is is own_is same = ap timed_of (sym 
 pub revised-new : (cards : List Card) (c : Card) (now : ℕ → Mark) (old mark : Mark) (timed : Timed) → old ≡ now c.node → timed ≡ time_by cards now c → mark ≡ with_time timed old → IsRevised cards now c (Some mark)
 revised-new cards c now old mark timed old_is is mark_is = mark_is ∙ (λ i. with_time (is i) (old_is i))
 
+-- the same over marks that stayed
+pub revised-over : (cards : List Card) (c : Card) (kept kept' : List (ℕ × Mark)) (changes : List (ℕ × Option Mark)) (o : Option Mark) → kept' ≡ kept → IsRevised cards (seen kept' changes) c o → IsRevised cards (seen kept changes) c o
+revised-over cards c kept kept' changes o same is = subst (λ rows. IsRevised cards (seen rows changes) c o) same is
+
 module _ (cards : List Card) (rank : List ℕ) (p n d : ℕ) (keys : List ℕ) (lt : p < length rank) (here : get_or rank p d ≡ n) (behind : AllBehind p keys) where
   module _ (kept : List (ℕ × Mark)) (changes : List (ℕ × Option Mark)) where
     -- a node that is none of the net's

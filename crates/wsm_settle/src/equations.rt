@@ -6,7 +6,7 @@ ghost use Rattle.wsm_walk.specs.Walk.{time_by};
 ghost use Rattle.wsm_walk.specs.Listed.{seen};
 
 use crate::overlays::MarkRows;
-use crate::sources::{Timed, edge_signal, read_source};
+use crate::sources::{Timed, edge_signal, signal_from};
 use std::alloc::Global;
 use wsm_lists::NoMemory;
 use wsm_rules::{Flow, MarkReads, Verdict, judge};
@@ -28,8 +28,8 @@ pub fn equation<M: MarkReads, R: MarkRows>(
     match only_edge(card) {
         None => equation_of_all(alloc, flat, marks, changes, card),
         Some(end) => {
-            let source = read_source(flat, marks, changes, end.node);
-            Ok(equation_of_one(card, source.signal(end.label)))
+            let signal = signal_from(flat, marks, changes, end.node, end.label);
+            Ok(equation_of_one(card, signal))
         }
     }
 }
@@ -117,8 +117,7 @@ fn sync_signals<M: MarkReads, R: MarkRows>(
 {
     let mut all = Vec::new(alloc);
     for node in card.syncs_in.as_slice() {
-        let source = read_source(flat, marks, changes, *node);
-        all.push(source.signal(None))?;
+        all.push(signal_from(flat, marks, changes, *node, None))?;
     }
     Ok(all)
 }

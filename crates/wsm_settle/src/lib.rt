@@ -22,5 +22,5 @@ pub use repeats::after_again;
 pub use sources::{Timed, time_of};
 pub use starts::{after_start, after_withdraw};
 pub use timing::{NoMarks, TimedMarks, timed};
-pub use walks::revised;
+pub use walks::revise;
 pub use wsm_rules::{Changes, CountedMarks, Mark, MarkReads, Marks};

@@ -1,5 +1,6 @@
 // Marks as changes have them, over marks that are kept.
 ghost use Rattle.std.specs.Prelude.{◌≡◌, ◌+◌, ◌≤◌, ℕ, List, Option};
+ghost use Rattle.std.specs.Option.{option_copied};
 ghost use Rattle.wsm_lists.specs.ByNumber.{item_at};
 ghost use Rattle.wsm_schema.specs.declared.marks.Mark.{Mark};
 ghost use Rattle.wsm_walk.specs.Kept.{mark_or};
@@ -17,16 +18,16 @@ pub trait MarkRows {
     ghost rows: { Self → List (ℕ × Option Mark) };
 
     /// The row of a node, where it has one.
-    fn row(&self, node: u32) -> Option<Option<Mark>>
-        ensures { result ≡ item_at node (rows self.now) };
+    fn row(&self, node: u32) -> Option<&Option<Mark>>
+        ensures { option_copied result ≡ item_at node (rows self.now) };
 }
 
 impl MarkRows for Overlay {
     ghost rows = { λ rows. rows };
 
-    fn row(&self, node: u32) -> Option<Option<Mark>> {
+    fn row(&self, node: u32) -> Option<&Option<Mark>> {
         match self.find((node, 0)) {
-            Some(row) => Some(row.1),
+            Some(row) => Some(&row.1),
             None => None,
         }
     }
@@ -40,7 +41,7 @@ pub fn mark_at<M: MarkReads, R: MarkRows>(marks: &mut M, changes: &R, node: u32)
     ensures count { M.reads marks.new ≤ M.reads marks.old + 1 }
 {
     match changes.row(node) {
-        Some(mark) => or_blank(mark),
+        Some(mark) => or_blank(*mark),
         None => or_blank(marks.get(node)),
     }
 }

@@ -57,8 +57,27 @@ pub fn edge_signal<M: MarkReads, R: MarkRows>(
     source.signal(end.label)
 }
 
-/// The node as a source of edges.
-pub fn read_source<M: MarkReads, R: MarkRows>(
+/// What an edge with that label signals that leaves the node, and since when.
+pub fn signal_from<M: MarkReads, R: MarkRows>(
+    flat: &Flat,
+    marks: &mut M,
+    changes: &R,
+    node: u32,
+    label: Option<u16>,
+) -> Timed
+    ensures signal { result ≡ signal_by flat.now.cards (seen (M.kept marks.old) (R.rows changes.now)) label node }
+    ensures same { M.kept marks.new ≡ M.kept marks.old }
+    ensures rises { M.reads marks.old ≤ M.reads marks.new }
+    ensures count { M.reads marks.new ≤ M.reads marks.old + 1 }
+{
+    match flat.card(node) {
+        None => None,
+        Some(card) => signal(card.kind, &mark_at(marks, changes, node), label),
+    }
+}
+
+// The node as a source of edges.
+fn read_source<M: MarkReads, R: MarkRows>(
     flat: &Flat,
     marks: &mut M,
     changes: &R,

@@ -1,5 +1,5 @@
 // A walk over the nodes behind a change, the least pending place at a time.
-ghost use Rattle.std.specs.Prelude.{◌≡◌, ◌+◌, ◌<◌, ◌≤◌, ◌∷◌, [], length, get_or, IfOk, OnOk};
+ghost use Rattle.std.specs.Prelude.{◌≡◌, ◌+◌, ◌<◌, ◌≤◌, ◌∷◌, [], length, get_or, IfOk, OnOk, Some, None, if◌then◌else◌};
 ghost use Rattle.wsm_schema.specs.Flat.{card_at};
 ghost use Rattle.wsm_settle.specs.AllPlaces.{WalksOne, places_from};
 ghost use Rattle.wsm_settle.specs.Revised.{IsRevised};
@@ -71,10 +71,13 @@ fn revise_at<M: MarkReads>(
 {
     match flat.card(rank.nodes()[place]) {
         None => Ok(()),
-        Some(card) => match revised(alloc, flat, marks, &*changes, card)? {
-            None => Ok(()),
-            Some(mark) => changes.set((card.node, said(mark))),
-        },
+        Some(card) => {
+            let mut mark = mark_at(marks, &*changes, card.node);
+            if !revise(alloc, flat, marks, &*changes, card, &mut mark)? {
+                return Ok(());
+            }
+            changes.set((card.node, said(mark)))
+        }
     }
 }
 
@@ -101,56 +104,49 @@ fn visit<M: MarkReads>(
 {
     match flat.card(rank.nodes()[place]) {
         None => Ok(()),
-        Some(card) => match revised(alloc, flat, marks, &*changes, card)? {
-            None => Ok(()),
-            Some(mark) => {
-                changes.set((card.node, said(mark)))?;
-                hand_on(rank, card, Some(place), pending)
+        Some(card) => {
+            let mut mark = mark_at(marks, &*changes, card.node);
+            if !revise(alloc, flat, marks, &*changes, card, &mut mark)? {
+                return Ok(());
             }
-        },
+            changes.set((card.node, said(mark)))?;
+            hand_on(rank, card, Some(place), pending)
+        }
     }
 }
 
-/// The node's mark with the time of its equation. None where it has that time.
-pub fn revised<M: MarkReads, R: MarkRows>(
+/// The mark of the card's node gets the time of the node's equation. Whether it had another one.
+pub fn revise<M: MarkReads, R: MarkRows>(
     alloc: Global,
     flat: &Flat,
     marks: &mut M,
     changes: &R,
     card: &Card,
-) -> Result<Option<Mark>, NoMemory>
-    ensures mark { IfOk result (λ mark. IsRevised flat.now.cards (seen (M.kept marks.old) (R.rows changes.now)) card.now mark) }
+    mark: &mut Mark,
+) -> Result<bool, NoMemory>
+    requires { mark.old ≡ seen (M.kept marks.old) (R.rows changes.now) card.now.node }
+    ensures mark { IfOk result (λ had_other. IsRevised flat.now.cards (seen (M.kept marks.old) (R.rows changes.now)) card.now (if had_other then Some mark.new else None)) }
     ensures same { M.kept marks.new ≡ M.kept marks.old }
     ensures rises { M.reads marks.old ≤ M.reads marks.new }
-    ensures count { M.reads marks.new ≤ M.reads marks.old + (1 + (length card.now.ins + length card.now.syncs_in)) }
+    ensures count { M.reads marks.new ≤ M.reads marks.old + (length card.now.ins + length card.now.syncs_in) }
 {
-    let old = mark_at(marks, changes, card.node);
     let timed = equation(alloc, flat, marks, changes, card)?;
-    if timed == time_of(&old) {
-        return Ok(None);
+    if timed == time_of(mark) {
+        return Ok(false);
     }
-    Ok(Some(with_time(old, timed)))
+    set_time(mark, timed);
+    Ok(true)
 }
 
-// The mark with another time.
-fn with_time(mark: Mark, timed: Timed) -> Mark
-    ensures { result ≡ with_time timed mark }
+// The mark gets that time.
+fn set_time(mark: &mut Mark, timed: Timed)
+    ensures { mark.new ≡ with_time timed mark.old }
 {
+    mark.ready_at = None;
+    mark.skipped_at = None;
     match timed {
-        None => Mark {
-            ready_at: None,
-            skipped_at: None,
-            ..mark
-        },
-        Some((position, Flow::Yes)) => Mark {
-            ready_at: Some(position),
-            skipped_at: None,
-            ..mark
-        },
-        Some((position, Flow::No)) => Mark {
-            ready_at: None,
-            skipped_at: Some(position),
-            ..mark
-        },
+        None => {}
+        Some((position, Flow::Yes)) => mark.ready_at = Some(position),
+        Some((position, Flow::No)) => mark.skipped_at = Some(position),
     }
 }

@@ -4,23 +4,23 @@ use Rattle.std.proofs.lemmas.Bool.{eq-eqb, ne_eqb}
 use Rattle.wsm_lists.specs.Keys.{first}
 use Rattle.wsm_lists.proofs.Rows.{row_at-found, row_at-absent}
 use Rattle.wsm_lists.proofs.ByNumber.{eq_number}
-use Rattle.wsm_lists.proofs.reserved.find.Goals as goal
+use Rattle.wsm_lists.proofs.reserved.item_if_there.Goals as goal
 
 pub returns-then-row-number : goal.returns-then-row-number
 returns-then-row-number g c =
     let row = c.in-Some.row.now in
     let there = sym c.row_at.ensures ∙ ap option_copied c.in-Some.is in
     let same = eq_number row.0 c.args.number ∙ eq-eqb row.0 c.args.number c.if-row-number.true in
-    sym (ap (option_map (λ r. r.1)) (row_at-found first (c.args.number, 0) c.args.rows.now c.place_of-at.result row c.place_of-at.ensures there same))
+    sym (ap (option_map (λ r. r.1)) (row_at-found first (c.args.number, 0) c.args.rows.now c.args.at row c.requires.place there same))
 
 pub returns-else-row-number : goal.returns-else-row-number
 returns-else-row-number g c =
     let row = c.in-Some.row.now in
     let there = sym c.row_at.ensures ∙ ap option_copied c.in-Some.is in
     let other = eq_number row.0 c.args.number ∙ ne_eqb row.0 c.args.number c.if-row-number.false in
-    sym (ap (option_map (λ r. r.1)) (row_at-absent first (c.args.number, 0) c.args.rows.now c.place_of-at.result c.place_of-at.ensures c.requires (rw there other)))
+    sym (ap (option_map (λ r. r.1)) (row_at-absent first (c.args.number, 0) c.args.rows.now c.args.at c.requires.place c.requires.ascends (rw there other)))
 
 pub returns-in-None : goal.returns-in-None
 returns-in-None g c =
     let none = sym c.row_at.ensures ∙ ap option_copied c.in-None.is in
-    sym (ap (option_map (λ r. r.1)) (row_at-absent first (c.args.number, 0) c.args.rows.now c.place_of-at.result c.place_of-at.ensures c.requires (rw none refl)))
+    sym (ap (option_map (λ r. r.1)) (row_at-absent first (c.args.number, 0) c.args.rows.now c.args.at c.requires.place c.requires.ascends (rw none refl)))

@@ -1,13 +1,12 @@
 use Rattle.std.proofs.Common.{ap, sym, ◌∙◌}
 use Rattle.std.specs.Option.{option_copied}
-use Rattle.std.proofs.lemmas.Bool.{eq-eqb}
 use Rattle.wsm_lists.specs.Keys.{first}
 use Rattle.wsm_lists.specs.Rows.{rows_below}
 use Rattle.wsm_lists.proofs.Rows.{row-place}
-use Rattle.wsm_lists.proofs.reserved.gapless_place.Goals as goal
+use Rattle.wsm_lists.proofs.reserved.place_if_there.Goals as goal
 
 pub returns-then-row-number : goal.returns-then-row-number
 returns-then-row-number g c =
     let row = c.in-Some.row.now in
     let there = sym c.row_at.ensures ∙ ap option_copied c.in-Some.is in
-    row-place first c.args.rows.now c.in_ok-at.field-0 row c.requires there ∙ ap (λ n. rows_below first (n, 0) c.args.rows.now) c.if-row-number.true
+    row-place first c.args.rows.now c.args.at row c.requires there ∙ ap (λ n. rows_below first (n, 0) c.args.rows.now) c.if-row-number.true
