@@ -37,7 +37,7 @@ impl<M: Machine> Guarded<M> {
         if self.journal.items.len() >= MAX_ENTRIES {
             return Err(CallFault::Full);
         }
-        self.journal.items.reserve(1)?;
+        self.journal.make_room()?;
         let event_to_keep = M::copy_event(alloc, event)?;
         let (reply_to_keep, reply) = self.machine.step(alloc, event)?;
         self.journal.items.push_reserved(Entry {

@@ -1,5 +1,10 @@
 //! The journal of a cell.
-use crate::machine::Machine;
+ghost use Rattle.std.specs.Prelude.{◌≡◌, ◌<◌, vec_len, vec_capacity, OnOk};
+
+use crate::machine::{Machine, NoMemory};
+
+// A journal has room for so many entries at first.
+const FEW: usize = 6;
 
 /// One call: the number of the pass that made it, its event, and the reply.
 #[derive(Drop)]
@@ -13,6 +18,20 @@ pub struct Entry<M: Machine> {
 #[derive(Drop)]
 pub struct Journal<M: Machine> {
     pub items: Vec<Entry<M>>,
+}
+
+impl<M: Machine> Journal<M> {
+    // There is room for an entry then. A full journal grows by half: a server keeps many, and most are short.
+    pub(crate) fn make_room(&mut self) -> Result<(), NoMemory>
+        ensures items { self.new.items.items ≡ self.old.items.items }
+        ensures room { OnOk result (vec_len self.new.items < vec_capacity self.new.items) }
+    {
+        let count = self.items.len();
+        if count < self.items.capacity() {
+            return Ok(());
+        }
+        self.items.reserve_exact((count / 2).max(FEW))
+    }
 }
 
 /// What a cell was when it was closed.

@@ -1,5 +1,6 @@
 // The marks that are known while a change is walked.
-ghost use Rattle.std.specs.Prelude.{◌≡◌, ℕ, [], IfOk, OnOk};
+ghost use Rattle.std.specs.Prelude.{◌≡◌, ℕ, [], reverse, IfOk, OnOk};
+ghost use Rattle.std.specs.Option.{option_copied};
 ghost use Rattle.wsm_adapt.specs.Border.{is_known};
 ghost use Rattle.wsm_lists.specs.ByNumber.{item_at};
 ghost use Rattle.wsm_lists.specs.Keys.{first};
@@ -12,19 +13,24 @@ use wsm_lists::NoMemory;
 use wsm_rules::Mark;
 use wsm_settle::MarkRows;
 
+// So many rows are searched one by one, which costs less than a hash.
+const FEW: usize = 8;
+
 /// What is known of marks: that a node has a mark, or that it has none. A row is found in a time that does not grow with their number.
 #[derive(Drop)]
 pub struct Known {
-    marks: HashMap<u32, Option<Mark>>,
+    // The first that were told of, the last one last, while there are no others.
+    few: Vec<(u32, Option<Mark>)>,
+    others: HashMap<u32, Option<Mark>>,
 }
 
 impl Model for Known {
-    ghost use Rattle.std.specs.Prelude.{ℕ, List, Option};
+    ghost use Rattle.std.specs.Prelude.{ℕ, List, Option, ◌++◌, reverse};
     ghost use Rattle.wsm_schema.specs.declared.marks.Mark.{Mark};
 
     ghost Value = { List (ℕ × Option Mark) };
 
-    ghost view = { λ a. a.marks.entries };
+    ghost view = { λ a. a.others.entries ++ reverse a.few.items };
 }
 
 impl Known {
@@ -33,7 +39,8 @@ impl Known {
         ensures { IfOk result (λ known. known ≡ []) }
     {
         Ok(Known {
-            marks: HashMap::with_capacity(alloc, nodes)?,
+            few: Vec::with_capacity(alloc, FEW)?,
+            others: HashMap::with_capacity(alloc, nodes.saturating_sub(FEW))?,
         })
     }
 
@@ -48,7 +55,11 @@ impl Known {
     pub fn set(&mut self, node: u32, mark: Option<Mark>) -> Result<(), NoMemory>
         ensures { OnOk result ((n : ℕ) → item_at n self.new ≡ item_at n (put_row first (node, mark) self.old)) }
     {
-        self.marks.insert(node, mark)?;
+        if self.few.len() < FEW && self.others.is_empty() {
+            self.few.push((node, mark))?;
+        } else {
+            self.others.insert(node, mark)?;
+        }
         Ok(())
     }
 }
@@ -57,6 +68,24 @@ impl MarkRows for Known {
     ghost rows = { λ rows. rows };
 
     fn row(&self, node: u32) -> Option<&Option<Mark>> {
-        self.marks.get(&node)
+        if self.others.is_empty() {
+            return last_row(&self.few, node);
+        }
+        match self.others.get(&node) {
+            None => last_row(&self.few, node),
+            Some(mark) => Some(mark),
+        }
+    }
+}
+
+// What the last row of a node tells.
+fn last_row(rows: &[(u32, Option<Mark>)], node: u32) -> Option<&Option<Mark>>
+    ensures { option_copied result ≡ item_at node (reverse rows.now) }
+{
+    let (row, rest) = rows.split_last()?;
+    if row.0 == node {
+        Some(&row.1)
+    } else {
+        last_row(rest, node)
     }
 }

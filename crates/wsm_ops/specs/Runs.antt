@@ -1,5 +1,5 @@
 -- Pieces in runs, and spots in them.
-use Rattle.std.specs.Prelude.{◌≡◌, ℕ, ◌+◌, zero, suc, Bool, true, false, List, [], ◌∷◌, ◌++◌, length, Option, Some, None, slice_get, Vec}
+use Rattle.std.specs.Prelude.{◌≡◌, ℕ, ◌+◌, zero, suc, Bool, true, false, List, [], ◌∷◌, ◌++◌, length, take, drop, Option, Some, None, slice_get, Vec}
 use Rattle.std.specs.List.{list_any}
 use Rattle.wsm_ops.specs.Places.{passes}
 use Rattle.wsm_ops.specs.declared.pieces.Piece.{Piece}
@@ -21,6 +21,10 @@ abbrev pub place_at : {A : Type 0} → List (Vec Piece A) → ℕ → ℕ → �
 place_at [] run at = at
 place_at (r ∷ rs) zero at = at
 place_at (r ∷ rs) (suc run) at = length r.items + place_at rs run at
+
+-- some pieces with others at a place
+abbrev pub with_pieces_at : List Piece → ℕ → List Piece → List Piece
+with_pieces_at ps at new = take at ps ++ (new ++ drop at ps)
 
 -- a spot at which a test passes, or none where no piece passes
 abbrev pub IsSpot : {A : Type 0} → (Piece → Bool) → List (Vec Piece A) → Option Spot → Type 0

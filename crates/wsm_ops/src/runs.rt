@@ -1,10 +1,10 @@
 // Pieces in short runs.
-ghost use Rattle.std.specs.Prelude.{◌≡◌, ◌<◌, ◌≤◌, ◌++◌, ◌+◌, false, length, take, drop, slice_get, position, OnOk, IfOk};
+ghost use Rattle.std.specs.Prelude.{◌≡◌, ◌<◌, ◌≤◌, ◌+◌, false, length, slice_get, position, OnOk, IfOk};
 ghost use Rattle.std.specs.List.{remove};
 ghost use Rattle.std.specs.Option.{option_copied};
 ghost use Rattle.wsm_ops.specs.Outline.{at_gap, has_head};
 ghost use Rattle.wsm_ops.specs.Places.{seat_there};
-ghost use Rattle.wsm_ops.specs.Runs.{joined, items_at, place_at, IsSpot, IsSpotIn};
+ghost use Rattle.wsm_ops.specs.Runs.{joined, items_at, place_at, with_pieces_at, IsSpot, IsSpotIn};
 
 use crate::operations::Gap;
 use crate::pieces::{Piece, Seat};
@@ -139,7 +139,7 @@ fn has_head(pieces: &[Piece], split: u32, code: u16) -> bool
 pub fn put_behind(runs: &mut Vec<Vec<Piece>>, spot: Spot, new: &[Piece]) -> Result<(), NoMemory>
     requires run { spot.run < length runs.old.items }
     requires within { spot.at < length (items_at runs.old.items spot.run) }
-    ensures { OnOk result (joined runs.new.items ≡ take (place_at runs.old.items spot.run spot.at + 1) (joined runs.old.items) ++ (new.now ++ drop (place_at runs.old.items spot.run spot.at + 1) (joined runs.old.items))) }
+    ensures { OnOk result (joined runs.new.items ≡ with_pieces_at (joined runs.old.items) (place_at runs.old.items spot.run spot.at + 1) new.now) }
 {
     match runs.get_mut(spot.run) {
         None => Ok(()),
@@ -151,7 +151,7 @@ pub fn put_behind(runs: &mut Vec<Vec<Piece>>, spot: Spot, new: &[Piece]) -> Resu
 pub fn put_before(runs: &mut Vec<Vec<Piece>>, spot: Spot, new: &[Piece]) -> Result<(), NoMemory>
     requires run { spot.run < length runs.old.items }
     requires within { spot.at < length (items_at runs.old.items spot.run) }
-    ensures { OnOk result (joined runs.new.items ≡ take (place_at runs.old.items spot.run spot.at) (joined runs.old.items) ++ (new.now ++ drop (place_at runs.old.items spot.run spot.at) (joined runs.old.items))) }
+    ensures { OnOk result (joined runs.new.items ≡ with_pieces_at (joined runs.old.items) (place_at runs.old.items spot.run spot.at) new.now) }
 {
     match runs.get_mut(spot.run) {
         None => Ok(()),
@@ -162,7 +162,7 @@ pub fn put_before(runs: &mut Vec<Vec<Piece>>, spot: Spot, new: &[Piece]) -> Resu
 // New pieces at a place of a run. One piece only moves those behind it.
 fn put_all(pieces: &mut Vec<Piece>, at: usize, new: &[Piece]) -> Result<(), NoMemory>
     requires { at ≤ length pieces.old.items }
-    ensures { OnOk result (pieces.new.items ≡ take at pieces.old.items ++ (new.now ++ drop at pieces.old.items)) }
+    ensures { OnOk result (pieces.new.items ≡ with_pieces_at pieces.old.items at new.now) }
 {
     match new {
         [piece] => {
@@ -176,7 +176,7 @@ fn put_all(pieces: &mut Vec<Piece>, at: usize, new: &[Piece]) -> Result<(), NoMe
 // New pieces at a place, in their order, behind which the others are copied.
 fn put_many(pieces: &mut Vec<Piece>, at: usize, new: &[Piece]) -> Result<(), NoMemory>
     requires { at ≤ length pieces.old.items }
-    ensures { OnOk result (pieces.new.items ≡ take at pieces.old.items ++ (new.now ++ drop at pieces.old.items)) }
+    ensures { OnOk result (pieces.new.items ≡ with_pieces_at pieces.old.items at new.now) }
 {
     let mut rest = pieces.split_off(at)?;
     pieces.extend_from_slice(new)?;

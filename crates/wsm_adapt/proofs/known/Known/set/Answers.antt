@@ -1,13 +1,31 @@
-use Rattle.std.proofs.Common.{Some, cond, eqb, ap, sym, ◌∙◌}
+use Rattle.std.proofs.Common.{ℕ, Option, [], ◌∷◌, ◌++◌, reverse, Some, cond, eqb, ap, sym, ◌∙◌}
+use Rattle.std.proofs.lemmas.List.{nil_from_length, reverse-append}
+use Rattle.wsm_schema.specs.declared.marks.Mark.{Mark}
 use Rattle.wsm_lists.specs.ByNumber.{item_at}
+use Rattle.wsm_lists.specs.Keys.{first}
+use Rattle.wsm_lists.specs.Rows.{put_row}
 use Rattle.wsm_lists.proofs.ByNumber.{item_at-put}
-use Rattle.wsm_adapt.proofs.KnownRows.{lookup-item}
+use Rattle.wsm_adapt.proofs.KnownRows.{lookup-item, put-before, put-in_front}
 use Rattle.wsm_adapt.proofs.known.Known.set.Goals as goal
 
-pub returns : goal.returns
-returns c = λ n.
+pub returns-in_ok-push : goal.returns-in_ok-push
+returns-in_ok-push c = λ n.
+    let r : ℕ × Option Mark = (c.args.node, c.args.mark) in
+    let few = c.self.inside.few.items in
+    let none = nil_from_length c.self.inside.others.entries (c.is_empty.ensures.0 c.if-is_empty.true) in
+    ap (λ xs. item_at n (xs ++ reverse c.push.new.self.items)) none
+    ∙ ap (λ xs. item_at n (reverse xs)) c.in_ok-push.ensures.items
+    ∙ ap (item_at n) (reverse-append few (r ∷ []))
+    ∙ put-in_front n r (reverse few)
+    ∙ ap (λ xs. item_at n (put_row first r (xs ++ reverse few))) (sym none)
+    ∙ ap (λ xs. item_at n (put_row first r xs)) c.self.view_is
+
+pub returns-in_ok-insert : goal.returns-in_ok-insert
+returns-in_ok-insert c = λ n.
+    let r : ℕ × Option Mark = (c.args.node, c.args.mark) in
+    let old = c.self.inside.others.entries in
     let new = c.insert.new.self.entries in
-    let old = c.self.inside.marks.entries in
-    sym (lookup-item n new) ∙ c.in_ok-insert.ensures.updates.0 n
-    ∙ ap (cond (eqb c.args.node n) (Some c.args.mark)) (lookup-item n old ∙ ap (item_at n) c.self.view_is)
-    ∙ sym (item_at-put n (c.args.node, c.args.mark) c.args.self.now)
+    let few = reverse c.self.inside.few.items in
+    let told = sym (lookup-item n new) ∙ c.in_ok-insert.ensures.updates.0 n ∙ ap (cond (eqb c.args.node n) (Some c.args.mark)) (lookup-item n old) ∙ sym (item_at-put n r old) in
+    put-before n r new old few told
+    ∙ ap (λ xs. item_at n (put_row first r xs)) c.self.view_is

@@ -1,7 +1,19 @@
-use Rattle.std.proofs.Common.{ap, ◌∙◌}
+use Rattle.std.proofs.Common.{reverse, ap, sym, ◌∙◌}
 use Rattle.wsm_lists.specs.ByNumber.{item_at}
-use Rattle.wsm_adapt.proofs.KnownRows.{lookup-item}
+use Rattle.wsm_adapt.proofs.KnownRows.{lookup-item, told-first, told-later}
 use Rattle.wsm_adapt.proofs.known.KnownMarkRows.row.Goals as goal
 
-pub returns : goal.returns
-returns c = c.get.ensures.value ∙ lookup-item c.args.node c.self.inside.marks.entries ∙ ap (item_at c.args.node) c.self.view_is
+pub returns-in-None : goal.returns-in-None
+returns-in-None c =
+    let node = c.args.node in
+    let others = c.self.inside.others.entries in
+    c.last_row-in-None.ensures ∙ ap (λ rs. item_at node (reverse rs)) c.deref-in-None.ensures.value
+    ∙ sym (told-later node others (reverse c.self.inside.few.items) (sym (lookup-item node others) ∙ sym c.in-None.ensures.value))
+    ∙ ap (item_at node) c.self.view_is
+
+pub returns-in-Some : goal.returns-in-Some
+returns-in-Some c =
+    let node = c.args.node in
+    let others = c.self.inside.others.entries in
+    sym (told-first node c.in-Some.mark.now others (reverse c.self.inside.few.items) (sym (lookup-item node others) ∙ sym c.in-Some.ensures.value))
+    ∙ ap (item_at node) c.self.view_is
