@@ -3,6 +3,7 @@
 //! A call is a step of a type's or a case's machine, and an entry of that machine's journal.
 #![tactic(auto)]
 
+mod call_counts;
 mod calls;
 mod checking;
 mod runs;

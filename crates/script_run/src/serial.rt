@@ -9,6 +9,7 @@ ghost use Rattle.script_run.specs.Parts.{run_of};
 ghost use Rattle.script_run.specs.Serial.{defined, kinds_from, opening, phase_worked, serial, uncalled};
 ghost use Rattle.wsm_schema.specs.Flat.{cards_of};
 
+use crate::call_counts::CallCounts;
 use crate::calls::{Working, call_kind};
 use crate::runs::{CaseJournal, ClosedCase, ClosedKind, KindJournal, Run};
 use crate::scripts::Script;
@@ -41,48 +42,63 @@ fn opening(alloc: Global, file: &File) -> Result<Working, NoMemory>
     ensures run { IfOk result (λ new. run_of new ≡ opening file.now) }
     ensures age { IfOk result (λ new. oldest new.cases.items ≡ 0) }
 {
+    let counts = CallCounts::of(alloc, file)?;
     Ok(Working {
-        kinds: defined_kinds(alloc, file.types.as_slice())?,
-        cases: uncalled_cases(alloc, file.cases.as_slice())?,
+        kinds: defined_kinds(alloc, file.types.as_slice(), &counts)?,
+        cases: uncalled_cases(alloc, file.cases.as_slice(), &counts)?,
     })
 }
 
 // The types behind their definitions, numbered from 0.
-fn defined_kinds(alloc: Global, types: &[TypeDecl]) -> Result<Vec<ClosedKind>, NoMemory>
+fn defined_kinds(
+    alloc: Global,
+    types: &[TypeDecl],
+    counts: &CallCounts,
+) -> Result<Vec<ClosedKind>, NoMemory>
     requires few { length types.now ≤ MAX_TYPES }
     requires small { list_all is_small types.now ≡ true }
     ensures { IfOk result (λ kinds. kinds.items ≡ kinds_from 0 types.now) }
 {
     let mut kinds = Vec::new(alloc);
     for (index, decl) in types.iter().enumerate() {
-        kinds.push(defined(alloc, index as u32, decl)?)?;
+        let number = index as u32;
+        kinds.push(defined(alloc, number, decl, counts.of_kind(number))?)?;
     }
     Ok(kinds)
 }
 
-// A type behind its definition.
-fn defined(alloc: Global, number: u32, decl: &TypeDecl) -> Result<ClosedKind, NoMemory>
+// A type behind its definition, with room for so many calls.
+fn defined(
+    alloc: Global,
+    number: u32,
+    decl: &TypeDecl,
+    calls: usize,
+) -> Result<ClosedKind, NoMemory>
     requires { length (cards_of decl.now.schema) ≤ 1024 }
     ensures { IfOk result (λ kind. kind ≡ defined number decl.now) }
 {
     let mut kind = ClosedKind {
         machine: Kind::new(alloc, number),
-        journal: KindJournal::new(alloc),
+        journal: KindJournal::from_vec(Vec::with_capacity(alloc, calls)?),
     };
     let definition = KindEvent::Define(decl.schema.copy(alloc)?);
     call_kind(alloc, &mut kind, PROGRAM, definition)?;
     Ok(kind)
 }
 
-// The cases before any line.
-fn uncalled_cases(alloc: Global, decls: &[CaseDecl]) -> Result<Vec<ClosedCase>, NoMemory>
+// The cases before any line, with room for their calls.
+fn uncalled_cases(
+    alloc: Global,
+    decls: &[CaseDecl],
+    counts: &CallCounts,
+) -> Result<Vec<ClosedCase>, NoMemory>
     ensures { IfOk result (λ cases. cases.items ≡ map uncalled decls.now) }
 {
     let mut cases = Vec::new(alloc);
     for decl in decls {
         cases.push(ClosedCase {
             machine: Case::new(alloc, decl.id.type_no),
-            journal: CaseJournal::new(alloc),
+            journal: CaseJournal::from_vec(Vec::with_capacity(alloc, counts.of_case(decl.id))?),
         })?;
     }
     Ok(cases)

@@ -4,7 +4,7 @@ ghost use Rattle.std.specs.Prelude.{◌≡◌, ◌<◌, vec_len, vec_capacity, O
 use crate::machine::{Machine, NoMemory};
 
 // A journal has room for so many entries at first.
-const FEW: usize = 6;
+const FEW: usize = 4;
 
 /// One call: the number of the pass that made it, its event, and the reply.
 #[derive(Drop)]
@@ -30,7 +30,8 @@ impl<M: Machine> Journal<M> {
         if count < self.items.capacity() {
             return Ok(());
         }
-        self.items.reserve_exact((count / 2).max(FEW))
+        self.items
+            .reserve_exact((count / 2).max(FEW.saturating_sub(count)))
     }
 }
 

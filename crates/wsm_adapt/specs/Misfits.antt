@@ -76,19 +76,26 @@ abbrev pub again_misfit_in : List Card → List (ℕ × Option Mark) → Option 
 again_misfit_in cards rows c None = None
 again_misfit_in cards rows c (Some p) = unless (again_known cards rows c p) p
 
+-- all of a node with that mark
+abbrev pub misfit_by : FlatModel → FlatModel → List (ℕ × Option Mark) → Entries → ℕ → Mark → Option ℕ
+misfit_by a b rows es n m =
+    lesser (start_misfit es (card_at n b.cards) (timed_of m) m.started)
+    (lesser (end_misfit a b (card_at n a.cards) (card_at n b.cards) m.ended m.choice) (again_misfit_in b.cards rows (card_at n b.cards) m.again))
+
 -- all of a node
 abbrev pub misfit_in : FlatModel → FlatModel → List (ℕ × Option Mark) → Entries → ℕ → Option ℕ
-misfit_in a b rows es n =
-    lesser (start_misfit es (card_at n b.cards) (timed_of (seen [] rows n)) (seen [] rows n).started)
-    (lesser (end_misfit a b (card_at n a.cards) (card_at n b.cards) (seen [] rows n).ended (seen [] rows n).choice) (again_misfit_in b.cards rows (card_at n b.cards) (seen [] rows n).again))
+misfit_in a b rows es n = misfit_by a b rows es n (seen [] rows n)
 
 -- of a node whose card is as it was: it was started or repeated too early
 abbrev pub early_start : Option Card → Timed → Option ℕ → Option ℕ
 early_start c x None = None
 early_start c x (Some p) = unless (on_card c (λ d. worked_on d.kind && is_yes (before p x))) p
 
+abbrev pub early_by : FlatModel → List (ℕ × Option Mark) → ℕ → Mark → Option ℕ
+early_by b rows n m = lesser (early_start (card_at n b.cards) (timed_of m) m.started) (again_misfit_in b.cards rows (card_at n b.cards) m.again)
+
 abbrev pub early_in : FlatModel → List (ℕ × Option Mark) → ℕ → Option ℕ
-early_in b rows n = lesser (early_start (card_at n b.cards) (timed_of (seen [] rows n)) (seen [] rows n).started) (again_misfit_in b.cards rows (card_at n b.cards) (seen [] rows n).again)
+early_in b rows n = early_by b rows n (seen [] rows n)
 
 -- the first position at which something of touched nodes, or of those that were visited, does not fit
 abbrev pub region_misfit : FlatModel → FlatModel → List (ℕ × Option Mark) → Entries → List ℕ → List ℕ → Option ℕ

@@ -82,10 +82,11 @@ impl MarkRows for Known {
 fn last_row(rows: &[(u32, Option<Mark>)], node: u32) -> Option<&Option<Mark>>
     ensures { option_copied result ≡ item_at node (reverse rows.now) }
 {
-    let (row, rest) = rows.split_last()?;
-    if row.0 == node {
-        Some(&row.1)
-    } else {
-        last_row(rest, node)
+    for place in (0..rows.len()).rev() {
+        let row = &rows[place];
+        if row.0 == node {
+            return Some(&row.1);
+        }
     }
+    None
 }

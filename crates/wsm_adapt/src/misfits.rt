@@ -1,7 +1,7 @@
 // The first position at which something of a region does not fit.
 ghost use Rattle.std.specs.Prelude.{◌≡◌, ◌+◌, ◌≤◌, [], Some, length, map};
 ghost use Rattle.std.specs.Option.{option_copied};
-ghost use Rattle.wsm_adapt.specs.Misfits.{again_known, again_misfit_in, early_in, early_start, end_misfit, misfit_in, partner_in, start_fits, start_misfit, reads_in, unless};
+ghost use Rattle.wsm_adapt.specs.Misfits.{again_known, again_misfit_in, early_by, early_in, early_start, end_misfit, misfit_by, misfit_in, partner_in, start_fits, start_misfit, reads_in, unless};
 ghost use Rattle.wsm_marks.specs.Fits.{partner_done};
 ghost use Rattle.wsm_marks.specs.Timed.{early};
 ghost use Rattle.wsm_trail.specs.EntryAt.{entry_at};
@@ -13,7 +13,7 @@ use crate::fits::{end_fits, is_ready_before, start_fits};
 use crate::known::Known;
 use wsm_rules::{Mark, is_worked_on};
 use wsm_schema::{Card, Entry, Flat, NodeKind};
-use wsm_settle::{NoMarks, Timed, mark_at, time_of};
+use wsm_settle::{MarkRows, NoMarks, Timed, mark_at, time_of};
 use wsm_trail::TrailReads;
 
 /// The first position at which what was started, ended or repeated of touched nodes does not fit. It reads the trail at most once
@@ -61,10 +61,32 @@ fn node_misfit<T: TrailReads>(
     ensures rises { T.reads trail.old ≤ T.reads trail.new }
     ensures count { T.reads trail.new ≤ T.reads trail.old + 1 }
 {
-    let mark = mark_at(&mut NoMarks, known, node);
+    match known.row(node) {
+        Some(Some(mark)) => mark_misfit(old, new, known, trail, node, mark),
+        Some(None) | None => None,
+    }
+}
+
+// What does not fit of a node with that mark. Most say of no Start, End or repeat.
+fn mark_misfit<T: TrailReads>(
+    old: &Flat,
+    new: &Flat,
+    known: &Known,
+    trail: &mut T,
+    node: u32,
+    mark: &Mark,
+) -> Option<u32>
+    ensures misfit { result ≡ misfit_by old.now new.now known.now (T.kept trail.old).entries node mark.now }
+    ensures same { T.kept trail.new ≡ T.kept trail.old }
+    ensures rises { T.reads trail.old ≤ T.reads trail.new }
+    ensures count { T.reads trail.new ≤ T.reads trail.old + 1 }
+{
+    if mark.started.is_none() && mark.ended.is_none() && mark.again.is_none() {
+        return None;
+    }
     let card = new.card(node);
-    let start = start_misfit(trail, card, time_of(&mark), mark.started);
-    let end = end_misfit(old, new, old.card(node), card, &mark);
+    let start = start_misfit(trail, card, time_of(mark), mark.started);
+    let end = end_misfit(old, new, old.card(node), card, mark);
     let again = again_misfit(new, known, card, mark.again);
     lesser(start, lesser(end, again))
 }
@@ -72,9 +94,21 @@ fn node_misfit<T: TrailReads>(
 fn node_early(new: &Flat, known: &Known, node: u32) -> Option<u32>
     ensures { result ≡ early_in new.now known.now node }
 {
-    let mark = mark_at(&mut NoMarks, known, node);
+    match known.row(node) {
+        Some(Some(mark)) => mark_early(new, known, node, mark),
+        Some(None) | None => None,
+    }
+}
+
+// What was too early of a node with that mark.
+fn mark_early(new: &Flat, known: &Known, node: u32, mark: &Mark) -> Option<u32>
+    ensures { result ≡ early_by new.now known.now node mark.now }
+{
+    if mark.started.is_none() && mark.again.is_none() {
+        return None;
+    }
     let card = new.card(node);
-    let start = early_start(card, time_of(&mark), mark.started);
+    let start = early_start(card, time_of(mark), mark.started);
     lesser(start, again_misfit(new, known, card, mark.again))
 }
 

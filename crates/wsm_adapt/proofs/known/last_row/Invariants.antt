@@ -1,0 +1,6 @@
+use Rattle.std.proofs.Common.{◌≡◌, reverse, take}
+use Rattle.wsm_lists.specs.ByNumber.{item_at}
+use Rattle.wsm_adapt.proofs.known.last_row.Given as goal
+
+abbrev pub invariant-loop-place : goal.invariant-loop-place
+invariant-loop-place l = item_at l.node (reverse (take l.place l.rows)) ≡ item_at l.node (reverse l.rows)
