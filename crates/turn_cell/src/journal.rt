@@ -3,8 +3,8 @@ ghost use Rattle.std.specs.Prelude.{◌≡◌, ◌<◌, vec_len, vec_capacity, O
 
 use crate::machine::{Machine, NoMemory};
 
-// A journal has room for so many entries at first.
-const FEW: usize = 4;
+// A journal doubles its room up to so many entries.
+const FEW: usize = 16;
 
 /// One call: the number of the pass that made it, its event, and the reply.
 #[derive(Drop)]
@@ -21,7 +21,7 @@ pub struct Journal<M: Machine> {
 }
 
 impl<M: Machine> Journal<M> {
-    // There is room for an entry then. A full journal grows by half: a server keeps many, and most are short.
+    // There is room for an entry then. A long journal grows by half: a server keeps many.
     pub(crate) fn make_room(&mut self) -> Result<(), NoMemory>
         ensures items { self.new.items.items ≡ self.old.items.items }
         ensures room { OnOk result (vec_len self.new.items < vec_capacity self.new.items) }
@@ -30,8 +30,8 @@ impl<M: Machine> Journal<M> {
         if count < self.items.capacity() {
             return Ok(());
         }
-        self.items
-            .reserve_exact((count / 2).max(FEW.saturating_sub(count)))
+        let more = if count < FEW { count.max(4) } else { count / 2 };
+        self.items.reserve_exact(more)
     }
 }
 
