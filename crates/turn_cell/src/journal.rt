@@ -3,9 +3,6 @@ ghost use Rattle.std.specs.Prelude.{◌≡◌, ◌<◌, vec_len, vec_capacity, O
 
 use crate::machine::{Machine, NoMemory};
 
-// A journal doubles its room up to so many entries.
-const FEW: usize = 16;
-
 /// One call: the number of the pass that made it, its event, and the reply.
 #[derive(Drop)]
 pub struct Entry<M: Machine> {
@@ -21,7 +18,7 @@ pub struct Journal<M: Machine> {
 }
 
 impl<M: Machine> Journal<M> {
-    // There is room for an entry then. A long journal grows by half: a server keeps many.
+    // There is room for an entry then.
     pub(crate) fn make_room(&mut self) -> Result<(), NoMemory>
         ensures items { self.new.items.items ≡ self.old.items.items }
         ensures room { OnOk result (vec_len self.new.items < vec_capacity self.new.items) }
@@ -30,8 +27,19 @@ impl<M: Machine> Journal<M> {
         if count < self.items.capacity() {
             return Ok(());
         }
-        let more = if count < FEW { count.max(4) } else { count / 2 };
-        self.items.reserve_exact(more)
+        self.items.reserve_exact(more_room(count))
+    }
+}
+
+// For how many entries more a journal with so many gets room. A server keeps many journals, and most are short.
+fn more_room(count: usize) -> usize
+    ensures { 0 < result }
+{
+    match count {
+        0..=5 => 6 - count,
+        6..=7 => 8 - count,
+        8..=15 => 16 - count,
+        _ => count / 2,
     }
 }
 

@@ -71,7 +71,7 @@ fn onto(
 ) -> Result<Vec<(u32, u32)>, NoMemory>
     ensures { IfOk result (λ all. all.items ≡ onto_seen front.now edges.now) }
 {
-    let mut all = Vec::new(alloc);
+    let mut all = Vec::with_capacity(alloc, front.len().saturating_add(edges.len()))?;
     for i in 0..front.len() {
         all.push(front[front.len() - 1 - i])?;
     }
@@ -94,7 +94,7 @@ fn nodes_of(alloc: Global, cards: &[Card]) -> Result<Vec<u32>, NoMemory>
 fn control_edges(alloc: Global, cards: &[Card]) -> Result<Vec<(u32, u32)>, NoMemory>
     ensures { IfOk result (λ edges. edges.items ≡ control_edges cards.now) }
 {
-    let mut edges = Vec::new(alloc);
+    let mut edges = Vec::with_capacity(alloc, cards.len())?;
     for card in cards {
         put_edges(&mut edges, card)?;
     }

@@ -10,7 +10,8 @@ pub fn sorted(
     control: &[(u32, u32)],
     syncs: &[(u32, u32)],
 ) -> Result<Vec<u32>, NoMemory> {
-    let mut edges = Vec::from_slice(alloc, control)?;
+    let mut edges = Vec::with_capacity(alloc, control.len().saturating_add(syncs.len()))?;
+    edges.extend_from_slice(control)?;
     edges.extend_from_slice(syncs)?;
     let mut waiting = source_counts(alloc, flat, &edges)?;
     let mut found = without_sources(alloc, flat, &waiting)?;

@@ -63,7 +63,11 @@ impl<T: Drop> NumberedRows<T> {
         ensures room { OnOk result (more ≤ self.new.spare) }
         ensures kept { self.old.spare ≤ self.new.spare }
     {
-        self.rows.try_reserve(more)
+        let count = self.rows.len();
+        if more <= self.rows.capacity() - count {
+            return Ok(());
+        }
+        self.rows.reserve_exact(more.max(more_room(count)))
     }
 
     /// The row of a number holds that from now on. Takes no memory.
@@ -95,6 +99,14 @@ impl<T: Copy + Drop> NumberedRows<T> {
         ensures spare { self.old.spare ≤ self.new.spare + length changes }
     {
         take_in(&mut self.rows, changes.as_slice());
+    }
+}
+
+// For how many rows more there is room where so many have no more: a case keeps rows for long, and mostly few.
+fn more_room(count: usize) -> usize {
+    match count {
+        0..=3 => 4 - count,
+        _ => count / 2,
     }
 }
 

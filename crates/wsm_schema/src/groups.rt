@@ -77,26 +77,50 @@ fn row_at<T>(rows: &[(u32, T)], at: usize) -> Option<&(u32, T)>
     rows.get(at)
 }
 
-// Where the rows of smaller numbers end: told by the first row where numbers have no gaps before it, else by a binary search.
+// Where the rows of smaller numbers end: told by the first row or by the last where numbers have no gaps up to there, else by a
+// binary search.
 fn start_of<T>(rows: &[(u32, T)], number: u32) -> usize
     requires { IsNonDecreasingBy (λ r. r.0) rows.now }
     ensures bound { result ≤ length rows.now }
     ensures place { IsStart number rows.now result }
 {
-    match gapless_start(rows, number) {
+    if let Some(at) = start_behind_first(rows, number) {
+        return at;
+    }
+    match start_before_last(rows, number) {
         Some(at) => at,
         None => searched_start(rows, number),
     }
 }
 
 // Where the first row of that number stands if each number before it has one row. None if it does not stand there.
-fn gapless_start<T>(rows: &[(u32, T)], number: u32) -> Option<usize>
+fn start_behind_first<T>(rows: &[(u32, T)], number: u32) -> Option<usize>
     requires { IsNonDecreasingBy (λ r. r.0) rows.now }
     ensures bound { IfSome result (λ at. at ≤ length rows.now) }
     ensures place { IfSome result (IsStart number rows.now) }
 {
     let least = rows.first()?.0;
-    let at = number.checked_sub(least)? as usize;
+    start_if_there(rows, number, number.checked_sub(least)? as usize)
+}
+
+// The same if each number behind it has one row.
+fn start_before_last<T>(rows: &[(u32, T)], number: u32) -> Option<usize>
+    requires { IsNonDecreasingBy (λ r. r.0) rows.now }
+    ensures bound { IfSome result (λ at. at ≤ length rows.now) }
+    ensures place { IfSome result (IsStart number rows.now) }
+{
+    let (last, rest) = rows.split_last()?;
+    let behind = last.0.checked_sub(number)? as usize;
+    let at = rest.len().checked_sub(behind)?;
+    start_if_there(rows, number, at)
+}
+
+// The place, if the first row of the number stands there.
+fn start_if_there<T>(rows: &[(u32, T)], number: u32, at: usize) -> Option<usize>
+    requires { IsNonDecreasingBy (λ r. r.0) rows.now }
+    ensures bound { IfSome result (λ at. at ≤ length rows.now) }
+    ensures place { IfSome result (IsStart number rows.now) }
+{
     if starts_at(rows, number, at) {
         Some(at)
     } else {

@@ -6,3 +6,4 @@ pub mod Begins
 pub mod TrailMarks
 pub mod Waiting
 pub mod Flagged
+pub mod FirstMarks

@@ -2,6 +2,7 @@ pub mod AllPlaces
 pub mod Behind
 pub mod Events
 pub mod Freed
+pub mod Opening
 pub mod Revised
 pub mod Signals
 pub mod Sources

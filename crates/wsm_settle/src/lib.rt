@@ -4,6 +4,7 @@
 mod ends;
 mod equations;
 mod flags;
+mod openings;
 mod overlays;
 mod pending;
 mod places;

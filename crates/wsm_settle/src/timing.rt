@@ -1,6 +1,5 @@
 // The marks of a whole trail.
-ghost use Rattle.std.specs.Prelude.{◌≡◌, ℕ, List, [], Some, is_some, OnOk, IfOk, if◌then◌else◌};
-ghost use Rattle.std.specs.Option.{option_or};
+ghost use Rattle.std.specs.Prelude.{◌≡◌, [], Some, is_some, OnOk, IfOk, if◌then◌else◌};
 ghost use Rattle.wsm_lists.specs.ByNumber.{changed};
 ghost use Rattle.wsm_schema.specs.Rank.{IsRank};
 ghost use Rattle.wsm_schema.specs.declared.marks.Mark.{Mark};
@@ -9,6 +8,7 @@ ghost use Rattle.wsm_settle.specs.Timing.{IsTimed, MarksRight, failed_at, positi
 ghost use Rattle.wsm_walk.specs.Listed.{seen};
 ghost use Rattle.wsm_walk.specs.Told.{node_of, tell, tell_row, told_rows};
 
+use crate::openings::opening_marks;
 use crate::overlays::{Overlay, or_blank};
 use crate::walks::walk_all;
 use std::alloc::Global;
@@ -71,17 +71,22 @@ fn position_of(replayed: &Replayed) -> Option<u32>
     }
 }
 
-// The marks of a trail that replays whole: what its entries tell, and then the times, by a walk over all nodes.
+// The marks of a trail that replays whole: what its entries tell, and then the times, by a walk over all nodes. Before any entry few
+// nodes have marks, and the walk visits no others.
 fn marks_of(alloc: Global, flat: &Flat, rank: &Rank, trail: &Trail) -> Result<Marks, NoMemory>
     ensures { IfOk result (λ marks. MarksRight flat.now rank.now trail.now.trail.entries marks.rows) }
 {
-    let mut changes = told_by(alloc, trail.entries())?;
+    let entries = trail.entries();
+    if entries.is_empty() {
+        return opening_marks(alloc, flat, rank);
+    }
+    let mut changes = told_by(alloc, entries)?;
     walk_all(alloc, flat, rank, &mut NoMarks, &mut changes)?;
     taken_in(alloc, changes.into_table(alloc)?)
 }
 
-// The marks that changes make of none.
-fn taken_in(alloc: Global, changes: Changes) -> Result<Marks, NoMemory>
+/// The marks that changes make of none.
+pub fn taken_in(alloc: Global, changes: Changes) -> Result<Marks, NoMemory>
     ensures { IfOk result (λ marks. marks.rows ≡ changed changes []) }
 {
     let mut marks = Marks::new(alloc);
