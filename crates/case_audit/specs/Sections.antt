@@ -1,5 +1,6 @@
 -- The cases of a report, each from a place on.
-use Rattle.std.specs.Prelude.{◌≡◌, ℕ, ◌≤◌, List, length, slice_get, Option, Some, Result, Ok}
+use Rattle.std.specs.Prelude.{◌≡◌, ℕ, ◌<◌, ◌≤◌, List, length, slice_get, Option, Some, Result, Ok}
+use Rattle.audit_facts.specs.Facts.{IsAuditable}
 use Rattle.audit_model.specs.Asked.{Asked}
 use Rattle.audit_model.specs.ReportReader.{case_reader}
 use Rattle.audit_owed.specs.Owing.{calls_decl, numbers, owed_of}
@@ -7,6 +8,7 @@ use Rattle.audit_owed.specs.Sharing.{given}
 use Rattle.audit_owed.specs.declared.owed.Owed.{Owed}
 use Rattle.audit_steps.specs.Lines.{IsModest}
 use Rattle.case_audit.specs.declared.sections.Section.{Section}
+use Rattle.file_facts.specs.Facts.{IsWorkable}
 use Rattle.file_model.specs.declared.files.CaseDecl.{CaseDecl}
 use Rattle.file_model.specs.declared.files.File.{File}
 use Rattle.file_words.specs.Lines.{Bytes}
@@ -40,3 +42,7 @@ AreSections f owed text sections = (length sections ≡ length f.cases) × ((i :
 -- some script owes the cases this
 abbrev pub HasScript : File → List Owed → Type 0
 HasScript f owed = (phases : List (List Asked)) × (numbers owed ≡ given calls_decl f.cases phases)
+
+-- what the judgement of a section asks for, where it is guessed from where each begins
+abbrev pub CanJudge : File → List Owed → List ℕ → ℕ → Type 0
+CanJudge f owed starts i = (i < length f.cases) × (i < length owed) × (i < length starts) × IsWorkable f × IsAuditable f × AreModest owed × HasScript f owed

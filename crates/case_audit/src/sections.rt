@@ -7,7 +7,7 @@ ghost use Rattle.audit_owed.specs.Asking.{script_of};
 ghost use Rattle.audit_owed.specs.Owing.{calls_decl, numbers};
 ghost use Rattle.audit_owed.specs.Sharing.{given};
 ghost use Rattle.audit_steps.specs.Lines.{IsModest};
-ghost use Rattle.case_audit.specs.Sections.{AreModest, AreSections, HasScript, IsCaseAt, IsSection};
+ghost use Rattle.case_audit.specs.Sections.{AreModest, AreSections, CanJudge, HasScript, IsCaseAt, IsSection};
 ghost use Rattle.file_facts.specs.Facts.{IsWorkable};
 ghost use Rattle.line_followers.specs.Follows.{Follows};
 ghost use Rattle.line_readers.specs.Owed.{how_many};
@@ -126,7 +126,7 @@ fn judge_sections<R: Threads + Sync>(
         alloc,
         starts.len(),
         |index: usize| -> Result<Section, NoMemory>
-            requires { (index < length file.now.cases) × (index < length owed.now) × (index < length starts.now) × IsWorkable file.now × IsAuditable file.now × AreModest owed.now × HasScript file.now owed.now }
+            requires { CanJudge file.now owed.now starts.now index }
             ensures { IfOk result (IsSection file.entry.now owed.entry.now text.entry.now index) }
         { judge_section(alloc, file, owed, text, index, starts[index]) },
     )

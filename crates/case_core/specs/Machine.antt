@@ -156,6 +156,10 @@ misfit l failed = option_map (blocked_at l) failed
 abbrev pub taken : LiveModel → LiveModel → Reply → LiveModel × Reply
 taken l new r = or_reply (misfit l (failed_at (replay_of_case new))) l (new, r)
 
+-- the same told by what the new schema is made of
+abbrev pub taken_on : LiveModel → VersionModel → List Op → SchemaModel → Reply → LiveModel × Reply
+taken_on l base own schema r = taken l (on_schema l base own schema) r
+
 -- a change on its own, which leaves the base version
 abbrev pub changed : LiveModel → List Op → SchemaModel → LiveModel
 changed l ops schema = on_schema l l.base (l.own ++ ops) schema

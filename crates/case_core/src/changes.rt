@@ -2,7 +2,7 @@
 ghost use Rattle.std.specs.Prelude.{◌≡◌, ◌+◌, ◌<◌, ◌≤◌, ◌^◌, [], ◌++◌, Ok, length, IfOk, IfErr, OnOk, OnErr};
 ghost use Rattle.case_core.specs.CaseModel.{on_schema};
 ghost use Rattle.case_core.specs.Instances.{IsLive, live_in, reads_onto, reads_where};
-ghost use Rattle.case_core.specs.Machine.{blocked_in, change_live, migrate_live, migrate_refusal, overlap_with, taken};
+ghost use Rattle.case_core.specs.Machine.{blocked_in, change_live, migrate_live, migrate_refusal, overlap_with, taken_on};
 ghost use Rattle.wsm_ops.specs.Apply.{applied};
 ghost use Rattle.wsm_sound.specs.Faults.{changed_by};
 ghost use Rattle.wsm_sound.specs.Refusals.{IsRefusal};
@@ -95,9 +95,9 @@ impl Live {
         requires own { applied base.schema own ≡ Ok schema.value }
         requires few { length own < 2 ^ 32 }
         ensures kept { IsLive (T.kept trail.new) self.new }
-        ensures live { IfOk result (λ replies. live_in (T.kept trail.new) self.new ≡ (taken (live_in (T.kept trail.old) self.old) (on_schema (live_in (T.kept trail.old) self.old) base own schema.value) reply).0) }
-        ensures first { IfOk result (λ replies. replies.0 ≡ (taken (live_in (T.kept trail.old) self.old) (on_schema (live_in (T.kept trail.old) self.old) base own schema.value) reply).1) }
-        ensures second { IfOk result (λ replies. replies.1 ≡ (taken (live_in (T.kept trail.old) self.old) (on_schema (live_in (T.kept trail.old) self.old) base own schema.value) reply).1) }
+        ensures live { IfOk result (λ replies. live_in (T.kept trail.new) self.new ≡ (taken_on (live_in (T.kept trail.old) self.old) base own schema.value reply).0) }
+        ensures first { IfOk result (λ replies. replies.0 ≡ (taken_on (live_in (T.kept trail.old) self.old) base own schema.value reply).1) }
+        ensures second { IfOk result (λ replies. replies.1 ≡ (taken_on (live_in (T.kept trail.old) self.old) base own schema.value reply).1) }
         ensures err { OnErr result (live_in (T.kept trail.new) self.new ≡ live_in (T.kept trail.old) self.old) }
         ensures rises { T.reads trail.old ≤ T.reads trail.new }
         ensures reads { T.reads trail.new ≤ T.reads trail.old + reads_onto self.old.now.value schema.value }

@@ -2,12 +2,11 @@
 ghost use Rattle.std.specs.Prelude.{◌≡◌, ◌≤◌, length, map, string_bytes, Ok, None, IfOk, IfErr, IfSome, OnOk, option_map};
 ghost use Rattle.std.specs.Io.KnownBytes.{IsAtEnd};
 ghost use Rattle.file_model.specs.Sizes.{HasNumbers, IsBounded};
-ghost use Rattle.log_fit.specs.Answer.{answer, most_input, with_log, with_version};
+ghost use Rattle.log_fit.specs.Answer.{answer, most_input, with_file, with_log};
 ghost use Rattle.log_fit.specs.Asked.{asked};
 ghost use Rattle.log_fit.specs.Endings.{EndsUnread, FitEnds, IsAnswered};
 ghost use Rattle.log_fit.specs.Shown.{shown_question};
 ghost use Rattle.log_fit.specs.Table.{table};
-ghost use Rattle.log_fit.specs.Versions.{version_of};
 
 use crate::asking::Asked;
 use crate::fits::{FitRefusal, Fits};
@@ -99,7 +98,7 @@ fn fit_file<K: Sink>(
     requires bounded { IsBounded file.now }
     requires numbers { HasNumbers file.now }
     requires log { IfSome log (λ l. length l.now ≤ most_input) }
-    ensures { IsAnswered K.written K.faults (with_version file.now (version_of file.now asked.entry.name.now asked.entry.number) (option_map (λ l. l.now) log.entry)) sink.old sink.new result }
+    ensures { IsAnswered K.written K.faults (with_file (shown_question asked.entry) (option_map (λ l. l.now) log.entry) (Ok file.now)) sink.old sink.new result }
 {
     match version_of(alloc, file, asked.name, asked.number) {
         Ok(Some(version)) => fit_version(alloc, file, &version, log, sink),
