@@ -46,7 +46,8 @@ struct Gathered<'a, K: Sink, O: Outset> {
 }
 
 impl<'a, K: Sink, O: Outset> Gathered<'a, K, O> {
-    // Hands on all that is held.
+    // Hands on all that is held. It is seldom called, so it is kept out of the writers of small pieces.
+    #[inline(never)]
     fn hand_on(&mut self) -> Result<(), Failed>
         ensures empty { OnOk result (self.new.held ≡ []) }
         ensures bytes { Keeps (append_known (K.written self.old.sink.now) self.old.held) (append_known (K.written self.new.sink.now) self.new.held) }
