@@ -79,9 +79,9 @@ module _ (roles : List ℕ) (v w : DeskView) (desk : IsDesk v) where
   withdraw-acts id node (Ok r) k = (told v.number id (event.Withdraw node v.number) r ∷ [], (r, refl), case-done (event.Withdraw node v.number) id (Ok r) v w desk k)
   withdraw-acts id node (Err f) k = (([], refl, case-done (event.Withdraw node v.number) id (Err f) v w desk k), λ is. case-full (event.Withdraw node v.number) id (Err f) v w k (ap Err is))
 
-  pub end-acts : (id : CaseId) (node : ℕ) (writes : _) (choice : Option ℕ) (answer : Result Reply CallFault) → CallsCase (event.End node v.number writes choice) id answer v w → Acts roles (act.End id node writes choice) answer v w
-  end-acts id node writes choice (Ok r) k = (told v.number id (event.End node v.number writes choice) r ∷ [], (r, refl), case-done (event.End node v.number writes choice) id (Ok r) v w desk k)
-  end-acts id node writes choice (Err f) k = (([], refl, case-done (event.End node v.number writes choice) id (Err f) v w desk k), λ is. case-full (event.End node v.number writes choice) id (Err f) v w k (ap Err is))
+  pub end-acts : (id : CaseId) (node : ℕ) (writes : _) (choice : Option ℕ) (answer : Result Reply CallFault) → CallsCase (event.End node v.number choice writes) id answer v w → Acts roles (act.End id node writes choice) answer v w
+  end-acts id node writes choice (Ok r) k = (told v.number id (event.End node v.number choice writes) r ∷ [], (r, refl), case-done (event.End node v.number choice writes) id (Ok r) v w desk k)
+  end-acts id node writes choice (Err f) k = (([], refl, case-done (event.End node v.number choice writes) id (Err f) v w desk k), λ is. case-full (event.End node v.number choice writes) id (Err f) v w k (ap Err is))
 
   pub change-acts : (id : CaseId) (ops : _) (answer : Result Reply CallFault) → CallsCase (event.Change ops) id answer v w → Acts roles (act.Change id ops) answer v w
   change-acts id ops (Ok r) k = (told v.number id (event.Change ops) r ∷ [], (r, refl), case-done (event.Change ops) id (Ok r) v w desk k)

@@ -6,7 +6,7 @@ use adept_top::{Outcome, adept};
 use process_text::Refused;
 use std::io::{self, ErrorKind};
 use std::process::ExitCode;
-use std::{env, str};
+use std::{env, mem, str};
 use turn_cell::OpenGate;
 
 fn main(rt: HostRuntime) -> ExitCode {
@@ -20,7 +20,10 @@ fn main(rt: HostRuntime) -> ExitCode {
     };
     // The status tells all; where nothing can be said beside it, it stays the same.
     let _ = tell(&rt, &outcome);
-    ExitCode::from(outcome.status)
+    let status = ExitCode::from(outcome.status);
+    // The process ends here: its memory goes back as one, not piece by piece.
+    mem::forget(outcome);
+    status
 }
 
 // The words behind the program's name.

@@ -254,7 +254,7 @@ impl Server {
         requires desk { IsDeskOf self.now desk.old }
         requires there { has_case (desk_view desk.old) id }
         ensures desk { IsDeskOf self.now desk.new }
-        ensures called { CallsCase (Event.End node (desk_view desk.old).number writes.now choice) id result (desk_view desk.old) (desk_view desk.new) }
+        ensures called { CallsCase (Event.End node (desk_view desk.old).number choice writes.now) id result (desk_view desk.old) (desk_view desk.new) }
     {
         let event = Event::End {
             node,

@@ -16,11 +16,13 @@ mod joining;
 mod offering;
 mod one_call;
 mod opening;
+mod rooms;
 mod servers;
 mod worklists;
 
 pub use call_flags::CallFlags;
 pub use closing::ClosedServer;
 pub use desks::Desk;
+pub use rooms::Rooms;
 pub use servers::Server;
 pub use worklists::{Offer, Offers};

@@ -9,6 +9,7 @@ ghost use Rattle.turn_rows.specs.Rows.{views};
 
 use crate::all_rows::{empty_rows, split_all, split_row};
 use crate::desks::Desk;
+use crate::rooms::Rooms;
 use crate::servers::Server;
 use case_core::Case;
 use std::alloc::Global;
@@ -17,7 +18,11 @@ use turn_rows::open_row;
 use type_core::Kind;
 
 // The cells of so many types, with the labels from 0 on, and their first passes.
-fn open_kinds(alloc: Global, count: u32) -> Result<(Vec<Cell<Kind>>, Vec<Pass<Kind>>), NoMemory>
+fn open_kinds(
+    alloc: Global,
+    count: u32,
+    rooms: &[usize],
+) -> Result<(Vec<Cell<Kind>>, Vec<Pass<Kind>>), NoMemory>
     ensures cells { IfOk result (λ r. AreOf r.0.items r.1.items) }
     ensures firsts { IfOk result (λ r. AreFirstKinds count (views r.1.items)) }
 {
@@ -25,7 +30,7 @@ fn open_kinds(alloc: Global, count: u32) -> Result<(Vec<Cell<Kind>>, Vec<Pass<Ki
     for type_no in 0..count {
         kinds.push_reserved(Kind::new(alloc, type_no));
     }
-    open_row(alloc, 0, kinds)
+    open_row(alloc, 0, kinds, rooms)
 }
 
 // The cells of so many cases of a type, with the labels from `label` on, and their first passes.
@@ -34,6 +39,7 @@ fn open_cases(
     type_no: u32,
     count: u32,
     label: u32,
+    rooms: &[usize],
 ) -> Result<(Vec<Cell<Case>>, Vec<Pass<Case>>), NoMemory>
     requires labels { label + count < 2 ^ 32 }
     ensures cells { IfOk result (λ r. AreOf r.0.items r.1.items) }
@@ -43,13 +49,14 @@ fn open_cases(
     for _place in 0..count {
         cases.push_reserved(Case::new(alloc, type_no));
     }
-    open_row(alloc, label, cases)
+    open_row(alloc, label, cases, rooms)
 }
 
 // The cells of the cases of all types, with the labels behind those of the types, and their first passes.
 fn open_all_cases(
     alloc: Global,
     counts: &[u32],
+    rooms: &Rooms,
 ) -> Result<(Vec<Vec<Cell<Case>>>, Vec<Vec<Pass<Case>>>), NoMemory>
     requires labels { length counts.now + sum counts.now < 2 ^ 32 }
     ensures cells { IfOk result (λ r. AreVecsOf r.0.items r.1.items) }
@@ -59,7 +66,13 @@ fn open_all_cases(
     let mut firsts = Vec::with_capacity(alloc, counts.len())?;
     let mut label = counts.len() as u32;
     for (type_no, count) in counts.iter().enumerate() {
-        let (row, first_row) = open_cases(alloc, type_no as u32, *count, label)?;
+        let (row, first_row) = open_cases(
+            alloc,
+            type_no as u32,
+            *count,
+            label,
+            rooms.of_cases(type_no),
+        )?;
         cells.push_reserved(row);
         firsts.push_reserved(first_row);
         label += *count;
@@ -75,8 +88,21 @@ impl Server {
         ensures desk { IfOk result (λ r. IsDeskOf r.0 r.1) }
         ensures first { IfOk result (λ r. IsFirstDesk cases.now (desk_view r.1)) }
     {
-        let (kinds, first_kinds) = open_kinds(alloc, cases.len() as u32)?;
-        let (rows, first_rows) = open_all_cases(alloc, cases)?;
+        Server::with_rooms(alloc, cases, &Rooms::none(alloc))
+    }
+
+    /// The same, where each journal has the room that is told of it at first.
+    pub fn with_rooms(
+        alloc: Global,
+        cases: &[u32],
+        rooms: &Rooms,
+    ) -> Result<(Server, Desk), NoMemory>
+        requires { length cases.now + sum cases.now < 2 ^ 32 }
+        ensures desk { IfOk result (λ r. IsDeskOf r.0 r.1) }
+        ensures first { IfOk result (λ r. IsFirstDesk cases.now (desk_view r.1)) }
+    {
+        let (kinds, first_kinds) = open_kinds(alloc, cases.len() as u32, &rooms.kinds)?;
+        let (rows, first_rows) = open_all_cases(alloc, cases, rooms)?;
         let closed_kinds = Vec::with_capacity(alloc, kinds.len())?;
         let closed_cases = empty_rows(alloc, &rows)?;
         let defined = vec![in alloc; false; cases.len()]?;

@@ -5,7 +5,7 @@ use Rattle.std.specs.Prelude.{fold, replicate, slice_get}
 use Rattle.audit_journals.specs.Queues.{all_turns, no_queues, with_turn}
 use Rattle.audit_model.specs.Asked.{Asked}
 use Rattle.audit_owed.proofs.QueueLists.{At, behind, where-at, within}
-use Rattle.audit_steps.specs.Lines.{actor_of}
+use Rattle.audit_model.specs.Lines.{actor_of}
 use Rattle.line_followers.proofs.Turns.{turn-added, turn-foreign}
 use Rattle.line_followers.specs.Turns.{AreTurns, queue_in, queue_of}
 

@@ -3,8 +3,8 @@ use Rattle.std.proofs.Common.{◌≡◌, true, false, List, ◌++◌, Some, None
 use Rattle.std.specs.Prelude.{Option}
 use Rattle.audit_model.specs.Asked.{Asked}
 use Rattle.audit_model.specs.ReportReader.{case_journal, case_reader, given}
-use Rattle.audit_steps.proofs.Fronts.{given-follows, given-stops, given-then, given-wrong}
-use Rattle.audit_steps.specs.Judging.{FollowedBy}
+use Rattle.audit_model.proofs.Fronts.{given-follows, given-stops, given-then, given-wrong}
+use Rattle.audit_model.specs.Judging.{FollowedBy}
 use Rattle.audit_model.proofs.WholeLines.{end-ends, head-ends}
 use Rattle.file_model.specs.declared.files.CaseDecl.{CaseDecl}
 use Rattle.file_model.specs.declared.files.File.{File}

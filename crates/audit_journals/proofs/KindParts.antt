@@ -4,10 +4,10 @@ use Rattle.audit_model.proofs.Texts.{EndsLine, ends-behind, kind-line}
 use Rattle.audit_model.specs.Owed.{owed_kind}
 use Rattle.audit_model.specs.Printed.{kind_shown}
 use Rattle.audit_model.specs.ReportReader.{defined_line, kind_journal, kind_reader}
-use Rattle.audit_steps.proofs.Fronts.{given-then, given-wrong}
-use Rattle.audit_steps.proofs.KindPhases.{kind-stopped, kind-whole}
-use Rattle.audit_steps.specs.Judging.{FollowedBy}
-use Rattle.audit_steps.specs.Kinds.{GrowsTo, StopsAt}
+use Rattle.audit_model.proofs.Fronts.{given-then, given-wrong}
+use Rattle.audit_model.proofs.KindPhases.{kind-stopped, kind-whole}
+use Rattle.audit_model.specs.Judging.{FollowedBy}
+use Rattle.audit_model.specs.Kinds.{GrowsTo, StopsAt}
 use Rattle.file_model.specs.declared.files.File.{File}
 use Rattle.file_model.specs.declared.files.Line.{Line}
 use Rattle.file_model.specs.declared.files.TypeDecl.{TypeDecl}

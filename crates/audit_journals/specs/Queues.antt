@@ -3,7 +3,7 @@ use Rattle.std.specs.Prelude.{ℕ, ◌+◌, List, [], map, fold, replicate}
 use Rattle.audit_model.specs.Asked.{Asked}
 use Rattle.audit_owed.specs.Asking.{asked_in}
 use Rattle.audit_journals.specs.declared.turns.Turns.{Turns}
-use Rattle.audit_steps.specs.Lines.{actor_of}
+use Rattle.audit_model.specs.Lines.{actor_of}
 use Rattle.line_followers.specs.Turns.{one_added}
 
 -- a queue for each actor

@@ -127,7 +127,7 @@ module _ (f : File) (workable : IsWorkable f) (a : ℕ) (c : CaseId) (declared :
   )
   of-act (act.Start d n) first (r, is) = (None, one-case (act.Start d n) d (event.Start n a (roles_of f a)) r first refl refl refl is)
   of-act (act.Withdraw d n) first (r, is) = (None, one-case (act.Withdraw d n) d (event.Withdraw n a) r first refl refl refl is)
-  of-act (act.End d n writes choice) first (r, is) = (None, one-case (act.End d n writes choice) d (event.End n a writes choice) r first refl refl refl is)
+  of-act (act.End d n writes choice) first (r, is) = (None, one-case (act.End d n writes choice) d (event.End n a choice writes) r first refl refl refl is)
   of-act (act.Change d ops) first (r, is) = (None, one-case (act.Change d ops) d (event.Change ops) r first refl refl refl is)
   of-act (act.Install t ops) first (r, is) = (
     None,

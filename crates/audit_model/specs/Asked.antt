@@ -103,7 +103,7 @@ abbrev pub case_event_in : List ℕ → ℕ → Option VersionModel → Act → 
 case_event_in roles a v (act.Create c) = created_by v
 case_event_in roles a v (act.Start c node) = Some (event.Start node a roles)
 case_event_in roles a v (act.Withdraw c node) = Some (event.Withdraw node a)
-case_event_in roles a v (act.End c node writes choice) = Some (event.End node a writes choice)
+case_event_in roles a v (act.End c node writes choice) = Some (event.End node a choice writes)
 case_event_in roles a v (act.Change c ops) = Some (event.Change ops)
 case_event_in roles a v (act.Install t ops) = None
 case_event_in roles a v (act.Migrate t) = migrated_by v

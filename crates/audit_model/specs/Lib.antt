@@ -3,3 +3,8 @@ pub mod Owed
 pub mod Asked
 pub mod Printed
 pub mod ReportReader
+pub mod Kept
+pub mod Lines
+pub mod Judging
+pub mod Kinds
+pub mod Cases

@@ -8,8 +8,8 @@ use Rattle.audit_owed.proofs.OwedOf.{owed-filled}
 use Rattle.audit_owed.specs.Owing.{calls_decl, numbers, owed_of}
 use Rattle.audit_owed.specs.Sharing.{given}
 use Rattle.audit_owed.specs.declared.owed.Owed.{Owed}
-use Rattle.audit_steps.proofs.ReadersInRow.{case-on, case-stops}
-use Rattle.audit_steps.specs.Cases.{InCases}
+use Rattle.audit_model.proofs.ReadersInRow.{case-on, case-stops}
+use Rattle.audit_model.specs.Cases.{InCases}
 use Rattle.case_audit.specs.Sections.{AreModest, AreSections, HasScript, IsCaseAt, IsModestOwed, IsSection}
 use Rattle.case_audit.specs.declared.sections.Section.{Section}
 use Rattle.file_model.specs.declared.files.CaseDecl.{CaseDecl}

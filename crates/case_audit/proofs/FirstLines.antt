@@ -5,7 +5,7 @@ use Rattle.std.specs.Prelude.{Option}
 use Rattle.audit_facts.specs.Facts.{IsAuditable}
 use Rattle.audit_model.specs.ReportReader.{report_reader}
 use Rattle.audit_model.specs.Reports.{IsReport}
-use Rattle.audit_reader.proofs.FirstWrongLine.{first-wrong-line}
+use Rattle.audit_model.proofs.FirstWrongLine.{first-wrong-line}
 use Rattle.case_audit.specs.Verdicts.{IsJudged}
 use Rattle.file_facts.specs.Facts.{IsWorkable}
 use Rattle.file_model.specs.declared.files.File.{File}

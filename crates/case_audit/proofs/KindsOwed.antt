@@ -11,9 +11,9 @@ use Rattle.audit_owed.proofs.OwedOf.{owed-filled, owed-many}
 use Rattle.audit_owed.specs.Owing.{calls_number, numbers, owed_of}
 use Rattle.audit_owed.specs.Sharing.{given}
 use Rattle.audit_owed.specs.declared.owed.Owed.{Owed}
-use Rattle.audit_steps.proofs.Modest.{called-rows, file-modest, kind-owed}
-use Rattle.audit_steps.specs.Kinds.{owed_lines}
-use Rattle.audit_steps.specs.Lines.{IsModest, line_of}
+use Rattle.audit_model.proofs.Modest.{called-rows, file-modest, kind-owed}
+use Rattle.audit_model.specs.Kinds.{owed_lines}
+use Rattle.audit_model.specs.Lines.{IsModest, line_of}
 use Rattle.file_facts.specs.Facts.{IsWorkable}
 use Rattle.file_model.specs.Sizes.{is_small}
 use Rattle.file_model.specs.declared.files.File.{File}

@@ -6,8 +6,8 @@ use Rattle.audit_owed.proofs.OwedOf.{each-owed}
 use Rattle.audit_owed.specs.Owing.{calls_decl, numbers, owed_of}
 use Rattle.audit_owed.specs.Sharing.{given}
 use Rattle.audit_owed.specs.declared.owed.Owed.{Owed}
-use Rattle.audit_steps.proofs.Modest.{called-rows, few-filled}
-use Rattle.audit_steps.specs.Lines.{IsModest}
+use Rattle.audit_model.proofs.Modest.{called-rows, few-filled}
+use Rattle.audit_model.specs.Lines.{IsModest}
 use Rattle.case_audit.specs.Sections.{AreModest}
 use Rattle.file_model.specs.declared.files.CaseDecl.{CaseDecl}
 use Rattle.line_readers.specs.Owed.{how_many}

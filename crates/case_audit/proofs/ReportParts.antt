@@ -4,8 +4,8 @@ use Rattle.std.specs.Prelude.{Option, option_map}
 use Rattle.audit_model.proofs.WholeLines.{header-ends, summary-ends}
 use Rattle.audit_model.specs.Asked.{asked_phases}
 use Rattle.audit_model.specs.ReportReader.{cases_behind, cases_reader, given, kinds_reader, report_reader, telling}
-use Rattle.audit_steps.proofs.Fronts.{given-follows, given-stops, given-then, given-wrong}
-use Rattle.audit_steps.specs.Judging.{FollowedBy}
+use Rattle.audit_model.proofs.Fronts.{given-follows, given-stops, given-then, given-wrong}
+use Rattle.audit_model.specs.Judging.{FollowedBy}
 use Rattle.case_audit.specs.Verdicts.{IsJudged}
 use Rattle.file_model.specs.declared.files.File.{File}
 use Rattle.line_followers.proofs.Reaching.{follows-mapped, follows-stopped, follows-then}

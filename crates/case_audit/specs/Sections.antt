@@ -6,7 +6,7 @@ use Rattle.audit_model.specs.ReportReader.{case_reader}
 use Rattle.audit_owed.specs.Owing.{calls_decl, numbers, owed_of}
 use Rattle.audit_owed.specs.Sharing.{given}
 use Rattle.audit_owed.specs.declared.owed.Owed.{Owed}
-use Rattle.audit_steps.specs.Lines.{IsModest}
+use Rattle.audit_model.specs.Lines.{IsModest}
 use Rattle.case_audit.specs.declared.sections.Section.{Section}
 use Rattle.file_facts.specs.Facts.{IsWorkable}
 use Rattle.file_model.specs.declared.files.CaseDecl.{CaseDecl}

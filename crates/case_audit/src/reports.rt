@@ -2,7 +2,7 @@
 ghost use Rattle.std.specs.Prelude.{◌≡◌, ◌≤◌, ◌==◌, ◌++◌, length, IfOk, Ok, Some, true};
 ghost use Rattle.adept_io.specs.Written.{Gives};
 ghost use Rattle.audit_facts.specs.Facts.{IsAuditable};
-ghost use Rattle.audit_steps.specs.Judging.{FollowedBy};
+ghost use Rattle.audit_model.specs.Judging.{FollowedBy};
 ghost use Rattle.case_audit.specs.Verdicts.{IsJudged, IsRead, IsVerdict};
 ghost use Rattle.file_facts.specs.Facts.{IsWorkable};
 ghost use Rattle.line_followers.specs.Follows.{left_of};

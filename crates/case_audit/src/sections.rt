@@ -6,7 +6,7 @@ ghost use Rattle.audit_model.specs.ReportReader.{cases_reader};
 ghost use Rattle.audit_owed.specs.Asking.{script_of};
 ghost use Rattle.audit_owed.specs.Owing.{calls_decl, numbers};
 ghost use Rattle.audit_owed.specs.Sharing.{given};
-ghost use Rattle.audit_steps.specs.Lines.{IsModest};
+ghost use Rattle.audit_model.specs.Lines.{IsModest};
 ghost use Rattle.case_audit.specs.Sections.{AreModest, AreSections, CanJudge, HasScript, IsCaseAt, IsSection};
 ghost use Rattle.file_facts.specs.Facts.{IsWorkable};
 ghost use Rattle.line_followers.specs.Follows.{Follows};

@@ -3,17 +3,17 @@ use Rattle.std.proofs.Common.{◌≡◌, ℕ, zero, suc, ◌+◌, ◌<◌, ◌�
 use Rattle.std.specs.Prelude.{option_map}
 use Rattle.std.proofs.lemmas.Bool.{cases_Bool, eq-eqb, eqb-true, ne_eqb}
 use Rattle.std.proofs.lemmas.List.{drop_more}
-use Rattle.case_core.specs.KeptItems.{entries_with, item_by, item_for, item_then, user_then, with_item, work_item}
+use Rattle.case_core.specs.KeptItems.{MakesItems, RenewsItems, entries_with, item_by, item_for, item_then, user_then, with_item, work_item}
 use Rattle.case_core.specs.Machine.{user_of}
 use Rattle.case_core.specs.Remarks.{user_at}
-use Rattle.wsm_items.specs.WorkItems.{AreByNode, IsOfNode, item_node}
+use Rattle.wsm_items.specs.WorkItems.{IsOfNode, item_node}
 use Rattle.wsm_items.specs.declared.work_items.Item.{Item}
-use Rattle.wsm_lists.specs.ByNumber.{item_at}
+use Rattle.wsm_lists.specs.ByNumber.{change_row, item_after, item_at}
 use Rattle.wsm_lists.specs.Keys.{first}
-use Rattle.wsm_lists.specs.Rows.{Ascends, put_row}
-use Rattle.wsm_lists.proofs.ByNumber.{item_at-above, item_at-put}
-use Rattle.wsm_lists.proofs.Rows.{all_put}
-use Rattle.wsm_schema.specs.Flat.{card_at}
+use Rattle.wsm_lists.specs.Rows.{Ascends}
+use Rattle.wsm_lists.proofs.ByNumber.{item_at-above, item_at-changed, item_at-put}
+use Rattle.wsm_schema.specs.Flat.{card_at, cards_of}
+use Rattle.wsm_schema.specs.SchemaModel.{SchemaModel}
 use Rattle.wsm_schema.specs.Kinds.{worked_on}
 use Rattle.wsm_schema.specs.Trail.{TrailModel}
 use Rattle.wsm_schema.specs.declared.cards.Card.{Card}
@@ -27,37 +27,37 @@ use Rattle.wsm_trail.proofs.Rising.{rises-le}
 use Rattle.wsm_walk.specs.Kept.{mark_or, no_mark}
 use Rattle.wsm_walk.specs.MarkStates.{mark_spot}
 
--- ---- what is held of a number while rows are gone over: nothing as long as its row is ahead
-abbrev pub Held : {M I : Type 0} → (Option M → Option I) → Option M → Option I → Option M → Type 0
-Held f (Some m) held all = (held ≡ None) × (all ≡ Some m)
-Held f None held all = held ≡ f all
+-- ---- what is held of a number while rows are gone over: what was held before as long as its row is ahead
+abbrev pub Held : {M I : Type 0} → Option I → (Option M → Option I) → Option M → Option I → Option M → Type 0
+Held start f (Some m) held all = (held ≡ start) × (all ≡ Some m)
+Held start f None held all = held ≡ f all
 
 ascends-behind : {M : Type 0} (i : ℕ) (xs : List (ℕ × M)) → Ascends first xs → Ascends first (drop i xs)
 ascends-behind zero xs up = up
 ascends-behind (suc i) [] up = tt
 ascends-behind (suc i) (x ∷ xs) up = ascends-behind i xs up.1
 
-module _ {M I : Type 0} (f : Option M → Option I) where
-  pub held-first : f None ≡ None → (all : Option M) → Held f all None all
+module _ {M I : Type 0} (start : Option I) (f : Option M → Option I) where
+  pub held-first : f None ≡ start → (all : Option M) → Held start f all start all
   held-first none None = sym none
   held-first none (Some m) = (refl, refl)
 
   pub held-next : (xs : List (ℕ × M)) → Ascends first xs → (i : ℕ) (d : ℕ × M) → i < length xs → (n : ℕ) (held held' : Option I) (all : Option M) →
-      (eqb (get_or xs i d).0 n ≡ true → held ≡ None → held' ≡ f (Some (get_or xs i d).1)) → (eqb (get_or xs i d).0 n ≡ false → held' ≡ held) → Held f (item_at n (drop i xs)) held all → Held f (item_at n (drop (i + 1) xs)) held' all
+      (eqb (get_or xs i d).0 n ≡ true → held ≡ start → held' ≡ f (Some (get_or xs i d).1)) → (eqb (get_or xs i d).0 n ≡ false → held' ≡ held) → Held start f (item_at n (drop i xs)) held all → Held start f (item_at n (drop (i + 1) xs)) held' all
   held-next xs up i d lt n held held' all same other h =
       let c : ℕ × M = get_or xs i d in
       let rest : List (ℕ × M) = drop (i + 1) xs in
       let split : drop i xs ≡ c ∷ rest = drop_more xs i d lt in
       let ascends : Ascends first (c ∷ rest) = subst (Ascends first) split (ascends-behind i xs up) in
-      let before : Held f (item_at n (c ∷ rest)) held all = subst (λ l. Held f (item_at n l) held all) split h in
+      let before : Held start f (item_at n (c ∷ rest)) held all = subst (λ l. Held start f (item_at n l) held all) split h in
       elim (cases_Bool (eqb c.0 n)) [
         | inl here ↦
             let none : item_at n rest ≡ None = item_at-above n c rest ascends.0 here in
-            let now : Held f (Some c.1) held all = rw here at before in
-            subst (λ o. Held f o held' all) (sym none) (same here now.0 ∙ ap f (sym now.1))
+            let now : Held start f (Some c.1) held all = rw here at before in
+            subst (λ o. Held start f o held' all) (sym none) (same here now.0 ∙ ap f (sym now.1))
         | inr away ↦
-            let now : Held f (item_at n rest) held all = rw away at before in
-            subst (λ x. Held f (item_at n rest) x all) (sym (other away)) now
+            let now : Held start f (item_at n rest) held all = rw away at before in
+            subst (λ x. Held start f (item_at n rest) x all) (sym (other away)) now
       ]
 
 -- ---- each item is of its node
@@ -108,31 +108,54 @@ with-other k n (Some i) rows of away =
 
 -- ---- the next row
 pub item-next : (cards : List Card) (es : List (ℕ × Entry)) (marks : List (ℕ × Mark)) → Ascends first marks → (i : ℕ) (d : ℕ × Mark) → i < length marks → (now new : List (ℕ × Item)) →
-    new ≡ with_item (item_for cards es (get_or marks i d).0 (Some (get_or marks i d).1)) now → (n : ℕ) → Held (item_for cards es n) (item_at n (drop i marks)) (item_at n now) (item_at n marks) → Held (item_for cards es n) (item_at n (drop (i + 1) marks)) (item_at n new) (item_at n marks)
+    new ≡ with_item (item_for cards es (get_or marks i d).0 (Some (get_or marks i d).1)) now → (n : ℕ) → Held None (item_for cards es n) (item_at n (drop i marks)) (item_at n now) (item_at n marks) → Held None (item_for cards es n) (item_at n (drop (i + 1) marks)) (item_at n new) (item_at n marks)
 item-next cards es marks up i d lt now new put n h =
     let c : ℕ × Mark = get_or marks i d in
     let o : Option Item = item_for cards es c.0 (Some c.1) in
-    held-next (item_for cards es n) marks up i d lt n (item_at n now) (item_at n new) (item_at n marks)
+    held-next None (item_for cards es n) marks up i d lt n (item_at n now) (item_at n new) (item_at n marks)
     (λ here none. ap (item_at n) put ∙ with-own n o now (subst (λ k. IsOfNode k o) (eqb-true c.0 n here) (of-node cards es c.0 (Some c.1))) none ∙ ap (λ k. item_for cards es k (Some c.1)) (eqb-true c.0 n here))
     (λ away. ap (item_at n) put ∙ with-other c.0 n o now (of-node cards es c.0 (Some c.1)) away) h
 
-module _ (f : ℕ → Option Mark → Option Item) (of : (n : ℕ) (m : Option Mark) → IsOfNode n (f n m)) (changes : List (ℕ × Option Mark)) where
-  pub change-next : Ascends first changes → (i : ℕ) (d : ℕ × Option Mark) → i < length changes → (now new : List (ℕ × Option Item)) (o : Option Item) →
-      o ≡ f (get_or changes i d).0 (get_or changes i d).1 → new ≡ put_row first ((get_or changes i d).0, o) now → (n : ℕ) → Held (option_map (f n)) (item_at n (drop i changes)) (item_at n now) (item_at n changes) →
-      Held (option_map (f n)) (item_at n (drop (i + 1) changes)) (item_at n new) (item_at n changes)
-  change-next up i d lt now new o is put n h =
-      let c : ℕ × Option Mark = get_or changes i d in
-      let at : item_at n new ≡ cond (eqb c.0 n) (Some o) (item_at n now) = ap (item_at n) put ∙ item_at-put n (c.0, o) now in
-      held-next (option_map (f n)) changes up i d lt n (item_at n now) (item_at n new) (item_at n changes)
-      (λ here none. at ∙ ap (λ b. cond b (Some o) (item_at n now)) here ∙ ap Some is ∙ ap (λ k. Some (f k c.1)) (eqb-true c.0 n here))
-      (λ away. at ∙ ap (λ b. cond b (Some o) (item_at n now)) away) h
+-- ---- the next change
+module _ (cards : List Card) (next : ℕ) (e : Option Entry) (old : List (ℕ × Item)) where
+  -- of a number, by what the changes say of it
+  abbrev pub renewed : ℕ → Option (Option Mark) → Option Item
+  renewed n all = item_after (option_map (item_then cards next e (item_at n old) n) all) (item_at n old)
 
-  -- each item that is put is of its node
-  pub nodes-next : (i : ℕ) (d : ℕ × Option Mark) (now new : List (ℕ × Option Item)) (o : Option Item) →
-      o ≡ f (get_or changes i d).0 (get_or changes i d).1 → new ≡ put_row first ((get_or changes i d).0, o) now → AreByNode now → AreByNode new
-  nodes-next i d now new o is put nodes =
+  pub renew-next : (changes : List (ℕ × Option Mark)) → Ascends first changes → (i : ℕ) (d : ℕ × Option Mark) → i < length changes → (now new : List (ℕ × Item)) → Ascends first now → (o : Option Item) →
+      o ≡ item_then cards next e (item_at (get_or changes i d).0 now) (get_or changes i d).0 (get_or changes i d).1 → new ≡ change_row (get_or changes i d).0 o now → (n : ℕ) →
+      Held (item_at n old) (renewed n) (item_at n (drop i changes)) (item_at n now) (item_at n changes) → Held (item_at n old) (renewed n) (item_at n (drop (i + 1) changes)) (item_at n new) (item_at n changes)
+  renew-next changes up i d lt now new sorted o is put n h =
       let c : ℕ × Option Mark = get_or changes i d in
-      subst AreByNode (sym put) (all_put first (λ (r : ℕ × Option Item). IsOfNode r.0 r.1) (c.0, o) now (subst (IsOfNode c.0) (sym is) (of c.0 c.1)) nodes)
+      let one : List (ℕ × Option Item) = (c.0, o) ∷ [] in
+      let at : item_at n new ≡ item_after (item_at n one) (item_at n now) = ap (item_at n) put ∙ item_at-changed n one now (tt, tt) sorted in
+      held-next (item_at n old) (renewed n) changes up i d lt n (item_at n now) (item_at n new) (item_at n changes)
+      (λ here held.
+      let now_own : item_at n new ≡ o = at ∙ (rw here refl) in
+      now_own ∙ is ∙ ap (λ k. item_then cards next e (item_at k now) k c.1) (eqb-true c.0 n here) ∙ ap (λ h. item_then cards next e h n c.1) held)
+      (λ away. at ∙ (rw away refl)) h
+
+  -- what becomes of the items, told as changes
+  abbrev pub renewed_changes : List (ℕ × Option Mark) → List (ℕ × Option Item)
+  renewed_changes [] = []
+  renewed_changes (c ∷ cs) = (c.0, item_then cards next e (item_at c.0 old) c.0 c.1) ∷ renewed_changes cs
+
+  pub made-so : (changes : List (ℕ × Option Mark)) → MakesItems cards next e old changes (renewed_changes changes)
+  made-so [] n = refl
+  made-so (c ∷ cs) n =
+      elim (cases_Bool (eqb c.0 n)) [
+        | inl here ↦ let same : c.0 ≡ n = eqb-true c.0 n here in rw here (ap (λ k. Some (item_then cards next e (item_at k old) k c.1)) same)
+        | inr away ↦ rw away (made-so cs n)
+      ]
+
+  pub renewed-so : (changes : List (ℕ × Option Mark)) (new : List (ℕ × Item)) → RenewsItems cards next e old changes new → (n : ℕ) → item_at n new ≡ item_after (item_at n (renewed_changes changes)) (item_at n old)
+  renewed-so changes new renews n = renews n ∙ ap (λ i. item_after i (item_at n old)) (sym (made-so changes n))
+
+-- the same of a schema and of items that are told otherwise
+pub renews-of : (s t : SchemaModel) → t ≡ s → (next : ℕ) (e : Option Entry) (held old : List (ℕ × Item)) → held ≡ old → (changes : List (ℕ × Option Mark)) (new : List (ℕ × Item)) →
+    RenewsItems (cards_of t) next e held changes new → RenewsItems (cards_of s) next e old changes new
+renews-of s t same next e held old are changes new renews =
+    subst (λ (x : SchemaModel). RenewsItems (cards_of x) next e old changes new) same (subst (λ (is : List (ℕ × Item)). RenewsItems (cards_of t) next e is changes new) are renews)
 
 -- ---- who stands at a position of a trail with one entry more
 last-here : (low next : ℕ) (e : Entry) (es : List (ℕ × Entry)) → Rises low next es → entry_at next (es ++ (next, e) ∷ []) ≡ Some e

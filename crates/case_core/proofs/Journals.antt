@@ -102,13 +102,13 @@ step-keeps s e kept checked few = go s.live kept e checked few
         unless-refused (λ (c : CaseModel). KeptIn c.live) (when_reply (not (version.type_no == s.type_no)) reply.OtherType) (not_created s.type_no)
         (with_live (not_created s.type_no) (created_on version, reply.Created)) tt (λ own. kept-created version checked)
     go None kept (event.Start node user roles) checked few = tt
-    go None kept (event.End node user writes choice) checked few = tt
+    go None kept (event.End node user choice writes) checked few = tt
     go None kept (event.Withdraw node user) checked few = tt
     go None kept (event.Change ops) checked few = tt
     go None kept (event.Migrate version) checked few = tt
     go (Some l) kept (event.Create version) checked few = kept
     go (Some l) kept (event.Start node user roles) checked few = start-keeps l kept node user roles (card_at node (flat_of l.schema).cards) refl
-    go (Some l) kept (event.End node user writes choice) checked few = end-keeps l kept node user writes choice (card_at node (flat_of l.schema).cards) refl
+    go (Some l) kept (event.End node user choice writes) checked few = end-keeps l kept node user writes choice (card_at node (flat_of l.schema).cards) refl
     go (Some l) kept (event.Withdraw node user) checked few = withdraw-keeps l kept node user (card_at node (flat_of l.schema).cards) refl
     go (Some l) kept (event.Change ops) checked few = change-keeps l kept ops few
     go (Some l) kept (event.Migrate version) checked few =

@@ -211,7 +211,7 @@ names-entry s e = go s.live e
     go None e = tt
     go (Some l) (event.Create version) = tt
     go (Some l) (event.Start node user roles) = start-named l node user roles (card_at node (flat_of l.schema).cards)
-    go (Some l) (event.End node user writes choice) = end-named l node user writes choice (card_at node (flat_of l.schema).cards)
+    go (Some l) (event.End node user choice writes) = end-named l node user writes choice (card_at node (flat_of l.schema).cards)
     go (Some l) (event.Withdraw node user) = withdraw-named l node user (card_at node (flat_of l.schema).cards)
     go (Some l) (event.Change ops) = change-named l ops
     go (Some l) (event.Migrate version) = or-named l (when_reply (not (version.type_no == s.type_no)) reply.OtherType) _ _ (when-named l _ _ tt) (migrate-named l version)

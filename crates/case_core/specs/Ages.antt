@@ -15,7 +15,7 @@ age s = live_age s.live
 abbrev pub weight : Event → ℕ
 weight (event.Create version) = 0
 weight (event.Start node user roles) = 1
-weight (event.End node user writes choice) = 1
+weight (event.End node user choice writes) = 1
 weight (event.Withdraw node user) = 0
 weight (event.Change ops) = 3 * length ops
 weight (event.Migrate version) = 0

@@ -7,7 +7,7 @@ use Rattle.case_core.specs.Remarks.{user_at}
 use Rattle.wsm_items.specs.WorkItems.{item_node}
 use Rattle.wsm_items.specs.declared.work_items.Item.{Item}
 use Rattle.wsm_items.specs.declared.work_items.Item.TheVariants as item
-use Rattle.wsm_lists.specs.ByNumber.{item_at}
+use Rattle.wsm_lists.specs.ByNumber.{item_after, item_at}
 use Rattle.wsm_lists.specs.Keys.{first}
 use Rattle.wsm_lists.specs.Rows.{put_row}
 use Rattle.wsm_schema.specs.Flat.{card_at, cards_of}
@@ -67,6 +67,10 @@ item_then cards next e held n m = item_by (card_at n cards) n (mark_or m) (user_
 -- the same as `ChangesItems`, told by the work items from before
 abbrev pub MakesItems : List Card → ℕ → Option Entry → List (ℕ × Item) → List (ℕ × Option Mark) → List (ℕ × Option Item) → Type 0
 MakesItems cards next e old changes items = (n : ℕ) → item_at n items ≡ option_map (item_then cards next e (item_at n old) n) (item_at n changes)
+
+-- the work items once those of the nodes whose marks change became what they are then
+abbrev pub RenewsItems : List Card → ℕ → Option Entry → List (ℕ × Item) → List (ℕ × Option Mark) → List (ℕ × Item) → Type 0
+RenewsItems cards next e old changes new = (n : ℕ) → item_at n new ≡ item_after (option_map (item_then cards next e (item_at n old) n) (item_at n changes)) (item_at n old)
 
 -- the entries of a trail that gets one more, or none
 abbrev pub entries_with : TrailModel → Option Entry → List (ℕ × Entry)

@@ -211,13 +211,13 @@ migrate_on s l version =
 abbrev pub event_on : CaseModel → Option LiveModel → Event → CaseModel × Reply
 event_on s None (event.Create version) = create_on s version
 event_on s None (event.Start node user roles) = (s, reply.NoCase)
-event_on s None (event.End node user writes choice) = (s, reply.NoCase)
+event_on s None (event.End node user choice writes) = (s, reply.NoCase)
 event_on s None (event.Withdraw node user) = (s, reply.NoCase)
 event_on s None (event.Change ops) = (s, reply.NoCase)
 event_on s None (event.Migrate version) = (s, reply.NoCase)
 event_on s (Some l) (event.Create version) = (s, reply.Already)
 event_on s (Some l) (event.Start node user roles) = with_live s (start_live l node user roles)
-event_on s (Some l) (event.End node user writes choice) = with_live s (end_live l node user writes choice)
+event_on s (Some l) (event.End node user choice writes) = with_live s (end_live l node user writes choice)
 event_on s (Some l) (event.Withdraw node user) = with_live s (withdraw_live l node user)
 event_on s (Some l) (event.Change ops) = with_live s (change_live l ops)
 event_on s (Some l) (event.Migrate version) = migrate_on s l version

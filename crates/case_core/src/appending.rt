@@ -1,33 +1,35 @@
 // What entries that come, and entries that go, change of a created case.
-ghost use Rattle.std.specs.Prelude.{◌≡◌, ◌+◌, ◌<◌, ◌^◌, Some, length, OnOk, OnErr, IfOk};
-ghost use Rattle.std.specs.Option.{option_copied};
+ghost use Rattle.std.specs.Prelude.{◌≡◌, ◌+◌, ◌<◌, ◌≤◌, ◌^◌, Some, length, OnOk, OnErr, IfOk};
 ghost use Rattle.case_core.specs.Instances.{IsLive, live_in};
 ghost use Rattle.case_core.specs.Kept.{Kept};
-ghost use Rattle.case_core.specs.KeptItems.{MakesItems};
 ghost use Rattle.case_core.specs.Machine.{repeated_trail, with_trail};
 ghost use Rattle.case_core.specs.Remarks.{Remarks, RunsLoop};
-ghost use Rattle.wsm_items.specs.WorkItems.{AreByNode};
-ghost use Rattle.wsm_lists.specs.Keys.{first};
-ghost use Rattle.wsm_lists.specs.Rows.{Ascends};
-ghost use Rattle.wsm_schema.specs.Flat.{cards_of};
 ghost use Rattle.wsm_schema.specs.Trail.{cut_by, pushed};
 ghost use Rattle.wsm_schema.specs.declared.entries.Entry.TheVariants.{Again};
 ghost use Rattle.wsm_trail.specs.Cuts.{StaysBelow};
 ghost use Rattle.wsm_trail.specs.Withdrawn.{starts_of, withdrawn};
 
-use crate::item_changes::changed_items;
+use crate::item_changes::renew_items;
 use crate::live::Live;
 use std::alloc::Global;
-use wsm_items::ItemChanges;
-use wsm_rules::Changes;
+use wsm_rules::{Changes, Marks};
 use wsm_schema::{Entry, NoMemory, Nodes, Writes};
 use wsm_trail::TrailKeep;
+
+// How many marks a case has room for once it is worked on.
+const FIRST_MARKS: usize = 8;
+
+// For how many more marks room is asked, where so many may come.
+fn room_for(marks: &Marks, more: usize) -> usize
+    ensures { more ≤ result }
+{
+    more.max(FIRST_MARKS.saturating_sub(marks.as_slice().len()))
+}
 
 impl Live {
     /// One more entry, with what it changes of the marks.
     pub(crate) fn append<T: TrailKeep>(
         &mut self,
-        alloc: Global,
         trail: &mut T,
         entry: Entry,
         changes: Changes,
@@ -41,35 +43,24 @@ impl Live {
         ensures err { OnErr result (live_in (T.kept trail.new) self.new ≡ live_in (T.kept trail.old) self.old) }
         ensures count { T.reads trail.new ≡ T.reads trail.old }
     {
-        let items = self.changed_items(alloc, trail.next(), Some(&entry), &changes)?;
         trail.reserve(1)?;
-        self.marks.reserve(changes.len())?;
-        self.items.reserve(items.len())?;
+        self.marks.reserve(room_for(&self.marks, changes.len()))?;
+        self.items.reserve(changes.len())?;
+        renew_items(
+            &self.now,
+            &mut self.items,
+            trail.next(),
+            Some(&entry),
+            &changes,
+        );
         trail.push(entry);
         self.marks.take_in(changes);
-        self.items.take_in(items);
         Ok(())
-    }
-
-    // What becomes of the work items where the marks change so and the trail gets that entry at the next position, or none.
-    fn changed_items(
-        &self,
-        alloc: Global,
-        next: u32,
-        entry: Option<&Entry>,
-        changes: &Changes,
-    ) -> Result<ItemChanges, NoMemory>
-        ensures items { IfOk result (MakesItems (cards_of self.entry.now.now.value) next (option_copied entry.entry) self.entry.now.items.rows changes.now) }
-        ensures nodes { IfOk result AreByNode }
-        ensures ascends { Ascends first changes.now }
-    {
-        changed_items(alloc, &self.now, &self.items, next, entry, changes)
     }
 
     /// The case without the start of a node, with what that changes of the marks.
     pub(crate) fn drop_start<T: TrailKeep>(
         &mut self,
-        alloc: Global,
         trail: &mut T,
         node: u32,
         changes: Changes,
@@ -83,12 +74,11 @@ impl Live {
         ensures err { OnErr result (live_in (T.kept trail.new) self.new ≡ live_in (T.kept trail.old) self.old) }
         ensures count { T.reads trail.new ≡ T.reads trail.old }
     {
-        let items = self.changed_items(alloc, trail.next(), None, &changes)?;
         self.marks.reserve(changes.len())?;
-        self.items.reserve(items.len())?;
+        self.items.reserve(changes.len())?;
+        renew_items(&self.now, &mut self.items, trail.next(), None, &changes);
         trail.drop_start(node);
         self.marks.take_in(changes);
-        self.items.take_in(items);
         Ok(())
     }
 
@@ -113,14 +103,13 @@ impl Live {
         let body = case.checked().flat().loop_body(alloc, node)?;
         let first = case.first_seen(body.as_slice());
         let changes = case.again_changes(alloc, node)?;
-        self.cut_and_append(alloc, trail, &body, first, node, writes, changes)
+        self.cut_and_append(trail, &body, first, node, writes, changes)
     }
 
     // The repeat of a loop with these nodes, behind the trail that is cut by it, with what both change of the marks. No entry
     // below `first` is of the loop.
     fn cut_and_append<T: TrailKeep>(
         &mut self,
-        alloc: Global,
         trail: &mut T,
         body: &Nodes,
         first: u32,
@@ -139,14 +128,19 @@ impl Live {
         ensures count { T.reads trail.new ≡ T.reads trail.old }
     {
         let entry = Entry::Again { node, writes };
-        let items = self.changed_items(alloc, trail.next(), Some(&entry), &changes)?;
         trail.reserve(1)?;
         self.marks.reserve(changes.len())?;
-        self.items.reserve(items.len())?;
+        self.items.reserve(changes.len())?;
+        renew_items(
+            &self.now,
+            &mut self.items,
+            trail.next(),
+            Some(&entry),
+            &changes,
+        );
         trail.cut_from(first, body);
         trail.push(entry);
         self.marks.take_in(changes);
-        self.items.take_in(items);
         Ok(())
     }
 }

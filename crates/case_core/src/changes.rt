@@ -1,6 +1,5 @@
 // Changes of a case's schema.
 ghost use Rattle.std.specs.Prelude.{◌≡◌, ◌+◌, ◌<◌, ◌≤◌, ◌^◌, [], ◌++◌, Ok, length, IfOk, IfErr, OnOk, OnErr};
-ghost use Rattle.case_core.specs.CaseModel.{on_schema};
 ghost use Rattle.case_core.specs.Instances.{IsLive, live_in, reads_onto, reads_where};
 ghost use Rattle.case_core.specs.Machine.{blocked_in, change_live, migrate_live, migrate_refusal, overlap_with, taken_on};
 ghost use Rattle.wsm_ops.specs.Apply.{applied};
@@ -8,6 +7,7 @@ ghost use Rattle.wsm_sound.specs.Faults.{changed_by};
 ghost use Rattle.wsm_sound.specs.Refusals.{IsRefusal};
 ghost use Rattle.wsm_sound.specs.Versions.{ops_after};
 
+use crate::failing::FailingEntry;
 use crate::live::Live;
 use crate::live_of::LiveOf;
 use crate::replies::{Reply, both};
@@ -121,7 +121,7 @@ fn blocked<T: TrailKeep>(alloc: Global, trail: &mut T, position: u32) -> Result<
         Some(entry) => entry.copy(alloc)?,
         None => nothing_written(alloc),
     };
-    Ok(Reply::Blocked(position, entry))
+    Ok(Reply::Blocked(position, FailingEntry::of(alloc, entry)?))
 }
 
 impl<'a, T: TrailKeep> LiveOf<'a, T> {

@@ -22,8 +22,8 @@ pub enum Event {
     End {
         node: u32,
         user: u32,
-        writes: Writes,
         choice: Option<u16>,
+        writes: Writes,
     },
     /// A user gives back a node that it started, which may then be started anew.
     Withdraw {

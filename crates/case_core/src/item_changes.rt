@@ -1,9 +1,9 @@
 // The work items of nodes, by their marks and by who held them before.
-ghost use Rattle.std.specs.Prelude.{◌≡◌, [], IfOk, OnOk};
+ghost use Rattle.std.specs.Prelude.{◌≡◌, ◌+◌, ◌<◌, ◌≤◌, [], length, IfOk, OnOk};
 ghost use Rattle.std.specs.Option.{option_copied};
-ghost use Rattle.case_core.specs.KeptItems.{MakesItems, TellsItems, item_by, item_for, item_then, user_from, user_in, user_then, with_item, work_item};
-ghost use Rattle.wsm_items.specs.WorkItems.{AreByNode};
-ghost use Rattle.wsm_lists.specs.ByNumber.{item_at};
+ghost use Rattle.case_core.specs.KeptItems.{RenewsItems, TellsItems, item_by, item_for, item_then, user_from, user_in, user_then, with_item, work_item};
+ghost use Rattle.wsm_items.specs.WorkItems.{IsOfNode};
+ghost use Rattle.wsm_lists.specs.ByNumber.{change_row, item_at};
 ghost use Rattle.wsm_lists.specs.Keys.{first};
 ghost use Rattle.wsm_lists.specs.Rows.{Ascends};
 ghost use Rattle.wsm_schema.specs.Flat.{cards_of};
@@ -12,7 +12,7 @@ ghost use Rattle.wsm_walk.specs.Kept.{mark_or};
 use crate::spots::spot_by;
 use crate::timing::user_of;
 use std::alloc::Global;
-use wsm_items::{Item, ItemChanges, Items};
+use wsm_items::{Item, Items};
 use wsm_rules::{Changes, Mark, Marks, is_worked_on};
 use wsm_schema::{Card, Entry, NoMemory, State};
 use wsm_sound::Checked;
@@ -48,26 +48,37 @@ fn put_item(items: &mut Items, item: Option<Item>) -> Result<(), NoMemory>
     Ok(())
 }
 
-/// What becomes of the work items of the nodes whose marks change, where the trail gets that entry at the next position, or
-/// none.
-pub fn changed_items(
-    alloc: Global,
+/// The work items of the nodes whose marks change become what they are then, where the trail gets that entry at the next
+/// position, or none. Takes no memory.
+pub fn renew_items(
     checked: &Checked,
-    old: &Items,
+    items: &mut Items,
     next: u32,
     entry: Option<&Entry>,
     changes: &Changes,
-) -> Result<ItemChanges, NoMemory>
-    ensures items { IfOk result (MakesItems (cards_of checked.now) next (option_copied entry.entry) old.now.rows changes.now) }
-    ensures nodes { IfOk result AreByNode }
+)
+    requires room { length changes.now ≤ items.old.spare }
+    ensures items { RenewsItems (cards_of checked.now) next (option_copied entry.entry) items.old.rows changes.now items.new.rows }
     ensures ascends { Ascends first changes.now }
 {
-    let mut items = ItemChanges::new(alloc);
+    let _ = items.as_slice();
     for change in changes.as_slice() {
-        let item = changed_item(checked, old, next, entry, change);
-        items.set((change.0, item))?;
+        let item = changed_item(checked, items, next, entry, change);
+        renew_item(items, change.0, item);
     }
-    Ok(items)
+}
+
+// The node has that item from now on, or none. Takes no memory.
+fn renew_item(items: &mut Items, node: u32, item: Option<Item>)
+    requires room { 0 < items.old.spare }
+    requires node { IsOfNode node item }
+    ensures rows { items.new.rows ≡ change_row node item items.old.rows }
+    ensures spare { items.old.spare ≤ items.new.spare + 1 }
+{
+    match item {
+        Some(item) => items.put(item),
+        None => items.take(node),
+    }
 }
 
 // The work item of a node whose mark changes, where the trail gets that entry at the next position, or none.

@@ -4,6 +4,7 @@
 mod appending;
 mod changes;
 mod events;
+mod failing;
 mod instances;
 mod item_changes;
 mod live;
@@ -18,6 +19,7 @@ mod views;
 mod work;
 
 pub use events::Event;
+pub use failing::FailingEntry;
 pub use instances::{Case, CaseState, Instance, LiveCase};
 pub use live_of::LiveOf;
 pub use replies::Reply;

@@ -1,9 +1,10 @@
 // What a case answers.
 ghost use Rattle.std.specs.Prelude.{◌≡◌, IfOk};
 
+use crate::failing::FailingEntry;
 use std::alloc::Global;
 use wsm_foot::Name;
-use wsm_schema::{Entry, NoMemory, Nodes, ReadValues, State};
+use wsm_schema::{NoMemory, Nodes, ReadValues, State};
 use wsm_sound::Fault;
 
 /// What a case answers to an event. After a refusal the case is as it was before.
@@ -46,7 +47,7 @@ pub enum Reply {
     /// Refused: an operation, or the schema that the operations make, has this fault.
     Unsound(Fault),
     /// Refused: the trail does not replay on the new schema; this is the first entry that fails, at this position.
-    Blocked(u32, Entry),
+    Blocked(u32, FailingEntry),
     /// Refused: the version is one of another type.
     OtherType,
     /// Refused: the case stands on the version with this number, which is not lower.

@@ -10,7 +10,7 @@ ghost use Rattle.wsm_schema.specs.Flat.{flat_of};
 ghost use Rattle.wsm_sound.specs.Flattened.{IsChecked};
 ghost use Rattle.wsm_touch.specs.TouchedNodes.{touched_nodes};
 
-use crate::item_changes::changed_items;
+use crate::item_changes::renew_items;
 use crate::live::Live;
 use crate::timing::Uncounted;
 use std::alloc::Global;
@@ -48,7 +48,7 @@ impl Live {
         match self.adapted_to(alloc, trail, &schema)? {
             Adapted::Blocked { position } => Ok(Some(position)),
             Adapted::Moved(changes) => {
-                self.move_to(alloc, trail, base, own, schema, changes)?;
+                self.move_to(trail, base, own, schema, changes)?;
                 Ok(None)
             }
         }
@@ -78,7 +78,6 @@ impl Live {
     // The case on another version or schema, with what that changes of the marks.
     fn move_to<T: TrailKeep>(
         &mut self,
-        alloc: Global,
         trail: &T,
         base: Version,
         own: Ops,
@@ -92,14 +91,13 @@ impl Live {
         ensures ok { OnOk result (live_in (T.kept trail.now) self.new ≡ on_schema (live_in (T.kept trail.now) self.old) base own schema.value) }
         ensures err { OnErr result (live_in (T.kept trail.now) self.new ≡ live_in (T.kept trail.now) self.old) }
     {
-        let items = changed_items(alloc, &schema, &self.items, trail.next(), None, &changes)?;
         self.marks.reserve(changes.len())?;
-        self.items.reserve(items.len())?;
+        self.items.reserve(changes.len())?;
+        renew_items(&schema, &mut self.items, trail.next(), None, &changes);
         self.base = base;
         self.own = own;
         self.now = schema;
         self.marks.take_in(changes);
-        self.items.take_in(items);
         Ok(())
     }
 }

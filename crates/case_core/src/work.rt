@@ -44,7 +44,7 @@ impl Live {
         let reads = case.reads(alloc, card)?;
         let replies = both(alloc, Reply::Started(reads.duplicate(alloc)?))?;
         let changes = case.start_changes(alloc, node)?;
-        self.append(alloc, trail, Entry::Start { node, user, reads }, changes)?;
+        self.append(trail, Entry::Start { node, user, reads }, changes)?;
         Ok(replies)
     }
 
@@ -83,7 +83,6 @@ impl Live {
         }
         let changes = case.end_changes(alloc, node, choice)?;
         self.append(
-            alloc,
             trail,
             Entry::End {
                 node,
@@ -120,7 +119,7 @@ impl Live {
             return both(alloc, refusal);
         }
         let changes = case.withdraw_changes(alloc, node)?;
-        self.drop_start(alloc, trail, node, changes)?;
+        self.drop_start(trail, node, changes)?;
         Ok((Reply::Withdrawn, Reply::Withdrawn))
     }
 }

@@ -150,6 +150,6 @@ fits-plain (stored.Migrate c number) fit = tt
 fits-plain (stored.Case c (event.Create version)) fit = fit.1
 fits-plain (stored.Case c (event.Migrate version)) fit = fit.1
 fits-plain (stored.Case c (event.Start node user roles)) fit = tt
-fits-plain (stored.Case c (event.End node user writes choice)) fit = tt
+fits-plain (stored.Case c (event.End node user choice writes)) fit = tt
 fits-plain (stored.Case c (event.Withdraw node user)) fit = tt
 fits-plain (stored.Case c (event.Change ops)) fit = tt

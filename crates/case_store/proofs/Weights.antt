@@ -85,7 +85,7 @@ event-bytes : (caller : ℕ) (c : CaseId) (e : Event) → weight e ≤ length (c
 event-bytes caller c (event.Create version) = omega arith
 event-bytes caller c (event.Migrate version) = omega arith
 event-bytes caller c (event.Start node user roles) = omega arith
-event-bytes caller c (event.End node user writes choice) = omega arith
+event-bytes caller c (event.End node user choice writes) = omega arith
 event-bytes caller c (event.Withdraw node user) = omega arith
 event-bytes caller c (event.Change ops) = omega (arith, listed-ops ops)
 

@@ -133,7 +133,7 @@ pub fn in_short(reply: &Reply) -> Answer {
         Reply::Changed => Answer::Changed,
         Reply::Migrated(number) => Answer::Migrated(*number),
         Reply::NotReady(state) => Answer::NotReady(*state),
-        Reply::Blocked(position, entry) => blocked(*position, entry),
+        Reply::Blocked(position, entry) => blocked(*position, entry.as_entry()),
         Reply::OtherType => Answer::OtherType,
         Reply::NotNewer(number) => Answer::NotNewer(*number),
         _ => Answer::Other,

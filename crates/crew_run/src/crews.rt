@@ -13,6 +13,7 @@ use crate::definitions::define_types;
 use crate::hiring::hire;
 use crate::meeting::meet_all;
 use crate::phases::work_phases;
+use crate::rooms::rooms_of;
 use crate::workers::Worker;
 use adept_server::{CallFlags, Desk, Server};
 use file_model::File;
@@ -34,7 +35,8 @@ pub fn crew_run<R: Threads + Wait + Sync, G: Gate + Sync>(
     ensures { IfOk result (λ run. Legal file.now run) }
 {
     let counts = case_counts(alloc, file)?;
-    let (server, mut first) = Server::new(alloc, &counts)?;
+    let rooms = rooms_of(alloc, file, &counts)?;
+    let (server, mut first) = Server::with_rooms(alloc, &counts, &rooms)?;
     let mut crew = hire(alloc, &server, &mut first, file.actors.len())?;
     let mut called = server.all_called(alloc)?;
     let worked = work_file(

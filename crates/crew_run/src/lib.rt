@@ -12,6 +12,7 @@ mod hiring;
 mod meeting;
 mod naming;
 mod phases;
+mod rooms;
 mod workers;
 
 pub use crews::crew_run;

@@ -256,7 +256,7 @@ has-acted f workable a (act.Create c) r running declared =
     }
 has-acted f workable a (act.Start c node) r running declared = one-case f workable a (act.Start c node) c (event.Start node a (roles_of f a)) r running declared (λ answer. (answer, refl))
 has-acted f workable a (act.Withdraw c node) r running declared = one-case f workable a (act.Withdraw c node) c (event.Withdraw node a) r running declared (λ answer. (answer, refl))
-has-acted f workable a (act.End c node writes choice) r running declared = one-case f workable a (act.End c node writes choice) c (event.End node a writes choice) r running declared (λ answer. (answer, refl))
+has-acted f workable a (act.End c node writes choice) r running declared = one-case f workable a (act.End c node writes choice) c (event.End node a choice writes) r running declared (λ answer. (answer, refl))
 has-acted f workable a (act.Change c ops) r running (declared, few) = one-case f workable a (act.Change c ops) c (event.Change ops) r running declared (λ answer. (answer, refl))
 has-acted f workable a (act.Install t ops) r running (low, few) =
     let (k, at) = kind-there f r t running low in

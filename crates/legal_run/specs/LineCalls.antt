@@ -61,7 +61,7 @@ module _ (many : ℕ → ℕ) (roles : List ℕ) (a : ℕ) where
   AreCallsOf (act.Create c) calls = (v : VersionModel) × (r : Reply) × (calls ≡ asked a c.type_no v ∷ told a c (event.Create v) r ∷ [])
   AreCallsOf (act.Start c n) calls = (r : Reply) × (calls ≡ told a c (event.Start n a roles) r ∷ [])
   AreCallsOf (act.Withdraw c n) calls = (r : Reply) × (calls ≡ told a c (event.Withdraw n a) r ∷ [])
-  AreCallsOf (act.End c n writes choice) calls = (r : Reply) × (calls ≡ told a c (event.End n a writes choice) r ∷ [])
+  AreCallsOf (act.End c n writes choice) calls = (r : Reply) × (calls ≡ told a c (event.End n a choice writes) r ∷ [])
   AreCallsOf (act.Change c ops) calls = (r : Reply) × (calls ≡ told a c (event.Change ops) r ∷ [])
   AreCallsOf (act.Install t ops) calls = (r : KindReply) × (calls ≡ of_kind t (entry a (kind_event.Install ops) r) ∷ [])
   AreCallsOf (act.Migrate t) calls = (v : VersionModel) × (rs : List Reply) × (length rs ≡ many t) × (calls ≡ asked a t v ∷ told_each a t (event.Migrate v) 0 rs)

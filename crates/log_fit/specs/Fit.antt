@@ -20,7 +20,7 @@ use Rattle.wsm_sound.specs.VersionModel.{VersionModel}
 -- the event of a case on a version, where its node has a number: a start is made with the node's own role
 abbrev pub event_on : VersionModel → LogEvent → Option Event
 event_on v (logged.Start node user) = option_map (λ n. event.Start n user (role_in n v.schema.roles ∷ [])) node
-event_on v (logged.End node user writes choice) = option_map (λ n. event.End n user writes choice) node
+event_on v (logged.End node user writes choice) = option_map (λ n. event.End n user choice writes) node
 
 -- a node without a number is none of the schema
 abbrev pub answer_to : CaseModel → Option Event → CaseModel × Reply

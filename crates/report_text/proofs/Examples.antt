@@ -75,7 +75,7 @@ a_file = record {
 pub text_with_quotes : value_text (value.Text (codes "a\"b\\c")) ≡ codes "\"a\\\"b\\\\c\""
 text_with_quotes = refl
 
-pub end_with_values : case_line a_file 12 (record { caller = 0; event = event.End 2 1 ((0, value.Int (pos 0)) ∷ (3, value.Text []) ∷ []) (Some 4); reply = reply.WrongWrites (0 ∷ 7 ∷ []) }) ≡ codes "12 - end A choice 4 d=0 3=\"\" -> wrong-writes d 7\n"
+pub end_with_values : case_line a_file 12 (record { caller = 0; event = event.End 2 1 (Some 4) ((0, value.Int (pos 0)) ∷ (3, value.Text []) ∷ []); reply = reply.WrongWrites (0 ∷ 7 ∷ []) }) ≡ codes "12 - end A choice 4 d=0 3=\"\" -> wrong-writes d 7\n"
 unfolding digits
 end_with_values = refl
 

@@ -30,7 +30,7 @@ abbrev pub event_text : File → Event → Bytes
 event_text f (event.Create version) = codes "create " ++ decimal version.number
 event_text f (event.Start node user roles) = codes "start " ++ node_text f node
 event_text f (event.Withdraw node user) = codes "withdraw " ++ node_text f node
-event_text f (event.End node user writes choice) = end_event_text f node writes choice
+event_text f (event.End node user choice writes) = end_event_text f node writes choice
 event_text f (event.Change ops) = codes "change " ++ decimal (length ops)
 event_text f (event.Migrate version) = codes "migrate " ++ decimal version.number
 

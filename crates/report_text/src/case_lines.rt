@@ -159,7 +159,7 @@ fn put_reply_rest<K: Sink>(sink: &mut K, ok: bool, file: &File, reply: &Reply) -
         Reply::WrongWrites(elements) => put_elements(sink, ok, file, elements.as_slice()),
         Reply::NoBranch(choice) => put_wrong_choice(sink, ok, *choice),
         Reply::Unsound(fault) => put_fault(sink, ok, file, *fault),
-        Reply::Blocked(position, entry) => put_blocked(sink, ok, file, *position, entry),
+        Reply::Blocked(position, entry) => put_blocked(sink, ok, file, *position, entry.as_entry()),
         Reply::Overlap(name) => put_overlap(sink, ok, file, *name),
         Reply::Created
         | Reply::Ended

@@ -4,6 +4,7 @@ ghost use Rattle.std.specs.List.{count_by, sum_by};
 ghost use Rattle.adept_io.specs.Written.{Gives};
 ghost use Rattle.report_words.specs.Migrations.{has_fate, is_migration, says, says_blocked, says_migrated, says_overlap, with_fate};
 ghost use Rattle.report_words.specs.Totals.{calls_of, case_totals, is_done, migration_totals};
+ghost use Rattle.report_words.specs.declared.totals.Fate.TheVariants as fate;
 
 use adept_io::{Sink, put_pieces};
 use case_core::{Event, Reply};
@@ -74,6 +75,7 @@ fn count_calls(cases: &[ClosedCase]) -> u128
 pub fn put_migration_totals<K: Sink>(sink: &mut K, ok: bool, cases: &[ClosedCase]) -> bool
     ensures { Gives K.written K.faults ok result sink.old sink.new (migration_totals cases.now) }
 {
+    let totals = migrations_of(cases);
     let mut migrated = Buffer::new();
     let mut blocked = Buffer::new();
     let mut overlap = Buffer::new();
@@ -82,27 +84,43 @@ pub fn put_migration_totals<K: Sink>(sink: &mut K, ok: bool, cases: &[ClosedCase
         ok,
         &[
             b"migrated=",
-            migrated
-                .format(count_fate(cases, Fate::Migrated))
-                .as_bytes(),
+            migrated.format(totals.migrated).as_bytes(),
             b" blocked=",
-            blocked.format(count_fate(cases, Fate::Blocked)).as_bytes(),
+            blocked.format(totals.blocked).as_bytes(),
             b" overlap=",
-            overlap.format(count_fate(cases, Fate::Overlap)).as_bytes(),
+            overlap.format(totals.overlap).as_bytes(),
             b"\n",
         ],
     )
 }
 
-// How many migrations of all cases had that fate.
-fn count_fate(cases: &[ClosedCase], fate: Fate) -> u128
-    ensures { result ≡ sum_by (with_fate fate) cases.now }
+// How many migrations had each fate.
+#[derive(Clone, Copy)]
+struct Migrations {
+    migrated: u128,
+    blocked: u128,
+    overlap: u128,
+}
+
+// What became of the migrations of all cases. Each journal is gone through while it is near.
+fn migrations_of(cases: &[ClosedCase]) -> Migrations
+    ensures migrated { result.migrated ≡ sum_by (with_fate fate.Migrated) cases.now }
+    ensures blocked { result.blocked ≡ sum_by (with_fate fate.Blocked) cases.now }
+    ensures overlap { result.overlap ≡ sum_by (with_fate fate.Overlap) cases.now }
 {
-    let mut count = 0;
+    let mut migrated = 0;
+    let mut blocked = 0;
+    let mut overlap = 0;
     for case in cases {
-        count += with_fate(case, fate) as u128;
+        migrated += with_fate(case, Fate::Migrated) as u128;
+        blocked += with_fate(case, Fate::Blocked) as u128;
+        overlap += with_fate(case, Fate::Overlap) as u128;
     }
-    count
+    Migrations {
+        migrated,
+        blocked,
+        overlap,
+    }
 }
 
 fn with_fate(case: &ClosedCase, fate: Fate) -> usize

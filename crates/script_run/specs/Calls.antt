@@ -101,7 +101,7 @@ abbrev pub acted : File → ℕ → Act → Run → Run
 acted f caller (act.Create c) r = created f caller c (newest c.type_no r) (on_kind caller c.type_no kind_event.Newest r)
 acted f caller (act.Start c n) r = on_case f caller c (event.Start n caller (roles_of f caller)) r
 acted f caller (act.Withdraw c n) r = on_case f caller c (event.Withdraw n caller) r
-acted f caller (act.End c n writes choice) r = on_case f caller c (event.End n caller writes choice) r
+acted f caller (act.End c n writes choice) r = on_case f caller c (event.End n caller choice writes) r
 acted f caller (act.Change c ops) r = on_case f caller c (event.Change ops) r
 acted f caller (act.Install t ops) r = on_kind caller t (kind_event.Install ops) r
 acted f caller (act.Migrate t) r = migrated f caller t (newest t r) (on_kind caller t kind_event.Newest r)

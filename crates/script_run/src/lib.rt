@@ -10,6 +10,7 @@ mod runs;
 mod scripts;
 mod serial;
 
+pub use call_counts::CallCounts;
 pub use checking::{defined_kind, verdicts};
 pub use runs::{
     CaseEntry, CaseJournal, ClosedCase, ClosedCases, ClosedKind, ClosedKinds, KindEntry,

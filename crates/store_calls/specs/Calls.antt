@@ -45,7 +45,7 @@ abbrev pub act_calls : File → ℕ → Run → Act → List Recorded
 act_calls f a r (act.Create c) = by a (stored.Newest c.type_no) ∷ create_calls a c (newest c.type_no r)
 act_calls f a r (act.Start c n) = by a (stored.Case c (event.Start n a (roles_of f a))) ∷ []
 act_calls f a r (act.Withdraw c n) = by a (stored.Case c (event.Withdraw n a)) ∷ []
-act_calls f a r (act.End c n writes choice) = by a (stored.Case c (event.End n a writes choice)) ∷ []
+act_calls f a r (act.End c n writes choice) = by a (stored.Case c (event.End n a choice writes)) ∷ []
 act_calls f a r (act.Change c ops) = by a (stored.Case c (event.Change ops)) ∷ []
 act_calls f a r (act.Install t ops) = by a (stored.Install t ops) ∷ []
 act_calls f a r (act.Migrate t) = by a (stored.Newest t) ∷ migrate_calls a t f.cases (newest t r)

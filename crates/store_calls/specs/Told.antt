@@ -74,7 +74,7 @@ abbrev pub told_act : File → ℕ → Act → Told → Told
 told_act f a (act.Create c) s = told_create a c s
 told_act f a (act.Start c n) s = with_call a (stored.Case c (event.Start n a (roles_of f a))) s
 told_act f a (act.Withdraw c n) s = with_call a (stored.Case c (event.Withdraw n a)) s
-told_act f a (act.End c n writes choice) s = with_call a (stored.Case c (event.End n a writes choice)) s
+told_act f a (act.End c n writes choice) s = with_call a (stored.Case c (event.End n a choice writes)) s
 told_act f a (act.Change c ops) s = with_call a (stored.Case c (event.Change ops)) s
 told_act f a (act.Install t ops) s = told_install a t ops s
 told_act f a (act.Migrate t) s = told_migrate a t f.cases s

@@ -51,8 +51,8 @@ call_again caller (stored.Case c (event.Migrate version)) rest number fit = absu
 call_again caller (stored.Case c (event.Start node user roles)) rest number fit =
     again_arm (both_form id_form (both_form u32_form (both_form u32_form (list_form u32_form)))) (λ x. stored.Case x.0 (event.Start x.1.0 x.1.1.0 x.1.1.1)) 5 (λ b. refl)
     caller (c, (node, (user, roles))) rest number (fit.0, (fit.1.0, (fit.1.1, fit.1.2)))
-call_again caller (stored.Case c (event.End node user writes choice)) rest number fit =
-    again_arm (both_form id_form (both_form u32_form (both_form u32_form (both_form (list_form write_form) (option_form code_form))))) (λ x. stored.Case x.0 (event.End x.1.0 x.1.1.0 x.1.1.1.0 x.1.1.1.1)) 6 (λ b. refl)
+call_again caller (stored.Case c (event.End node user choice writes)) rest number fit =
+    again_arm (both_form id_form (both_form u32_form (both_form u32_form (both_form (list_form write_form) (option_form code_form))))) (λ x. stored.Case x.0 (event.End x.1.0 x.1.1.0 x.1.1.1.1 x.1.1.1.0)) 6 (λ b. refl)
     caller (c, (node, (user, (writes, choice)))) rest number (fit.0, (fit.1.0, (fit.1.1, (fit.1.2, fit.1.3))))
 call_again caller (stored.Case c (event.Withdraw node user)) rest number fit =
     again_arm (both_form id_form (both_form u32_form u32_form)) (λ x. stored.Case x.0 (event.Withdraw x.1.0 x.1.1)) 9 (λ b. refl) caller (c, (node, user)) rest number (fit.0, (fit.1.0, fit.1.1))
@@ -87,7 +87,7 @@ behind_takes t caller bytes behind e rest front number got =
     or_else t 3 _ _ behind (e, rest) (arm u32_form stored.Newest 3 (λ c x fit. refl) (λ x fit. fit) t caller bytes behind e rest front number) (
     or_else t 4 _ _ behind (e, rest) (arm (both_form id_form u32_form) (λ x. stored.Create x.0 x.1) 4 (λ c x fit. refl) (λ x fit. (fit.0, fit.1)) t caller bytes behind e rest front number) (
     or_else t 5 _ _ behind (e, rest) (arm (both_form id_form (both_form u32_form (both_form u32_form (list_form u32_form)))) (λ x. stored.Case x.0 (event.Start x.1.0 x.1.1.0 x.1.1.1)) 5 (λ c x fit. refl) (λ x fit. (fit.0, (fit.1.0, fit.1.1.0, fit.1.1.1))) t caller bytes behind e rest front number) (
-    or_else t 6 _ _ behind (e, rest) (arm (both_form id_form (both_form u32_form (both_form u32_form (both_form (list_form write_form) (option_form code_form))))) (λ x. stored.Case x.0 (event.End x.1.0 x.1.1.0 x.1.1.1.0 x.1.1.1.1)) 6 (λ c x fit. refl) (λ x fit. (fit.0, (fit.1.0, fit.1.1.0, fit.1.1.1.0, fit.1.1.1.1))) t caller bytes behind e rest front number) (
+    or_else t 6 _ _ behind (e, rest) (arm (both_form id_form (both_form u32_form (both_form u32_form (both_form (list_form write_form) (option_form code_form))))) (λ x. stored.Case x.0 (event.End x.1.0 x.1.1.0 x.1.1.1.1 x.1.1.1.0)) 6 (λ c x fit. refl) (λ x fit. (fit.0, (fit.1.0, fit.1.1.0, fit.1.1.1.0, fit.1.1.1.1))) t caller bytes behind e rest front number) (
     or_else t 7 _ _ behind (e, rest) (arm (both_form id_form (list_form op_form)) (λ x. stored.Case x.0 (event.Change x.1)) 7 (λ c x fit. refl) (λ x fit. (fit.0, fit.1)) t caller bytes behind e rest front number) (
     or_else t 8 _ _ behind (e, rest) (arm (both_form id_form u32_form) (λ x. stored.Migrate x.0 x.1) 8 (λ c x fit. refl) (λ x fit. (fit.0, fit.1)) t caller bytes behind e rest front number) (
     or_else t 9 _ _ behind (e, rest) (arm (both_form id_form (both_form u32_form u32_form)) (λ x. stored.Case x.0 (event.Withdraw x.1.0 x.1.1)) 9 (λ c x fit. refl) (λ x fit. (fit.0, (fit.1.0, fit.1.1))) t caller bytes behind e rest front number) (

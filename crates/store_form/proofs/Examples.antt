@@ -14,7 +14,7 @@ use Rattle.store_form.specs.Reading.{gap_at, value_at, body_at, part_at}
 use Rattle.store_form.specs.declared.stored.Stored.TheVariants as stored
 
 -- an end with a text, a number below zero and a choice
-pub an_end : payload 2 (stored.Case (case_of 0 1) (event.End 3 2 ((0, value.Int (negsuc 0)) ∷ (1, value.Text (104 ∷ 105 ∷ [])) ∷ []) (Some 1)))
+pub an_end : payload 2 (stored.Case (case_of 0 1) (event.End 3 2 (Some 1) ((0, value.Int (negsuc 0)) ∷ (1, value.Text (104 ∷ 105 ∷ [])) ∷ [])))
     ≡ 6 ∷ u32 2 ++ (u32 0 ++ (u32 1 ++ (u32 3 ++ (u32 2 ++ (0 ∷ 0 ∷ 0 ∷ 2 ∷ 0 ∷ 0 ∷ 0 ∷ 0 ∷ 0 ∷ 255 ∷ 255 ∷ 255 ∷ 255 ∷ 255 ∷ 255 ∷ 255 ∷ 255
     ∷ 0 ∷ 0 ∷ 0 ∷ 1 ∷ 1 ∷ 0 ∷ 0 ∷ 0 ∷ 2 ∷ 104 ∷ 105 ∷ 1 ∷ 0 ∷ 1 ∷ [])))))
 an_end = refl

@@ -49,10 +49,10 @@ pub a_start : payload 2 (stored.Case (case_of 1 2) (event.Start 4 2 (7 ∷ 9 ∷
     ≡ 5 ∷ 0 ∷ 0 ∷ 0 ∷ 2 ∷ 0 ∷ 0 ∷ 0 ∷ 1 ∷ 0 ∷ 0 ∷ 0 ∷ 2 ∷ 0 ∷ 0 ∷ 0 ∷ 4 ∷ 0 ∷ 0 ∷ 0 ∷ 2 ∷ 0 ∷ 0 ∷ 0 ∷ 2 ∷ 0 ∷ 0 ∷ 0 ∷ 7 ∷ 0 ∷ 0 ∷ 0 ∷ 9 ∷ []
 a_start = refl
 
-pub an_end : payload 2 (stored.Case (case_of 1 2) (event.End 4 2 ((0, value.Int (negsuc 255)) ∷ (1, value.Text (104 ∷ 105 ∷ [])) ∷ []) None))
+pub an_end : payload 2 (stored.Case (case_of 1 2) (event.End 4 2 None ((0, value.Int (negsuc 255)) ∷ (1, value.Text (104 ∷ 105 ∷ [])) ∷ [])))
     ≡ 6 ∷ 0 ∷ 0 ∷ 0 ∷ 2 ∷ 0 ∷ 0 ∷ 0 ∷ 1 ∷ 0 ∷ 0 ∷ 0 ∷ 2 ∷ 0 ∷ 0 ∷ 0 ∷ 4 ∷ 0 ∷ 0 ∷ 0 ∷ 2 ∷ 0 ∷ 0 ∷ 0 ∷ 2 ∷ 0 ∷ 0 ∷ 0 ∷ 0 ∷ 0 ∷ 255 ∷ 255 ∷ 255 ∷ 255 ∷ 255 ∷ 255 ∷ 255 ∷ 0 ∷ 0 ∷ 0 ∷ 0 ∷ 1 ∷ 1 ∷ 0 ∷ 0 ∷ 0 ∷ 2 ∷ 104 ∷ 105 ∷ 0 ∷ []
 an_end = refl
 
-pub an_end_with_choice : payload 2 (stored.Case (case_of 1 2) (event.End 8 2 [] (Some 700)))
+pub an_end_with_choice : payload 2 (stored.Case (case_of 1 2) (event.End 8 2 (Some 700) []))
     ≡ 6 ∷ 0 ∷ 0 ∷ 0 ∷ 2 ∷ 0 ∷ 0 ∷ 0 ∷ 1 ∷ 0 ∷ 0 ∷ 0 ∷ 2 ∷ 0 ∷ 0 ∷ 0 ∷ 8 ∷ 0 ∷ 0 ∷ 0 ∷ 2 ∷ 0 ∷ 0 ∷ 0 ∷ 0 ∷ 1 ∷ 2 ∷ 188 ∷ []
 an_end_with_choice = refl

@@ -114,7 +114,7 @@ abbrev pub case_bytes : ℕ → CaseId → Event → Bytes
 case_bytes caller c (event.Create version) = []
 case_bytes caller c (event.Migrate version) = []
 case_bytes caller c (event.Start node user roles) = 5 ∷ u32 caller ++ (id_bytes c ++ (u32 node ++ (u32 user ++ listed u32 roles)))
-case_bytes caller c (event.End node user writes choice) =
+case_bytes caller c (event.End node user choice writes) =
     6 ∷ u32 caller ++ (id_bytes c ++ (u32 node ++ (u32 user ++ (listed (λ w. u32 w.0 ++ value_bytes w.1) writes ++ optional u16 choice))))
 case_bytes caller c (event.Withdraw node user) = 9 ∷ u32 caller ++ (id_bytes c ++ (u32 node ++ u32 user))
 case_bytes caller c (event.Change ops) = 7 ∷ u32 caller ++ (id_bytes c ++ listed op_bytes ops)

@@ -220,7 +220,7 @@ stored_behind tag =
     else (if tag == 3 then as_at stored.Newest u32_at
     else (if tag == 4 then as_at (λ x. stored.Create x.0 x.1) (both_at id_at u32_at)
     else (if tag == 5 then as_at (λ x. stored.Case x.0 (event.Start x.1.0 x.1.1.0 x.1.1.1)) (both_at id_at (both_at u32_at (both_at u32_at (list_at u32_at))))
-    else (if tag == 6 then as_at (λ x. stored.Case x.0 (event.End x.1.0 x.1.1.0 x.1.1.1.0 x.1.1.1.1)) (both_at id_at (both_at u32_at (both_at u32_at (both_at (list_at write_at) (option_at code_at)))))
+    else (if tag == 6 then as_at (λ x. stored.Case x.0 (event.End x.1.0 x.1.1.0 x.1.1.1.1 x.1.1.1.0)) (both_at id_at (both_at u32_at (both_at u32_at (both_at (list_at write_at) (option_at code_at)))))
     else (if tag == 7 then as_at (λ x. stored.Case x.0 (event.Change x.1)) (both_at id_at ops_at)
     else (if tag == 8 then as_at (λ x. stored.Migrate x.0 x.1) (both_at id_at u32_at)
     else (if tag == 9 then as_at (λ x. stored.Case x.0 (event.Withdraw x.1.0 x.1.1)) (both_at id_at (both_at u32_at u32_at))

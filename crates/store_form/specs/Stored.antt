@@ -114,7 +114,7 @@ abbrev pub FitsEvent : Event → Type 0
 FitsEvent (event.Create version) = ⊥
 FitsEvent (event.Migrate version) = ⊥
 FitsEvent (event.Start node user roles) = IsNumber node × IsNumber user × FitsEach IsNumber roles
-FitsEvent (event.End node user writes choice) =
+FitsEvent (event.End node user choice writes) =
     IsNumber node × IsNumber user × FitsEach (λ w. IsNumber w.0 × FitsValue w.1) writes × FitsOption IsCode choice
 FitsEvent (event.Withdraw node user) = IsNumber node × IsNumber user
 FitsEvent (event.Change ops) = FitsEach FitsOp ops
@@ -165,7 +165,7 @@ few_in_schema s = few_items s.body && few_in_tables s
 
 abbrev pub few_in_event : Event → Bool
 few_in_event (event.Start node user roles) = is_short roles
-few_in_event (event.End node user writes choice) = is_short writes
+few_in_event (event.End node user choice writes) = is_short writes
 few_in_event (event.Change ops) = is_short ops
 few_in_event _ = true
 

@@ -68,7 +68,7 @@ fn row_of_three(rt: HostRuntime) -> Result<(), Fail> {
         Counter { count: 20 },
         Counter { count: 30 },
     ]?;
-    let (cells, mut firsts) = open_row(alloc, 7, machines)?;
+    let (cells, mut firsts) = open_row(alloc, 7, machines, &[1])?;
     let gate = LabelGate {
         label: AtomicU32::new(0),
     };

@@ -21,14 +21,26 @@ impl<M: Machine> Cell<M> {
         requires { M.age (M.state machine) ≤ MAX_OPENING_AGE }
         ensures { IfOk result (λ r. view_of r.1 ≡ first_of (cell_id r.0) (M.state machine)) }
     {
+        Cell::with_room(alloc, label, machine, 0)
+    }
+
+    /// The same, where the journal has room for so many entries at first.
+    pub fn with_room(
+        alloc: Global,
+        label: u32,
+        machine: M,
+        entries: usize,
+    ) -> Result<(Cell<M>, Pass<M>), NoMemory>
+        requires { M.age (M.state machine) ≤ MAX_OPENING_AGE }
+        ensures { IfOk result (λ r. view_of r.1 ≡ first_of (cell_id r.0) (M.state machine)) }
+    {
         let opening = Snapshot::of(&machine);
         let machine = Box::new(alloc, machine)?;
+        let items = Vec::with_capacity(alloc, entries)?;
         let mut slots = Vec::with_capacity(alloc, 1)?;
         slots.push_reserved(Some(Guarded {
             machine,
-            journal: Journal {
-                items: Vec::new(alloc),
-            },
+            journal: Journal { items },
         }));
         let Ok((table, seat)) = Table::new(alloc, &[0, 0], slots, &opening) else {
             return Err(NoMemory);

@@ -23,13 +23,10 @@ is_held_by user (Held node holder) = holder == user
 abbrev pub ByNode : List (ℕ × Item) → Type 0
 ByNode rows = AllRows (λ r. r.0 ≡ item_node r.1) rows
 
--- and so does each item that a node is to get
+-- and so does the item that a node is to get
 abbrev pub IsOfNode : ℕ → Option Item → Type 0
 IsOfNode n None = Unit {0}
 IsOfNode n (Some i) = n ≡ item_node i
-
-abbrev pub AreByNode : List (ℕ × Option Item) → Type 0
-AreByNode changes = AllRows (λ c. IsOfNode c.0 c.1) changes
 
 -- the items alone
 abbrev pub items_in : List (ℕ × Item) → List Item

@@ -1,18 +1,15 @@
 // Work items by node, in reserved room.
-ghost use Rattle.std.specs.Prelude.{◌≡◌, ℕ, ◌+◌, ◌≤◌, ◌<◌, [], ◌∷◌, ◌++◌, filter, length, OnOk, IfOk, if◌then◌else◌};
+ghost use Rattle.std.specs.Prelude.{◌≡◌, ℕ, ◌+◌, ◌≤◌, ◌<◌, [], ◌∷◌, ◌++◌, filter, OnOk, IfOk, if◌then◌else◌};
 ghost use Rattle.std.specs.Option.{is_some, option_copied};
-ghost use Rattle.wsm_items.specs.WorkItems.{AreByNode, ByNode, is_held_by, is_offered_to, item_node, items_in};
-ghost use Rattle.wsm_lists.specs.ByNumber.{changed, item_after, item_at};
+ghost use Rattle.wsm_items.specs.WorkItems.{ByNode, is_held_by, is_offered_to, item_node, items_in};
+ghost use Rattle.wsm_lists.specs.ByNumber.{item_at};
 ghost use Rattle.wsm_lists.specs.Keys.{first};
 ghost use Rattle.wsm_lists.specs.Rows.{Ascends, drop_row, put_row};
 
 use crate::work_items::{Item, ItemList};
 use std::alloc::Global;
 use std::marker::Model;
-use wsm_lists::{ByFirst, NoMemory, NumberedRows, Table};
-
-/// What becomes of the items of some nodes, ascending by node: each gets an item, or has none any more.
-pub type ItemChanges = Table<ByFirst<Option<Item>>>;
+use wsm_lists::{NoMemory, NumberedRows};
 
 /// At most one work item for each node, ascending by node. While reserved room lasts, items are put without taking memory.
 #[derive(Drop)]
@@ -57,19 +54,6 @@ impl Items {
         ensures ascends { Ascends first result.now }
     {
         self.rows.as_slice()
-    }
-
-    /// The items after what becomes of those of some nodes. Takes no memory.
-    pub fn take_in(&mut self, changes: ItemChanges)
-        requires room { length changes ≤ self.old.spare }
-        requires nodes { AreByNode changes }
-        ensures rows { self.new.rows ≡ changed changes self.old.rows }
-        ensures items { (node : ℕ) → item_at node self.new.rows ≡ item_after (item_at node changes) (item_at node self.old.rows) }
-        ensures spare { self.old.spare ≤ self.new.spare + length changes }
-    {
-        let _ = self.rows.as_slice();
-        let _ = changes.as_slice();
-        self.rows.take_in(changes);
     }
 
     /// The item of its node from now on. Takes no memory.

@@ -4,5 +4,5 @@
 mod kept_items;
 mod work_items;
 
-pub use kept_items::{ItemChanges, Items};
+pub use kept_items::Items;
 pub use work_items::{Item, ItemList};

@@ -229,7 +229,7 @@ fn numbered(alloc: Global, cards: &[Card]) -> Result<Vec<(u32, u32)>, NoMemory>
 fn nodes_up_to(alloc: Global, cards: &[Card], end: u32) -> Result<Vec<u32>, NoMemory>
     ensures { IfOk result (λ new. new.items ≡ up_to_node end (map (λ c. c.node) cards.now)) }
 {
-    let mut all = Vec::new(alloc);
+    let mut all = Vec::with_capacity(alloc, count_up_to(cards, end))?;
     for c in cards {
         all.push(c.node)?;
         if c.node == end {
@@ -237,6 +237,14 @@ fn nodes_up_to(alloc: Global, cards: &[Card], end: u32) -> Result<Vec<u32>, NoMe
         }
     }
     Ok(all)
+}
+
+// How many cards stand up to the first of the node.
+fn count_up_to(cards: &[Card], node: u32) -> usize {
+    match cards.iter().position(|card| card.node == node) {
+        None => cards.len(),
+        Some(place) => place + 1,
+    }
 }
 
 // The cards of all nodes.

@@ -1,7 +1,7 @@
 use Rattle.std.proofs.Common.{◌≡◌, false, true, Some, None, sym, ap, ◌∙◌, subst}
 use Rattle.audit_journals.proofs.CaseParts.{case-right, end-wrong, head-wrong, journal-wrong}
 use Rattle.audit_model.specs.ReportReader.{case_journal}
-use Rattle.audit_steps.specs.Judging.{FollowedBy}
+use Rattle.audit_model.specs.Judging.{FollowedBy}
 use Rattle.line_followers.specs.Follows.{Follows}
 use Rattle.report_text.specs.Ends.{end_text}
 use Rattle.report_text.specs.Report.{case_head}

@@ -3,10 +3,10 @@ use Rattle.audit_journals.proofs.OwedPhases.{phase-end, phase-is, phase-low, pha
 use Rattle.audit_model.specs.Asked.{Asked}
 use Rattle.audit_owed.specs.Asking.{asked_in}
 use Rattle.audit_owed.specs.Owing.{calls_in, owed_of}
-use Rattle.audit_steps.proofs.CasePhases.{case-stopped, case-whole, phase-on, phase-stops, phases-begun, phases-whole}
-use Rattle.audit_steps.proofs.Modest.{steady-begun}
-use Rattle.audit_steps.specs.Cases.{GrowsTo, InPhases, IsSteady, PhaseJudged, StopsAt}
-use Rattle.audit_steps.specs.Lines.{IsModest}
+use Rattle.audit_model.proofs.CasePhases.{case-stopped, case-whole, phase-on, phase-stops, phases-begun, phases-whole}
+use Rattle.audit_model.proofs.Modest.{steady-begun}
+use Rattle.audit_model.specs.Cases.{GrowsTo, InPhases, IsSteady, PhaseJudged, StopsAt}
+use Rattle.audit_model.specs.Lines.{IsModest}
 use Rattle.case_core.specs.CaseModel.{CaseModel}
 use Rattle.case_core.specs.Instances.{CountedCase}
 use Rattle.script_run.specs.Entries.{CaseEntry}

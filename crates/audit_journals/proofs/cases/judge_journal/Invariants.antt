@@ -1,6 +1,6 @@
 use Rattle.std.proofs.Common.{◌+◌, ◌≤◌, drop, length}
 use Rattle.audit_owed.specs.Owing.{owed_of}
-use Rattle.audit_steps.specs.Cases.{InPhases, IsSteady}
+use Rattle.audit_model.specs.Cases.{InPhases, IsSteady}
 use Rattle.line_readers.specs.Owed.{how_many}
 use Rattle.audit_journals.proofs.cases.judge_journal.Given as goal
 

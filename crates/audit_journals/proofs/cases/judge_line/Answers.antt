@@ -3,10 +3,10 @@ use Rattle.audit_journals.proofs.Exits.{on-both, on-good, shows-in, turn-is, tur
 use Rattle.audit_journals.specs.Queues.{queues_of}
 use Rattle.audit_model.specs.Printed.{caller_in}
 use Rattle.audit_owed.specs.Asking.{asked_of}
-use Rattle.audit_steps.proofs.CaseLines.{case-judged, case-without-caller, case-without-event, case-without-turn, line-writes}
-use Rattle.audit_steps.proofs.Modest.{front-row, case-light, steady-on, taken-rows}
-use Rattle.audit_steps.specs.Cases.{LineJudged}
-use Rattle.audit_steps.specs.Lines.{IsModest, line_of}
+use Rattle.audit_model.proofs.CaseLines.{case-judged, case-without-caller, case-without-event, case-without-turn, line-writes}
+use Rattle.audit_model.proofs.Modest.{front-row, case-light, steady-on, taken-rows}
+use Rattle.audit_model.specs.Cases.{LineJudged}
+use Rattle.audit_model.specs.Lines.{IsModest, line_of}
 use Rattle.case_core.specs.Machine.{case_reply}
 use Rattle.line_followers.specs.Follows.{left_of}
 use Rattle.line_followers.specs.Turns.{behind_front, queue_of}

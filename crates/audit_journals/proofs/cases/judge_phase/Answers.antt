@@ -2,10 +2,10 @@ use Rattle.std.proofs.Common.{◌≡◌, ◌+◌, ◌<◌, ◌≤◌, length, sy
 use Rattle.audit_journals.proofs.AllTurns.{all-turns}
 use Rattle.audit_journals.specs.Queues.{all_turns, queues_of}
 use Rattle.audit_owed.specs.Asking.{asked_in, asked_of}
-use Rattle.audit_steps.proofs.CasePhases.{line-on, line-stops, phase-begun, phase-whole}
-use Rattle.audit_steps.proofs.Modest.{turns-rows}
-use Rattle.audit_steps.specs.Cases.{InPhase, LineJudged}
-use Rattle.audit_steps.specs.Lines.{IsModest, actor_of}
+use Rattle.audit_model.proofs.CasePhases.{line-on, line-stops, phase-begun, phase-whole}
+use Rattle.audit_model.proofs.Modest.{turns-rows}
+use Rattle.audit_model.specs.Cases.{InPhase, LineJudged}
+use Rattle.audit_model.specs.Lines.{IsModest, actor_of}
 use Rattle.line_followers.specs.Turns.{AreTurns}
 use Rattle.std.proofs.lemmas.List.{length-map}
 use Rattle.audit_journals.proofs.cases.judge_phase.Goals as goal

@@ -1,8 +1,8 @@
 use Rattle.std.proofs.Common.{◌+◌, ◌≤◌, length}
 use Rattle.audit_journals.specs.Queues.{queues_of}
 use Rattle.audit_owed.specs.Asking.{asked_in}
-use Rattle.audit_steps.specs.Cases.{InPhase, IsSteady}
-use Rattle.audit_steps.specs.Lines.{IsModest}
+use Rattle.audit_model.specs.Cases.{InPhase, IsSteady}
+use Rattle.audit_model.specs.Lines.{IsModest}
 use Rattle.wsm_lists.specs.Rows.{AllRows}
 use Rattle.audit_journals.proofs.cases.judge_phase.Given as goal
 

@@ -4,10 +4,10 @@ use Rattle.audit_journals.proofs.OwedPhases.{phase-end, phase-is, phase-low, pha
 use Rattle.audit_model.specs.ReportReader.{defined_line}
 use Rattle.audit_owed.specs.Asking.{asked_in}
 use Rattle.audit_owed.specs.Owing.{calls_in, owed_of}
-use Rattle.audit_steps.proofs.KindPhases.{phase-on, phase-stops, phases-begun, phases-whole}
-use Rattle.audit_steps.specs.Judging.{FollowedBy}
-use Rattle.audit_steps.specs.Kinds.{InPhases, PhaseJudged, owed_lines}
-use Rattle.audit_steps.specs.Lines.{IsModest}
+use Rattle.audit_model.proofs.KindPhases.{phase-on, phase-stops, phases-begun, phases-whole}
+use Rattle.audit_model.specs.Judging.{FollowedBy}
+use Rattle.audit_model.specs.Kinds.{InPhases, PhaseJudged, owed_lines}
+use Rattle.audit_model.specs.Lines.{IsModest}
 use Rattle.report_text.specs.Report.{type_head}
 use Rattle.std.proofs.Common.{◌++◌}
 use Rattle.wsm_lists.specs.Rows.{AllRows}

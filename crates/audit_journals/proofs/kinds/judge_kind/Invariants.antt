@@ -1,5 +1,5 @@
 use Rattle.audit_owed.specs.Owing.{owed_of}
-use Rattle.audit_steps.specs.Kinds.{InPhases}
+use Rattle.audit_model.specs.Kinds.{InPhases}
 use Rattle.audit_journals.proofs.kinds.judge_kind.Given as goal
 
 abbrev pub invariant-loop-phase : goal.invariant-loop-phase

@@ -3,10 +3,10 @@ use Rattle.audit_journals.proofs.Exits.{on-good, shows-in, turn-is, turn-none}
 use Rattle.audit_journals.specs.Queues.{queues_of}
 use Rattle.audit_model.specs.Printed.{caller_in}
 use Rattle.audit_owed.specs.Asking.{asked_of}
-use Rattle.audit_steps.proofs.KindLines.{kind-judged, kind-without-caller, kind-without-event, kind-without-turn}
-use Rattle.audit_steps.proofs.Modest.{front-row, kind-light, taken-rows}
-use Rattle.audit_steps.specs.Kinds.{LineJudged}
-use Rattle.audit_steps.specs.Lines.{IsModest, line_of}
+use Rattle.audit_model.proofs.KindLines.{kind-judged, kind-without-caller, kind-without-event, kind-without-turn}
+use Rattle.audit_model.proofs.Modest.{front-row, kind-light, taken-rows}
+use Rattle.audit_model.specs.Kinds.{LineJudged}
+use Rattle.audit_model.specs.Lines.{IsModest, line_of}
 use Rattle.line_followers.specs.Follows.{left_of}
 use Rattle.line_followers.specs.Turns.{behind_front, queue_of}
 use Rattle.script_run.specs.Entries.{KindEntry}

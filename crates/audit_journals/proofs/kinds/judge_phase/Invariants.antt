@@ -1,7 +1,7 @@
 use Rattle.audit_journals.specs.Queues.{queues_of}
 use Rattle.audit_owed.specs.Asking.{asked_in}
-use Rattle.audit_steps.specs.Kinds.{InPhase}
-use Rattle.audit_steps.specs.Lines.{IsModest}
+use Rattle.audit_model.specs.Kinds.{InPhase}
+use Rattle.audit_model.specs.Lines.{IsModest}
 use Rattle.wsm_lists.specs.Rows.{AllRows}
 use Rattle.audit_journals.proofs.kinds.judge_phase.Given as goal
 

@@ -3,9 +3,9 @@ use Rattle.std.proofs.lemmas.Result.{IfOk-weaker}
 use Rattle.audit_model.specs.Asked.{asked_phases}
 use Rattle.audit_model.specs.ReportReader.{cases_reader, kinds_reader, telling}
 use Rattle.audit_owed.specs.Asking.{script_of}
-use Rattle.audit_steps.proofs.Modest.{few-asked, file-modest}
-use Rattle.audit_steps.specs.Judging.{FollowedBy}
-use Rattle.audit_steps.specs.Lines.{IsModest}
+use Rattle.audit_model.proofs.Modest.{few-asked, file-modest}
+use Rattle.audit_model.specs.Judging.{FollowedBy}
+use Rattle.audit_model.specs.Lines.{IsModest}
 use Rattle.case_audit.proofs.ReportParts.{cases-wrong, first-wrong, followed-as, kinds-wrong, totals-judged}
 use Rattle.line_followers.specs.Follows.{Follows}
 use Rattle.line_readers.specs.Owed.{how_many}

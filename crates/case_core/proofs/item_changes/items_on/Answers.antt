@@ -1,4 +1,4 @@
-use Rattle.std.proofs.Common.{◌≡◌, ℕ, List, [], drop, drop_of_length-le, ap, sym, ◌∙◌, subst, arith}
+use Rattle.std.proofs.Common.{◌≡◌, ℕ, List, [], None, drop, drop_of_length-le, ap, sym, ◌∙◌, subst, arith}
 use Rattle.case_core.specs.KeptItems.{item_for, with_item}
 use Rattle.case_core.proofs.ItemLoops.{Held, held-first, item-next, unmarked-none}
 use Rattle.wsm_items.specs.declared.work_items.Item.{Item}
@@ -13,7 +13,7 @@ loop-row-init c n =
     let cards = cards_of c.args.checked.now in
     let es : List (ℕ × Entry) = [] in
     let rows : List (ℕ × Mark) = c.as_slice-row-items.result.now in
-    subst (λ (is : List (ℕ × Item)). Held (item_for cards es n) (item_at n rows) (item_at n is) (item_at n rows)) (sym c.new-items.ensures) (held-first (item_for cards es n) (unmarked-none cards es n) (item_at n rows))
+    subst (λ (is : List (ℕ × Item)). Held None (item_for cards es n) (item_at n rows) (item_at n is) (item_at n rows)) (sym c.new-items.ensures) (held-first None (item_for cards es n) (unmarked-none cards es n) (item_at n rows))
 
 pub loop-row-preserved : goal.loop-row-preserved
 loop-row-preserved c n =
@@ -29,5 +29,5 @@ returns c n =
     let es : List (ℕ × Entry) = [] in
     let rows : List (ℕ × Mark) = c.as_slice-row-items.result.now in
     let end : drop c.loop-row.row-index rows ≡ [] = drop_of_length-le rows c.loop-row-test.false in
-    subst (λ (rs : List (ℕ × Mark)). Held (item_for cards es n) (item_at n rs) (item_at n c.loop-row.items.rows) (item_at n rows)) end (c.loop-row.invariant n)
+    subst (λ (rs : List (ℕ × Mark)). Held None (item_for cards es n) (item_at n rs) (item_at n c.loop-row.items.rows) (item_at n rows)) end (c.loop-row.invariant n)
     ∙ ap (λ (rs : List (ℕ × Mark)). item_for cards es n (item_at n rs)) c.as_slice-row-items.ensures.rows

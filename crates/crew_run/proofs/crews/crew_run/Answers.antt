@@ -21,7 +21,7 @@ work_file-worked-requires-clause-begun g c κs within =
       counted = c.in_ok-counts.ensures.counts;
       before = v0;
       desk = c.in_ok-server.ensures.desk.desk;
-      opened = subst (λ counts. IsFirstDesk counts v0) c.deref.ensures.value c.in_ok-server.ensures.first;
+      opened = subst (λ counts. IsFirstDesk counts v0) c.deref-2.ensures.value c.in_ok-server.ensures.first;
       hired = subst (λ n. AreHired n v0 v1 (desks_of c.deref_mut.result.now)) c.len.ensures (subst (λ ws. AreHired c.len.result v0 v1 (desks_of ws)) (sym c.deref_mut.ensures.value) c.in_ok-crew.ensures.hired);
       made = c.in_ok-crew.ensures.made ∙ ap (λ n. v0.made + n) c.len.ensures;
     }

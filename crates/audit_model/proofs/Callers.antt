@@ -1,0 +1,110 @@
+-- The beginning of a line of a journal tells its caller: names hold no space, and actors have names of their own.
+use Rattle.std.proofs.Common.{◌≡◌, ◌≢◌, ℕ, suc, ◌+◌, ◌-◌, ◌≤◌, ◌==◌, ne_eqb, Bool, true, false, List, [], ◌∷◌, ◌++◌, length, take, Option, Some, refl, sym, ap, ◌∙◌, subst, arith, lit≤, inl, inr, append_assoc, if◌then◌else◌}
+use Rattle.std.specs.Prelude.{codes, decimal, slice_get}
+use Rattle.std.proofs.lemmas.Option.{slice_get_cases}
+use Rattle.std.proofs.lemmas.Slice.Eq.{bytes_eq-Decides}
+use Rattle.file_facts.proofs.Cases.{row-at}
+use Rattle.file_model.specs.declared.files.ActorDecl.{ActorDecl}
+use Rattle.file_model.specs.declared.files.File.{File}
+use Rattle.file_words.specs.Lines.{Bytes}
+use Rattle.legal_run.specs.Legal.{IsActor}
+use Rattle.report_text.specs.Journals.{line_start}
+use Rattle.report_words.specs.Words.{actor_name, caller_text}
+use Rattle.wsm_lists.specs.Rows.{AllRows}
+use Rattle.audit_model.proofs.KindReaders.{TellsCallers}
+use Rattle.audit_model.specs.Printed.{begins, caller_from}
+use Rattle.audit_facts.specs.Facts.{IsAuditable, IsNamed}
+use Rattle.audit_model.proofs.OneLine.{name-without}
+
+-- ---- beginnings
+-- what begins a text, and its rest
+begins-with : (front text : Bytes) → begins front text ≡ true → (rest : Bytes) × (text ≡ front ++ rest)
+begins-with front text is = parts front text ((bytes_eq-Decides (take (length front) text) front).0 is)
+  where
+    parts : (front text : Bytes) → take (length front) text ≡ front → (rest : Bytes) × (text ≡ front ++ rest)
+    parts [] text same = (text, refl)
+    parts (x ∷ xs) [] same = absurd (cc (same))
+    parts (x ∷ xs) (y ∷ ys) same =
+        let first : y ≡ x = cc (same) in
+        let more : take (length xs) ys ≡ xs = cc (same) in
+        let (rest, is) = parts xs ys more in
+        (rest, ap (λ z. z ∷ ys) first ∙ ap (λ zs. x ∷ zs) is)
+
+take-front : (front rest : Bytes) → take (length front) (front ++ rest) ≡ front
+take-front [] rest = refl
+take-front (x ∷ xs) rest = ap (λ zs. x ∷ zs) (take-front xs rest)
+
+begins-own : (front rest : Bytes) → begins front (front ++ rest) ≡ true
+begins-own front rest = (bytes_eq-Decides (take (length front) (front ++ rest)) front).1 (take-front front rest)
+
+-- the same in front of both
+behind-same : (front xs ys : Bytes) → front ++ xs ≡ front ++ ys → xs ≡ ys
+behind-same [] xs ys same = same
+behind-same (x ∷ front) xs ys same = let more : front ++ xs ≡ front ++ ys = cc (same) in behind-same front xs ys more
+
+-- words without a space, each with a space behind it
+abbrev IsSolid : Bytes → Type 0
+IsSolid w = AllRows (λ b. (b == 32) ≡ false) w
+
+same-words : (v w xs ys : Bytes) → IsSolid v → IsSolid w → v ++ 32 ∷ xs ≡ w ++ 32 ∷ ys → v ≡ w
+same-words [] [] xs ys solid_v solid_w same = refl
+same-words [] (b ∷ w) xs ys solid_v solid_w same = let first : 32 ≡ b = cc (same) in let not = solid_w.0 in absurd (cc (first, not))
+same-words (a ∷ v) [] xs ys solid_v solid_w same = let first : a ≡ 32 = cc (same) in let not = solid_v.0 in absurd (cc (first, not))
+same-words (a ∷ v) (b ∷ w) xs ys solid_v solid_w same =
+    let first : a ≡ b = cc (same) in
+    let more : v ++ 32 ∷ xs ≡ w ++ 32 ∷ ys = cc (same) in
+    ap (λ z. z ∷ v) first ∙ ap (λ zs. b ∷ zs) (same-words v w xs ys solid_v.1 solid_w.1 more)
+
+module _ (f : File) (auditable : IsAuditable f) where
+  -- ---- the name of an actor
+  actor-at : (a : ℕ) → IsActor f a → (d : ActorDecl) × (slice_get f.actors (a - 1) ≡ Some d)
+  actor-at a actor = elim (slice_get_cases f.actors (a - 1)).1 [
+    | inl there ↦ (there.0, there.2)
+    | inr past ↦ absurd (omega (arith, past.0, actor.0, actor.1))
+  ]
+
+  caller-named : (a : ℕ) (d : ActorDecl) → IsActor f a → slice_get f.actors (a - 1) ≡ Some d → caller_text f a ≡ d.name
+  caller-named a d actor at =
+      ap (λ test. if test then codes "-" else actor_name (slice_get f.actors (a - 1)) a) (ne_eqb a 0 (λ same. omega (arith, actor.0, same)))
+      ∙ ap (λ (o : Option ActorDecl). actor_name o a) at
+
+  -- ---- where a line begins with another actor, it is that actor
+  start-parts : (k a : ℕ) (rest : Bytes) → line_start f k a ++ rest ≡ (decimal k ++ codes " ") ++ (caller_text f a ++ 32 ∷ rest)
+  start-parts k a rest =
+      append_assoc (decimal k) (codes " " ++ (caller_text f a ++ codes " ")) rest
+      ∙ (ap (λ bs. decimal k ++ 32 ∷ bs) (append_assoc (caller_text f a) (codes " ") rest)
+      ∙ sym (append_assoc (decimal k) (codes " ") (caller_text f a ++ 32 ∷ rest)))
+
+  same-caller : (k a b : ℕ) (rest : Bytes) → IsActor f a → IsActor f b → begins (line_start f k b) (line_start f k a ++ rest) ≡ true → a ≡ b
+  same-caller k a b rest is_a is_b begun =
+      let (d, at_a) = actor-at a is_a in
+      let (e, at_b) = actor-at b is_b in
+      let (more, same) = begins-with (line_start f k b) (line_start f k a ++ rest) begun in
+      let both : (decimal k ++ codes " ") ++ (caller_text f a ++ 32 ∷ rest) ≡ (decimal k ++ codes " ") ++ (caller_text f b ++ 32 ∷ more) = sym (start-parts k a rest) ∙ (same ∙ start-parts k b more) in
+      let names : caller_text f a ++ 32 ∷ rest ≡ caller_text f b ++ 32 ∷ more = behind-same (decimal k ++ codes " ") _ _ both in
+      let named : d.name ++ 32 ∷ rest ≡ e.name ++ 32 ∷ more = ap (λ n. n ++ 32 ∷ rest) (sym (caller-named a d is_a at_a)) ∙ (names ∙ ap (λ n. n ++ 32 ∷ more) (caller-named b e is_b at_b)) in
+      let solid_d = name-without 32 (lit≤ tt) d.name (row-at IsNamed f.actors (a - 1) d auditable.actors at_a) in
+      let solid_e = name-without 32 (lit≤ tt) e.name (row-at IsNamed f.actors (b - 1) e auditable.actors at_b) in
+      let is : a - 1 ≡ b - 1 = auditable.apart (a - 1) (b - 1) d e at_a at_b (same-words d.name e.name rest more solid_d solid_e named) in
+      omega (arith, is, is_a.0, is_b.0)
+
+  -- ---- the first actor whose beginning the line has
+  found : (k a : ℕ) (rest : Bytes) → IsActor f a → (b : ℕ) (ds : List ActorDecl) → 1 ≤ b → b + length ds ≡ suc (length f.actors) → b ≤ a → caller_from f k (line_start f k a ++ rest) b ds ≡ Some a
+  found k a rest actor b [] low many near = absurd (omega (arith, many, near, actor.1))
+  found k a rest actor b (d ∷ ds) low many near = by (begins (line_start f k b) line) refl (λ other. found k a rest actor (b + 1) ds (omega (arith, low)) (omega (arith, many)) other)
+    where
+      line : Bytes
+      line = line_start f k a ++ rest
+
+      by : (test : Bool) → begins (line_start f k b) line ≡ test → (b + 1 ≤ a → caller_from f k line (b + 1) ds ≡ Some a) → (if test then Some b else caller_from f k line (b + 1) ds) ≡ Some a
+      by true begun more = ap (λ n. Some n) (sym (same-caller k a b rest actor (low, omega (arith, many)) begun))
+      by false not more = more (near-next (λ same. cc (own same, not)))
+        where
+          own : b ≡ a → begins (line_start f k b) line ≡ true
+          own same = subst (λ n. begins (line_start f k n) line ≡ true) (sym same) (begins-own (line_start f k a) rest)
+
+          near-next : b ≢ a → b + 1 ≤ a
+          near-next other = omega (arith, near, other)
+
+  pub tells-callers : TellsCallers f
+  tells-callers k a rest actor = found k a rest actor 1 f.actors (lit≤ tt) (omega arith) actor.0

@@ -1,0 +1,228 @@
+-- A case keeps values that stand in one line, where events bring such: so do its replies.
+use Rattle.std.proofs.Common.{◌≡◌, ℕ, ◌==◌, Bool, true, false, ◌||◌, not, List, [], ◌∷◌, filter_map, fold, map, Option, Some, None, Result, Ok, Err, refl, if◌then◌else◌}
+use Rattle.std.specs.Option.{option_or}
+use Rattle.std.specs.Prelude.{IfSome, nat_lt}
+use Rattle.case_core.specs.CaseModel.{CaseModel, LiveModel, created_on, is_finished, replay_of_case, state_of, value_now}
+use Rattle.case_core.specs.Machine.{case_after, case_reply, change_with, changed, end_on, end_refusal, ended_reply, ended_trail, event_on, failed_at, hold_refusal, holder_of, may_work, migrate_live, migrate_refusal, migrate_with, migrated, misfit, or_reply, overlap_reply, overlap_with, reads_now, repeats, start_entry, start_on, start_refusal, taken, when_reply, with_live, with_trail, withdraw_on, wrong_reply}
+use Rattle.case_core.specs.declared.events.Event.{Event}
+use Rattle.case_core.specs.declared.events.Event.TheVariants as event
+use Rattle.case_core.specs.declared.replies.Reply.{Reply}
+use Rattle.case_core.specs.declared.replies.Reply.TheVariants as reply
+use Rattle.case_writes.specs.Writes.{by_element, wrong_elements}
+use Rattle.wsm_foot.specs.declared.names.Name.{Name}
+use Rattle.wsm_lists.proofs.Lists.{rows-append}
+use Rattle.wsm_lists.specs.Keys.{first}
+use Rattle.wsm_lists.specs.Rows.{AllRows, key_eq, key_lt, put_row}
+use Rattle.wsm_lists.specs.Values.{Written, value_in}
+use Rattle.wsm_lists.specs.declared.values.Value.{Value}
+use Rattle.wsm_ops.specs.declared.operations.Op.{Op}
+use Rattle.wsm_schema.specs.Flat.{card_at, flat_of, loop_nodes}
+use Rattle.wsm_schema.specs.Marks.{is_start_of}
+use Rattle.wsm_schema.specs.Replay.{fits_choice, is_in_state}
+use Rattle.wsm_schema.specs.SchemaModel.{SchemaModel}
+use Rattle.wsm_schema.specs.Trail.{TrailModel, cut_by, cut_entry, is_one_of, later_or, pushed, value_below, written_by, wrote}
+use Rattle.wsm_schema.specs.declared.cards.Card.{Card}
+use Rattle.wsm_schema.specs.declared.entries.Entry.{Entry}
+use Rattle.wsm_schema.specs.declared.entries.Entry.TheVariants as entry
+use Rattle.wsm_schema.specs.declared.states.State.TheVariants as state
+use Rattle.wsm_sound.specs.Faults.{changed_by}
+use Rattle.wsm_sound.specs.VersionModel.{VersionModel}
+use Rattle.wsm_sound.specs.declared.faults.Fault.{Fault}
+use Rattle.wsm_trail.specs.Withdrawn.{withdrawn, without_start}
+use Rattle.audit_facts.specs.Facts.{IsOneLineValue, IsOneLineWrite}
+use Rattle.audit_model.specs.Kept.{IsOneLineRead, KeptCase, KeptEntry, KeptLive, KeptTrail, ShowsOneLine, WritesValues}
+
+-- ---- trails
+value_in-one : (e : ℕ) (ws : Written) → AllRows IsOneLineWrite ws → IfSome (value_in e ws) IsOneLineValue
+value_in-one e [] all = tt
+value_in-one e (w ∷ ws) all = by (w.0 == e) (value_in-one e ws all.1)
+  where
+    by : (test : Bool) → IfSome (value_in e ws) IsOneLineValue → IfSome (if test then Some w.1 else value_in e ws) IsOneLineValue
+    by true more = all.0
+    by false more = more
+
+later-one : (a b : Option Value) → IfSome a IsOneLineValue → IfSome b IsOneLineValue → IfSome (later_or a b) IsOneLineValue
+later-one None b h k = k
+later-one (Some v) b h k = h
+
+below-one : (e p : ℕ) (es : List (ℕ × Entry)) → AllRows KeptEntry es → IfSome (value_below e p es) IsOneLineValue
+below-one e p [] all = tt
+below-one e p (x ∷ xs) all = later-one (value_below e p xs) _ (below-one e p xs all.1) (by (nat_lt x.0 p))
+  where
+    by : (test : Bool) → IfSome (if test then value_in e (written_by x.1) else None) IsOneLineValue
+    by true = value_in-one e (written_by x.1) all.0
+    by false = tt
+
+pushed-kept : (e : Entry) (t : TrailModel) → AllRows IsOneLineWrite (written_by e) → KeptTrail t → KeptTrail (pushed e t)
+pushed-kept e t one kept = rows-append KeptEntry t.entries ((t.next, e) ∷ []) kept (one, tt)
+
+wrote-kept : (p : ℕ) (ws : Written) → AllRows IsOneLineWrite ws → IfSome (wrote p ws) KeptEntry
+wrote-kept p [] all = tt
+wrote-kept p (w ∷ ws) all = all
+
+cut-kept : (body : List ℕ) (p : ℕ) (e : Entry) → AllRows IsOneLineWrite (written_by e) → IfSome (cut_entry body p e) KeptEntry
+cut-kept body p (entry.Start n user reads) one = by (is_one_of n body)
+  where
+    by : (test : Bool) → IfSome (if test then None else Some (p, entry.Start n user reads)) KeptEntry
+    by true = tt
+    by false = one
+cut-kept body p (entry.End n writes choice) one = by (is_one_of n body)
+  where
+    by : (test : Bool) → IfSome (if test then wrote p writes else Some (p, entry.End n writes choice)) KeptEntry
+    by true = wrote-kept p writes one
+    by false = one
+cut-kept body p (entry.Again n writes) one = by (is_one_of n body)
+  where
+    by : (test : Bool) → IfSome (if test then wrote p writes else Some (p, entry.Again n writes)) KeptEntry
+    by true = wrote-kept p writes one
+    by false = one
+cut-kept body p (entry.Wrote writes) one = one
+
+cuts-kept : (body : List ℕ) (es : List (ℕ × Entry)) → AllRows KeptEntry es → AllRows KeptEntry (filter_map (λ (e : ℕ × Entry). cut_entry body e.0 e.1) es)
+cuts-kept body [] all = tt
+cuts-kept body (e ∷ es) all = by (cut_entry body e.0 e.1) refl (cut-kept body e.0 e.1 all.0) (cuts-kept body es all.1)
+  where
+    by : (o : Option (ℕ × Entry)) → cut_entry body e.0 e.1 ≡ o → IfSome o KeptEntry → AllRows KeptEntry (filter_map (λ (x : ℕ × Entry). cut_entry body x.0 x.1) es) → AllRows KeptEntry (filter_map (λ (x : ℕ × Entry). cut_entry body x.0 x.1) (e ∷ es))
+    by None is one more = rw is more
+    by (Some x) is one more = rw is (one, more)
+
+-- ---- writes in order
+put-kept : (w : ℕ × Value) (ws : Written) → IsOneLineWrite w → AllRows IsOneLineWrite ws → AllRows IsOneLineWrite (put_row first w ws)
+put-kept w [] one all = (one, tt)
+put-kept w (x ∷ xs) one all = by (key_lt (first x) (first w)) (key_eq (first x) (first w)) (put-kept w xs one all.1)
+  where
+    by : (less same : Bool) → AllRows IsOneLineWrite (put_row first w xs) → AllRows IsOneLineWrite (if less then x ∷ put_row first w xs else (if same then w ∷ xs else w ∷ x ∷ xs))
+    by true same more = (all.0, more)
+    by false true more = (one, all.1)
+    by false false more = (one, all)
+
+sorted-kept : (ws sorted : Written) → AllRows IsOneLineWrite ws → AllRows IsOneLineWrite sorted → AllRows IsOneLineWrite (fold (λ kept w. put_row first w kept) sorted ws)
+sorted-kept [] sorted all done = done
+sorted-kept (w ∷ ws) sorted all done = sorted-kept ws (put_row first w sorted) all.1 (put-kept w sorted all.0 done)
+
+-- ---- steps of a live case
+abbrev GoodStep : LiveModel × Reply → Type 0
+GoodStep step = KeptLive step.0 × ShowsOneLine step.1
+
+or-good : (o : Option Reply) (l : LiveModel) (step : LiveModel × Reply) → IfSome o ShowsOneLine → KeptLive l → GoodStep step → GoodStep (or_reply o l step)
+or-good None l step one kept good = good
+or-good (Some r) l step one kept good = (kept, one)
+
+when-one : (test : Bool) (r : Reply) → ShowsOneLine r → IfSome (when_reply test r) ShowsOneLine
+when-one true r one = one
+when-one false r one = tt
+
+option-or-one : (a b : Option Reply) → IfSome a ShowsOneLine → IfSome b ShowsOneLine → IfSome (option_or a b) ShowsOneLine
+option-or-one None b h k = k
+option-or-one (Some r) b h k = h
+
+reads-kept : (l : LiveModel) (rs : List (ℕ × Bool)) → KeptLive l → AllRows IsOneLineRead (map (λ r. (r.0, value_now l r.0)) rs)
+reads-kept l [] kept = tt
+reads-kept l (r ∷ rs) kept = (below-one r.0 l.trail.next l.trail.entries kept, reads-kept l rs kept)
+
+start-good : (l : LiveModel) (node user : ℕ) (roles : List ℕ) (o : Option Card) → KeptLive l → GoodStep (start_on l node user roles o)
+start-good l node user roles None kept = (kept, tt)
+start-good l node user roles (Some c) kept =
+    or-good (start_refusal l c node roles) l (with_trail l (pushed (start_entry l c node user) l.trail), reply.Started (reads_now l c))
+    (option-or-one (when_reply (not (is_in_state (state_of l node) state.Activated)) (reply.NotReady (state_of l node))) (when_reply (not (may_work c.role roles)) (reply.NotAllowed c.role))
+    (when-one (not (is_in_state (state_of l node) state.Activated)) (reply.NotReady (state_of l node)) tt) (when-one (not (may_work c.role roles)) (reply.NotAllowed c.role) tt))
+    kept (pushed-kept (start_entry l c node user) l.trail tt kept, reads-kept l c.reads kept)
+
+wrong-one : (ds : List ℕ) → IfSome (wrong_reply ds) ShowsOneLine
+wrong-one [] = tt
+wrong-one (d ∷ ds) = tt
+
+hold_refusal-one : (l : LiveModel) (node user : ℕ) → IfSome (hold_refusal l node user) ShowsOneLine
+hold_refusal-one l node user =
+    option-or-one (when_reply (not (is_in_state (state_of l node) state.Running)) (reply.NotRunning (state_of l node))) _ (when-one (not (is_in_state (state_of l node) state.Running)) (reply.NotRunning (state_of l node)) tt)
+    (when-one (not (holder_of l node == user)) (reply.NotHolder (holder_of l node)) tt)
+
+end_refusal-one : (l : LiveModel) (c : Card) (node user : ℕ) (writes : Written) (choice : Option ℕ) → IfSome (end_refusal l c node user writes choice) ShowsOneLine
+end_refusal-one l c node user writes choice =
+    option-or-one (hold_refusal l node user) _ (hold_refusal-one l node user)
+    (option-or-one (wrong_reply (wrong_elements l.schema.elements c.writes writes)) _ (wrong-one (wrong_elements l.schema.elements c.writes writes))
+    (when-one (not (fits_choice c choice || repeats c choice)) (reply.NoBranch choice) tt))
+
+ended-kept : (l : LiveModel) (node : ℕ) (writes : Written) (choice : Option ℕ) (again : Bool) → AllRows IsOneLineWrite writes → KeptLive l → KeptTrail (ended_trail l node writes choice again)
+ended-kept l node writes choice false one kept = pushed-kept (entry.End node writes choice) l.trail one kept
+ended-kept l node writes choice true one kept =
+    let body = loop_nodes (flat_of l.schema).cards node in
+    pushed-kept (entry.Again node writes) (cut_by body l.trail) one (cuts-kept body l.trail.entries kept)
+
+ended-reply-one : (again : Bool) → ShowsOneLine (ended_reply again)
+ended-reply-one true = tt
+ended-reply-one false = tt
+
+end-good : (l : LiveModel) (node user : ℕ) (writes : Written) (choice : Option ℕ) (o : Option Card) → AllRows IsOneLineWrite writes → KeptLive l → GoodStep (end_on l node user writes choice o)
+end-good l node user writes choice None one kept = (kept, tt)
+end-good l node user writes choice (Some c) one kept =
+    or-good (end_refusal l c node user writes choice) l (with_trail l (ended_trail l node (by_element writes) choice (repeats c choice)), ended_reply (repeats c choice)) (end_refusal-one l c node user writes choice) kept
+    (ended-kept l node (by_element writes) choice (repeats c choice) (sorted-kept writes [] one tt) kept, ended-reply-one (repeats c choice))
+
+-- a start that is taken away takes no value away
+left-kept : (node : ℕ) (es : List (ℕ × Entry)) → AllRows KeptEntry es → AllRows KeptEntry (without_start node es)
+left-kept node [] kept = tt
+left-kept node (e ∷ es) kept = by (is_start_of node e.1) refl (left-kept node es kept.1)
+  where
+    by : (test : Bool) → is_start_of node e.1 ≡ test → AllRows KeptEntry (without_start node es) → AllRows KeptEntry (without_start node (e ∷ es))
+    by true is more = rw is more
+    by false is more = rw is (kept.0, more)
+
+withdraw-good : (l : LiveModel) (node user : ℕ) (o : Option Card) → KeptLive l → GoodStep (withdraw_on l node user o)
+withdraw-good l node user None kept = (kept, tt)
+withdraw-good l node user (Some c) kept =
+    or-good (hold_refusal l node user) l (with_trail l (withdrawn node l.trail), reply.Withdrawn) (hold_refusal-one l node user) kept (left-kept node l.trail.entries kept, tt)
+
+misfit-one : (l : LiveModel) (o : Option ℕ) → IfSome (misfit l o) ShowsOneLine
+misfit-one l None = tt
+misfit-one l (Some p) = tt
+
+taken-good : (l new : LiveModel) (r : Reply) → KeptLive l → KeptLive new → ShowsOneLine r → GoodStep (taken l new r)
+taken-good l new r kept kept_new one = or-good (misfit l (failed_at (replay_of_case new))) l (new, r) (misfit-one l (failed_at (replay_of_case new))) kept (kept_new, one)
+
+change-good : (l : LiveModel) (ops : List Op) (o : Result SchemaModel Fault) → KeptLive l → GoodStep (change_with l ops o)
+change-good l ops (Ok schema) kept = taken-good l (changed l ops schema) reply.Changed kept kept tt
+change-good l ops (Err fault) kept = (kept, tt)
+
+migrate-good : (l : LiveModel) (v : VersionModel) (o : Result SchemaModel Fault) → KeptLive l → GoodStep (migrate_with l v o)
+migrate-good l v (Ok schema) kept = taken-good l (migrated l v schema) (reply.Migrated v.number) kept kept tt
+migrate-good l v (Err fault) kept = (kept, tt)
+
+overlap-one : (o : Option Name) → IfSome (overlap_reply o) ShowsOneLine
+overlap-one None = tt
+overlap-one (Some name) = tt
+
+migrate_live-good : (l : LiveModel) (v : VersionModel) → KeptLive l → GoodStep (migrate_live l v)
+migrate_live-good l v kept =
+    or-good (migrate_refusal l v) l (migrate_with l v (changed_by v.schema l.own))
+    (option-or-one (when_reply (not (nat_lt l.base.number v.number)) (reply.NotNewer l.base.number)) _ (when-one (not (nat_lt l.base.number v.number)) (reply.NotNewer l.base.number) tt)
+    (option-or-one (when_reply (is_finished l) reply.Finished) _ (when-one (is_finished l) reply.Finished tt) (overlap-one (overlap_with l v))))
+    kept (migrate-good l v (changed_by v.schema l.own) kept)
+
+-- ---- a case
+abbrev GoodCase : CaseModel × Reply → Type 0
+GoodCase step = KeptCase step.0 × ShowsOneLine step.1
+
+or-case : (o : Option Reply) (s : CaseModel) (step : CaseModel × Reply) → IfSome o ShowsOneLine → KeptCase s → GoodCase step → GoodCase (or_reply o s step)
+or-case None s step one kept good = good
+or-case (Some r) s step one kept good = (kept, one)
+
+event-good : (s : CaseModel) (o : Option LiveModel) (e : Event) → KeptCase s → IfSome o KeptLive → WritesValues e → GoodCase (event_on s o e)
+event-good s None (event.Create v) kept live good = or-case _ s (with_live s (created_on v, reply.Created)) (when-one (not (v.type_no == s.type_no)) reply.OtherType tt) kept (tt, tt)
+event-good s None (event.Start node user roles) kept live good = (kept, tt)
+event-good s None (event.Withdraw node user) kept live good = (kept, tt)
+event-good s None (event.End node user choice writes) kept live good = (kept, tt)
+event-good s None (event.Change ops) kept live good = (kept, tt)
+event-good s None (event.Migrate v) kept live good = (kept, tt)
+event-good s (Some l) (event.Create v) kept live good = (kept, tt)
+event-good s (Some l) (event.Start node user roles) kept live good = start-good l node user roles (card_at node (flat_of l.schema).cards) live
+event-good s (Some l) (event.Withdraw node user) kept live good = withdraw-good l node user (card_at node (flat_of l.schema).cards) live
+event-good s (Some l) (event.End node user choice writes) kept live good = end-good l node user writes choice (card_at node (flat_of l.schema).cards) good live
+event-good s (Some l) (event.Change ops) kept live good = or-good (when_reply (is_finished l) reply.Finished) l (change_with l ops (changed_by l.schema ops)) (when-one (is_finished l) reply.Finished tt) live (change-good l ops (changed_by l.schema ops) live)
+event-good s (Some l) (event.Migrate v) kept live good = or-case _ s (with_live s (migrate_live l v)) (when-one (not (v.type_no == s.type_no)) reply.OtherType tt) kept (migrate_live-good l v live)
+
+pub case-kept : (s : CaseModel) (e : Event) → KeptCase s → WritesValues e → KeptCase (case_after s e)
+case-kept s e kept good = (event-good s s.live e kept kept good).0
+
+pub case-shows : (s : CaseModel) (e : Event) → KeptCase s → WritesValues e → ShowsOneLine (case_reply s e)
+case-shows s e kept good = (event-good s s.live e kept kept good).1

@@ -1,0 +1,338 @@
+-- What stands first in an actor's queues are the calls of its next line.
+use Rattle.std.proofs.Common.{◌≡◌, ◌≢◌, ℕ, zero, suc, ◌+◌, ◌<◌, ◌≤◌, ◌==◌, eqb, eq-eqb, ne_eqb, Bool, true, false, List, [], ◌∷◌, ◌++◌, filter, length, take, Option, Some, None, refl, sym, ap, ◌∙◌, subst, arith, inl, inr, if◌then◌else◌}
+use Rattle.std.specs.Prelude.{get_or, slice_get}
+use Rattle.std.proofs.lemmas.Bool.{and_from, eqb-true}
+use Rattle.std.proofs.lemmas.List.{take_all}
+use Rattle.std.proofs.lemmas.List.Sums.{count_by_more_no, count_by_more_yes}
+use Rattle.std.proofs.lemmas.Option.{get_or_from_slice_get, same_Some, slice_get_cases, slice_get_within}
+use mathlib.Core.Logic.{dite}
+use native.Mathlib.Decide.{ℕ_discrete}
+use Rattle.case_core.specs.declared.events.Event.{Event}
+use Rattle.case_core.specs.declared.events.Event.TheVariants as event
+use Rattle.case_core.specs.declared.replies.Reply.{Reply}
+use Rattle.file_facts.proofs.Cases.{declared-typed}
+use Rattle.file_facts.proofs.Lists.{any-at}
+use Rattle.file_facts.specs.Facts.{ArePlaced, IsDeclared, IsKnownAct, IsWorkable}
+use Rattle.file_model.specs.CaseCounts.{cases_of_type, has_id}
+use Rattle.file_model.specs.declared.files.Act.{Act}
+use Rattle.file_model.specs.declared.files.Act.TheVariants as act
+use Rattle.file_model.specs.declared.files.CaseDecl.{CaseDecl}
+use Rattle.file_model.specs.declared.files.File.{File}
+use Rattle.file_model.specs.declared.files.Line.{Line}
+use Rattle.legal_run.specs.Legal.{declared_cases}
+use Rattle.legal_run.specs.LineCalls.{AreCallsOf, AreCallsOfLines, asked, told, told_each}
+use Rattle.script_run.specs.Calls.{roles_of}
+use Rattle.script_run.specs.Entries.{CaseEntry, KindEntry}
+use Rattle.turn_cell.specs.History.{entry}
+use Rattle.turn_cell.specs.declared.journal.Entry.{Entry}
+use Rattle.type_core.specs.declared.events.KindEvent.{KindEvent}
+use Rattle.type_core.specs.declared.events.KindEvent.TheVariants as kind_event
+use Rattle.type_core.specs.declared.replies.KindReply.{KindReply}
+use Rattle.type_core.specs.declared.replies.KindReply.TheVariants as kind_answer
+use Rattle.wsm_lists.specs.Rows.{AllRows}
+use Rattle.wsm_sound.specs.VersionModel.{VersionModel}
+use Rattle.wsm_sound.specs.declared.versions.CaseId.{CaseId}
+use Rattle.audit_model.proofs.CaseCalls.{FitCase, to_case}
+use Rattle.audit_model.proofs.KindCalls.{FitKind, keeps, to_kind}
+use Rattle.audit_model.specs.Asked.{Asked, and_told, asks, case_event_in, case_event_of, first_of, kind_event_in, kind_event_of, rest_of, told_by, told_in}
+use Rattle.audit_model.specs.Owed.{calls_case, calls_kind}
+use Rattle.audit_model.proofs.OwnLines.{OwnTelling, asked_own, own_left, own_then, own_version}
+use Rattle.audit_model.proofs.Queues.{CaseQueues, KindQueues, calls_along, calls_at, cases_left, cases_then, id_at, kinds_left, kinds_then, of_each, of_one, of_type}
+
+-- ---- places of a type have cases
+some-case : (cases : List CaseDecl) → ArePlaced cases → (t i n : ℕ) → n ≤ length cases → i < cases_of_type t (take n cases) → IsDeclared (id_at t i) cases
+some-case cases placed t i zero few low = absurd (omega (arith, low))
+some-case cases placed t i (suc n) few low = elim (slice_get_cases cases n).1 [
+  | inl there ↦ of_case_at (λ below. some-case cases placed t i n (omega (arith, few)) below) there.0 there.2
+  | inr past ↦ absurd (omega (arith, past.0, few))
+]
+  where
+    Earlier : Type 0
+    Earlier = i < cases_of_type t (take n cases) → IsDeclared (id_at t i) cases
+
+    of_case_at : Earlier → (d : CaseDecl) → slice_get cases n ≡ Some d → IsDeclared (id_at t i) cases
+    of_case_at earlier d at = by (d.id.type_no == t) refl
+      where
+        is_d : get_or cases n d ≡ d
+        is_d = get_or_from_slice_get cases n d d at
+
+        next : n + 1 ≡ suc n
+        next = omega arith
+
+        by : (test : Bool) → (d.id.type_no == t) ≡ test → IsDeclared (id_at t i) cases
+        by false other =
+            let same : cases_of_type t (take (n + 1) cases) ≡ cases_of_type t (take n cases) = count_by_more_no (λ (e : CaseDecl). e.id.type_no == t) cases n d (slice_get_within cases n d at) (ap (λ (e : CaseDecl). e.id.type_no == t) is_d ∙ other) in
+            let low_then : i < cases_of_type t (take (n + 1) cases) = subst (λ m. i < cases_of_type t (take m cases)) (sym next) low in
+            earlier (omega (arith, same, low_then))
+        by true own =
+            let more : cases_of_type t (take (n + 1) cases) ≡ cases_of_type t (take n cases) + 1 = count_by_more_yes (λ (e : CaseDecl). e.id.type_no == t) cases n d (slice_get_within cases n d at) (ap (λ (e : CaseDecl). e.id.type_no == t) is_d ∙ own) in
+            let low_then : i < cases_of_type t (take (n + 1) cases) = subst (λ m. i < cases_of_type t (take m cases)) (sym next) low in
+            let place : d.id.place ≡ cases_of_type d.id.type_no (take n cases) = placed n d at in
+            let of_t : d.id.type_no ≡ t = same_type own in
+            let place_t : d.id.place ≡ cases_of_type t (take n cases) = subst (λ u. d.id.place ≡ cases_of_type u (take n cases)) of_t place in
+            dite (ℕ_discrete i d.id.place)
+            (λ (here : i ≡ d.id.place). any-at (has_id (id_at t i)) cases n d at (and_from (d.id.type_no == t) (d.id.place == i) own (eq-eqb d.id.place i (sym here))))
+            (λ (not : i ≢ d.id.place). earlier (omega (arith, more, low_then, place_t, not)))
+          where
+            same_type : (d.id.type_no == t) ≡ true → d.id.type_no ≡ t
+            same_type is = eqb-true d.id.type_no t is
+
+pub place-declared : (f : File) → IsWorkable f → (t i : ℕ) → i < declared_cases f t → IsDeclared (id_at t i) f.cases
+place-declared f workable t i low =
+    some-case f.cases workable.placed t i (length f.cases) (omega arith) (subst (λ ds. i < cases_of_type t ds) (sym (take_all (length f.cases) f.cases (omega arith))) low)
+
+-- ---- entries of an actor
+-- who asked for the newest version was told one
+abbrev pub TellsVersion : KindEntry → Type 0
+TellsVersion e = e.event ≡ kind_event.Newest → (v : VersionModel) × (e.reply ≡ kind_answer.Is v)
+
+entry-is : {M E R W S : Type 0} (x : Entry M E R W S) (a : ℕ) (e : E) (r : R) → x.caller ≡ a → x.event ≡ e → x.reply ≡ r → x ≡ entry a e r
+entry-is {M} {E} {R} {W} {S} x a e r one two three =
+    let here : Entry M E R W S → Entry M E R W S = λ y. y in
+    ap (λ n. here (entry n x.event x.reply)) one ∙ (ap (λ y. here (entry a y x.reply)) two ∙ ap (λ y. here (entry a e y)) three)
+
+-- the first of a queue that fits lines
+record FirstFits {X Y : Type 0} (FitsLines : List X → List Y → Type 0) (xs : List X) (rest : List Y) : Type 0 where
+  first : X
+  others : List X
+  queue : xs ≡ first ∷ others
+  more : FitsLines others rest
+
+module _ (f : File) (workable : IsWorkable f) (a : ℕ) where
+  abbrev pub IsOfActor : KindEntry → Type 0
+  IsOfActor e = (e.caller ≡ a) × TellsVersion e
+
+  abbrev pub OfActor : CaseEntry → Type 0
+  OfActor e = e.caller ≡ a
+
+  -- an actor's queues are ready for its lines, where it is told so much
+  pub record AsksReady (K : KindQueues) (r : OwnTelling) (ls : List Line) : Type 0 where
+    pub kinds : (t : ℕ) → t < length f.types → FitKind (K t) (filter (to_kind t) ls)
+    pub own : (t : ℕ) → t < length f.types → AllRows IsOfActor (K t)
+    pub told : (t : ℕ) → t < length f.types → r t ≡ told_in (K t)
+
+  pub record CasesReady (C : CaseQueues) (r : OwnTelling) (ls : List Line) : Type 0 where
+    pub cases : (c : CaseId) → IsDeclared c f.cases → FitCase f (C c) (filter (to_case c) (asked_own r ls))
+    pub own : (c : CaseId) → IsDeclared c f.cases → AllRows OfActor (C c)
+
+  -- ---- the first of a type
+  record IsAsked (K : KindQueues) (x : Act) (t : ℕ) : Type 0 where
+    first : KindEntry
+    others : List KindEntry
+    queue : K t ≡ first ∷ others
+    event : kind_event_in x ≡ Some first.event
+    caller : first.caller ≡ a
+    tells : TellsVersion first
+
+  first-kind : (K : KindQueues) (x : Act) (t : ℕ) (es : List KindEntry) (l : Line) (ls : List Line) → K t ≡ es → kind_event_of l ≡ kind_event_in x → FitKind es (l ∷ ls) → AllRows IsOfActor es → IsAsked K x t
+  first-kind K x t [] l ls is same fit own = absurd fit
+  first-kind K x t (e ∷ es) l ls is same (event, fit) (here, own) = record { first = e; others = es; queue = is; event = sym same ∙ event; caller = here.0; tells = here.1 }
+
+  asked-kind : (K : KindQueues) (r : OwnTelling) (l : Line) (ls : List Line) → AsksReady K r (l ∷ ls) → (t : ℕ) → t < length f.types → calls_kind t l.act ≡ true → IsAsked K l.act t
+  asked-kind K r l ls ready t low calls = first-kind K l.act t (K t) l (filter (to_kind t) ls) refl refl (subst (FitKind (K t)) (keeps (to_kind t) l ls calls) (ready.kinds t low)) (ready.own t low)
+
+  -- ---- the first of a case
+  record IsTold (C : CaseQueues) (ver : Option VersionModel) (x : Act) (c : CaseId) : Type 0 where
+    first : CaseEntry
+    others : List CaseEntry
+    queue : C c ≡ first ∷ others
+    event : case_event_in (roles_of f a) a ver x ≡ Some first.event
+    caller : first.caller ≡ a
+
+  first-case : (C : CaseQueues) (ver : Option VersionModel) (x : Act) (c : CaseId) (es : List CaseEntry) (l : Asked) (ls : List Asked) → C c ≡ es → case_event_of f l ≡ case_event_in (roles_of f a) a ver x → FitCase f es (l ∷ ls) → AllRows OfActor es → IsTold C ver x c
+  first-case C ver x c [] l ls is same fit own = absurd fit
+  first-case C ver x c (e ∷ es) l ls is same (event, fit) (here, own) = record { first = e; others = es; queue = is; event = sym same ∙ event; caller = here }
+
+  told-case : (C : CaseQueues) (r : OwnTelling) (l : Line) (ls : List Line) → l.actor ≡ a → CasesReady C r (l ∷ ls) → (c : CaseId) → IsDeclared c f.cases → calls_case c l.act ≡ true → IsTold C (own_version r (asks l.act)) l.act c
+  told-case C r l ls own ready c declared calls =
+      let ver = own_version r (asks l.act) in
+      let x : Asked = (l, ver) in
+      let rest = asked_own (own_then r (asks l.act)) ls in
+      let event : case_event_of f x ≡ case_event_in (roles_of f a) a ver l.act = ap (λ b. case_event_in (roles_of f b) b ver l.act) own in
+      first-case C ver l.act c (C c) x (filter (to_case c) rest) refl event (subst (FitCase f (C c)) (keeps (to_case c) x rest calls) (ready.cases c declared)) (ready.own c declared)
+
+  -- ---- the calls of a line
+  module _ (K : KindQueues) (C : CaseQueues) (ver : Option VersionModel) (x : Act) (asks_kind : (t : ℕ) → t < length f.types → calls_kind t x ≡ true → IsAsked K x t)
+      (tells_case : (c : CaseId) → IsDeclared c f.cases → calls_case c x ≡ true → IsTold C ver x c) (told_first : (t : ℕ) → t < length f.types → asks x ≡ Some t → ver ≡ first_of (told_in (K t))) where
+    -- the version that the first of a type tells
+    record TellsFirst (t : ℕ) : Type 0 where
+      version : VersionModel
+      others : List KindEntry
+      queue : K t ≡ entry a kind_event.Newest (kind_answer.Is version) ∷ others
+      is : ver ≡ Some version
+
+    tells-first : (t : ℕ) → t < length f.types → calls_kind t x ≡ true → kind_event_in x ≡ Some kind_event.Newest → asks x ≡ Some t → TellsFirst t
+    tells-first t low calls newest asking =
+        let h = asks_kind t low calls in
+        let event : h.first.event ≡ kind_event.Newest = same_Some h.first.event kind_event.Newest (sym h.event ∙ newest) in
+        let (v, reply) = h.tells event in
+        let is : h.first ≡ entry a kind_event.Newest (kind_answer.Is v) = entry-is h.first a kind_event.Newest (kind_answer.Is v) h.caller event reply in
+        let queue : K t ≡ entry a kind_event.Newest (kind_answer.Is v) ∷ h.others = h.queue ∙ ap (λ e. e ∷ h.others) is in
+        record { version = v; others = h.others; queue = queue; is = told_first t low asking ∙ ap (λ es. first_of (told_in es)) queue }
+
+    of-type : (t : ℕ) (e : KindEntry) (es : List KindEntry) → K t ≡ e ∷ es → of_type t (K t) ≡ of_type t (e ∷ es)
+    of-type t e es is = ap (of_type t) is
+
+    -- the first of a case is a call of the actor
+    record TellsOne (c : CaseId) (e : Event) : Type 0 where
+      answer : Reply
+      calls : of_one c (C c) ≡ told a c e answer ∷ []
+
+    tells-one : (c : CaseId) (e : Event) → IsDeclared c f.cases → calls_case c x ≡ true → case_event_in (roles_of f a) a ver x ≡ Some e → TellsOne c e
+    tells-one c e declared calls is_event =
+        let h = tells_case c declared calls in
+        let event : h.first.event ≡ e = same_Some h.first.event e (sym h.event ∙ is_event) in
+        let is : h.first ≡ entry a e h.first.reply = entry-is h.first a e h.first.reply h.caller event refl in
+        record { answer = h.first.reply; calls = ap (of_one c) (h.queue ∙ ap (λ y. y ∷ h.others) is) }
+
+    -- each case of a type
+    each-told : (t : ℕ) (v : VersionModel) → ((c : CaseId) → (t == c.type_no) ≡ true → calls_case c x ≡ true) → case_event_in (roles_of f a) a ver x ≡ Some (event.Migrate v)
+        → (n place : ℕ) → place + n ≡ declared_cases f t → (rs : List Reply) × (length rs ≡ n) × (of_each C t place n ≡ told_each a t (event.Migrate v) place rs)
+    each-told t v calls is_event zero place many = ([], refl, refl)
+    each-told t v calls is_event (suc n) place many =
+        let c = id_at t place in
+        let here = tells-one c (event.Migrate v) (place-declared f workable t place (omega (arith, many))) (calls c (eq-eqb t t refl)) is_event in
+        let (rs, as_many, more) = each-told t v calls is_event n (place + 1) (omega (arith, many)) in (
+          here.answer ∷ rs,
+          ap suc as_many,
+          ap (λ xs. xs ++ of_each C t (place + 1) n) here.calls ∙ ap (λ xs. told a c (event.Migrate v) here.answer ∷ xs) more,
+        )
+
+  abbrev Given : KindQueues → CaseQueues → Option VersionModel → Act → Type 0
+  Given K C ver x =
+      ((t : ℕ) → t < length f.types → calls_kind t x ≡ true → IsAsked K x t) × ((c : CaseId) → IsDeclared c f.cases → calls_case c x ≡ true → IsTold C ver x c)
+      × ((t : ℕ) → t < length f.types → asks x ≡ Some t → ver ≡ first_of (told_in (K t)))
+
+  same-case : (c : CaseId) → calls_case c (act.Create c) ≡ true
+  same-case c = and_from (c.type_no == c.type_no) (c.place == c.place) (eq-eqb c.type_no c.type_no refl) (eq-eqb c.place c.place refl)
+
+  calls-are : (K : KindQueues) (C : CaseQueues) (ver : Option VersionModel) (x : Act) → IsKnownAct (length f.types) f.cases x → Given K C ver x → AreCallsOf (declared_cases f) (roles_of f a) a x (calls_at (declared_cases f) K C x)
+  calls-are K C ver (act.Create c) known (kinds, cases, version) =
+      let low = declared-typed (length f.types) f.cases c workable.typed known in
+      let h = tells-first K C ver (act.Create c) kinds cases version c.type_no low (eq-eqb c.type_no c.type_no refl) refl refl in
+      let one = tells-one K C ver (act.Create c) kinds cases version c (event.Create h.version) known (same-case c) (ap (λ o. case_event_in (roles_of f a) a o (act.Create c)) h.is) in
+      (h.version, one.answer, ap (λ xs. of_type c.type_no xs ++ of_one c (C c)) h.queue ∙ ap (λ xs. asked a c.type_no h.version ∷ xs) one.calls)
+  calls-are K C ver (act.Start c n) known (kinds, cases, version) = let one = tells-one K C ver (act.Start c n) kinds cases version c (event.Start n a (roles_of f a)) known (same-case c) refl in (one.answer, one.calls)
+  calls-are K C ver (act.Withdraw c n) known (kinds, cases, version) = let one = tells-one K C ver (act.Withdraw c n) kinds cases version c (event.Withdraw n a) known (same-case c) refl in (one.answer, one.calls)
+  calls-are K C ver (act.End c n writes choice) known (kinds, cases, version) = let one = tells-one K C ver (act.End c n writes choice) kinds cases version c (event.End n a choice writes) known (same-case c) refl in (one.answer, one.calls)
+  calls-are K C ver (act.Change c ops) known (kinds, cases, version) = let one = tells-one K C ver (act.Change c ops) kinds cases version c (event.Change ops) known.0 (same-case c) refl in (one.answer, one.calls)
+  calls-are K C ver (act.Install t ops) known (kinds, cases, version) =
+      let h = kinds t known.0 (eq-eqb t t refl) in
+      let event : h.first.event ≡ kind_event.Install ops = same_Some h.first.event (kind_event.Install ops) (sym h.event) in
+      let is : h.first ≡ entry a (kind_event.Install ops) h.first.reply = entry-is h.first a (kind_event.Install ops) h.first.reply h.caller event refl in
+      (h.first.reply, ap (of_type t) (h.queue ∙ ap (λ e. e ∷ h.others) is))
+  calls-are K C ver (act.Migrate t) known (kinds, cases, version) =
+      let h = tells-first K C ver (act.Migrate t) kinds cases version t known (eq-eqb t t refl) refl refl in
+      let (rs, many, calls) = each-told K C ver (act.Migrate t) kinds cases version t h.version (λ c of_type. of_type) (ap (λ o. case_event_in (roles_of f a) a o (act.Migrate t)) h.is) (declared_cases f t) 0 (omega arith) in
+      (h.version, rs, many, ap (λ xs. of_type t xs ++ of_each C t 0 (declared_cases f t)) h.queue ∙ ap (λ xs. asked a t h.version ∷ xs) calls)
+
+  -- ---- behind a line
+  rest-fits : {X Y : Type 0} (P : List X → List Y → Type 0) (fits : (xs : List X) (y : Y) (ys : List Y) → P xs (y ∷ ys) → P (rest_of xs) ys) (test : Bool) (xs : List X) (y : Y) (ys : List Y) → P xs (if test then y ∷ ys else ys) → P (if test then rest_of xs else xs) ys
+  rest-fits P fits true xs y ys fit = fits xs y ys fit
+  rest-fits P fits false xs y ys fit = fit
+
+  kind-rest : (es : List KindEntry) (l : Line) (ls : List Line) → FitKind es (l ∷ ls) → FitKind (rest_of es) ls
+  kind-rest [] l ls fit = absurd fit
+  kind-rest (e ∷ es) l ls fit = fit.1
+
+  case-rest : (es : List CaseEntry) (l : Asked) (ls : List Asked) → FitCase f es (l ∷ ls) → FitCase f (rest_of es) ls
+  case-rest [] l ls fit = absurd fit
+  case-rest (e ∷ es) l ls fit = fit.1
+
+  rest-rows : {X : Type 0} (P : X → Type 0) (test : Bool) (xs : List X) → AllRows P xs → AllRows P (if test then rest_of xs else xs)
+  rest-rows P true [] all = tt
+  rest-rows P true (x ∷ xs) all = all.1
+  rest-rows P false xs all = all
+
+  -- what is told behind the first of a type
+  told-rest : (K : KindQueues) (x : Act) (t : ℕ) → calls_kind t x ≡ true → kind_event_in x ≡ Some kind_event.Newest → IsAsked K x t → rest_of (told_in (K t)) ≡ told_in (rest_of (K t))
+  told-rest K x t calls newest h =
+      let event : h.first.event ≡ kind_event.Newest = same_Some h.first.event kind_event.Newest (sym h.event ∙ newest) in
+      let (v, reply) = h.tells event in
+      let is : h.first ≡ entry a kind_event.Newest (kind_answer.Is v) = entry-is h.first a kind_event.Newest (kind_answer.Is v) h.caller event reply in
+      let queue : K t ≡ entry a kind_event.Newest (kind_answer.Is v) ∷ h.others = h.queue ∙ ap (λ e. e ∷ h.others) is in
+      ap (λ es. rest_of (told_in es)) queue ∙ sym (ap (λ es. told_in (rest_of es)) queue)
+
+  told-install : (K : KindQueues) (t : ℕ) (x : Act) (e : KindEvent) → kind_event_in x ≡ Some e → ((r : KindReply) → told_by e r ≡ None) → IsAsked K x t → told_in (K t) ≡ told_in (rest_of (K t))
+  told-install K t x e is_event none h =
+      let event : h.first.event ≡ e = same_Some h.first.event e (sym h.event ∙ is_event) in
+      let nothing : told_by h.first.event h.first.reply ≡ None = ap (λ y. told_by y h.first.reply) event ∙ none h.first.reply in
+      ap told_in h.queue ∙ (ap (λ o. and_told o (told_in h.others)) nothing ∙ sym (ap (λ es. told_in (rest_of es)) h.queue))
+
+  -- of a line that asks a type
+  told-asking : (K : KindQueues) (r : OwnTelling) (x : Act) (u t : ℕ) → (calls_kind t x ≡ eqb u t) → kind_event_in x ≡ Some kind_event.Newest → (calls_kind t x ≡ true → IsAsked K x t) → r t ≡ told_in (K t) → (if eqb t u then rest_of (r t) else r t) ≡ told_in (if calls_kind t x then rest_of (K t) else K t)
+  told-asking K r x u t calls newest asked_now same =
+      dite (ℕ_discrete t u)
+      (λ (here : t ≡ u).
+      let yes : calls_kind t x ≡ true = calls ∙ eq-eqb u t (sym here) in
+      ap (λ test. if test then rest_of (r t) else r t) (eq-eqb t u here)
+      ∙ (ap rest_of same ∙ (told-rest K x t yes newest (asked_now yes) ∙ sym (ap (λ test. told_in (if test then rest_of (K t) else K t)) yes))))
+      (λ (not : t ≢ u).
+      let no : calls_kind t x ≡ false = calls ∙ ne_eqb u t (λ is. not (sym is)) in
+      ap (λ test. if test then rest_of (r t) else r t) (ne_eqb t u not) ∙ (same ∙ sym (ap (λ test. told_in (if test then rest_of (K t) else K t)) no)))
+
+  told-then : (K : KindQueues) (r : OwnTelling) (x : Act) (t : ℕ) → (calls_kind t x ≡ true → IsAsked K x t) → r t ≡ told_in (K t) → own_then r (asks x) t ≡ told_in (kinds_then K x t)
+  told-then K r (act.Create c) t asked_now same = told-asking K r (act.Create c) c.type_no t refl refl asked_now same
+  told-then K r (act.Start c n) t asked_now same = same
+  told-then K r (act.Withdraw c n) t asked_now same = same
+  told-then K r (act.End c n writes choice) t asked_now same = same
+  told-then K r (act.Change c ops) t asked_now same = same
+  told-then K r (act.Install u ops) t asked_now same = by (u == t) refl
+    where
+      by : (test : Bool) → (u == t) ≡ test → r t ≡ told_in (if test then rest_of (K t) else K t)
+      by true calls = same ∙ told-install K t (act.Install u ops) (kind_event.Install ops) refl (λ reply. refl) (asked_now calls)
+      by false not = same
+  told-then K r (act.Migrate u) t asked_now same = told-asking K r (act.Migrate u) u t refl refl asked_now same
+
+  pub asks-then : (K : KindQueues) (r : OwnTelling) (l : Line) (ls : List Line) → AsksReady K r (l ∷ ls) → AsksReady (kinds_then K l.act) (own_then r (asks l.act)) ls
+  asks-then K r l ls ready = record {
+    kinds = λ t low. rest-fits FitKind kind-rest (calls_kind t l.act) (K t) l (filter (to_kind t) ls) (ready.kinds t low);
+    own = λ t low. rest-rows IsOfActor (calls_kind t l.act) (K t) (ready.own t low);
+    told = λ t low. told-then K r l.act t (λ calls. asked-kind K r l ls ready t low calls) (ready.told t low);
+  }
+
+  pub cases-then : (C : CaseQueues) (r : OwnTelling) (l : Line) (ls : List Line) → CasesReady C r (l ∷ ls) → CasesReady (cases_then C l.act) (own_then r (asks l.act)) ls
+  cases-then C r l ls ready = record {
+    cases = λ c declared. rest-fits (FitCase f) case-rest (calls_case c l.act) (C c) (l, own_version r (asks l.act)) (filter (to_case c) (asked_own (own_then r (asks l.act)) ls)) (ready.cases c declared);
+    own = λ c declared. rest-rows OfActor (calls_case c l.act) (C c) (ready.own c declared);
+  }
+
+  -- the version that a line asks for is the first that is told
+  version-first : (K : KindQueues) (r : OwnTelling) (ls : List Line) (o : Option ℕ) (t : ℕ) → AsksReady K r ls → t < length f.types → o ≡ Some t → own_version r o ≡ first_of (told_in (K t))
+  version-first K r ls o t ready low is = ap (own_version r) is ∙ ap first_of (ready.told t low)
+
+  pub line-calls : (K : KindQueues) (C : CaseQueues) (r : OwnTelling) (l : Line) (ls : List Line) → IsKnownAct (length f.types) f.cases l.act → l.actor ≡ a → AsksReady K r (l ∷ ls) → CasesReady C r (l ∷ ls)
+      → AreCallsOf (declared_cases f) (roles_of f a) a l.act (calls_at (declared_cases f) K C l.act)
+  line-calls K C r l ls known own asking telling =
+      calls-are K C (own_version r (asks l.act)) l.act known
+      (λ t low calls. asked-kind K r l ls asking t low calls, λ c declared calls. told-case C r l ls own telling c declared calls, λ t low is. version-first K r (l ∷ ls) (asks l.act) t asking low is)
+
+  -- there is a version for each line that asks
+  pub version-there : (K : KindQueues) (r : OwnTelling) (l : Line) (ls : List Line) (t : ℕ) → AsksReady K r (l ∷ ls) → t < length f.types → calls_kind t l.act ≡ true → kind_event_in l.act ≡ Some kind_event.Newest → asks l.act ≡ Some t → (v : VersionModel) × (own_version r (asks l.act) ≡ Some v)
+  version-there K r l ls t ready low calls newest asking =
+      let h = asked-kind K r l ls ready t low calls in
+      let event : h.first.event ≡ kind_event.Newest = same_Some h.first.event kind_event.Newest (sym h.event ∙ newest) in
+      let (v, reply) = h.tells event in
+      let is : h.first ≡ entry a kind_event.Newest (kind_answer.Is v) = entry-is h.first a kind_event.Newest (kind_answer.Is v) h.caller event reply in
+      let queue : K t ≡ entry a kind_event.Newest (kind_answer.Is v) ∷ h.others = h.queue ∙ ap (λ e. e ∷ h.others) is in
+      (v, version-first K r (l ∷ ls) (asks l.act) t ready low asking ∙ ap (λ es. first_of (told_in es)) queue)
+
+  -- ---- lines one after another
+  abbrev pub KnownOwn : Line → Type 0
+  KnownOwn l = IsKnownAct (length f.types) f.cases l.act × (l.actor ≡ a)
+
+  pub record LinesDone (K : KindQueues) (C : CaseQueues) (r : OwnTelling) (ls rest : List Line) : Type 0 where
+    pub calls : AreCallsOfLines (declared_cases f) (roles_of f a) a ls (calls_along (declared_cases f) K C ls)
+    pub asking : AsksReady (kinds_left (declared_cases f) K ls) (own_left r ls) rest
+    pub telling : CasesReady (cases_left (declared_cases f) C ls) (own_left r ls) rest
+
+  pub lines-done : (ls rest : List Line) (K : KindQueues) (C : CaseQueues) (r : OwnTelling) → AllRows KnownOwn ls → AsksReady K r (ls ++ rest) → CasesReady C r (ls ++ rest) → LinesDone K C r ls rest
+  lines-done [] rest K C r known asking telling = record { calls = refl; asking = asking; telling = telling }
+  lines-done (l ∷ ls) rest K C r ((act_known, own), known) asking telling =
+      let here = line-calls K C r l (ls ++ rest) act_known own asking telling in
+      let more = lines-done ls rest (kinds_then K l.act) (cases_then C l.act) (own_then r (asks l.act)) known (asks-then K r l (ls ++ rest) asking) (cases-then C r l (ls ++ rest) telling) in
+      record {
+        calls = (calls_at (declared_cases f) K C l.act, calls_along (declared_cases f) (kinds_then K l.act) (cases_then C l.act) ls, refl, here, more.calls);
+        asking = more.asking;
+        telling = more.telling;
+      }

@@ -1,0 +1,217 @@
+-- Lines that ask little: what their events weigh, and how old a case is behind them.
+use Rattle.std.proofs.Common.{◌≡◌, ℕ, zero, suc, ◌+◌, ◌<◌, ◌≤◌, ◌==◌, Bool, true, false, List, [], ◌∷◌, ◌++◌, length, length-append, map, Option, Some, None, refl, sym, ap, ◌∙◌, subst, arith, if◌then◌else◌}
+use Rattle.std.proofs.lemmas.List.Sums.{sum_by-cons}
+use Rattle.std.specs.Prelude.{filter, slice_set}
+use Rattle.audit_facts.specs.Facts.{IsAuditable, WritesOneLine}
+use Rattle.audit_model.specs.Asked.{Asked, Telling, asked_lines, asked_phases, asks, case_event_in, case_event_of, created_by, kind_event_in, left_to_tell, migrated_by, told_at, version_for}
+use Rattle.audit_model.specs.Owed.{calls_kind, owed_kind}
+use Rattle.audit_model.proofs.KeptValues.{case-kept}
+use Rattle.audit_model.specs.Kept.{KeptCase, WritesValues}
+use Rattle.case_core.proofs.AgesOfSteps.{age-next_case}
+use Rattle.case_core.specs.Ages.{weight}
+use Rattle.case_core.specs.CaseModel.{not_created}
+use Rattle.case_core.specs.Machine.{case_after}
+use Rattle.case_core.specs.declared.events.Event.{Event}
+use Rattle.case_core.specs.declared.events.Event.TheVariants as event
+use Rattle.file_facts.specs.Facts.{IsKnown, IsKnownAct, IsWorkable, lines_in}
+use Rattle.file_model.specs.Sizes.{act_effort}
+use Rattle.file_model.specs.declared.files.Act.{Act}
+use Rattle.file_model.specs.declared.files.Act.TheVariants as act
+use Rattle.file_model.specs.declared.files.CaseDecl.{CaseDecl}
+use Rattle.file_model.specs.declared.files.File.{File}
+use Rattle.file_model.specs.declared.files.Line.{Line}
+use Rattle.line_followers.proofs.Dues.{filled-many}
+use Rattle.line_followers.specs.Filled.{filled}
+use Rattle.line_followers.specs.Turns.{AreTurns, behind_front, one_taken, queue_of}
+use Rattle.line_readers.specs.Owed.{how_many}
+use Rattle.script_run.specs.Entries.{CaseEntry}
+use Rattle.script_run.specs.declared.runs.ClosedCase.{ClosedCase}
+use Rattle.type_core.specs.Machine.{weight as kind_weight}
+use Rattle.type_core.specs.declared.events.KindEvent.{KindEvent}
+use Rattle.type_core.specs.declared.events.KindEvent.TheVariants as kind_event
+use Rattle.wsm_lists.specs.Rows.{AllRows}
+use Rattle.wsm_sound.specs.VersionModel.{VersionModel}
+use Rattle.audit_model.specs.Cases.{IsSteady}
+use Rattle.audit_model.specs.Lines.{IsModest, actor_of, line_of}
+
+-- ---- the queues of actors
+module _ {L : Type 0} (P : L → Type 0) where
+  behind-rows : (ls : List L) → AllRows P ls → AllRows P (behind_front ls)
+  behind-rows [] all = tt
+  behind-rows (l ∷ ls) (one, all) = all
+
+  queue-rows : (queues : List (List L)) (a : ℕ) → AllRows (AllRows P) queues → AllRows P (queue_of queues a)
+  queue-rows [] a all = tt
+  queue-rows (q ∷ qs) zero (one, all) = one
+  queue-rows (q ∷ qs) (suc a) (one, all) = queue-rows qs a all
+
+  set-rows : (queues : List (List L)) (a : ℕ) (q : List L) → AllRows (AllRows P) queues → AllRows P q → AllRows (AllRows P) (slice_set queues a q)
+  set-rows [] a q all new = tt
+  set-rows (x ∷ xs) zero q (one, all) new = (new, all)
+  set-rows (x ∷ xs) (suc a) q (one, all) new = (one, set-rows xs a q all new)
+
+  pub taken-rows : (queues : List (List L)) (a : ℕ) → AllRows (AllRows P) queues → AllRows (AllRows P) (one_taken a queues)
+  taken-rows queues a all = set-rows queues a (behind_front (queue_of queues a)) all (behind-rows (queue_of queues a) (queue-rows queues a all))
+
+  pub front-row : (queues : List (List L)) (a : ℕ) (l : L) (ls : List L) → AllRows (AllRows P) queues → queue_of queues a ≡ l ∷ ls → P l
+  front-row queues a l ls all is = (subst (AllRows P) is (queue-rows queues a all)).0
+
+  filter-rows : (p : L → Bool) (ls : List L) → AllRows P ls → AllRows P (filter p ls)
+  filter-rows p [] all = tt
+  filter-rows p (l ∷ ls) (one, all) = by (p l) (filter-rows p ls all)
+    where
+      by : (test : Bool) → AllRows P (filter p ls) → AllRows P (if test then l ∷ filter p ls else filter p ls)
+      by true more = (one, more)
+      by false more = more
+
+  from-queues : (queues : List (List L)) → ((a : ℕ) → a < length queues → AllRows P (queue_of queues a)) → AllRows (AllRows P) queues
+  from-queues [] each = tt
+  from-queues (q ∷ qs) each = (each 0 (omega arith), from-queues qs (λ a low. each (suc a) (omega (arith, low))))
+
+  pub turns-rows : (actor_of : L → ℕ) (actors : ℕ) (queues : List (List L)) (phase : List L) → AreTurns actor_of actors queues phase → AllRows P phase → AllRows (AllRows P) queues
+  turns-rows actor_of actors queues phase (many, same) all =
+      from-queues queues (λ a low. subst (AllRows P) (sym (same a (omega (arith, many, low)))) (filter-rows (λ l. actor_of l == a) phase all))
+
+  filled-rows : (phases : List (List L)) → AllRows (AllRows P) phases → AllRows (AllRows P) (filled phases)
+  filled-rows [] all = tt
+  filled-rows ([] ∷ phases) (one, all) = filled-rows phases all
+  filled-rows ((l ∷ ls) ∷ phases) (one, all) = (one, filled-rows phases all)
+
+  each-filtered : (p : L → Bool) (phases : List (List L)) → AllRows (AllRows P) phases → AllRows (AllRows P) (map (λ lines. filter p lines) phases)
+  each-filtered p [] all = tt
+  each-filtered p (lines ∷ phases) (one, all) = (filter-rows p lines one, each-filtered p phases all)
+
+  pub called-rows : (p : L → Bool) (phases : List (List L)) → AllRows (AllRows P) phases → AllRows (AllRows P) (filled (map (λ lines. filter p lines) phases))
+  called-rows p phases all = filled-rows (map (λ lines. filter p lines) phases) (each-filtered p phases all)
+
+-- ---- what events weigh
+pub kind-light : (x : Act) (e : KindEvent) → act_effort x ≤ 768 → kind_event_in x ≡ Some e → kind_weight e ≤ 768
+kind-light (act.Create c) e few is = let same : kind_event.Newest ≡ e = cc is in rw (← same) (omega arith)
+kind-light (act.Install t ops) e few is = let same : kind_event.Install ops ≡ e = cc is in rw (← same) few
+kind-light (act.Migrate t) e few is = let same : kind_event.Newest ≡ e = cc is in rw (← same) (omega arith)
+kind-light (act.Start c n) e few is = absurd (cc (is))
+kind-light (act.Withdraw c n) e few is = absurd (cc (is))
+kind-light (act.End c n writes choice) e few is = absurd (cc (is))
+kind-light (act.Change c ops) e few is = absurd (cc (is))
+
+created-light : (o : Option VersionModel) (e : Event) → created_by o ≡ Some e → weight e ≤ 768
+created-light None e is = absurd (cc (is))
+created-light (Some v) e is = let same : event.Create v ≡ e = cc is in rw (← same) (omega arith)
+
+migrated-light : (o : Option VersionModel) (e : Event) → migrated_by o ≡ Some e → weight e ≤ 768
+migrated-light None e is = absurd (cc (is))
+migrated-light (Some v) e is = let same : event.Migrate v ≡ e = cc is in rw (← same) (omega arith)
+
+event-light : (roles : List ℕ) (a : ℕ) (o : Option VersionModel) (x : Act) (e : Event) → act_effort x ≤ 768 → case_event_in roles a o x ≡ Some e → weight e ≤ 768
+event-light roles a o (act.Create c) e few is = created-light o e is
+event-light roles a o (act.Start c n) e few is = let same : event.Start n a roles ≡ e = cc is in rw (← same) (omega arith)
+event-light roles a o (act.Withdraw c n) e few is = let same : event.Withdraw n a ≡ e = cc is in rw (← same) (omega arith)
+event-light roles a o (act.End c n writes choice) e few is = let same : event.End n a choice writes ≡ e = cc is in rw (← same) (omega arith)
+event-light roles a o (act.Change c ops) e few is = let same : event.Change ops ≡ e = cc is in rw (← same) few
+event-light roles a o (act.Install t ops) e few is = absurd (cc (is))
+event-light roles a o (act.Migrate t) e few is = migrated-light o e is
+
+pub case-light : (f : File) (l : Asked) (e : Event) → IsModest l → case_event_of f l ≡ Some e → weight e ≤ 768
+case-light f l e modest is = event-light _ l.0.actor l.1 l.0.act e modest.1 is
+
+-- ---- a case between two lines
+pub steady-begun : (t : ℕ) → IsSteady (record { machine = not_created t; journal = [] })
+steady-begun t = (tt, omega arith)
+
+pub steady-on : (from to : ClosedCase) (e : Event) (made : CaseEntry) → IsSteady from → WritesValues e → weight e ≤ 768 → to.machine ≡ case_after from.machine e → to.journal ≡ from.journal ++ made ∷ [] → IsSteady to
+steady-on from to e made (kept, young) writes light machine journal =
+    let long : length to.journal ≡ length from.journal + 1 = ap (λ (es : List CaseEntry). length es) journal ∙ length-append from.journal (made ∷ []) in
+    let older = age-next_case from.machine e in (
+      subst KeptCase (sym machine) (case-kept from.machine e kept writes),
+      rw (machine, long) (omega (arith, older, young, light)),
+    )
+
+-- ---- the lines of a file
+abbrev pub IsModestLine : Line → Type 0
+IsModestLine l = WritesOneLine l × (act_effort l.act ≤ 768)
+
+known-light : (types : ℕ) (cases : List CaseDecl) (x : Act) → IsKnownAct types cases x → act_effort x ≤ 768
+known-light types cases (act.Create c) known = omega arith
+known-light types cases (act.Start c n) known = omega arith
+known-light types cases (act.Withdraw c n) known = omega arith
+known-light types cases (act.End c n writes choice) known = omega arith
+known-light types cases (act.Change c ops) known = omega (arith, known.1)
+known-light types cases (act.Install t ops) known = omega (arith, known.1)
+known-light types cases (act.Migrate t) known = omega arith
+
+lines-modest : (types actors : ℕ) (cases : List CaseDecl) (lines : List Line) → AllRows (IsKnown types actors cases) lines → AllRows WritesOneLine lines → AllRows IsModestLine lines
+lines-modest types actors cases [] known writes = tt
+lines-modest types actors cases (l ∷ ls) (one, known) (shown, writes) = ((shown, known-light types cases l.act one.act), lines-modest types actors cases ls known writes)
+
+phases-modest : (types actors : ℕ) (cases : List CaseDecl) (phases : List (List Line)) → AllRows (AllRows (IsKnown types actors cases)) phases → AllRows (AllRows WritesOneLine) phases → AllRows (AllRows IsModestLine) phases
+phases-modest types actors cases [] known writes = tt
+phases-modest types actors cases (lines ∷ phases) (one, known) (shown, writes) = (lines-modest types actors cases lines one shown, phases-modest types actors cases phases known writes)
+
+asked-modest : (q : Telling) (lines : List Line) → AllRows IsModestLine lines → AllRows IsModest (asked_lines q lines)
+asked-modest q [] all = tt
+asked-modest q (l ∷ ls) (one, all) = (one, asked-modest (told_at q l.actor (asks l.act)) ls all)
+
+script-modest : (q : Telling) (phases : List (List Line)) → AllRows (AllRows IsModestLine) phases → AllRows (AllRows IsModest) (asked_phases q phases)
+script-modest q [] all = tt
+script-modest q (lines ∷ phases) (one, all) = (asked-modest q lines one, script-modest (left_to_tell q lines) phases all)
+
+pub file-modest : (f : File) (q : Telling) → IsWorkable f → IsAuditable f → AllRows (AllRows IsModest) (asked_phases q f.phases)
+file-modest f q workable auditable = script-modest q f.phases (phases-modest (length f.types) (length f.actors) f.cases f.phases workable.known auditable.writes)
+
+-- ---- how many lines are owed
+few-filtered : {L : Type 0} (p : L → Bool) (ls : List L) → length (filter p ls) ≤ length ls
+few-filtered p [] = omega arith
+few-filtered {L} p (l ∷ ls) = by (p l) (few-filtered p ls)
+  where
+    by : (test : Bool) → length (filter p ls) ≤ length ls → length (if test then l ∷ filter p ls else filter p ls) ≤ suc (length ls)
+    by true few = omega (arith, few)
+    by false few = omega (arith, few)
+
+few-called : {L : Type 0} (p : L → Bool) (phases : List (List L)) → how_many (map (λ lines. filter p lines) phases) ≤ how_many phases
+few-called p [] = omega arith
+few-called p (lines ∷ phases) = let one = few-filtered p lines in let more = few-called p phases in omega (arith, one, more)
+
+many-lines : (q : Telling) (lines : List Line) → length (asked_lines q lines) ≡ length lines
+many-lines q [] = refl
+many-lines q (l ∷ ls) = ap suc (many-lines (told_at q l.actor (asks l.act)) ls)
+
+many-asked : (q : Telling) (phases : List (List Line)) → how_many (asked_phases q phases) ≡ lines_in phases
+many-asked q [] = refl
+many-asked q (lines ∷ phases) =
+    let one = many-lines q lines in
+    let more = many-asked (left_to_tell q lines) phases in
+    let all = sum_by-cons (λ (ls : List Line). length ls) lines phases in
+    omega (arith, one, more, all)
+
+pub few-filled : {L : Type 0} (p : L → Bool) (phases : List (List L)) → how_many phases ≤ 60000 → how_many (filled (map (λ lines. filter p lines) phases)) ≤ 60000
+few-filled p phases few =
+    let called = few-called p phases in
+    let same = filled-many (map (λ lines. filter p lines) phases) in
+    omega (arith, few, called, same)
+
+pub few-asked : (f : File) (q : Telling) → IsWorkable f → how_many (asked_phases q f.phases) ≤ 60000
+few-asked f q workable = let lines = many-asked q f.phases in omega (arith, lines, workable.lines)
+
+-- ---- what is owed to a type, without versions
+lines-again : (q : Telling) (t : ℕ) (lines : List Line) → map line_of (filter (λ (l : Asked). calls_kind t l.0.act) (asked_lines q lines)) ≡ filter (λ (l : Line). calls_kind t l.act) lines
+lines-again q t [] = refl
+lines-again q t (l ∷ ls) = by (calls_kind t l.act) (filter (λ (x : Asked). calls_kind t x.0.act) (asked_lines (told_at q l.actor (asks l.act)) ls)) (filter (λ (x : Line). calls_kind t x.act) ls) (lines-again (told_at q l.actor (asks l.act)) t ls)
+  where
+    by : (test : Bool) (xs : List Asked) (ys : List Line) → map line_of xs ≡ ys → map line_of (if test then (l, version_for q l.actor (asks l.act)) ∷ xs else xs) ≡ (if test then l ∷ ys else ys)
+    by true xs ys same = ap (λ zs. l ∷ zs) same
+    by false xs ys same = same
+
+phases-again : (q : Telling) (t : ℕ) (phases : List (List Line))
+    → map (map line_of) (map (λ lines. filter (λ (l : Asked). calls_kind t l.0.act) lines) (asked_phases q phases)) ≡ map (λ lines. filter (λ (l : Line). calls_kind t l.act) lines) phases
+phases-again q t [] = refl
+phases-again q t (lines ∷ phases) =
+    ap (λ xs. xs ∷ map (map line_of) (map (λ ls. filter (λ (l : Asked). calls_kind t l.0.act) ls) (asked_phases (left_to_tell q lines) phases))) (lines-again q t lines)
+    ∙ ap (λ xs. filter (λ (l : Line). calls_kind t l.act) lines ∷ xs) (phases-again (left_to_tell q lines) t phases)
+
+filled-again : (phases : List (List Asked)) → map (map line_of) (filled phases) ≡ filled (map (map line_of) phases)
+filled-again [] = refl
+filled-again ([] ∷ phases) = filled-again phases
+filled-again ((l ∷ ls) ∷ phases) = ap (λ xs. (line_of l ∷ map line_of ls) ∷ xs) (filled-again phases)
+
+pub kind-owed : (f : File) (q : Telling) (t : ℕ) → map (map line_of) (filled (map (λ lines. filter (λ (l : Asked). calls_kind t l.0.act) lines) (asked_phases q f.phases))) ≡ filled (owed_kind f t)
+kind-owed f q t = filled-again (map (λ lines. filter (λ (l : Asked). calls_kind t l.0.act) lines) (asked_phases q f.phases)) ∙ ap filled (phases-again q t f.phases)

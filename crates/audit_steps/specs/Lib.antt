@@ -1,4 +1,0 @@
-pub mod Lines
-pub mod Judging
-pub mod Kinds
-pub mod Cases
