@@ -4,10 +4,10 @@ use Rattle.std.proofs.lemmas.Option.{same_Some, slice_get-get_or}
 use Rattle.std.specs.List.{AllZip, range_with_len}
 use Rattle.audit_model.specs.Asked.{Asked, owed_case}
 use Rattle.audit_model.specs.ReportReader.{case_reader, cases_reader}
-use Rattle.audit_owed.proofs.OwedOf.{owed-filled}
-use Rattle.audit_owed.specs.Owing.{calls_decl, numbers, owed_of}
-use Rattle.audit_owed.specs.Sharing.{given}
-use Rattle.audit_owed.specs.declared.owed.Owed.{Owed}
+use Rattle.case_audit.proofs.OwedOf.{owed-filled}
+use Rattle.case_audit.specs.Owing.{calls_decl, numbers, owed_of}
+use Rattle.case_audit.specs.Sharing.{given}
+use Rattle.case_audit.specs.declared.owed.Owed.{Owed}
 use Rattle.audit_model.proofs.ReadersInRow.{case-on, case-stops}
 use Rattle.audit_model.specs.Cases.{InCases}
 use Rattle.case_audit.specs.Sections.{AreModest, AreSections, HasScript, IsCaseAt, IsModestOwed, IsSection}

@@ -7,10 +7,10 @@ use Rattle.std.specs.Prelude.{filter}
 use Rattle.audit_facts.specs.Facts.{IsAuditable}
 use Rattle.audit_model.specs.Asked.{Asked, Telling, asked_phases}
 use Rattle.audit_model.specs.Owed.{owed_kind}
-use Rattle.audit_owed.proofs.OwedOf.{owed-filled, owed-many}
-use Rattle.audit_owed.specs.Owing.{calls_number, numbers, owed_of}
-use Rattle.audit_owed.specs.Sharing.{given}
-use Rattle.audit_owed.specs.declared.owed.Owed.{Owed}
+use Rattle.case_audit.proofs.OwedOf.{owed-filled, owed-many}
+use Rattle.case_audit.specs.Owing.{calls_number, numbers, owed_of}
+use Rattle.case_audit.specs.Sharing.{given}
+use Rattle.case_audit.specs.declared.owed.Owed.{Owed}
 use Rattle.audit_model.proofs.Modest.{called-rows, file-modest, kind-owed}
 use Rattle.audit_model.specs.Kinds.{owed_lines}
 use Rattle.audit_model.specs.Lines.{IsModest, line_of}

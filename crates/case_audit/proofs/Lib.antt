@@ -1,3 +1,17 @@
+pub mod Sharing
+pub mod QueueLists
+pub mod Changes
+pub mod Fronts
+pub mod Scripts
+pub mod Telling
+pub mod Cells
+pub mod OwedOf
+pub mod Names
+pub mod AllTurns
+pub mod Exits
+pub mod OwedPhases
+pub mod KindParts
+pub mod CaseParts
 pub mod FileLengths
 pub mod ReportParts
 pub mod FirstLines

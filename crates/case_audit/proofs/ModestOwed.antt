@@ -2,10 +2,10 @@
 use Rattle.std.proofs.Common.{◌≡◌, ◌≤◌, List, map, subst}
 use Rattle.std.specs.Prelude.{filter}
 use Rattle.audit_model.specs.Asked.{Asked}
-use Rattle.audit_owed.proofs.OwedOf.{each-owed}
-use Rattle.audit_owed.specs.Owing.{calls_decl, numbers, owed_of}
-use Rattle.audit_owed.specs.Sharing.{given}
-use Rattle.audit_owed.specs.declared.owed.Owed.{Owed}
+use Rattle.case_audit.proofs.OwedOf.{each-owed}
+use Rattle.case_audit.specs.Owing.{calls_decl, numbers, owed_of}
+use Rattle.case_audit.specs.Sharing.{given}
+use Rattle.case_audit.specs.declared.owed.Owed.{Owed}
 use Rattle.audit_model.proofs.Modest.{called-rows, few-filled}
 use Rattle.audit_model.specs.Lines.{IsModest}
 use Rattle.case_audit.specs.Sections.{AreModest}

@@ -1,3 +1,8 @@
+pub mod Asking
+pub mod Sharing
+pub mod Owing
+pub mod Callers
+pub mod Queues
 pub mod Verdicts
 pub mod Parts
 pub mod Sections

@@ -3,9 +3,9 @@ use Rattle.std.specs.Prelude.{◌≡◌, ℕ, ◌<◌, ◌≤◌, List, length, 
 use Rattle.audit_facts.specs.Facts.{IsAuditable}
 use Rattle.audit_model.specs.Asked.{Asked}
 use Rattle.audit_model.specs.ReportReader.{case_reader}
-use Rattle.audit_owed.specs.Owing.{calls_decl, numbers, owed_of}
-use Rattle.audit_owed.specs.Sharing.{given}
-use Rattle.audit_owed.specs.declared.owed.Owed.{Owed}
+use Rattle.case_audit.specs.Owing.{calls_decl, numbers, owed_of}
+use Rattle.case_audit.specs.Sharing.{given}
+use Rattle.case_audit.specs.declared.owed.Owed.{Owed}
 use Rattle.audit_model.specs.Lines.{IsModest}
 use Rattle.case_audit.specs.declared.sections.Section.{Section}
 use Rattle.file_facts.specs.Facts.{IsWorkable}

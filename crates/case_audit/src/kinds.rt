@@ -1,54 +1,243 @@
-// The types of a report, one after another.
-ghost use Rattle.std.specs.Prelude.{◌≡◌, [], length, option_map, IfOk};
-ghost use Rattle.std.specs.List.{range_with_len};
+// A type of a report.
+ghost use Rattle.std.specs.Prelude.{◌≡◌, ◌≤◌, ◌<◌, ◌+◌, ◌++◌, ◌∷◌, [], List, length, map, option_map, IfOk, OnOk, Some, true};
+ghost use Rattle.adept_io.specs.Written.{Gives};
 ghost use Rattle.audit_facts.specs.Facts.{IsAuditable};
-ghost use Rattle.audit_model.specs.Asked.{asked_phases};
-ghost use Rattle.audit_model.specs.ReportReader.{kinds_reader, telling};
-ghost use Rattle.audit_owed.specs.Owing.{calls_number, numbers};
-ghost use Rattle.audit_owed.specs.Sharing.{given};
+ghost use Rattle.audit_model.specs.Asked.{Asked, kind_event_in};
+ghost use Rattle.audit_model.specs.Judging.{FollowedBy};
+ghost use Rattle.audit_model.specs.Kinds.{LineJudged, PhaseJudged, owed_lines};
+ghost use Rattle.audit_model.specs.Lines.{IsModest, actor_of};
+ghost use Rattle.audit_model.specs.Owed.{owed_kind};
+ghost use Rattle.audit_model.specs.ReportReader.{defined_line, kind_reader};
+ghost use Rattle.case_audit.specs.Asking.{asked_in};
+ghost use Rattle.case_audit.specs.Owing.{owed_of};
+ghost use Rattle.case_audit.specs.Queues.{queues_of};
 ghost use Rattle.file_facts.specs.Facts.{IsWorkable};
+ghost use Rattle.line_followers.specs.Filled.{filled};
 ghost use Rattle.line_followers.specs.Follows.{Follows};
+ghost use Rattle.line_followers.specs.Turns.{AreTurns};
+ghost use Rattle.report_text.specs.Journals.{kind_line};
+ghost use Rattle.report_text.specs.Report.{type_head};
+ghost use Rattle.script_run.specs.Serial.{defined};
+ghost use Rattle.turn_cell.specs.History.{entry};
+ghost use Rattle.type_core.specs.Machine.{kind_after, kind_reply, weight};
+ghost use Rattle.wsm_lists.specs.Rows.{AllRows};
+ghost use Rattle.wsm_schema.specs.Flat.{cards_of};
 
-use audit_journals::judge_kind;
-use audit_owed::{Owed, asked_phases, owed_kinds};
-use file_model::File;
-use script_run::ClosedKind;
-use std::alloc::Global;
-use text_follower::Follower;
+use crate::asked::AskedLine;
+use crate::callers::caller_in;
+use crate::owed::Owed;
+use crate::turns::Turns;
+use file_model::{Act, File, TypeDecl};
+use report_text::{put_kind_line, put_type_head};
+use script_run::{ClosedKind, KindEntry, KindJournal};
+use std::alloc::{AllocError, Global};
+use text_follower::{Follower, GrowingSink};
+use turn_cell::Machine;
+use type_core::{Kind, KindEvent};
 use wsm_lists::NoMemory;
 
-/// The types as their journals tell them. None where a line is wrong.
-pub fn judge_kinds(
-    alloc: Global,
-    file: &File,
-    report: &mut Follower<'_>,
-) -> Result<Option<Vec<ClosedKind>>, NoMemory>
-    requires workable { IsWorkable file.now }
-    requires auditable { IsAuditable file.now }
-    ensures { IfOk result (λ kinds. Follows (kinds_reader file.now 0 file.now.types) report.old report.new (option_map (λ all. all.items) kinds)) }
-{
-    let phases = asked_phases(alloc, file, &[])?;
-    let owed = owed_kinds(alloc, file.types.len(), phases.as_slice())?;
-    judge_each(alloc, file, owed.as_slice(), report)
-}
+/// The number of the program itself.
+const PROGRAM: u32 = 0;
 
-fn judge_each(
+/// A type as its journal tells it, from its line on. None where a line is wrong.
+pub fn judge_kind(
     alloc: Global,
     file: &File,
-    owed: &[Owed<'_>],
+    number: u32,
+    decl: &TypeDecl,
+    owed: &Owed<'_>,
     report: &mut Follower<'_>,
-) -> Result<Option<Vec<ClosedKind>>, NoMemory>
+) -> Result<Option<ClosedKind>, NoMemory>
     requires workable { IsWorkable file.now }
     requires auditable { IsAuditable file.now }
-    requires owed { numbers owed.now ≡ given calls_number (range_with_len 0 (length file.now.types)) (asked_phases (telling []) file.now.phases) }
-    ensures { IfOk result (λ kinds. Follows (kinds_reader file.now 0 file.now.types) report.old report.new (option_map (λ all. all.items) kinds)) }
+    requires small { length (cards_of decl.now.schema) ≤ 1024 }
+    requires modest { AllRows (AllRows IsModest) (owed_of owed.now) }
+    requires owed { owed_lines (owed_of owed.now) ≡ filled (owed_kind file.now number) }
+    ensures { IfOk result (Follows (kind_reader file.now number decl.now) report.old report.new) }
 {
-    let mut kinds = Vec::new(alloc);
-    for (index, decl) in file.types.as_slice().iter().enumerate() {
-        match judge_kind(alloc, file, index as u32, decl, &owed[index], report)? {
-            None => return Ok(None),
-            Some(kind) => kinds.push(kind)?,
+    let mut kind = defined(alloc, number, decl)?;
+    if !follow_front(alloc, file, decl, &kind, report)? {
+        return Ok(None);
+    }
+    for phase in owed.phases.as_slice() {
+        if !judge_phase(alloc, file, &mut kind, phase.calls.as_slice(), report)? {
+            return Ok(None);
         }
     }
-    Ok(Some(kinds))
+    Ok(Some(kind))
+}
+
+// A type behind its definition.
+fn defined(alloc: Global, number: u32, decl: &TypeDecl) -> Result<ClosedKind, NoMemory>
+    requires { length (cards_of decl.now.schema) ≤ 1024 }
+    ensures { IfOk result (λ kind. kind ≡ defined number decl.now) }
+{
+    let mut kind = ClosedKind {
+        machine: Kind::new(alloc, number),
+        journal: KindJournal::new(alloc),
+    };
+    let definition = KindEvent::Define(decl.schema.copy(alloc)?);
+    let entry = entry_of(alloc, &mut kind, PROGRAM, definition)?;
+    kind.journal.push(entry)?;
+    Ok(kind)
+}
+
+// The line of a type, and that of its definition.
+fn follow_front(
+    alloc: Global,
+    file: &File,
+    decl: &TypeDecl,
+    kind: &ClosedKind,
+    report: &mut Follower<'_>,
+) -> Result<bool, NoMemory>
+    ensures { IfOk result (FollowedBy (type_head decl.now ++ defined_line file.now kind.now) report.old report.new) }
+{
+    let mut lines = GrowingSink::new(alloc);
+    if !put_front(&mut lines, file, decl, kind) {
+        return Err(AllocError);
+    }
+    Ok(report.follow(lines.as_slice()))
+}
+
+#[tactic(auto, using(adept_io::proofs::Sent::gives_then))]
+fn put_front(lines: &mut GrowingSink, file: &File, decl: &TypeDecl, kind: &ClosedKind) -> bool
+    ensures { Gives (λ s. Some s.bytes) (λ s. s.faults) true result lines.old lines.new (type_head decl.now ++ defined_line file.now kind.now) }
+{
+    let ok = put_type_head(lines, true, decl);
+    put_definition(lines, ok, file, kind)
+}
+
+#[tactic(auto, using(adept_io::proofs::Sent::gives_nothing))]
+fn put_definition(lines: &mut GrowingSink, ok: bool, file: &File, kind: &ClosedKind) -> bool
+    ensures { Gives (λ s. Some s.bytes) (λ s. s.faults) ok result lines.old lines.new (defined_line file.now kind.now) }
+{
+    match kind.journal.get(0) {
+        None => ok,
+        Some(entry) => put_kind_line(lines, ok, file, 1, entry),
+    }
+}
+
+// As many lines of a journal as calls are owed in a phase.
+fn judge_phase(
+    alloc: Global,
+    file: &File,
+    kind: &mut ClosedKind,
+    calls: &[AskedLine<'_>],
+    report: &mut Follower<'_>,
+) -> Result<bool, NoMemory>
+    requires workable { IsWorkable file.now }
+    requires auditable { IsAuditable file.now }
+    requires modest { AllRows IsModest (asked_in calls.now) }
+    ensures { IfOk result (PhaseJudged file.now kind.old report.old kind.new report.new (asked_in calls.now)) }
+{
+    let mut turns = Turns::of(alloc, file.actors.len(), calls)?;
+    for _judged in 0..calls.len() {
+        if !judge_line(alloc, file, kind, &mut turns, report)? {
+            return Ok(false);
+        }
+    }
+    Ok(true)
+}
+
+// A line of a journal: it shows whose turn it is.
+fn judge_line(
+    alloc: Global,
+    file: &File,
+    kind: &mut ClosedKind,
+    turns: &mut Turns<'_>,
+    report: &mut Follower<'_>,
+) -> Result<bool, NoMemory>
+    requires workable { IsWorkable file.now }
+    requires auditable { IsAuditable file.now }
+    requires modest { AllRows (AllRows IsModest) (queues_of turns.old) }
+    ensures judged { (phase : List Asked) → 0 < length phase → AreTurns actor_of (length file.now.actors) (queues_of turns.old) phase
+        → IfOk result (LineJudged file.now kind.old report.old kind.new report.new (queues_of turns.new) phase) }
+    ensures modest { AllRows (AllRows IsModest) (queues_of turns.new) }
+{
+    let place = next_place(kind.journal.as_slice());
+    let Some(caller) = caller_in(file, place, report.rest()) else {
+        return Ok(false);
+    };
+    let Some(call) = turns.next(caller) else {
+        return Ok(false);
+    };
+    match event_of(alloc, &call.line.act)? {
+        None => Ok(false),
+        Some(event) => judge_call(alloc, file, kind, caller, event, report),
+    }
+}
+
+// Makes a call, and follows the line that is printed of it.
+fn judge_call(
+    alloc: Global,
+    file: &File,
+    kind: &mut ClosedKind,
+    caller: u32,
+    event: KindEvent,
+    report: &mut Follower<'_>,
+) -> Result<bool, NoMemory>
+    requires { weight event ≤ 4000000000 }
+    ensures machine { OnOk result (kind.new.machine ≡ kind_after kind.old.machine event) }
+    ensures journal { OnOk result (kind.new.journal ≡ kind.old.journal ++ entry caller event (kind_reply kind.old.machine event) ∷ []) }
+    ensures line { IfOk result (FollowedBy (kind_line file.now (length kind.old.journal + 1) (entry caller event (kind_reply kind.old.machine event))) report.old report.new) }
+{
+    let place = next_place(kind.journal.as_slice());
+    let entry = entry_of(alloc, kind, caller, event)?;
+    let stands = follow_line(alloc, file, place, &entry, report)?;
+    kind.journal.push(entry)?;
+    Ok(stands)
+}
+
+// The number of the next entry.
+fn next_place(journal: &[KindEntry]) -> u64
+    ensures { result ≡ length journal.now + 1 }
+{
+    journal.len() as u64 + 1
+}
+
+// A step of a type, as an entry of its journal.
+fn entry_of(
+    alloc: Global,
+    kind: &mut ClosedKind,
+    caller: u32,
+    event: KindEvent,
+) -> Result<KindEntry, NoMemory>
+    requires { weight event ≤ 4000000000 }
+    ensures entry { IfOk result (λ made. made ≡ entry caller event (kind_reply kind.old.machine event)) }
+    ensures machine { OnOk result (kind.new.machine ≡ kind_after kind.old.machine event) }
+    ensures journal { OnOk result (kind.new.journal ≡ kind.old.journal) }
+{
+    let (reply, _) = kind.machine.step(alloc, &event)?;
+    Ok(KindEntry {
+        caller,
+        event,
+        reply,
+    })
+}
+
+fn follow_line(
+    alloc: Global,
+    file: &File,
+    place: u64,
+    entry: &KindEntry,
+    report: &mut Follower<'_>,
+) -> Result<bool, NoMemory>
+    ensures { IfOk result (FollowedBy (kind_line file.now place entry.now) report.old report.new) }
+{
+    let mut line = GrowingSink::new(alloc);
+    if !put_kind_line(&mut line, true, file, place, entry) {
+        return Err(AllocError);
+    }
+    Ok(report.follow(line.as_slice()))
+}
+
+// The event of a type that a line is.
+fn event_of(alloc: Global, act: &Act) -> Result<Option<KindEvent>, NoMemory>
+    ensures { IfOk result (λ event. event ≡ kind_event_in act.now) }
+{
+    match act {
+        Act::Create(_) | Act::Migrate(_) => Ok(Some(KindEvent::Newest)),
+        Act::Install(_, ops) => Ok(Some(KindEvent::Install(ops.copy(alloc)?))),
+        Act::Start(..) | Act::Withdraw(..) | Act::End(..) | Act::Change(..) => Ok(None),
+    }
 }

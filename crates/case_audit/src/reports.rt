@@ -9,9 +9,9 @@ ghost use Rattle.line_followers.specs.Follows.{left_of};
 ghost use Rattle.report_text.specs.Report.{first_line};
 ghost use Rattle.report_words.specs.Totals.{case_totals, migration_totals};
 
-use crate::kinds::judge_kinds;
+use crate::all_kinds::judge_kinds;
+use crate::asked::asked_phases;
 use crate::sections::judge_cases;
-use audit_owed::asked_phases;
 use file_model::File;
 use report_text::put_first_line;
 use report_words::{put_case_totals, put_migration_totals};

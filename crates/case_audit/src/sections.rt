@@ -2,20 +2,21 @@
 ghost use Rattle.std.specs.Prelude.{◌≡◌, ◌≤◌, ◌<◌, List, length, option_map, IfOk, OnOk};
 ghost use Rattle.audit_facts.specs.Facts.{IsAuditable};
 ghost use Rattle.audit_model.specs.Asked.{Asked};
-ghost use Rattle.audit_model.specs.ReportReader.{cases_reader};
-ghost use Rattle.audit_owed.specs.Asking.{script_of};
-ghost use Rattle.audit_owed.specs.Owing.{calls_decl, numbers};
-ghost use Rattle.audit_owed.specs.Sharing.{given};
 ghost use Rattle.audit_model.specs.Lines.{IsModest};
+ghost use Rattle.audit_model.specs.ReportReader.{cases_reader};
+ghost use Rattle.case_audit.specs.Asking.{script_of};
+ghost use Rattle.case_audit.specs.Owing.{calls_decl, numbers};
 ghost use Rattle.case_audit.specs.Sections.{AreModest, AreSections, CanJudge, HasScript, IsCaseAt, IsSection};
+ghost use Rattle.case_audit.specs.Sharing.{given};
 ghost use Rattle.file_facts.specs.Facts.{IsWorkable};
 ghost use Rattle.line_followers.specs.Follows.{Follows};
 ghost use Rattle.line_readers.specs.Owed.{how_many};
 ghost use Rattle.wsm_lists.specs.Rows.{AllRows};
 
+use crate::asked::AskedLine;
+use crate::cases::judge_case;
+use crate::owed::{Owed, owed_cases};
 use crate::threads::each_below;
-use audit_journals::judge_case;
-use audit_owed::{AskedLine, Owed, owed_cases};
 use file_model::{Act, File};
 use script_run::ClosedCase;
 use std::alloc::Global;

@@ -2,7 +2,7 @@ use Rattle.std.proofs.Common.{◌≡◌, ◌≤◌, ◌++◌, false, true, None,
 use Rattle.std.proofs.lemmas.Result.{IfOk-weaker}
 use Rattle.audit_model.specs.Asked.{asked_phases}
 use Rattle.audit_model.specs.ReportReader.{cases_reader, kinds_reader, telling}
-use Rattle.audit_owed.specs.Asking.{script_of}
+use Rattle.case_audit.specs.Asking.{script_of}
 use Rattle.audit_model.proofs.Modest.{few-asked, file-modest}
 use Rattle.audit_model.specs.Judging.{FollowedBy}
 use Rattle.audit_model.specs.Lines.{IsModest}

@@ -1,8 +1,8 @@
 use Rattle.std.proofs.Common.{◌≡◌, ℕ, ◌+◌, List, length, slice_get, Some, Ok}
 use Rattle.std.specs.Vec.Iter.{into_iter_items, into_iter_len}
 use Rattle.audit_model.specs.Asked.{Asked}
-use Rattle.audit_owed.specs.Owing.{calls_decl, numbers}
-use Rattle.audit_owed.specs.Sharing.{given}
+use Rattle.case_audit.specs.Owing.{calls_decl, numbers}
+use Rattle.case_audit.specs.Sharing.{given}
 use Rattle.audit_model.specs.Cases.{InCases}
 use Rattle.case_audit.specs.Sections.{IsSection}
 use Rattle.case_audit.specs.declared.sections.Section.{Section}

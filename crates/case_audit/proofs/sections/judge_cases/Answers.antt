@@ -1,8 +1,8 @@
 use Rattle.std.proofs.Common.{◌≡◌, length, sym, ap, ◌∙◌, subst, arith}
-use Rattle.audit_owed.proofs.OwedOf.{owed-many}
-use Rattle.audit_owed.specs.Asking.{script_of}
-use Rattle.audit_owed.specs.Owing.{calls_decl, numbers}
-use Rattle.audit_owed.specs.Sharing.{given}
+use Rattle.case_audit.proofs.OwedOf.{owed-many}
+use Rattle.case_audit.specs.Asking.{script_of}
+use Rattle.case_audit.specs.Owing.{calls_decl, numbers}
+use Rattle.case_audit.specs.Sharing.{given}
 use Rattle.case_audit.proofs.ModestOwed.{cases-modest}
 use Rattle.case_audit.specs.Sections.{AreModest, AreSections, HasScript}
 use Rattle.case_audit.proofs.sections.judge_cases.Goals as goal

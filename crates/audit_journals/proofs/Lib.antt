@@ -1,6 +1,0 @@
-pub mod Names
-pub mod AllTurns
-pub mod Exits
-pub mod OwedPhases
-pub mod KindParts
-pub mod CaseParts

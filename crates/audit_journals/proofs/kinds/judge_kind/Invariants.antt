@@ -1,6 +1,0 @@
-use Rattle.audit_owed.specs.Owing.{owed_of}
-use Rattle.audit_model.specs.Kinds.{InPhases}
-use Rattle.audit_journals.proofs.kinds.judge_kind.Given as goal
-
-abbrev pub invariant-loop-phase : goal.invariant-loop-phase
-invariant-loop-phase l = InPhases l.file l.initial.kind l.initial.report l.kind l.report (owed_of l.owed) l.phase-index

@@ -1,7 +1,0 @@
-use Rattle.std.proofs.Common.{◌≡◌, ◌+◌, [], map}
-use Rattle.std.specs.Prelude.{replicate}
-use Rattle.audit_owed.specs.Asking.{asked_in}
-use Rattle.audit_journals.proofs.turns.Turns.none.Given as goal
-
-abbrev pub invariant-loop-made : goal.invariant-loop-made
-invariant-loop-made l = map (λ q. asked_in q.items) l.by_actor.items ≡ replicate (l._made + 1) []

@@ -1,9 +1,0 @@
-use Rattle.std.proofs.Common.{◌≡◌, take}
-use Rattle.audit_owed.specs.Asking.{asked_of}
-use Rattle.audit_owed.specs.Owing.{is_of_type, numbers}
-use Rattle.audit_owed.specs.Sharing.{put_where}
-use Rattle.line_followers.specs.Numbered.{with_line}
-use Rattle.audit_owed.proofs.owed.add_to_each.Given as goal
-
-abbrev pub invariant-loop-place : goal.invariant-loop-place
-invariant-loop-place l = numbers l.owed.items ≡ put_where (is_of_type l.type_no) (with_line l.phase (asked_of l.call)) (take l.place l.cases) (numbers l.fn.owed.items)

@@ -1,8 +1,0 @@
-use Rattle.std.proofs.Common.{◌≡◌, take}
-use Rattle.audit_owed.specs.Asking.{script_of}
-use Rattle.audit_owed.specs.Owing.{calls_decl, numbers}
-use Rattle.audit_owed.specs.Sharing.{given}
-use Rattle.audit_owed.proofs.owed.owed_cases.Given as goal
-
-abbrev pub invariant-loop-phase : goal.invariant-loop-phase
-invariant-loop-phase l = (numbers l.owed.items ≡ given calls_decl l.cases (script_of (take l.phase l.phases))) × (l.declared.cases.now ≡ l.cases)

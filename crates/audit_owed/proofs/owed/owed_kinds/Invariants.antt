@@ -1,9 +1,0 @@
-use Rattle.std.proofs.Common.{◌≡◌, take}
-use Rattle.std.specs.List.{range_with_len}
-use Rattle.audit_owed.specs.Asking.{script_of}
-use Rattle.audit_owed.specs.Owing.{calls_number, numbers}
-use Rattle.audit_owed.specs.Sharing.{given}
-use Rattle.audit_owed.proofs.owed.owed_kinds.Given as goal
-
-abbrev pub invariant-loop-phase : goal.invariant-loop-phase
-invariant-loop-phase l = numbers l.owed.items ≡ given calls_number (range_with_len 0 l.types) (script_of (take l.phase l.phases))

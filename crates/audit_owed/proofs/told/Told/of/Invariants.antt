@@ -1,6 +1,0 @@
-use Rattle.std.proofs.Common.{◌≡◌, ◌++◌, drop, map}
-use Rattle.audit_owed.specs.Asking.{all_told, deques_of}
-use Rattle.audit_owed.proofs.told.Told.of.Given as goal
-
-abbrev pub invariant-loop-kind : goal.invariant-loop-kind
-invariant-loop-kind l = map (λ v. deques_of v.items) l.versions.items ++ all_told l.actors (drop l.kind-index l.kinds) ≡ all_told l.actors l.kinds

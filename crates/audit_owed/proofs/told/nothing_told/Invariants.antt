@@ -1,7 +1,0 @@
-use Rattle.std.proofs.Common.{◌≡◌, ◌+◌, []}
-use Rattle.std.specs.Prelude.{replicate}
-use Rattle.audit_owed.specs.Asking.{deques_of}
-use Rattle.audit_owed.proofs.told.nothing_told.Given as goal
-
-abbrev pub invariant-loop-made : goal.invariant-loop-made
-invariant-loop-made l = deques_of l.told.items ≡ replicate (l._made + 1) []

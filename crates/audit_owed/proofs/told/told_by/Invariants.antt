@@ -1,6 +1,0 @@
-use Rattle.std.proofs.Common.{◌≡◌, drop, fold}
-use Rattle.audit_owed.specs.Asking.{deques_of, journal_told, with_told}
-use Rattle.audit_owed.proofs.told.told_by.Given as goal
-
-abbrev pub invariant-loop-entry : goal.invariant-loop-entry
-invariant-loop-entry l = fold with_told (deques_of l.told.items) (drop l.entry-index l.journal) ≡ journal_told l.actors l.journal

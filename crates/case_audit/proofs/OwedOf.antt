@@ -1,0 +1,59 @@
+-- What is owed to each cell is the lines that call it, without the phases in which none does.
+use Rattle.std.proofs.Common.{◌≡◌, ℕ, zero, suc, ◌<◌, Bool, List, [], ◌∷◌, length, map, get_or, slice_get, Some, refl, sym, ap, ◌∙◌, subst, arith}
+use Rattle.std.specs.Prelude.{filter}
+use Rattle.audit_model.specs.Asked.{Asked}
+use Rattle.case_audit.specs.Owing.{calls_in, numbered_of, numbers, owed_of}
+use Rattle.case_audit.specs.Sharing.{given}
+use Rattle.case_audit.specs.declared.owed.Owed.{Owed}
+use Rattle.case_audit.specs.declared.owed.PhaseCalls.{PhaseCalls}
+use Rattle.line_followers.proofs.Numbered.{numbered-filled}
+use Rattle.line_followers.specs.Filled.{filled}
+use Rattle.line_followers.specs.Numbered.{numbered_from}
+use Rattle.wsm_lists.specs.Rows.{AllRows}
+
+abbrev lines_in : ℕ × List Asked → List Asked
+lines_in q = q.1
+
+without-numbers : (ps : List PhaseCalls) → map calls_in ps ≡ map lines_in (map (λ (p : PhaseCalls). (p.phase, calls_in p)) ps)
+without-numbers [] = refl
+without-numbers (p ∷ ps) = ap (λ xs. calls_in p ∷ xs) (without-numbers ps)
+
+module _ {C : Type 0} (calls : C → Asked → Bool) (script : List (List Asked)) where
+  abbrev owed_by : C → List (List Asked)
+  owed_by c = map (λ lines. filter (λ l. calls c l) lines) script
+
+  one-filled : (o : Owed) (c : C) → numbered_of o ≡ numbered_from 0 (owed_by c) → owed_of o ≡ filled (owed_by c)
+  one-filled o c is = without-numbers o.phases.items ∙ (ap (map lines_in) is ∙ numbered-filled 0 (owed_by c))
+
+  heads : {X : Type 0} {x y : X} {xs ys : List X} → x ∷ xs ≡ y ∷ ys → x ≡ y
+  heads {X} {x} is = ap first is
+    where
+      first : List X → X
+      first [] = x
+      first (z ∷ zs) = z
+
+  tails : {X : Type 0} {x y : X} {xs ys : List X} → x ∷ xs ≡ y ∷ ys → xs ≡ ys
+  tails is = ap rest is
+    where
+      rest : {X : Type 0} → List X → List X
+      rest [] = []
+      rest (z ∷ zs) = zs
+
+  pub owed-filled : (cs : List C) (owed : List Owed) (i : ℕ) (c : C) (o : Owed) → numbers owed ≡ given calls cs script → slice_get cs i ≡ Some c → i < length owed → o ≡ get_or owed i o → owed_of o ≡ filled (owed_by c)
+  owed-filled [] (x ∷ xs) i c o same at low is = absurd (cc (at))
+  owed-filled cs [] i c o same at low is = absurd (omega (arith, low))
+  owed-filled (d ∷ ds) (x ∷ xs) zero c o same at low is =
+      let cell : d ≡ c = cc (at) in
+      one-filled o c (ap numbered_of is ∙ (heads same ∙ ap (λ e. numbered_from 0 (owed_by e)) cell))
+  owed-filled (d ∷ ds) (x ∷ xs) (suc i) c o same at low is = owed-filled ds xs i c o (tails same) at (omega (arith, low)) is
+
+  pub each-owed : (P : List (List Asked) → Type 0) → ((c : C) → P (filled (owed_by c))) → (cs : List C) (owed : List Owed) → numbers owed ≡ given calls cs script → AllRows (λ (o : Owed). P (owed_of o)) owed
+  each-owed P each cs [] same = tt
+  each-owed P each [] (x ∷ xs) same = absurd (cc (same))
+  each-owed P each (d ∷ ds) (x ∷ xs) same = (subst P (sym (one-filled x d (heads same))) (each d), each-owed P each ds xs (tails same))
+
+  pub owed-many : (cs : List C) (owed : List Owed) → numbers owed ≡ given calls cs script → length owed ≡ length cs
+  owed-many [] [] same = refl
+  owed-many [] (x ∷ xs) same = absurd (cc (same))
+  owed-many (d ∷ ds) [] same = absurd (cc (same))
+  owed-many (d ∷ ds) (x ∷ xs) same = ap suc (owed-many ds xs (tails same))

@@ -1,0 +1,6 @@
+use Rattle.std.proofs.Common.{◌≡◌, ◌+◌, drop}
+use Rattle.case_audit.specs.Callers.{named_from}
+use Rattle.case_audit.proofs.callers.actor_in.Given as goal
+
+abbrev pub invariant-loop-actor : goal.invariant-loop-actor
+invariant-loop-actor l = (l.number ≡ l.actor-index) × (named_from l.text (l.number + 1) (drop l.actor-index l.actors) ≡ named_from l.text 1 l.actors)

@@ -1,0 +1,10 @@
+use Rattle.std.proofs.Common.{◌≡◌, drop}
+use Rattle.std.specs.List.{position_from}
+use Rattle.std.specs.Map.{lookup}
+use Rattle.file_model.specs.CaseCounts.{has_id}
+use Rattle.script_run.specs.Places.{is_key}
+use Rattle.wsm_sound.specs.declared.versions.CaseId.{CaseId}
+use Rattle.case_audit.proofs.declared.places_of.Given as goal
+
+abbrev pub invariant-loop-place : goal.invariant-loop-place
+invariant-loop-place l = (c : CaseId) → lookup (is_key c) l.places.entries ≡ position_from (has_id c) l.place (drop l.place l.decls)

@@ -1,0 +1,7 @@
+use Rattle.std.proofs.Common.{◌≡◌, drop, fold}
+use Rattle.case_audit.specs.Asking.{asked_in}
+use Rattle.case_audit.specs.Owing.{kind_put, numbers}
+use Rattle.case_audit.proofs.owed.add_kind_lines.Given as goal
+
+abbrev pub invariant-loop-call : goal.invariant-loop-call
+invariant-loop-call l = fold (kind_put l.phase) (numbers l.owed.items) (asked_in (drop l.call-index l.lines)) ≡ fold (kind_put l.phase) (numbers l.fn.owed.items) (asked_in l.lines)

@@ -1,0 +1,7 @@
+use Rattle.std.proofs.Common.{◌≡◌, []}
+use Rattle.std.specs.Prelude.{replicate}
+use Rattle.case_audit.specs.Owing.{numbers}
+use Rattle.case_audit.proofs.owed.nothing_owed.Given as goal
+
+abbrev pub invariant-loop-made : goal.invariant-loop-made
+invariant-loop-made l = numbers l.owed.items ≡ replicate l._made []

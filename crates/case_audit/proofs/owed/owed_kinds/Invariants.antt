@@ -1,0 +1,9 @@
+use Rattle.std.proofs.Common.{◌≡◌, take}
+use Rattle.std.specs.List.{range_with_len}
+use Rattle.case_audit.specs.Asking.{script_of}
+use Rattle.case_audit.specs.Owing.{calls_number, numbers}
+use Rattle.case_audit.specs.Sharing.{given}
+use Rattle.case_audit.proofs.owed.owed_kinds.Given as goal
+
+abbrev pub invariant-loop-phase : goal.invariant-loop-phase
+invariant-loop-phase l = numbers l.owed.items ≡ given calls_number (range_with_len 0 l.types) (script_of (take l.phase l.phases))

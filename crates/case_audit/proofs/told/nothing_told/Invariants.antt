@@ -1,0 +1,7 @@
+use Rattle.std.proofs.Common.{◌≡◌, ◌+◌, []}
+use Rattle.std.specs.Prelude.{replicate}
+use Rattle.case_audit.specs.Asking.{deques_of}
+use Rattle.case_audit.proofs.told.nothing_told.Given as goal
+
+abbrev pub invariant-loop-made : goal.invariant-loop-made
+invariant-loop-made l = deques_of l.told.items ≡ replicate (l._made + 1) []

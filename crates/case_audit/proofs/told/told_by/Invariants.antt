@@ -1,0 +1,6 @@
+use Rattle.std.proofs.Common.{◌≡◌, drop, fold}
+use Rattle.case_audit.specs.Asking.{deques_of, journal_told, with_told}
+use Rattle.case_audit.proofs.told.told_by.Given as goal
+
+abbrev pub invariant-loop-entry : goal.invariant-loop-entry
+invariant-loop-entry l = fold with_told (deques_of l.told.items) (drop l.entry-index l.journal) ≡ journal_told l.actors l.journal

@@ -1,0 +1,71 @@
+-- Script lines with the versions that their actors were told, as the code keeps them.
+use Rattle.std.specs.Prelude.{ℕ, ◌+◌, List, [], ◌∷◌, fold, map, replicate, slice_set, Option, Some, None, option_map, Vec}
+use Rattle.std.specs.Borrow.{Bor}
+use Rattle.std.specs.declared.collections.VecDeque.{VecDeque}
+use Rattle.audit_model.specs.Asked.{Asked, asks, told_by}
+use Rattle.case_audit.specs.declared.asked.AskedLine.{AskedLine}
+use Rattle.case_audit.specs.declared.told.Told.{Told}
+use Rattle.file_model.specs.declared.files.Line.{Line}
+use Rattle.line_followers.specs.Turns.{front_of, one_added, one_taken, queue_of}
+use Rattle.script_run.specs.Entries.{KindEntry}
+use Rattle.script_run.specs.declared.runs.ClosedKind.{ClosedKind}
+use Rattle.wsm_sound.specs.VersionModel.{VersionModel}
+
+abbrev pub asked_of : AskedLine → Asked
+asked_of c = (c.line.now, option_map (λ v. v.now) c.version)
+
+abbrev pub asked_in : List AskedLine → List Asked
+asked_in calls = map asked_of calls
+
+-- phase by phase
+abbrev pub script_of : {A : Type 0} → List (Vec AskedLine A) → List (List Asked)
+script_of phases = map (λ v. asked_in v.items) phases
+
+-- ---- which versions each actor has yet to be told, by the type's number and then by the actor's
+abbrev pub Queues : Type 0
+Queues = List (List (List VersionModel))
+
+abbrev pub deques_of : {A : Type 0} → List (VecDeque (Bor VersionModel) A) → List (List VersionModel)
+deques_of queues = map (λ q. map (λ v. v.now) q.items) queues
+
+abbrev pub told_versions : Told → Queues
+told_versions told = map (λ v. deques_of v.items) told.versions.items
+
+abbrev pub none_told : ℕ → List (List VersionModel)
+none_told actors = replicate (actors + 1) []
+
+-- the version that an entry told, where it told one, at the end of its caller's
+abbrev pub with_version : ℕ → Option VersionModel → List (List VersionModel) → List (List VersionModel)
+with_version a None queues = queues
+with_version a (Some v) queues = one_added a v queues
+
+abbrev pub with_told : List (List VersionModel) → KindEntry → List (List VersionModel)
+with_told queues e = with_version e.caller (told_by e.event e.reply) queues
+
+-- what the entries of a journal told so many actors, and those of each type
+abbrev pub journal_told : ℕ → List KindEntry → List (List VersionModel)
+journal_told actors journal = fold with_told (none_told actors) journal
+
+abbrev pub all_told : ℕ → List ClosedKind → Queues
+all_told actors kinds = map (λ (k : ClosedKind). journal_told actors k.journal) kinds
+
+-- ---- a line asks the type, or none, and takes the version away
+abbrev pub next_version : Queues → ℕ → Option ℕ → Option VersionModel
+next_version told a None = None
+next_version told a (Some t) = front_of (queue_of (queue_of told t) a)
+
+abbrev pub left_in : Queues → ℕ → Option ℕ → Queues
+left_in told a None = told
+left_in told a (Some t) = slice_set told t (one_taken a (queue_of told t))
+
+abbrev pub asked_by : Queues → List Line → List Asked
+asked_by told [] = []
+asked_by told (l ∷ ls) = (l, next_version told l.actor (asks l.act)) ∷ asked_by (left_in told l.actor (asks l.act)) ls
+
+abbrev pub left_by : Queues → List Line → Queues
+left_by told [] = told
+left_by told (l ∷ ls) = left_by (left_in told l.actor (asks l.act)) ls
+
+abbrev pub script_by : Queues → List (List Line) → List (List Asked)
+script_by told [] = []
+script_by told (lines ∷ phases) = asked_by told lines ∷ script_by (left_by told lines) phases

@@ -1,0 +1,65 @@
+// The script's lines with the versions that their actors were told.
+ghost use Rattle.std.specs.Prelude.{◌≡◌, IfOk, OnOk};
+ghost use Rattle.audit_model.specs.Asked.{asked_phases, asks};
+ghost use Rattle.audit_model.specs.ReportReader.{telling};
+ghost use Rattle.case_audit.specs.Asking.{asked_by, asked_in, left_by, script_of, told_versions};
+ghost use Rattle.file_facts.specs.Facts.{IsWorkable};
+
+use crate::told::Told;
+use file_model::{Act, File, Line};
+use script_run::ClosedKind;
+use std::alloc::Global;
+use wsm_lists::NoMemory;
+use wsm_sound::Version;
+
+/// A script line, and the version that its actor was told where it asked a type for the newest.
+#[derive(Clone, Copy)]
+pub struct AskedLine<'a> {
+    pub line: &'a Line,
+    pub version: Option<&'a Version>,
+}
+
+/// The script's lines, phase by phase, where the types told their callers what stands in these journals.
+pub fn asked_phases<'a>(
+    alloc: Global,
+    file: &'a File,
+    kinds: &'a [ClosedKind],
+) -> Result<Vec<Vec<AskedLine<'a>>>, NoMemory>
+    requires { IsWorkable file.now }
+    ensures { IfOk result (λ phases. script_of phases.items ≡ asked_phases (telling kinds.now) file.now.phases) }
+{
+    let mut told = Told::of(alloc, file.actors.len(), kinds)?;
+    let mut phases = Vec::new(alloc);
+    for lines in file.phases.as_slice() {
+        phases.push(asked_lines(alloc, &mut told, lines.as_slice())?)?;
+    }
+    Ok(phases)
+}
+
+fn asked_lines<'a>(
+    alloc: Global,
+    told: &mut Told<'a>,
+    lines: &'a [Line],
+) -> Result<Vec<AskedLine<'a>>, NoMemory>
+    ensures lines { IfOk result (λ asked. asked_in asked.items ≡ asked_by (told_versions told.old) lines.now) }
+    ensures told { OnOk result (told_versions told.new ≡ left_by (told_versions told.old) lines.now) }
+{
+    let mut asked = Vec::new(alloc);
+    for line in lines {
+        let version = told.next(line.actor, type_asked(&line.act));
+        asked.push(AskedLine { line, version })?;
+    }
+    Ok(asked)
+}
+
+// The type that a line asks for its newest version.
+fn type_asked(act: &Act) -> Option<u32>
+    ensures { result ≡ asks act.now }
+{
+    match act {
+        Act::Create(id) => Some(id.type_no),
+        Act::Migrate(type_no) => Some(*type_no),
+        Act::Start(..) | Act::Withdraw(..) | Act::End(..) | Act::Change(..) | Act::Install(..) =>
+            None,
+    }
+}

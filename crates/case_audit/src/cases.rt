@@ -1,0 +1,284 @@
+// A case of a report.
+ghost use Rattle.std.specs.Prelude.{◌≡◌, ◌≤◌, ◌<◌, ◌+◌, ◌++◌, ◌∷◌, [], List, length, map, IfOk, OnOk};
+ghost use Rattle.audit_facts.specs.Facts.{IsAuditable};
+ghost use Rattle.audit_model.specs.Asked.{Asked, case_event_of, owed_case};
+ghost use Rattle.audit_model.specs.Cases.{IsSteady, LineJudged, PhaseJudged};
+ghost use Rattle.audit_model.specs.Judging.{FollowedBy};
+ghost use Rattle.audit_model.specs.Lines.{IsModest, actor_of};
+ghost use Rattle.audit_model.specs.ReportReader.{case_journal, case_reader};
+ghost use Rattle.case_audit.specs.Asking.{asked_in, asked_of};
+ghost use Rattle.case_audit.specs.Owing.{owed_of};
+ghost use Rattle.case_audit.specs.Queues.{queues_of};
+ghost use Rattle.case_core.specs.Ages.{age, weight};
+ghost use Rattle.case_core.specs.Machine.{case_after, case_reply};
+ghost use Rattle.file_facts.specs.Facts.{IsWorkable};
+ghost use Rattle.line_followers.specs.Filled.{filled};
+ghost use Rattle.line_followers.specs.Follows.{Follows};
+ghost use Rattle.line_followers.specs.Turns.{AreTurns};
+ghost use Rattle.line_readers.specs.Owed.{how_many};
+ghost use Rattle.report_text.specs.Ends.{end_text};
+ghost use Rattle.report_text.specs.Journals.{case_line};
+ghost use Rattle.report_text.specs.Report.{case_head};
+ghost use Rattle.script_run.specs.Calls.{roles_of};
+ghost use Rattle.turn_cell.specs.History.{entry};
+ghost use Rattle.wsm_lists.specs.Rows.{AllRows};
+
+use crate::asked::AskedLine;
+use crate::callers::caller_in;
+use crate::owed::Owed;
+use crate::turns::Turns;
+use case_core::{Case, Event};
+use file_model::{Act, CaseDecl, File};
+use report_text::{put_case_head, put_case_line, put_end};
+use script_run::{CaseEntry, CaseJournal, ClosedCase};
+use std::alloc::{AllocError, Global};
+use text_follower::{Follower, GrowingSink};
+use turn_cell::Machine;
+use wsm_lists::{NoMemory, RoleList};
+
+/// A case as its journal and its end tell it, from its line on. None where a line is wrong.
+pub fn judge_case(
+    alloc: Global,
+    file: &File,
+    decl: &CaseDecl,
+    owed: &Owed<'_>,
+    report: &mut Follower<'_>,
+) -> Result<Option<ClosedCase>, NoMemory>
+    requires workable { IsWorkable file.now }
+    requires auditable { IsAuditable file.now }
+    requires modest { AllRows (AllRows IsModest) (owed_of owed.now) }
+    requires few { how_many (owed_of owed.now) ≤ 60000 }
+    ensures { (phases : List (List Asked)) → owed_of owed.now ≡ filled (owed_case decl.now.id phases)
+        → IfOk result (Follows (case_reader file.now phases decl.now) report.old report.new) }
+{
+    if !follow_head(alloc, file, decl, report)? {
+        return Ok(None);
+    }
+    let Some(case) = judge_journal(alloc, file, decl, owed, report)? else {
+        return Ok(None);
+    };
+    if !follow_end(alloc, file, &case, report)? {
+        return Ok(None);
+    }
+    Ok(Some(case))
+}
+
+fn follow_head(
+    alloc: Global,
+    file: &File,
+    decl: &CaseDecl,
+    report: &mut Follower<'_>,
+) -> Result<bool, NoMemory>
+    ensures { IfOk result (FollowedBy (case_head file.now decl.now) report.old report.new) }
+{
+    let mut line = GrowingSink::new(alloc);
+    if !put_case_head(&mut line, true, file, decl) {
+        return Err(AllocError);
+    }
+    Ok(report.follow(line.as_slice()))
+}
+
+fn follow_end(
+    alloc: Global,
+    file: &File,
+    case: &ClosedCase,
+    report: &mut Follower<'_>,
+) -> Result<bool, NoMemory>
+    ensures { IfOk result (FollowedBy (end_text file.now case.now.machine.live) report.old report.new) }
+{
+    let mut lines = GrowingSink::new(alloc);
+    if !put_end(&mut lines, true, file, case.machine.live()) {
+        return Err(AllocError);
+    }
+    Ok(report.follow(lines.as_slice()))
+}
+
+fn judge_journal(
+    alloc: Global,
+    file: &File,
+    decl: &CaseDecl,
+    owed: &Owed<'_>,
+    report: &mut Follower<'_>,
+) -> Result<Option<ClosedCase>, NoMemory>
+    requires workable { IsWorkable file.now }
+    requires auditable { IsAuditable file.now }
+    requires modest { AllRows (AllRows IsModest) (owed_of owed.now) }
+    requires few { how_many (owed_of owed.now) ≤ 60000 }
+    ensures { (phases : List (List Asked)) → owed_of owed.now ≡ filled (owed_case decl.now.id phases)
+        → IfOk result (Follows (case_journal file.now phases decl.now) report.old report.new) }
+{
+    let mut case = ClosedCase {
+        machine: Case::new(alloc, decl.id.type_no),
+        journal: CaseJournal::new(alloc),
+    };
+    for phase in owed.phases.as_slice() {
+        if !judge_phase(alloc, file, &mut case, phase.calls.as_slice(), report)? {
+            return Ok(None);
+        }
+    }
+    Ok(Some(case))
+}
+
+// As many lines of the journal as calls are owed in a phase.
+fn judge_phase(
+    alloc: Global,
+    file: &File,
+    case: &mut ClosedCase,
+    calls: &[AskedLine<'_>],
+    report: &mut Follower<'_>,
+) -> Result<bool, NoMemory>
+    requires workable { IsWorkable file.now }
+    requires auditable { IsAuditable file.now }
+    requires modest { AllRows IsModest (asked_in calls.now) }
+    requires steady { IsSteady case.old }
+    requires few { length case.old.journal + length calls.now ≤ 60000 }
+    ensures judged { IfOk result (PhaseJudged file.now case.old report.old case.new report.new (asked_in calls.now)) }
+    ensures steady { OnOk result (IsSteady case.new) }
+    ensures longer { OnOk result (length case.new.journal ≤ length case.old.journal + length calls.now) }
+{
+    let mut turns = Turns::of(alloc, file.actors.len(), calls)?;
+    for _judged in 0..calls.len() {
+        if !judge_line(alloc, file, case, &mut turns, report)? {
+            return Ok(false);
+        }
+    }
+    Ok(true)
+}
+
+// A line of the journal: it shows whose turn it is.
+fn judge_line(
+    alloc: Global,
+    file: &File,
+    case: &mut ClosedCase,
+    turns: &mut Turns<'_>,
+    report: &mut Follower<'_>,
+) -> Result<bool, NoMemory>
+    requires workable { IsWorkable file.now }
+    requires auditable { IsAuditable file.now }
+    requires modest { AllRows (AllRows IsModest) (queues_of turns.old) }
+    requires steady { IsSteady case.old }
+    requires few { length case.old.journal < 60000 }
+    ensures judged { (phase : List Asked) → 0 < length phase → AreTurns actor_of (length file.now.actors) (queues_of turns.old) phase
+        → IfOk result (LineJudged file.now case.old report.old case.new report.new (queues_of turns.new) phase) }
+    ensures modest { AllRows (AllRows IsModest) (queues_of turns.new) }
+    ensures steady { OnOk result (IsSteady case.new) }
+    ensures longer { OnOk result (length case.new.journal ≤ length case.old.journal + 1) }
+{
+    let place = next_place(case.journal.as_slice());
+    let Some(caller) = caller_in(file, place, report.rest()) else {
+        return Ok(false);
+    };
+    let Some(call) = turns.next(caller) else {
+        return Ok(false);
+    };
+    match event_of(alloc, file, &call)? {
+        None => Ok(false),
+        Some(event) => judge_call(alloc, file, case, caller, event, report),
+    }
+}
+
+// Makes a call, and follows the line that is printed of it.
+fn judge_call(
+    alloc: Global,
+    file: &File,
+    case: &mut ClosedCase,
+    caller: u32,
+    event: Event,
+    report: &mut Follower<'_>,
+) -> Result<bool, NoMemory>
+    requires { age case.old.machine + weight event ≤ 4000000000 }
+    ensures machine { OnOk result (case.new.machine ≡ case_after case.old.machine event) }
+    ensures journal { OnOk result (case.new.journal ≡ case.old.journal ++ entry caller event (case_reply case.old.machine event) ∷ []) }
+    ensures line { IfOk result (FollowedBy (case_line file.now (length case.old.journal + 1) (entry caller event (case_reply case.old.machine event))) report.old report.new) }
+{
+    let place = next_place(case.journal.as_slice());
+    let entry = entry_of(alloc, case, caller, event)?;
+    let stands = follow_line(alloc, file, place, &entry, report)?;
+    case.journal.push(entry)?;
+    Ok(stands)
+}
+
+// The number of the next entry.
+fn next_place(journal: &[CaseEntry]) -> u64
+    ensures { result ≡ length journal.now + 1 }
+{
+    journal.len() as u64 + 1
+}
+
+// A step of a case, as an entry of its journal.
+fn entry_of(
+    alloc: Global,
+    case: &mut ClosedCase,
+    caller: u32,
+    event: Event,
+) -> Result<CaseEntry, NoMemory>
+    requires { age case.old.machine + weight event ≤ 4000000000 }
+    ensures entry { IfOk result (λ made. made ≡ entry caller event (case_reply case.old.machine event)) }
+    ensures machine { OnOk result (case.new.machine ≡ case_after case.old.machine event) }
+    ensures journal { OnOk result (case.new.journal ≡ case.old.journal) }
+{
+    let (reply, _) = case.machine.step(alloc, &event)?;
+    Ok(CaseEntry {
+        caller,
+        event,
+        reply,
+    })
+}
+
+fn follow_line(
+    alloc: Global,
+    file: &File,
+    place: u64,
+    entry: &CaseEntry,
+    report: &mut Follower<'_>,
+) -> Result<bool, NoMemory>
+    ensures { IfOk result (FollowedBy (case_line file.now place entry.now) report.old report.new) }
+{
+    let mut line = GrowingSink::new(alloc);
+    if !put_case_line(&mut line, true, file, place, entry) {
+        return Err(AllocError);
+    }
+    Ok(report.follow(line.as_slice()))
+}
+
+// The event of a case that a line is, with the version that its actor was told.
+fn event_of(alloc: Global, file: &File, call: &AskedLine<'_>) -> Result<Option<Event>, NoMemory>
+    ensures { IfOk result (λ event. event ≡ case_event_of file.now (asked_of call.now)) }
+{
+    let user = call.line.actor;
+    match &call.line.act {
+        Act::Create(_) => match call.version {
+            None => Ok(None),
+            Some(version) => Ok(Some(Event::Create(version.share()?))),
+        },
+        Act::Start(_, node) => Ok(Some(Event::Start {
+            node: *node,
+            user,
+            roles: roles_of(alloc, file, user)?,
+        })),
+        Act::Withdraw(_, node) => Ok(Some(Event::Withdraw { node: *node, user })),
+        Act::End(_, node, writes, choice) => Ok(Some(Event::End {
+            node: *node,
+            user,
+            writes: writes.duplicate(alloc)?,
+            choice: *choice,
+        })),
+        Act::Change(_, ops) => Ok(Some(Event::Change(ops.copy(alloc)?))),
+        Act::Migrate(_) => match call.version {
+            None => Ok(None),
+            Some(version) => Ok(Some(Event::Migrate(version.share()?))),
+        },
+        Act::Install(..) => Ok(None),
+    }
+}
+
+// The roles of the actor with a number, from 1.
+fn roles_of(alloc: Global, file: &File, actor: u32) -> Result<RoleList, NoMemory>
+    ensures { IfOk result (λ roles. roles ≡ roles_of file.now actor) }
+{
+    let index = (actor as usize).saturating_sub(1);
+    match file.actors.get(index) {
+        None => Ok(RoleList::new(alloc)),
+        Some(decl) => decl.roles.copy(alloc),
+    }
+}

@@ -1,0 +1,235 @@
+// What is owed to types and to cases: the lines that call them.
+ghost use Rattle.std.specs.Prelude.{◌≡◌, ◌++◌, ◌∷◌, [], length, fold, replicate, IfOk, OnOk};
+ghost use Rattle.std.specs.List.{range_with_len};
+ghost use Rattle.case_audit.specs.Asking.{asked_in, asked_of, script_of};
+ghost use Rattle.case_audit.specs.Owing.{called_case, called_kind, calls_decl, calls_number, case_put, is_of_type, kind_put, moved_type, numbered_of, numbers};
+ghost use Rattle.case_audit.specs.Sharing.{given, put_where};
+ghost use Rattle.file_facts.specs.Facts.{ArePlaced};
+ghost use Rattle.line_followers.specs.Numbered.{with_line};
+ghost use Rattle.script_run.specs.Calls.{changed_at};
+
+use crate::asked::AskedLine;
+use crate::declared::Declared;
+use file_model::{Act, CaseDecl};
+use std::alloc::Global;
+use wsm_lists::NoMemory;
+use wsm_sound::CaseId;
+
+/// The lines of one phase that call one type or one case, in file order.
+#[derive(Drop)]
+pub struct PhaseCalls<'a> {
+    pub phase: usize,
+    pub calls: Vec<AskedLine<'a>>,
+}
+
+/// What is owed to one type or to one case, phase by phase. A phase in which nothing is owed to it is left out.
+#[derive(Drop)]
+pub struct Owed<'a> {
+    pub phases: Vec<PhaseCalls<'a>>,
+}
+
+impl<'a> Owed<'a> {
+    fn new(alloc: Global) -> Owed<'a>
+        ensures { numbered_of result ≡ [] }
+    {
+        Owed {
+            phases: Vec::new(alloc),
+        }
+    }
+
+    // A line more, of the last phase or of a later one.
+    fn add(&mut self, alloc: Global, phase: usize, call: AskedLine<'a>) -> Result<(), NoMemory>
+        ensures { OnOk result (numbered_of self.new ≡ with_line phase (asked_of call.entry) (numbered_of self.old)) }
+    {
+        if let Some(last) = self.phases.last_mut() {
+            if last.phase == phase {
+                last.calls.push(call)?;
+                return Ok(());
+            }
+        }
+        self.begin(alloc, phase, call)
+    }
+
+    // A phase more, with its first line.
+    fn begin(&mut self, alloc: Global, phase: usize, call: AskedLine<'a>) -> Result<(), NoMemory>
+        ensures { OnOk result (numbered_of self.new ≡ numbered_of self.old ++ (phase, asked_of call.entry ∷ []) ∷ []) }
+    {
+        let mut calls = Vec::new(alloc);
+        calls.push(call)?;
+        self.phases.push(PhaseCalls { phase, calls })?;
+        Ok(())
+    }
+}
+
+fn nothing_owed<'a>(alloc: Global, cells: usize) -> Result<Vec<Owed<'a>>, NoMemory>
+    ensures { IfOk result (λ owed. numbers owed.items ≡ replicate cells []) }
+{
+    let mut owed = Vec::new(alloc);
+    for _made in 0..cells {
+        owed.push(Owed::new(alloc))?;
+    }
+    Ok(owed)
+}
+
+// A line more for the cell at a place, where there is one.
+fn add_at<'a>(
+    alloc: Global,
+    owed: &mut Vec<Owed<'a>>,
+    place: usize,
+    phase: usize,
+    call: AskedLine<'a>,
+) -> Result<(), NoMemory>
+    ensures { OnOk result (numbers owed.new.items ≡ changed_at (with_line phase (asked_of call.entry)) place (numbers owed.old.items)) }
+{
+    match owed.get_mut(place) {
+        None => Ok(()),
+        Some(cell) => cell.add(alloc, phase, call),
+    }
+}
+
+/// What is owed to each of so many types by the script's lines.
+pub fn owed_kinds<'a>(
+    alloc: Global,
+    types: usize,
+    phases: &[Vec<AskedLine<'a>>],
+) -> Result<Vec<Owed<'a>>, NoMemory>
+    ensures { IfOk result (λ owed. numbers owed.items ≡ given calls_number (range_with_len 0 types) (script_of phases.now)) }
+{
+    let mut owed = nothing_owed(alloc, types)?;
+    for (phase, lines) in phases.iter().enumerate() {
+        add_kind_lines(alloc, &mut owed, phase, lines.as_slice())?;
+    }
+    Ok(owed)
+}
+
+fn add_kind_lines<'a>(
+    alloc: Global,
+    owed: &mut Vec<Owed<'a>>,
+    phase: usize,
+    lines: &[AskedLine<'a>],
+) -> Result<(), NoMemory>
+    ensures { OnOk result (numbers owed.new.items ≡ fold (kind_put phase) (numbers owed.old.items) (asked_in lines.now)) }
+{
+    for call in lines {
+        if let Some(type_no) = type_called(&call.line.act) {
+            add_at(alloc, owed, type_no as usize, phase, *call)?;
+        }
+    }
+    Ok(())
+}
+
+// The type that a line calls.
+fn type_called(act: &Act) -> Option<u32>
+    ensures { result ≡ called_kind act.now }
+{
+    match act {
+        Act::Create(id) => Some(id.type_no),
+        Act::Install(type_no, _) => Some(*type_no),
+        Act::Migrate(type_no) => Some(*type_no),
+        Act::Start(..) | Act::Withdraw(..) | Act::End(..) | Act::Change(..) => None,
+    }
+}
+
+/// What is owed to each of these cases by the script's lines.
+pub fn owed_cases<'a>(
+    alloc: Global,
+    cases: &[CaseDecl],
+    phases: &[Vec<AskedLine<'a>>],
+) -> Result<Vec<Owed<'a>>, NoMemory>
+    requires { ArePlaced cases.now }
+    ensures { IfOk result (λ owed. numbers owed.items ≡ given calls_decl cases.now (script_of phases.now)) }
+{
+    let declared = Declared::of(alloc, cases)?;
+    let mut owed = nothing_owed(alloc, cases.len())?;
+    for (phase, lines) in phases.iter().enumerate() {
+        add_case_lines(alloc, &declared, &mut owed, phase, lines.as_slice())?;
+    }
+    Ok(owed)
+}
+
+fn add_case_lines<'a>(
+    alloc: Global,
+    declared: &Declared<'_>,
+    owed: &mut Vec<Owed<'a>>,
+    phase: usize,
+    lines: &[AskedLine<'a>],
+) -> Result<(), NoMemory>
+    requires { ArePlaced declared.now.cases.now }
+    ensures { OnOk result (numbers owed.new.items ≡ fold (case_put declared.now.cases.now phase) (numbers owed.old.items) (asked_in lines.now)) }
+{
+    for call in lines {
+        add_case_line(alloc, declared, owed, phase, *call)?;
+    }
+    Ok(())
+}
+
+// A line, for the case or for each of the cases that it calls.
+fn add_case_line<'a>(
+    alloc: Global,
+    declared: &Declared<'_>,
+    owed: &mut Vec<Owed<'a>>,
+    phase: usize,
+    call: AskedLine<'a>,
+) -> Result<(), NoMemory>
+    requires { ArePlaced declared.now.cases.now }
+    ensures { OnOk result (numbers owed.new.items ≡ case_put declared.now.cases.now phase (numbers owed.old.items) (asked_of call.entry)) }
+{
+    if let Some(type_no) = type_moved(&call.line.act) {
+        return add_to_each(alloc, declared.cases, owed, type_no, phase, call);
+    }
+    let Some(id) = case_called(&call.line.act) else {
+        return Ok(());
+    };
+    match declared.place_of(id) {
+        None => Ok(()),
+        Some(place) => add_at(alloc, owed, place, phase, call),
+    }
+}
+
+// The one case that a line calls.
+fn case_called(act: &Act) -> Option<CaseId>
+    ensures { result ≡ called_case act.now }
+{
+    match act {
+        Act::Create(id)
+        | Act::Start(id, _)
+        | Act::Withdraw(id, _)
+        | Act::End(id, ..)
+        | Act::Change(id, _) => Some(*id),
+        Act::Install(..) | Act::Migrate(_) => None,
+    }
+}
+
+// The type of which a line calls each case.
+fn type_moved(act: &Act) -> Option<u32>
+    ensures { result ≡ moved_type act.now }
+{
+    match act {
+        Act::Migrate(type_no) => Some(*type_no),
+        Act::Create(_)
+        | Act::Start(..)
+        | Act::Withdraw(..)
+        | Act::End(..)
+        | Act::Change(..)
+        | Act::Install(..) => None,
+    }
+}
+
+// A line, for each case of a type.
+fn add_to_each<'a>(
+    alloc: Global,
+    cases: &[CaseDecl],
+    owed: &mut Vec<Owed<'a>>,
+    type_no: u32,
+    phase: usize,
+    call: AskedLine<'a>,
+) -> Result<(), NoMemory>
+    ensures { OnOk result (numbers owed.new.items ≡ put_where (is_of_type type_no) (with_line phase (asked_of call.entry)) cases.now (numbers owed.old.items)) }
+{
+    for (place, decl) in cases.iter().enumerate() {
+        if decl.id.type_no == type_no {
+            add_at(alloc, owed, place, phase, call)?;
+        }
+    }
+    Ok(())
+}
