@@ -1,7 +1,7 @@
 // What becomes of the marks of a trail on a changed schema.
 ghost use Rattle.std.specs.Prelude.{◌≡◌, ◌+◌, ◌<◌, ◌^◌, OnOk};
 
-use crate::versions::row_of;
+use crate::schemas::row_of;
 use std::alloc::Global;
 use std::test::Fail;
 use wsm_adapt::{Adapted, adapt};

@@ -1,5 +1,5 @@
 // A replay, and the marks that a replay leaves.
-use crate::versions::row_of;
+use crate::schemas::row_of;
 use std::alloc::Global;
 use std::test::Fail;
 use wsm_replay::{Replayed, replay, spot_in};

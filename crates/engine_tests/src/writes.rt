@@ -1,5 +1,5 @@
 // The values that an end brings.
-use case_writes::{by_element, wrong_elements};
+use case_writes::wrong_elements;
 use std::alloc::Global;
 use std::test::Fail;
 use wsm_schema::{ElementKind, Flat, Items, NoMemory, Nodes, Schema, Value, Writes};
@@ -39,25 +39,5 @@ fn wrong_elements_ascend(rt: HostRuntime) -> Result<(), Fail> {
     let alloc = rt.alloc();
     assert_eq!(rt; wrong(alloc, 5, 4)?.as_slice(), [3, 4, 5].as_slice());
     assert_eq!(rt; wrong(alloc, 4, 3)?.as_slice(), [4].as_slice());
-    Ok(())
-}
-
-fn is_write(write: Option<&(u32, Value)>, element: u32, number: i64) -> bool {
-    match write {
-        Some((written, Value::Int(value))) => *written == element && *value == number,
-        _ => false,
-    }
-}
-
-fn sorted(alloc: Global) -> Result<Writes, NoMemory> {
-    by_element(alloc, &numbers(alloc, 4, 3)?)
-}
-
-#[test]
-fn writes_are_recorded_by_element(rt: HostRuntime) -> Result<(), Fail> {
-    let sorted = sorted(rt.alloc())?;
-    assert_eq!(rt; sorted.len(), 2);
-    assert!(rt; is_write(sorted.get(0), 3, 8));
-    assert!(rt; is_write(sorted.get(1), 4, 7));
     Ok(())
 }

@@ -1,5 +1,7 @@
-//! Tests of the server: what no clause says of it.
+//! Tests of the server, and of what a type shows: what no clause says of them.
 #![tactic(auto)]
 
+#[cfg(test)]
+mod types;
 #[cfg(test)]
 mod worklists;

@@ -1,7 +1,0 @@
-//! Tests of kept marks and of kept work items.
-#![tactic(auto)]
-
-#[cfg(test)]
-mod settling;
-#[cfg(test)]
-mod work;
