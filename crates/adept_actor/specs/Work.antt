@@ -2,10 +2,15 @@
 use Rattle.std.specs.Prelude.{◌≡◌, ℕ, ◌≤◌, List, [], ◌∷◌, length, get_or, MatchResult, Option, Some, None, Result, Ok, Err, slice_get}
 use Rattle.adept_actor.specs.Growth.{DeskHasDone}
 use Rattle.adept_server.specs.Desks.{KindPass, CasePass, DeskView, IsDefinedFor, case_pass, has_case, has_kind}
-use Rattle.legal_run.specs.LineCalls.{Call, AreCallsOf, AreCallsOfLines, ArePartOf, AreBegun, lines_of}
+use Rattle.legal_run.specs.LineCalls.{Call as Told, AreCallsOf, AreCallsOfLines, ArePartOf, AreBegun, lines_of}
 use Rattle.file_limits.specs.declared.TheConstants.{MAX_OPS}
 use Rattle.file_model.specs.declared.files.Act.{Act}
-use Rattle.file_model.specs.declared.files.Act.TheVariants as act
+use Rattle.case_core.specs.declared.events.Event.TheVariants as event
+use Rattle.line_calls.specs.Calls.{call_of}
+use Rattle.line_calls.specs.declared.calls.Call.{Call}
+use Rattle.line_calls.specs.declared.calls.Call.TheVariants as call
+use Rattle.line_calls.specs.declared.calls.Told.TheVariants as told
+use Rattle.type_core.specs.declared.events.KindEvent.TheVariants as kind_event
 use Rattle.file_model.specs.declared.files.Line.{Line}
 use Rattle.turn_cell.specs.declared.faults.CallFault.{CallFault}
 use Rattle.turn_cell.specs.declared.faults.CallFault.TheVariants as fault
@@ -18,14 +23,16 @@ abbrev pub case_count : DeskView → ℕ → ℕ
 case_count v t = length (get_or v.cases t [])
 
 -- The calls of an act can be made: its type or case is there, a type that is asked has a version, and its operations are not too many.
+abbrev pub CanCall : DeskView → Call → Type 0
+CanCall v (call.Kind t (kind_event.Install ops)) = has_kind v t × (length ops ≤ MAX_OPS)
+CanCall v (call.Kind t e) = has_kind v t
+CanCall v (call.Case c (event.Change ops)) = has_case v c × (length ops ≤ MAX_OPS)
+CanCall v (call.Case c e) = has_case v c
+CanCall v (call.Newest t (told.Create c)) = has_case v c × IsDefinedFor v t
+CanCall v (call.Newest t told.Migrate) = has_kind v t × IsDefinedFor v t
+
 abbrev pub CanAct : DeskView → Act → Type 0
-CanAct v (act.Create c) = has_case v c × IsDefinedFor v c.type_no
-CanAct v (act.Start c node) = has_case v c
-CanAct v (act.Withdraw c node) = has_case v c
-CanAct v (act.End c node writes choice) = has_case v c
-CanAct v (act.Change c ops) = has_case v c × (length ops ≤ MAX_OPS)
-CanAct v (act.Install t ops) = has_kind v t × (length ops ≤ MAX_OPS)
-CanAct v (act.Migrate t) = has_kind v t × IsDefinedFor v t
+CanAct v x = CanCall v (call_of 0 [] x)
 
 -- those of the desk's own lines can
 abbrev pub CanWork : DeskView → List Line → Type 0
@@ -43,11 +50,11 @@ first_fault (Ok r ∷ answers) = first_fault answers
 first_fault (Err f ∷ answers) = Some f
 
 -- the desk has made calls that are such
-abbrev pub Does : (List Call → Type 0) → DeskView → DeskView → Type 0
-Does Fit v w = (calls : List Call) × Fit calls × DeskHasDone calls v w
+abbrev pub Does : (List Told → Type 0) → DeskView → DeskView → Type 0
+Does Fit v w = (calls : List Told) × Fit calls × DeskHasDone calls v w
 
 -- What work leaves, where these are the calls of the whole and those up to a fault. The fault is `Full` only where a cell is.
-abbrev pub Leaves : {A : Type 0} → (List Call → Type 0) → (List Call → Type 0) → Result A CallFault → DeskView → DeskView → Type 0
+abbrev pub Leaves : {A : Type 0} → (List Told → Type 0) → (List Told → Type 0) → Result A CallFault → DeskView → DeskView → Type 0
 Leaves Whole Begun answer v w = MatchResult answer (λ _. Does Whole v w) (λ f. Does Begun v w × (f ≡ fault.Full → SeesFull w))
 
 -- an actor with these roles works an act, and the lines of its own among these

@@ -1,14 +1,15 @@
 -- A line of a case's journal, right or wrong.
 use Rattle.std.proofs.Common.{◌≡◌, ℕ, ◌+◌, ◌<◌, ◌==◌, Bool, true, false, List, [], ◌∷◌, ◌++◌, length, Option, Some, None, length-append, refl, sym, ap, ◌∙◌, subst, arith}
-use Rattle.std.specs.Prelude.{IfSome}
+use Rattle.std.specs.Prelude.{IfSome, option_map}
 use Rattle.audit_facts.specs.Facts.{HasOneLineWrites, IsAuditable, WritesOneLine}
 use Rattle.audit_model.proofs.Texts.{case-line}
-use Rattle.audit_model.specs.Asked.{Asked, case_event_in, case_event_of, created_by, migrated_by}
+use Rattle.audit_model.specs.Asked.{Asked, case_event_in, case_event_of}
 use Rattle.audit_model.specs.Printed.{caller_in, case_shown}
 use Rattle.audit_model.proofs.Live.{case-line-one, tells-case}
 use Rattle.audit_model.specs.Kept.{KeptCase, WritesValues}
 use Rattle.case_core.specs.Machine.{case_after, case_reply}
 use Rattle.case_core.specs.declared.events.Event.{Event}
+use Rattle.case_core.specs.declared.events.Event.TheVariants as event
 use Rattle.file_facts.specs.Facts.{IsWorkable}
 use Rattle.file_model.specs.declared.files.Act.{Act}
 use Rattle.file_model.specs.declared.files.Act.TheVariants as act
@@ -39,11 +40,11 @@ use Rattle.audit_model.specs.Judging.{FollowedBy}
 use Rattle.audit_model.specs.Lines.{actor_of}
 
 -- an event writes what its line writes
-created-writes : (o : Option VersionModel) → IfSome (created_by o) WritesValues
+created-writes : (o : Option VersionModel) → IfSome (option_map event.Create o) WritesValues
 created-writes None = tt
 created-writes (Some v) = tt
 
-migrated-writes : (o : Option VersionModel) → IfSome (migrated_by o) WritesValues
+migrated-writes : (o : Option VersionModel) → IfSome (option_map event.Migrate o) WritesValues
 migrated-writes None = tt
 migrated-writes (Some v) = tt
 

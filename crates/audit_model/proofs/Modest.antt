@@ -1,9 +1,9 @@
 -- Lines that ask little: what their events weigh, and how old a case is behind them.
 use Rattle.std.proofs.Common.{◌≡◌, ℕ, zero, suc, ◌+◌, ◌<◌, ◌≤◌, ◌==◌, Bool, true, false, List, [], ◌∷◌, ◌++◌, length, length-append, map, Option, Some, None, refl, sym, ap, ◌∙◌, subst, arith, if◌then◌else◌}
 use Rattle.std.proofs.lemmas.List.Sums.{sum_by-cons}
-use Rattle.std.specs.Prelude.{filter, slice_set}
+use Rattle.std.specs.Prelude.{filter, slice_set, option_map}
 use Rattle.audit_facts.specs.Facts.{IsAuditable, WritesOneLine}
-use Rattle.audit_model.specs.Asked.{Asked, Telling, asked_lines, asked_phases, asks, case_event_in, case_event_of, created_by, kind_event_in, left_to_tell, migrated_by, told_at, version_for}
+use Rattle.audit_model.specs.Asked.{Asked, Telling, asked_lines, asked_phases, asks, case_event_in, case_event_of, kind_event_in, left_to_tell, told_at, version_for}
 use Rattle.audit_model.specs.Owed.{calls_kind, owed_kind}
 use Rattle.audit_model.proofs.KeptValues.{case-kept}
 use Rattle.audit_model.specs.Kept.{KeptCase, WritesValues}
@@ -94,11 +94,11 @@ kind-light (act.Withdraw c n) e few is = absurd (cc (is))
 kind-light (act.End c n writes choice) e few is = absurd (cc (is))
 kind-light (act.Change c ops) e few is = absurd (cc (is))
 
-created-light : (o : Option VersionModel) (e : Event) → created_by o ≡ Some e → weight e ≤ 768
+created-light : (o : Option VersionModel) (e : Event) → option_map event.Create o ≡ Some e → weight e ≤ 768
 created-light None e is = absurd (cc (is))
 created-light (Some v) e is = let same : event.Create v ≡ e = cc is in rw (← same) (omega arith)
 
-migrated-light : (o : Option VersionModel) (e : Event) → migrated_by o ≡ Some e → weight e ≤ 768
+migrated-light : (o : Option VersionModel) (e : Event) → option_map event.Migrate o ≡ Some e → weight e ≤ 768
 migrated-light None e is = absurd (cc (is))
 migrated-light (Some v) e is = let same : event.Migrate v ≡ e = cc is in rw (← same) (omega arith)
 

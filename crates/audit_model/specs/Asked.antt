@@ -1,11 +1,12 @@
 -- The lines of the script with the versions that their actors were told.
 use Rattle.std.specs.Prelude.{ℕ, ◌==◌, ◌&&◌, List, [], ◌∷◌, filter, map, Option, Some, None, if◌then◌else◌}
 use Rattle.case_core.specs.declared.events.Event.{Event}
-use Rattle.case_core.specs.declared.events.Event.TheVariants as event
 use Rattle.file_model.specs.declared.files.Act.{Act}
-use Rattle.file_model.specs.declared.files.Act.TheVariants as act
 use Rattle.file_model.specs.declared.files.File.{File}
 use Rattle.file_model.specs.declared.files.Line.{Line}
+use Rattle.line_calls.specs.Calls as line
+use Rattle.line_calls.specs.declared.calls.Cells.{Cells}
+use Rattle.line_calls.specs.declared.calls.Cells.TheVariants as cells
 use Rattle.script_run.specs.Calls.{roles_of, answered_version}
 use Rattle.script_run.specs.Entries.{KindEntry}
 use Rattle.turn_cell.specs.History.{calls_of}
@@ -18,10 +19,7 @@ use Rattle.audit_model.specs.Owed.{calls_case}
 
 -- the event of a type that a line is
 abbrev pub kind_event_in : Act → Option KindEvent
-kind_event_in (act.Create c) = Some kind_event.Newest
-kind_event_in (act.Install t ops) = Some (kind_event.Install ops)
-kind_event_in (act.Migrate t) = Some kind_event.Newest
-kind_event_in _ = None
+kind_event_in x = line.kind_event_in (line.call_of 0 [] x)
 
 abbrev pub kind_event_of : Line → Option KindEvent
 kind_event_of l = kind_event_in l.act
@@ -48,10 +46,14 @@ abbrev pub Telling : Type 0
 Telling = ℕ → ℕ → List VersionModel
 
 -- the type that a line asks for its newest version
+abbrev pub asked_type : Cells → Option ℕ
+asked_type (cells.Kind t) = None
+asked_type (cells.Case c) = None
+asked_type (cells.KindAndCase t c) = Some t
+asked_type (cells.KindAndEach t) = Some t
+
 abbrev pub asks : Act → Option ℕ
-asks (act.Create c) = Some c.type_no
-asks (act.Migrate t) = Some t
-asks _ = None
+asks x = asked_type (line.cells_of x)
 
 abbrev pub rest_of : {X : Type 0} → List X → List X
 rest_of [] = []
@@ -91,22 +93,8 @@ abbrev pub owed_case : CaseId → List (List Asked) → List (List Asked)
 owed_case c phases = map (λ lines. filter (λ l. calls_case c l.0.act) lines) phases
 
 -- the event of a case that a line is, with the version that it was told
-abbrev pub created_by : Option VersionModel → Option Event
-created_by None = None
-created_by (Some v) = Some (event.Create v)
-
-abbrev pub migrated_by : Option VersionModel → Option Event
-migrated_by None = None
-migrated_by (Some v) = Some (event.Migrate v)
-
 abbrev pub case_event_in : List ℕ → ℕ → Option VersionModel → Act → Option Event
-case_event_in roles a v (act.Create c) = created_by v
-case_event_in roles a v (act.Start c node) = Some (event.Start node a roles)
-case_event_in roles a v (act.Withdraw c node) = Some (event.Withdraw node a)
-case_event_in roles a v (act.End c node writes choice) = Some (event.End node a choice writes)
-case_event_in roles a v (act.Change c ops) = Some (event.Change ops)
-case_event_in roles a v (act.Install t ops) = None
-case_event_in roles a v (act.Migrate t) = migrated_by v
+case_event_in roles a v x = line.case_event_in v (line.call_of a roles x)
 
 abbrev pub case_event_of : File → Asked → Option Event
 case_event_of f l = case_event_in (roles_of f l.0.actor) l.0.actor l.1 l.0.act

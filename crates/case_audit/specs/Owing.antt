@@ -8,8 +8,10 @@ use Rattle.case_audit.specs.declared.owed.Owed.{Owed}
 use Rattle.case_audit.specs.declared.owed.PhaseCalls.{PhaseCalls}
 use Rattle.file_model.specs.CaseCounts.{has_id}
 use Rattle.file_model.specs.declared.files.Act.{Act}
-use Rattle.file_model.specs.declared.files.Act.TheVariants as act
 use Rattle.file_model.specs.declared.files.CaseDecl.{CaseDecl}
+use Rattle.line_calls.specs.Calls.{cells_of}
+use Rattle.line_calls.specs.declared.calls.Cells.{Cells}
+use Rattle.line_calls.specs.declared.calls.Cells.TheVariants as cells
 use Rattle.line_followers.specs.Numbered.{with_line}
 use Rattle.script_run.specs.Calls.{changed_where}
 use Rattle.std.specs.Prelude.{position}
@@ -35,28 +37,35 @@ abbrev pub calls_number : ℕ → Asked → Bool
 calls_number t l = calls_kind t l.0.act
 
 -- the type that a line calls
+abbrev pub kind_among : Cells → Option ℕ
+kind_among (cells.Kind t) = Some t
+kind_among (cells.Case c) = None
+kind_among (cells.KindAndCase t c) = Some t
+kind_among (cells.KindAndEach t) = Some t
+
 abbrev pub called_kind : Act → Option ℕ
-called_kind (act.Create c) = Some c.type_no
-called_kind (act.Install t ops) = Some t
-called_kind (act.Migrate t) = Some t
-called_kind _ = None
+called_kind x = kind_among (cells_of x)
 
 abbrev pub kind_put : ℕ → List (List (ℕ × List Asked)) → Asked → List (List (ℕ × List Asked))
 kind_put p owed l = changed_where (with_line p l) (called_kind l.0.act) owed
 
 -- ---- cases by their declarations
 -- the one case that a line calls, and the type of which it calls each case
+abbrev pub case_among : Cells → Option CaseId
+case_among (cells.Kind t) = None
+case_among (cells.Case c) = Some c
+case_among (cells.KindAndCase t c) = Some c
+case_among (cells.KindAndEach t) = None
+
+abbrev pub each_among : Cells → Option ℕ
+each_among (cells.KindAndEach t) = Some t
+each_among _ = None
+
 abbrev pub called_case : Act → Option CaseId
-called_case (act.Create c) = Some c
-called_case (act.Start c node) = Some c
-called_case (act.Withdraw c node) = Some c
-called_case (act.End c node writes choice) = Some c
-called_case (act.Change c ops) = Some c
-called_case _ = None
+called_case x = case_among (cells_of x)
 
 abbrev pub moved_type : Act → Option ℕ
-moved_type (act.Migrate t) = Some t
-moved_type _ = None
+moved_type x = each_among (cells_of x)
 
 abbrev pub calls_decl : CaseDecl → Asked → Bool
 calls_decl d l = calls_case d.id l.0.act

@@ -7,6 +7,7 @@ ghost use Rattle.file_facts.specs.Facts.{IsWorkable};
 
 use crate::told::Told;
 use file_model::{Act, File, Line};
+use line_calls::{Cells, cells_of};
 use script_run::ClosedKind;
 use std::alloc::Global;
 use wsm_lists::NoMemory;
@@ -56,10 +57,8 @@ fn asked_lines<'a>(
 fn type_asked(act: &Act) -> Option<u32>
     ensures { result ≡ asks act.now }
 {
-    match act {
-        Act::Create(id) => Some(id.type_no),
-        Act::Migrate(type_no) => Some(*type_no),
-        Act::Start(..) | Act::Withdraw(..) | Act::End(..) | Act::Change(..) | Act::Install(..) =>
-            None,
+    match cells_of(act) {
+        Cells::KindAndCase(type_no, _) | Cells::KindAndEach(type_no) => Some(type_no),
+        Cells::Kind(_) | Cells::Case(_) => None,
     }
 }

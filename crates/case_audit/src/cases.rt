@@ -19,6 +19,7 @@ ghost use Rattle.line_readers.specs.Owed.{how_many};
 ghost use Rattle.report_text.specs.Ends.{end_text};
 ghost use Rattle.report_text.specs.Journals.{case_line};
 ghost use Rattle.report_text.specs.Report.{case_head};
+ghost use Rattle.line_calls.specs.Calls.{version_event};
 ghost use Rattle.script_run.specs.Calls.{roles_of};
 ghost use Rattle.turn_cell.specs.History.{entry};
 ghost use Rattle.wsm_lists.specs.Rows.{AllRows};
@@ -28,13 +29,15 @@ use crate::callers::caller_in;
 use crate::owed::Owed;
 use crate::turns::Turns;
 use case_core::{Case, Event};
-use file_model::{Act, CaseDecl, File};
+use file_model::{CaseDecl, File};
+use line_calls::{Call, Told, call_of};
 use report_text::{put_case_head, put_case_line, put_end};
 use script_run::{CaseEntry, CaseJournal, ClosedCase};
 use std::alloc::{AllocError, Global};
 use text_follower::{Follower, GrowingSink};
 use turn_cell::Machine;
-use wsm_lists::{NoMemory, RoleList};
+use wsm_lists::NoMemory;
+use wsm_sound::Version;
 
 /// A case as its journal and its end tell it, from its line on. None where a line is wrong.
 pub fn judge_case(
@@ -246,39 +249,33 @@ fn event_of(alloc: Global, file: &File, call: &AskedLine<'_>) -> Result<Option<E
     ensures { IfOk result (λ event. event ≡ case_event_of file.now (asked_of call.now)) }
 {
     let user = call.line.actor;
-    match &call.line.act {
-        Act::Create(_) => match call.version {
+    match call_of(alloc, user, roles_of(file, user), &call.line.act)? {
+        Call::Kind { .. } => Ok(None),
+        Call::Case { event, .. } => Ok(Some(event)),
+        Call::Newest { then, .. } => match call.version {
             None => Ok(None),
-            Some(version) => Ok(Some(Event::Create(version.share()?))),
+            Some(version) => Ok(Some(told_event(then, version.share()?))),
         },
-        Act::Start(_, node) => Ok(Some(Event::Start {
-            node: *node,
-            user,
-            roles: roles_of(alloc, file, user)?,
-        })),
-        Act::Withdraw(_, node) => Ok(Some(Event::Withdraw { node: *node, user })),
-        Act::End(_, node, writes, choice) => Ok(Some(Event::End {
-            node: *node,
-            user,
-            writes: writes.duplicate(alloc)?,
-            choice: *choice,
-        })),
-        Act::Change(_, ops) => Ok(Some(Event::Change(ops.copy(alloc)?))),
-        Act::Migrate(_) => match call.version {
-            None => Ok(None),
-            Some(version) => Ok(Some(Event::Migrate(version.share()?))),
-        },
-        Act::Install(..) => Ok(None),
+    }
+}
+
+// The event that a version is told by.
+fn told_event(then: Told, version: Version) -> Event
+    ensures { result ≡ version_event then version }
+{
+    match then {
+        Told::Create(_) => Event::Create(version),
+        Told::Migrate => Event::Migrate(version),
     }
 }
 
 // The roles of the actor with a number, from 1.
-fn roles_of(alloc: Global, file: &File, actor: u32) -> Result<RoleList, NoMemory>
-    ensures { IfOk result (λ roles. roles ≡ roles_of file.now actor) }
+fn roles_of(file: &File, actor: u32) -> &[u32]
+    ensures { result.now ≡ roles_of file.now actor }
 {
     let index = (actor as usize).saturating_sub(1);
     match file.actors.get(index) {
-        None => Ok(RoleList::new(alloc)),
-        Some(decl) => decl.roles.copy(alloc),
+        None => &[],
+        Some(decl) => decl.roles.as_slice(),
     }
 }

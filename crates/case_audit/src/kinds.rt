@@ -28,6 +28,7 @@ use crate::callers::caller_in;
 use crate::owed::Owed;
 use crate::turns::Turns;
 use file_model::{Act, File, TypeDecl};
+use line_calls::{Call, call_of};
 use report_text::{put_kind_line, put_type_head};
 use script_run::{ClosedKind, KindEntry, KindJournal};
 use std::alloc::{AllocError, Global};
@@ -235,9 +236,9 @@ fn follow_line(
 fn event_of(alloc: Global, act: &Act) -> Result<Option<KindEvent>, NoMemory>
     ensures { IfOk result (λ event. event ≡ kind_event_in act.now) }
 {
-    match act {
-        Act::Create(_) | Act::Migrate(_) => Ok(Some(KindEvent::Newest)),
-        Act::Install(_, ops) => Ok(Some(KindEvent::Install(ops.copy(alloc)?))),
-        Act::Start(..) | Act::Withdraw(..) | Act::End(..) | Act::Change(..) => Ok(None),
+    match call_of(alloc, 0, &[], act)? {
+        Call::Kind { event, .. } => Ok(Some(event)),
+        Call::Case { .. } => Ok(None),
+        Call::Newest { .. } => Ok(Some(KindEvent::Newest)),
     }
 }

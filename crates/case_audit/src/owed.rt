@@ -11,6 +11,7 @@ ghost use Rattle.script_run.specs.Calls.{changed_at};
 use crate::asked::AskedLine;
 use crate::declared::Declared;
 use file_model::{Act, CaseDecl};
+use line_calls::{Cells, cells_of};
 use std::alloc::Global;
 use wsm_lists::NoMemory;
 use wsm_sound::CaseId;
@@ -122,11 +123,11 @@ fn add_kind_lines<'a>(
 fn type_called(act: &Act) -> Option<u32>
     ensures { result ≡ called_kind act.now }
 {
-    match act {
-        Act::Create(id) => Some(id.type_no),
-        Act::Install(type_no, _) => Some(*type_no),
-        Act::Migrate(type_no) => Some(*type_no),
-        Act::Start(..) | Act::Withdraw(..) | Act::End(..) | Act::Change(..) => None,
+    match cells_of(act) {
+        Cells::Kind(type_no) | Cells::KindAndCase(type_no, _) | Cells::KindAndEach(type_no) => Some(
+            type_no,
+        ),
+        Cells::Case(_) => None,
     }
 }
 
@@ -190,13 +191,9 @@ fn add_case_line<'a>(
 fn case_called(act: &Act) -> Option<CaseId>
     ensures { result ≡ called_case act.now }
 {
-    match act {
-        Act::Create(id)
-        | Act::Start(id, _)
-        | Act::Withdraw(id, _)
-        | Act::End(id, ..)
-        | Act::Change(id, _) => Some(*id),
-        Act::Install(..) | Act::Migrate(_) => None,
+    match cells_of(act) {
+        Cells::Case(id) | Cells::KindAndCase(_, id) => Some(id),
+        Cells::Kind(_) | Cells::KindAndEach(_) => None,
     }
 }
 
@@ -204,14 +201,9 @@ fn case_called(act: &Act) -> Option<CaseId>
 fn type_moved(act: &Act) -> Option<u32>
     ensures { result ≡ moved_type act.now }
 {
-    match act {
-        Act::Migrate(type_no) => Some(*type_no),
-        Act::Create(_)
-        | Act::Start(..)
-        | Act::Withdraw(..)
-        | Act::End(..)
-        | Act::Change(..)
-        | Act::Install(..) => None,
+    match cells_of(act) {
+        Cells::KindAndEach(type_no) => Some(type_no),
+        Cells::Kind(_) | Cells::Case(_) | Cells::KindAndCase(_, _) => None,
     }
 }
 

@@ -17,7 +17,8 @@ use crate::asked::AskedLine;
 use crate::cases::judge_case;
 use crate::owed::{Owed, owed_cases};
 use crate::threads::each_below;
-use file_model::{Act, File};
+use file_model::File;
+use line_calls::{Cells, cells_of};
 use script_run::ClosedCase;
 use std::alloc::Global;
 use std::thread::Threads;
@@ -98,7 +99,7 @@ fn lines_of(owed: &Owed<'_>) -> usize {
 fn is_created(owed: &Owed<'_>) -> bool {
     for phase in owed.phases.as_slice() {
         for call in phase.calls.as_slice() {
-            if matches!(call.line.act, Act::Create(_)) {
+            if matches!(cells_of(&call.line.act), Cells::KindAndCase(_, _)) {
                 return true;
             }
         }

@@ -5,6 +5,7 @@ ghost use Rattle.adept_server.specs.Noting.{IsCalmCase, IsCalmKind, rows_of};
 
 use adept_server::CallFlags;
 use file_model::{Act, Lines};
+use line_calls::{Cells, cells_of};
 
 /// Notes each cell that one of these lines names, and forgets all others.
 pub fn note_lines(called: &mut CallFlags, lines: &Lines)
@@ -23,19 +24,16 @@ fn note_act(called: &mut CallFlags, act: &Act)
     ensures kinds { (t : _) → IsCalmKind called.new t → IsCalmKind called.old t × (names_kind t act.now ≡ false) }
     ensures cases { (c : _) → IsCalmCase called.new c → IsCalmCase called.old c × (names_case c act.now ≡ false) }
 {
-    match act {
-        Act::Create(id) => {
-            called.note_kind(id.type_no);
-            called.note_case(*id);
+    match cells_of(act) {
+        Cells::Kind(type_no) => called.note_kind(type_no),
+        Cells::Case(id) => called.note_case(id),
+        Cells::KindAndCase(type_no, id) => {
+            called.note_kind(type_no);
+            called.note_case(id);
         }
-        Act::Start(id, _) => called.note_case(*id),
-        Act::Withdraw(id, _) => called.note_case(*id),
-        Act::End(id, _, _, _) => called.note_case(*id),
-        Act::Change(id, _) => called.note_case(*id),
-        Act::Install(type_no, _) => called.note_kind(*type_no),
-        Act::Migrate(type_no) => {
-            called.note_kind(*type_no);
-            called.note_cases(*type_no);
+        Cells::KindAndEach(type_no) => {
+            called.note_kind(type_no);
+            called.note_cases(type_no);
         }
     }
 }

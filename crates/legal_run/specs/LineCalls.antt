@@ -4,8 +4,11 @@ use Rattle.case_core.specs.declared.events.Event.{Event}
 use Rattle.case_core.specs.declared.events.Event.TheVariants as event
 use Rattle.case_core.specs.declared.replies.Reply.{Reply}
 use Rattle.file_model.specs.declared.files.Act.{Act}
-use Rattle.file_model.specs.declared.files.Act.TheVariants as act
 use Rattle.file_model.specs.declared.files.Line.{Line}
+use Rattle.line_calls.specs.Calls.{call_of}
+use Rattle.line_calls.specs.declared.calls.Call as line
+use Rattle.line_calls.specs.declared.calls.Call.TheVariants as call
+use Rattle.line_calls.specs.declared.calls.Told.TheVariants as tell
 use Rattle.script_run.specs.Entries.{CaseEntry, KindEntry}
 use Rattle.turn_cell.specs.History.{entry}
 use Rattle.type_core.specs.declared.events.KindEvent.TheVariants as kind_event
@@ -56,15 +59,15 @@ told_some a t e place (Some r ∷ answers) = told a (record { type_no = t; place
 
 -- for an actor with these roles, where many says how many cases a type has
 module _ (many : ℕ → ℕ) (roles : List ℕ) (a : ℕ) where
-  -- the calls of a line
+  -- entries that a call may have made, and those of a line
+  abbrev pub AreOf : line.Call → List Call → Type 0
+  AreOf (call.Kind t e) calls = (r : KindReply) × (calls ≡ of_kind t (entry a e r) ∷ [])
+  AreOf (call.Case c e) calls = (r : Reply) × (calls ≡ told a c e r ∷ [])
+  AreOf (call.Newest t (tell.Create c)) calls = (v : VersionModel) × (r : Reply) × (calls ≡ asked a t v ∷ told a c (event.Create v) r ∷ [])
+  AreOf (call.Newest t tell.Migrate) calls = (v : VersionModel) × (rs : List Reply) × (length rs ≡ many t) × (calls ≡ asked a t v ∷ told_each a t (event.Migrate v) 0 rs)
+
   abbrev pub AreCallsOf : Act → List Call → Type 0
-  AreCallsOf (act.Create c) calls = (v : VersionModel) × (r : Reply) × (calls ≡ asked a c.type_no v ∷ told a c (event.Create v) r ∷ [])
-  AreCallsOf (act.Start c n) calls = (r : Reply) × (calls ≡ told a c (event.Start n a roles) r ∷ [])
-  AreCallsOf (act.Withdraw c n) calls = (r : Reply) × (calls ≡ told a c (event.Withdraw n a) r ∷ [])
-  AreCallsOf (act.End c n writes choice) calls = (r : Reply) × (calls ≡ told a c (event.End n a choice writes) r ∷ [])
-  AreCallsOf (act.Change c ops) calls = (r : Reply) × (calls ≡ told a c (event.Change ops) r ∷ [])
-  AreCallsOf (act.Install t ops) calls = (r : KindReply) × (calls ≡ of_kind t (entry a (kind_event.Install ops) r) ∷ [])
-  AreCallsOf (act.Migrate t) calls = (v : VersionModel) × (rs : List Reply) × (length rs ≡ many t) × (calls ≡ asked a t v ∷ told_each a t (event.Migrate v) 0 rs)
+  AreCallsOf x calls = AreOf (call_of a roles x) calls
 
   -- the calls of lines, one line after another
   abbrev pub AreCallsOfLines : List Line → List Call → Type 0
@@ -72,10 +75,13 @@ module _ (many : ℕ → ℕ) (roles : List ℕ) (a : ℕ) where
   AreCallsOfLines (l ∷ ls) calls = (first : List Call) × (rest : List Call) × (calls ≡ first ++ rest) × AreCallsOf l.act first × AreCallsOfLines ls rest
 
   -- What a line that met a fault has done: nothing, or the first of its two calls; of a migration also the calls of some cases.
+  abbrev pub ArePart : line.Call → List Call → Type 0
+  ArePart (call.Newest t (tell.Create c)) calls = (calls ≡ []) ⊎ ((v : VersionModel) × (calls ≡ asked a t v ∷ []))
+  ArePart (call.Newest t tell.Migrate) calls = (calls ≡ []) ⊎ ((v : VersionModel) × (answers : List (Option Reply)) × (length answers ≤ many t) × (calls ≡ asked a t v ∷ told_some a t (event.Migrate v) 0 answers))
+  ArePart _ calls = calls ≡ []
+
   abbrev pub ArePartOf : Act → List Call → Type 0
-  ArePartOf (act.Create c) calls = (calls ≡ []) ⊎ ((v : VersionModel) × (calls ≡ asked a c.type_no v ∷ []))
-  ArePartOf (act.Migrate t) calls = (calls ≡ []) ⊎ ((v : VersionModel) × (answers : List (Option Reply)) × (length answers ≤ many t) × (calls ≡ asked a t v ∷ told_some a t (event.Migrate v) 0 answers))
-  ArePartOf _ calls = calls ≡ []
+  ArePartOf x calls = ArePart (call_of a roles x) calls
 
   -- the calls of lines up to one that met a fault
   abbrev pub AreBegun : List Line → List Call → Type 0

@@ -3,23 +3,27 @@ use Rattle.std.specs.Prelude.{ℕ, ◌==◌, Bool, bytes_eq, List, map, fold, sl
 use Rattle.file_names.specs.Names.{place_of}
 use Rattle.file_words.specs.Lines.{Bytes}
 use Rattle.file_model.specs.declared.files.Act.{Act}
-use Rattle.file_model.specs.declared.files.Act.TheVariants as act
 use Rattle.file_model.specs.declared.files.File.{File}
 use Rattle.file_model.specs.declared.files.Line.{Line}
 use Rattle.file_model.specs.declared.files.TypeDecl.{TypeDecl}
+use Rattle.line_calls.specs.Calls.{installed}
 use Rattle.script_run.specs.Verdicts.{defined_kind}
 use Rattle.type_core.specs.KindModel.{KindModel}
 use Rattle.type_core.specs.Machine.{next_kind, version_in}
 use Rattle.type_core.specs.declared.events.KindEvent.TheVariants as kind_event
+use Rattle.wsm_ops.specs.declared.operations.Op.{Op}
 use Rattle.wsm_sound.specs.VersionModel.{VersionModel}
 
 abbrev pub is_named : Bytes → TypeDecl → Bool
 is_named name d = bytes_eq name d.name
 
 -- a line installs on one type; no other line changes a type
+abbrev pub installed_ops : ℕ → KindModel → Option (ℕ × List Op) → KindModel
+installed_ops t k None = k
+installed_ops t k (Some i) = if i.0 == t then (next_kind k (kind_event.Install i.1)).0 else k
+
 abbrev pub installed_act : ℕ → KindModel → Act → KindModel
-installed_act t k (act.Install u ops) = if u == t then (next_kind k (kind_event.Install ops)).0 else k
-installed_act t k _ = k
+installed_act t k x = installed_ops t k (installed x)
 
 abbrev pub installed_line : ℕ → KindModel → Line → KindModel
 installed_line t k l = installed_act t k l.act

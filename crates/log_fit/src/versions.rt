@@ -5,7 +5,8 @@ ghost use Rattle.file_names.specs.Names.{place_of};
 ghost use Rattle.log_fit.specs.Versions.{installed_line, installed_lines, is_named, kind_of, version_of};
 ghost use Rattle.wsm_schema.specs.Flat.{cards_of};
 
-use file_model::{Act, File, Line, TypeDecl};
+use file_model::{File, Line, TypeDecl};
+use line_calls::installed;
 use script_run::defined_kind;
 use std::alloc::Global;
 use turn_cell::Machine;
@@ -37,19 +38,14 @@ fn install_line(kind: &mut Kind, alloc: Global, number: u32, line: &Line) -> Res
     requires { line_effort line.now ≤ 4000000000 }
     ensures { OnOk result (kind.new ≡ installed_line number kind.old line.now) }
 {
-    match &line.act {
-        Act::Install(type_no, ops) => {
-            if *type_no == number {
+    match installed(&line.act) {
+        None => Ok(()),
+        Some((type_no, ops)) => {
+            if type_no == number {
                 let _ = kind.step(alloc, &KindEvent::Install(ops.copy(alloc)?))?;
             }
             Ok(())
         }
-        Act::Create(_)
-        | Act::Start(_, _)
-        | Act::Withdraw(_, _)
-        | Act::End(_, _, _, _)
-        | Act::Change(_, _)
-        | Act::Migrate(_) => Ok(()),
     }
 }
 

@@ -5,11 +5,15 @@ use Rattle.case_core.specs.declared.events.Event.{Event}
 use Rattle.case_core.specs.declared.events.Event.TheVariants as event
 use Rattle.file_model.specs.CaseCounts.{has_id}
 use Rattle.file_model.specs.declared.files.Act.{Act}
-use Rattle.file_model.specs.declared.files.Act.TheVariants as act
 use Rattle.file_model.specs.declared.files.ActorDecl.{ActorDecl}
 use Rattle.file_model.specs.declared.files.CaseDecl.{CaseDecl}
 use Rattle.file_model.specs.declared.files.File.{File}
 use Rattle.file_model.specs.declared.files.Line.{Line}
+use Rattle.line_calls.specs.Calls.{call_of}
+use Rattle.line_calls.specs.declared.calls.Call.{Call}
+use Rattle.line_calls.specs.declared.calls.Call.TheVariants as call
+use Rattle.line_calls.specs.declared.calls.Told.{Told}
+use Rattle.line_calls.specs.declared.calls.Told.TheVariants as told
 use Rattle.script_run.specs.declared.runs.ClosedCase.{ClosedCase}
 use Rattle.script_run.specs.declared.runs.ClosedKind.{ClosedKind}
 use Rattle.script_run.specs.declared.runs.Run.{Run}
@@ -96,15 +100,18 @@ abbrev pub migrated : File → ℕ → ℕ → Option VersionModel → Run → R
 migrated f caller t None r = r
 migrated f caller t (Some v) r = on_each f caller t (event.Migrate v) r
 
--- the calls of a line, one after another
+-- a run behind a call
+abbrev pub told_to : File → ℕ → ℕ → Told → Option VersionModel → Run → Run
+told_to f caller t (told.Create c) o r = created f caller c o r
+told_to f caller t told.Migrate o r = migrated f caller t o r
+
+abbrev pub called : File → ℕ → Call → Run → Run
+called f caller (call.Kind t e) r = on_kind caller t e r
+called f caller (call.Case c e) r = on_case f caller c e r
+called f caller (call.Newest t w) r = told_to f caller t w (newest t r) (on_kind caller t kind_event.Newest r)
+
 abbrev pub acted : File → ℕ → Act → Run → Run
-acted f caller (act.Create c) r = created f caller c (newest c.type_no r) (on_kind caller c.type_no kind_event.Newest r)
-acted f caller (act.Start c n) r = on_case f caller c (event.Start n caller (roles_of f caller)) r
-acted f caller (act.Withdraw c n) r = on_case f caller c (event.Withdraw n caller) r
-acted f caller (act.End c n writes choice) r = on_case f caller c (event.End n caller choice writes) r
-acted f caller (act.Change c ops) r = on_case f caller c (event.Change ops) r
-acted f caller (act.Install t ops) r = on_kind caller t (kind_event.Install ops) r
-acted f caller (act.Migrate t) r = migrated f caller t (newest t r) (on_kind caller t kind_event.Newest r)
+acted f caller x r = called f caller (call_of caller (roles_of f caller) x) r
 
 abbrev pub worked : File → Run → Line → Run
 worked f r l = acted f l.actor l.act r

@@ -2,15 +2,16 @@
 use Rattle.std.specs.Prelude.{ℕ, ◌+◌, Bool, true, false, List, [], ◌∷◌, ◌++◌, fold, slice_get, slice_set, Option, Some, None}
 use Rattle.std.specs.List.{list_any}
 use Rattle.file_model.specs.declared.files.Act.{Act}
-use Rattle.file_model.specs.declared.files.Act.TheVariants as act
 use Rattle.file_model.specs.declared.files.File.{File}
 use Rattle.file_model.specs.declared.files.Line.{Line}
 use Rattle.file_model.specs.declared.files.TypeDecl.{TypeDecl}
+use Rattle.line_calls.specs.Calls.{installed}
 use Rattle.script_run.specs.declared.runs.Verdict.{Verdict}
 use Rattle.type_core.specs.KindModel.{KindModel, not_defined}
 use Rattle.type_core.specs.Machine.{next_kind}
 use Rattle.type_core.specs.declared.events.KindEvent.{KindEvent}
 use Rattle.type_core.specs.declared.events.KindEvent.TheVariants as kind_event
+use Rattle.wsm_ops.specs.declared.operations.Op.{Op}
 
 -- the types, and what they answered so far
 pub record Checking : Type 0 where
@@ -39,9 +40,12 @@ judged_by at t e s (Some k) = record {
 abbrev pub judged : ℕ → ℕ → KindEvent → Checking → Checking
 judged at t e s = judged_by at t e s (slice_get s.kinds t)
 
+abbrev pub judged_install : ℕ → Option (ℕ × List Op) → Checking → Checking
+judged_install at None s = s
+judged_install at (Some i) s = judged at i.0 (kind_event.Install i.1) s
+
 abbrev pub judged_act : ℕ → Act → Checking → Checking
-judged_act at (act.Install t ops) s = judged at t (kind_event.Install ops) s
-judged_act at _ s = s
+judged_act at x s = judged_install at (installed x) s
 
 abbrev pub judged_line : Checking → Line → Checking
 judged_line s l = judged_act l.at l.act s
@@ -53,9 +57,12 @@ abbrev pub verdicts : File → List Verdict
 verdicts f = (fold judged_phase (record { kinds = defined_from 0 f.types; verdicts = [] }) f.phases).verdicts
 
 -- whether an act installs, and whether a line of a phase does
+abbrev pub is_some : {X : Type 0} → Option X → Bool
+is_some None = false
+is_some (Some x) = true
+
 abbrev pub installs : Act → Bool
-installs (act.Install t ops) = true
-installs _ = false
+installs x = is_some (installed x)
 
 abbrev pub some_install : List Line → Bool
 some_install lines = list_any (λ l. installs l.act) lines

@@ -1,5 +1,6 @@
 // How many calls a file's lines make of its types and cases, so that a journal is made with the room that it takes.
 use file_model::{Act, CaseDecl, File, Line, TypeDecl};
+use line_calls::{Cells, cells_of};
 use std::alloc::Global;
 use wsm_lists::NoMemory;
 use wsm_sound::CaseId;
@@ -56,18 +57,16 @@ impl CallCounts {
     }
 
     fn note(&mut self, act: &Act) {
-        match act {
-            Act::Create(id) => {
-                self.note_kind(id.type_no);
-                self.note_case(*id);
+        match cells_of(act) {
+            Cells::Kind(type_no) => self.note_kind(type_no),
+            Cells::Case(id) => self.note_case(id),
+            Cells::KindAndCase(type_no, id) => {
+                self.note_kind(type_no);
+                self.note_case(id);
             }
-            Act::Start(id, _) | Act::Withdraw(id, _) => self.note_case(*id),
-            Act::End(id, _, _, _) => self.note_case(*id),
-            Act::Change(id, _) => self.note_case(*id),
-            Act::Install(type_no, _) => self.note_kind(*type_no),
-            Act::Migrate(type_no) => {
-                self.note_kind(*type_no);
-                self.note_migration(*type_no);
+            Cells::KindAndEach(type_no) => {
+                self.note_kind(type_no);
+                self.note_migration(type_no);
             }
         }
     }

@@ -10,6 +10,7 @@ ghost use Rattle.wsm_schema.specs.Flat.{cards_of};
 
 use crate::runs::{Verdict, Verdicts};
 use file_model::{Act, File, Line, TypeDecl};
+use line_calls::installed;
 use std::alloc::Global;
 use turn_cell::Machine;
 use type_core::{Kind, KindEvent};
@@ -60,15 +61,7 @@ fn some_line_installs(lines: &[Line]) -> bool
 fn installs(act: &Act) -> bool
     ensures { result ≡ installs act.now }
 {
-    match act {
-        Act::Install(_, _) => true,
-        Act::Create(_)
-        | Act::Start(_, _)
-        | Act::Withdraw(_, _)
-        | Act::End(_, _, _, _)
-        | Act::Change(_, _)
-        | Act::Migrate(_) => false,
-    }
+    installed(act).is_some()
 }
 
 // The types behind their definitions, numbered from 0.
@@ -111,14 +104,9 @@ impl Judging {
         requires { line_effort line.now ≤ 4000000000 }
         ensures { OnOk result (checking_of self.new ≡ judged_line (checking_of self.old) line.now) }
     {
-        match &line.act {
-            Act::Install(type_no, ops) => self.install(alloc, line.at, *type_no, ops),
-            Act::Create(_)
-            | Act::Start(_, _)
-            | Act::Withdraw(_, _)
-            | Act::End(_, _, _, _)
-            | Act::Change(_, _)
-            | Act::Migrate(_) => Ok(()),
+        match installed(&line.act) {
+            None => Ok(()),
+            Some((type_no, ops)) => self.install(alloc, line.at, type_no, ops),
         }
     }
 

@@ -6,7 +6,7 @@ ghost use Rattle.script_run.specs.Places.{Indexes};
 use file_model::{CaseDecl, File};
 use std::alloc::Global;
 use std::collections::HashMap;
-use wsm_lists::{NoMemory, RoleList};
+use wsm_lists::NoMemory;
 use wsm_sound::CaseId;
 
 /// A file, and an index of its cases by their types and their places there.
@@ -36,13 +36,13 @@ impl<'a> Script<'a> {
     }
 
     /// The roles of the actor with a number, from 1.
-    pub fn roles_of(&self, alloc: Global, actor: u32) -> Result<RoleList, NoMemory>
-        ensures { IfOk result (λ roles. roles ≡ roles_of self.now.file.now actor) }
+    pub fn roles_of(&self, actor: u32) -> &[u32]
+        ensures { result.now ≡ roles_of self.now.file.now actor }
     {
         let index = (actor as usize).saturating_sub(1);
         match self.file.actors.get(index) {
-            None => Ok(RoleList::new(alloc)),
-            Some(decl) => decl.roles.copy(alloc),
+            None => &[],
+            Some(decl) => decl.roles.as_slice(),
         }
     }
 }

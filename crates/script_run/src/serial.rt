@@ -1,9 +1,10 @@
 // The serial run.
-ghost use Rattle.std.specs.Prelude.{◌≡◌, ◌+◌, ◌≤◌, true, map, length, IfOk, OnOk};
+ghost use Rattle.std.specs.Prelude.{◌≡◌, ◌+◌, ◌≤◌, true, map, length, IfOk, OnOk, Some};
 ghost use Rattle.std.specs.List.{list_all};
 ghost use Rattle.file_limits.specs.declared.TheConstants.{MAX_TYPES};
 ghost use Rattle.file_model.specs.Sizes.{IsBounded, is_small, line_effort, phase_effort};
-ghost use Rattle.script_run.specs.Calls.{acted, worked};
+ghost use Rattle.line_calls.specs.Calls.{call_weight};
+ghost use Rattle.script_run.specs.Calls.{called, told_to, worked};
 ghost use Rattle.script_run.specs.Oldest.{oldest};
 ghost use Rattle.script_run.specs.Parts.{run_of};
 ghost use Rattle.script_run.specs.Serial.{defined, kinds_from, opening, phase_worked, serial, uncalled};
@@ -14,11 +15,12 @@ use crate::calls::{Working, call_kind};
 use crate::runs::{CaseJournal, ClosedCase, ClosedKind, KindJournal, Run};
 use crate::scripts::Script;
 use case_core::{Case, Event};
-use file_model::{Act, CaseDecl, File, Line, TypeDecl};
+use file_model::{CaseDecl, File, Line, TypeDecl};
+use line_calls::{Call, Told, call_of};
 use std::alloc::Global;
 use type_core::{Kind, KindEvent};
 use wsm_lists::NoMemory;
-use wsm_sound::CaseId;
+use wsm_sound::Version;
 
 /// The number of the program itself.
 const PROGRAM: u32 = 0;
@@ -129,79 +131,49 @@ impl Working {
         ensures age { OnOk result (oldest self.new.cases.items ≤ oldest self.old.cases.items + line_effort line.now) }
     {
         let caller = line.actor;
-        match &line.act {
-            Act::Create(id) => self.create(alloc, script, caller, *id),
-            Act::Start(id, node) => {
-                let event = Event::Start {
-                    node: *node,
-                    user: caller,
-                    roles: script.roles_of(alloc, caller)?,
-                };
-                self.on_case(alloc, script, caller, *id, event)
-            }
-            Act::Withdraw(id, node) => {
-                let event = Event::Withdraw {
-                    node: *node,
-                    user: caller,
-                };
-                self.on_case(alloc, script, caller, *id, event)
-            }
-            Act::End(id, node, writes, choice) => {
-                let event = Event::End {
-                    node: *node,
-                    user: caller,
-                    writes: writes.duplicate(alloc)?,
-                    choice: *choice,
-                };
-                self.on_case(alloc, script, caller, *id, event)
-            }
-            Act::Change(id, ops) => {
-                let event = Event::Change(ops.copy(alloc)?);
-                self.on_case(alloc, script, caller, *id, event)
-            }
-            Act::Install(type_no, ops) => {
-                let event = KindEvent::Install(ops.copy(alloc)?);
-                self.on_kind(alloc, caller, *type_no, event)
-            }
-            Act::Migrate(type_no) => self.migrate(alloc, script, caller, *type_no),
-        }
+        let call = call_of(alloc, caller, script.roles_of(caller), &line.act)?;
+        self.make(alloc, script, caller, call)
     }
 
-    // The type is asked for its newest version, and the case is created on it.
-    fn create(
+    // Makes a call.
+    fn make(
         &mut self,
         alloc: Global,
         script: &Script<'_>,
         caller: u32,
-        id: CaseId,
+        call: Call,
     ) -> Result<(), NoMemory>
-        requires { oldest self.old.cases.items ≤ 4000000000 }
-        ensures run { OnOk result (run_of self.new ≡ acted script.now.file.now caller (Act.Create id) (run_of self.old)) }
-        ensures age { OnOk result (oldest self.new.cases.items ≤ oldest self.old.cases.items) }
+        requires { oldest self.old.cases.items + call_weight call ≤ 4000000000 }
+        ensures run { OnOk result (run_of self.new ≡ called script.now.file.now caller call (run_of self.old)) }
+        ensures age { OnOk result (oldest self.new.cases.items ≤ oldest self.old.cases.items + call_weight call) }
     {
-        match self.newest(alloc, caller, id.type_no)? {
-            None => Ok(()),
-            Some(version) => self.on_case(alloc, script, caller, id, Event::Create(version)),
+        match call {
+            Call::Kind { type_no, event } => self.on_kind(alloc, caller, type_no, event),
+            Call::Case { id, event } => self.on_case(alloc, script, caller, id, event),
+            Call::Newest { type_no, then } => match self.newest(alloc, caller, type_no)? {
+                None => Ok(()),
+                Some(version) => self.tell(alloc, script, caller, type_no, then, version),
+            },
         }
     }
 
-    // The type is asked for its newest version, and each of its cases is to move to it.
-    fn migrate(
+    // Tells the version that a type answered.
+    fn tell(
         &mut self,
         alloc: Global,
         script: &Script<'_>,
         caller: u32,
         type_no: u32,
+        then: Told,
+        version: Version,
     ) -> Result<(), NoMemory>
         requires { oldest self.old.cases.items ≤ 4000000000 }
-        ensures run { OnOk result (run_of self.new ≡ acted script.now.file.now caller (Act.Migrate type_no) (run_of self.old)) }
+        ensures run { OnOk result (run_of self.new ≡ told_to script.now.file.now caller type_no then (Some version) (run_of self.old)) }
         ensures age { OnOk result (oldest self.new.cases.items ≤ oldest self.old.cases.items) }
     {
-        match self.newest(alloc, caller, type_no)? {
-            None => Ok(()),
-            Some(version) => {
-                self.on_each(alloc, script, caller, type_no, &Event::Migrate(version))
-            }
+        match then {
+            Told::Create(id) => self.on_case(alloc, script, caller, id, Event::Create(version)),
+            Told::Migrate => self.on_each(alloc, script, caller, type_no, &Event::Migrate(version)),
         }
     }
 }

@@ -2,19 +2,21 @@
 use Rattle.std.proofs.Common.{◌≡◌, ℕ, zero, suc, ◌+◌, ◌==◌, Bool, true, false, List, [], ◌∷◌, ◌++◌, fold, Option, Some, None, refl, sym, ap, ◌∙◌, append_assoc}
 use Rattle.std.specs.Prelude.{option_map, slice_get, if◌then◌else◌}
 use Rattle.std.proofs.lemmas.List.{append-nil}
-use Rattle.file_model.specs.declared.files.Act.{Act}
-use Rattle.file_model.specs.declared.files.Act.TheVariants as act
 use Rattle.file_model.specs.declared.files.CaseDecl.{CaseDecl}
 use Rattle.file_model.specs.declared.files.File.{File}
 use Rattle.file_model.specs.declared.files.Line.{Line}
 use Rattle.file_model.specs.declared.files.TypeDecl.{TypeDecl}
-use Rattle.script_run.specs.Calls.{acted, answered_version, call_kind, changed_at, created, migrated, newest, newest_in, on_kind, put_back}
+use Rattle.line_calls.specs.Calls.{call_of}
+use Rattle.line_calls.specs.declared.calls.Call.{Call}
+use Rattle.line_calls.specs.declared.calls.Call.TheVariants as call
+use Rattle.line_calls.specs.declared.calls.Told.TheVariants as tell
+use Rattle.script_run.specs.Calls.{answered_version, call_kind, called, changed_at, created, migrated, newest, newest_in, on_kind, put_back, roles_of}
 use Rattle.script_run.specs.Serial.{kinds_from, opening}
 use Rattle.script_run.specs.Verdicts.{stepped}
 use Rattle.script_run.specs.declared.runs.ClosedKind.{ClosedKind}
 use Rattle.script_run.specs.declared.runs.Run.{Run}
-use Rattle.store_calls.specs.Calls.{act_calls, by, calls, create_calls, definitions, line_called, migrate_calls, migrations, phase_called, Worked}
-use Rattle.store_calls.specs.Told.{created_on, migrated_to, newest_number, number_in, told_act, told_file, told_migration, told_phase, told_types, Told}
+use Rattle.store_calls.specs.Calls.{by, calls, create_calls, definitions, line_called, migrate_calls, migrations, phase_called, records, stored_kind, Worked}
+use Rattle.store_calls.specs.Told.{created_on, migrated_to, newest_number, number_in, told_call, told_file, told_migration, told_phase, told_types, Told}
 use Rattle.store_form.specs.declared.stored.Recorded.{Recorded}
 use Rattle.store_form.specs.declared.stored.Stored.TheVariants as stored
 use Rattle.type_core.specs.KindModel.{KindModel}
@@ -114,19 +116,15 @@ migrate-told f a t ds (Some v) r cs q =
     ap (told_by (machines r.kinds)) (sym (append_assoc cs (q ∷ []) (migrations a t v.number ds)))
     ∙ sym (migrations-told a t v.number ds (machines r.kinds) (cs ++ q ∷ []))
 
-act-told : (f : File) (a : ℕ) (x : Act) (r : Run) (cs : List Recorded) → told (acted f a x r) (cs ++ act_calls f a r x) ≡ told_act f a x (told r cs)
-act-told f a (act.Create c) r cs =
-    let t : ℕ = c.type_no in
+call-told : (f : File) (a : ℕ) (k : Call) (r : Run) (cs : List Recorded) → told (called f a k r) (cs ++ records f a r k) ≡ told_call f a k (told r cs)
+call-told f a (call.Kind t e) r cs = ap (λ ks. told_by ks (cs ++ by a (stored_kind t e) ∷ [])) (kinds-changed a t e r.kinds)
+call-told f a (call.Case c e) r cs = refl
+call-told f a (call.Newest t (tell.Create c)) r cs =
     let q : Recorded = by a (stored.Newest t) in
     create-told f a c (newest t r) (on_kind a t kind_event.Newest r) cs q
     ∙ ap (λ ks. created_on a c (number (newest t r)) (told_by ks (cs ++ q ∷ []))) (kinds-same a t r)
     ∙ ap (λ n. created_on a c n (told r (cs ++ q ∷ []))) (sym (newest-is t r))
-act-told f a (act.Start c n) r cs = refl
-act-told f a (act.Withdraw c n) r cs = refl
-act-told f a (act.End c n writes choice) r cs = refl
-act-told f a (act.Change c ops) r cs = refl
-act-told f a (act.Install t ops) r cs = ap (λ ks. told_by ks (cs ++ by a (stored.Install t ops) ∷ [])) (kinds-changed a t (kind_event.Install ops) r.kinds)
-act-told f a (act.Migrate t) r cs =
+call-told f a (call.Newest t tell.Migrate) r cs =
     let q : Recorded = by a (stored.Newest t) in
     migrate-told f a t f.cases (newest t r) (on_kind a t kind_event.Newest r) cs q
     ∙ ap (λ ks. migrated_to a t f.cases (number (newest t r)) (told_by ks (cs ++ q ∷ []))) (kinds-same a t r)
@@ -138,7 +136,7 @@ told_worked w = told w.run w.calls
 
 lines-told : (f : File) (lines : List Line) (w : Worked) → told_worked (phase_called f w lines) ≡ told_phase f (told_worked w) lines
 lines-told f [] w = refl
-lines-told f (l ∷ ls) w = lines-told f ls (line_called f w l) ∙ ap (λ s. told_phase f s ls) (act-told f l.actor l.act w.run w.calls)
+lines-told f (l ∷ ls) w = lines-told f ls (line_called f w l) ∙ ap (λ s. told_phase f s ls) (call-told f l.actor (call_of l.actor (roles_of f l.actor) l.act) w.run w.calls)
 
 phases-told : (f : File) (phases : List (List Line)) (w : Worked) → told_worked (fold (phase_called f) w phases) ≡ fold (told_phase f) (told_worked w) phases
 phases-told f [] w = refl

@@ -1,12 +1,14 @@
 -- The calls of a file's serial run, one after another, as a store keeps them.
 use Rattle.std.specs.Prelude.{◌≡◌, ℕ, ◌+◌, ◌==◌, true, List, [], ◌∷◌, ◌++◌, fold, map, Option, Some, None, if◌then◌else◌}
-use Rattle.case_core.specs.declared.events.Event.TheVariants as event
 use Rattle.file_model.specs.declared.files.Act.{Act}
-use Rattle.file_model.specs.declared.files.Act.TheVariants as act
 use Rattle.file_model.specs.declared.files.CaseDecl.{CaseDecl}
 use Rattle.file_model.specs.declared.files.File.{File}
 use Rattle.file_model.specs.declared.files.Line.{Line}
 use Rattle.file_model.specs.declared.files.TypeDecl.{TypeDecl}
+use Rattle.line_calls.specs.Calls.{call_of}
+use Rattle.line_calls.specs.declared.calls.Call.{Call}
+use Rattle.line_calls.specs.declared.calls.Call.TheVariants as call
+use Rattle.line_calls.specs.declared.calls.Told.TheVariants as told
 use Rattle.script_run.specs.Calls.{newest, roles_of, worked}
 use Rattle.script_run.specs.Serial.{opening, program}
 use Rattle.script_run.specs.declared.runs.Run.{Run}
@@ -15,6 +17,8 @@ use Rattle.store_form.specs.Stored.{HasNoVersion, is_shallow}
 use Rattle.store_form.specs.declared.stored.Recorded.{Recorded}
 use Rattle.store_form.specs.declared.stored.Stored.{Stored}
 use Rattle.store_form.specs.declared.stored.Stored.TheVariants as stored
+use Rattle.type_core.specs.declared.events.KindEvent.{KindEvent}
+use Rattle.type_core.specs.declared.events.KindEvent.TheVariants as kind_event
 use Rattle.wsm_sound.specs.VersionModel.{VersionModel}
 use Rattle.wsm_sound.specs.declared.versions.CaseId.{CaseId}
 
@@ -40,15 +44,21 @@ abbrev pub migrate_calls : ℕ → ℕ → List CaseDecl → Option VersionModel
 migrate_calls a t ds None = []
 migrate_calls a t ds (Some v) = migrations a t v.number ds
 
+-- a type's event as it is stored
+abbrev pub stored_kind : ℕ → KindEvent → Stored
+stored_kind t (kind_event.Define schema) = stored.Define t schema
+stored_kind t (kind_event.Install ops) = stored.Install t ops
+stored_kind t kind_event.Newest = stored.Newest t
+
 -- the calls of an act, by the run before it
+abbrev pub records : File → ℕ → Run → Call → List Recorded
+records f a r (call.Kind t e) = by a (stored_kind t e) ∷ []
+records f a r (call.Case c e) = by a (stored.Case c e) ∷ []
+records f a r (call.Newest t (told.Create c)) = by a (stored.Newest t) ∷ create_calls a c (newest t r)
+records f a r (call.Newest t told.Migrate) = by a (stored.Newest t) ∷ migrate_calls a t f.cases (newest t r)
+
 abbrev pub act_calls : File → ℕ → Run → Act → List Recorded
-act_calls f a r (act.Create c) = by a (stored.Newest c.type_no) ∷ create_calls a c (newest c.type_no r)
-act_calls f a r (act.Start c n) = by a (stored.Case c (event.Start n a (roles_of f a))) ∷ []
-act_calls f a r (act.Withdraw c n) = by a (stored.Case c (event.Withdraw n a)) ∷ []
-act_calls f a r (act.End c n writes choice) = by a (stored.Case c (event.End n a choice writes)) ∷ []
-act_calls f a r (act.Change c ops) = by a (stored.Case c (event.Change ops)) ∷ []
-act_calls f a r (act.Install t ops) = by a (stored.Install t ops) ∷ []
-act_calls f a r (act.Migrate t) = by a (stored.Newest t) ∷ migrate_calls a t f.cases (newest t r)
+act_calls f a r x = records f a r (call_of a (roles_of f a) x)
 
 -- a run, and the calls that made it
 pub record Worked : Type 0 where

@@ -1,24 +1,26 @@
 -- The calls of a file as they are told line by line, by the versions of the types alone.
 use Rattle.std.specs.Prelude.{ℕ, ◌+◌, ◌==◌, List, [], ◌∷◌, ◌++◌, fold, slice_get, Option, Some, None, option_map, if◌then◌else◌}
-use Rattle.case_core.specs.declared.events.Event.TheVariants as event
 use Rattle.file_model.specs.declared.files.Act.{Act}
-use Rattle.file_model.specs.declared.files.Act.TheVariants as act
 use Rattle.file_model.specs.declared.files.CaseDecl.{CaseDecl}
 use Rattle.file_model.specs.declared.files.File.{File}
 use Rattle.file_model.specs.declared.files.Line.{Line}
 use Rattle.file_model.specs.declared.files.TypeDecl.{TypeDecl}
+use Rattle.line_calls.specs.Calls.{call_of}
+use Rattle.line_calls.specs.declared.calls.Call.{Call}
+use Rattle.line_calls.specs.declared.calls.Call.TheVariants as call
+use Rattle.line_calls.specs.declared.calls.Told.TheVariants as told
 use Rattle.script_run.specs.Calls.{changed_at, roles_of}
 use Rattle.script_run.specs.Serial.{program}
 use Rattle.script_run.specs.Verdicts.{stepped}
-use Rattle.store_calls.specs.Calls.{by}
+use Rattle.store_calls.specs.Calls.{by, stored_kind}
 use Rattle.store_calls.specs.declared.telling.Telling.{Telling}
 use Rattle.store_form.specs.declared.stored.Recorded.{Recorded}
 use Rattle.store_form.specs.declared.stored.Stored.{Stored}
 use Rattle.store_form.specs.declared.stored.Stored.TheVariants as stored
 use Rattle.type_core.specs.KindModel.{KindModel, not_defined}
 use Rattle.type_core.specs.Machine.{newest_of}
+use Rattle.type_core.specs.declared.events.KindEvent.{KindEvent}
 use Rattle.type_core.specs.declared.events.KindEvent.TheVariants as kind_event
-use Rattle.wsm_ops.specs.declared.operations.Op.{Op}
 use Rattle.wsm_sound.specs.declared.versions.CaseId.{CaseId}
 
 -- the types, and the calls so far
@@ -54,11 +56,11 @@ abbrev pub created_on : ℕ → CaseId → Option ℕ → Told → Told
 created_on a c None s = s
 created_on a c (Some number) s = with_call a (stored.Create c number) s
 
-abbrev pub told_create : ℕ → CaseId → Told → Told
-told_create a c s = created_on a c (newest_number c.type_no s.kinds) (with_call a (stored.Newest c.type_no) s)
+abbrev pub told_create : ℕ → ℕ → CaseId → Told → Told
+told_create a t c s = created_on a c (newest_number t s.kinds) (with_call a (stored.Newest t) s)
 
-abbrev pub told_install : ℕ → ℕ → List Op → Told → Told
-told_install a t ops s = with_call a (stored.Install t ops) (record { kinds = changed_at (stepped (kind_event.Install ops)) t s.kinds; calls = s.calls })
+abbrev pub told_kind : ℕ → ℕ → KindEvent → Told → Told
+told_kind a t e s = with_call a (stored_kind t e) (record { kinds = changed_at (stepped e) t s.kinds; calls = s.calls })
 
 abbrev pub told_migration : ℕ → ℕ → ℕ → Told → CaseDecl → Told
 told_migration a t number s d = if d.id.type_no == t then with_call a (stored.Migrate d.id number) s else s
@@ -70,14 +72,14 @@ migrated_to a t ds (Some number) s = fold (told_migration a t number) s ds
 abbrev pub told_migrate : ℕ → ℕ → List CaseDecl → Told → Told
 told_migrate a t ds s = migrated_to a t ds (newest_number t s.kinds) (with_call a (stored.Newest t) s)
 
+abbrev pub told_call : File → ℕ → Call → Told → Told
+told_call f a (call.Kind t e) s = told_kind a t e s
+told_call f a (call.Case c e) s = with_call a (stored.Case c e) s
+told_call f a (call.Newest t (told.Create c)) s = told_create a t c s
+told_call f a (call.Newest t told.Migrate) s = told_migrate a t f.cases s
+
 abbrev pub told_act : File → ℕ → Act → Told → Told
-told_act f a (act.Create c) s = told_create a c s
-told_act f a (act.Start c n) s = with_call a (stored.Case c (event.Start n a (roles_of f a))) s
-told_act f a (act.Withdraw c n) s = with_call a (stored.Case c (event.Withdraw n a)) s
-told_act f a (act.End c n writes choice) s = with_call a (stored.Case c (event.End n a choice writes)) s
-told_act f a (act.Change c ops) s = with_call a (stored.Case c (event.Change ops)) s
-told_act f a (act.Install t ops) s = told_install a t ops s
-told_act f a (act.Migrate t) s = told_migrate a t f.cases s
+told_act f a x s = told_call f a (call_of a (roles_of f a) x) s
 
 abbrev pub told_line : File → Told → Line → Told
 told_line f s l = told_act f l.actor l.act s

@@ -4,20 +4,21 @@ ghost use Rattle.std.specs.List.{AllByRecursion, list_all};
 ghost use Rattle.file_facts.specs.Facts.{IsWorkable};
 ghost use Rattle.file_model.specs.Sizes.{IsBounded, is_small, line_effort, phase_effort};
 ghost use Rattle.script_run.specs.Calls.{roles_of};
-ghost use Rattle.store_calls.specs.Calls.{IsPayable, calls};
-ghost use Rattle.store_calls.specs.Told.{newest_number, nothing_told, told_act, told_create, told_defined, told_file, told_install, told_line, told_migrate, told_migration, told_of, told_phase, told_types, with_call};
+ghost use Rattle.line_calls.specs.Calls.{call_weight};
+ghost use Rattle.store_calls.specs.Calls.{IsPayable, calls, stored_kind};
+ghost use Rattle.type_core.specs.Machine.{weight as kind_weight};
+ghost use Rattle.store_calls.specs.Told.{newest_number, nothing_told, told_call, told_create, told_defined, told_file, told_kind, told_line, told_migrate, told_migration, told_of, told_phase, told_types, with_call};
 ghost use Rattle.script_run.specs.Verdicts.{stepped};
 ghost use Rattle.type_core.specs.KindModel.{not_defined};
 ghost use Rattle.wsm_schema.specs.Flat.{cards_of};
 
-use case_core::Event;
-use file_model::{Act, CaseDecl, File, Line, TypeDecl};
+use file_model::{CaseDecl, File, Line, TypeDecl};
+use line_calls::{Call, Told, call_of};
 use std::alloc::Global;
 use store_form::{Recorded, Stored};
 use turn_cell::Machine;
 use type_core::{Kind, KindEvent};
-use wsm_lists::{NoMemory, RoleList};
-use wsm_ops::Ops;
+use wsm_lists::NoMemory;
 use wsm_schema::Schema;
 use wsm_sound::CaseId;
 
@@ -106,68 +107,58 @@ impl Telling {
         ensures { OnOk result (told_of self.new ≡ told_line file.now (told_of self.old) line.now) }
     {
         let caller = line.actor;
-        match &line.act {
-            Act::Create(id) => self.create(caller, *id),
-            Act::Start(id, node) => {
-                let event = Event::Start {
-                    node: *node,
-                    user: caller,
-                    roles: roles_of(alloc, file, caller)?,
-                };
-                self.note(caller, Stored::Case(*id, event))
-            }
-            Act::Withdraw(id, node) => {
-                let event = Event::Withdraw {
-                    node: *node,
-                    user: caller,
-                };
-                self.note(caller, Stored::Case(*id, event))
-            }
-            Act::End(id, node, writes, choice) => {
-                let event = Event::End {
-                    node: *node,
-                    user: caller,
-                    writes: writes.duplicate(alloc)?,
-                    choice: *choice,
-                };
-                self.note(caller, Stored::Case(*id, event))
-            }
-            Act::Change(id, ops) => {
-                let event = Event::Change(ops.copy(alloc)?);
-                self.note(caller, Stored::Case(*id, event))
-            }
-            Act::Install(type_no, ops) => self.install(alloc, caller, *type_no, ops),
-            Act::Migrate(type_no) => self.migrate(caller, *type_no, file.cases.as_slice()),
-        }
+        let call = call_of(alloc, caller, roles_of(file, caller), &line.act)?;
+        self.tell_call(alloc, file, caller, call)
     }
 
-    // The type is asked for its newest version, and the case is created on it.
-    fn create(&mut self, caller: u32, id: CaseId) -> Result<(), NoMemory>
-        ensures { OnOk result (told_of self.new ≡ told_create caller id (told_of self.old)) }
+    // A call, and those that the answer to it brings.
+    fn tell_call(
+        &mut self,
+        alloc: Global,
+        file: &File,
+        caller: u32,
+        call: Call,
+    ) -> Result<(), NoMemory>
+        requires { call_weight call ≤ 4000000000 }
+        ensures { OnOk result (told_of self.new ≡ told_call file.now caller call (told_of self.old)) }
     {
-        let newest = self.newest_number(id.type_no);
-        self.note(caller, Stored::Newest(id.type_no))?;
-        match newest {
-            None => Ok(()),
-            Some(number) => self.note(caller, Stored::Create(id, number)),
+        match call {
+            Call::Kind { type_no, event } => self.tell_kind(alloc, caller, type_no, event),
+            Call::Case { id, event } => self.note(caller, Stored::Case(id, event)),
+            Call::Newest { type_no, then } => match then {
+                Told::Create(id) => self.create(caller, type_no, id),
+                Told::Migrate => self.migrate(caller, type_no, file.cases.as_slice()),
+            },
         }
     }
 
-    // The type gets a new version, where the operations make a sound one.
-    fn install(
+    // A call of a type, which the type answers.
+    fn tell_kind(
         &mut self,
         alloc: Global,
         caller: u32,
         type_no: u32,
-        ops: &Ops,
+        event: KindEvent,
     ) -> Result<(), NoMemory>
-        requires { 3 * length ops.now ≤ 4000000000 }
-        ensures { OnOk result (told_of self.new ≡ told_install caller type_no ops.now (told_of self.old)) }
+        requires { kind_weight event ≤ 4000000000 }
+        ensures { OnOk result (told_of self.new ≡ told_kind caller type_no event (told_of self.old)) }
     {
         if let Some(kind) = self.kinds.get_mut(type_no as usize) {
-            let _ = kind.step(alloc, &KindEvent::Install(ops.copy(alloc)?))?;
+            let _ = kind.step(alloc, &event)?;
         }
-        self.note(caller, Stored::Install(type_no, ops.copy(alloc)?))
+        self.note(caller, stored_kind(type_no, event))
+    }
+
+    // The type is asked for its newest version, and the case is created on it.
+    fn create(&mut self, caller: u32, type_no: u32, id: CaseId) -> Result<(), NoMemory>
+        ensures { OnOk result (told_of self.new ≡ told_create caller type_no id (told_of self.old)) }
+    {
+        let newest = self.newest_number(type_no);
+        self.note(caller, Stored::Newest(type_no))?;
+        match newest {
+            None => Ok(()),
+            Some(number) => self.note(caller, Stored::Create(id, number)),
+        }
     }
 
     // The type is asked for its newest version, and each of its cases is to move to it.
@@ -219,13 +210,24 @@ fn defined(alloc: Global, type_no: u32, schema: &Schema) -> Result<Kind, NoMemor
     Ok(kind)
 }
 
+// An event of a type as it is stored.
+fn stored_kind(type_no: u32, event: KindEvent) -> Stored
+    ensures { result ≡ stored_kind type_no event }
+{
+    match event {
+        KindEvent::Define(schema) => Stored::Define(type_no, schema),
+        KindEvent::Install(ops) => Stored::Install(type_no, ops),
+        KindEvent::Newest => Stored::Newest(type_no),
+    }
+}
+
 // The roles of the actor with a number, from 1.
-fn roles_of(alloc: Global, file: &File, actor: u32) -> Result<RoleList, NoMemory>
-    ensures { IfOk result (λ roles. roles ≡ roles_of file.now actor) }
+fn roles_of(file: &File, actor: u32) -> &[u32]
+    ensures { result.now ≡ roles_of file.now actor }
 {
     let index = (actor as usize).saturating_sub(1);
     match file.actors.get(index) {
-        None => Ok(RoleList::new(alloc)),
-        Some(decl) => decl.roles.copy(alloc),
+        None => &[],
+        Some(decl) => decl.roles.as_slice(),
     }
 }
