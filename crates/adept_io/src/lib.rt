@@ -2,7 +2,7 @@
 //
 // A `Source` gives bytes and a `Sink` takes them, piece by piece, and either may fail at any call. What a contract
 // says of them rests on two meanings: the bytes that are left or were written, where the object tells them, and a count
-// of faults that never falls. A call answers `Failed` only where that count rose.
+// of faults that never falls. A call answers `Failed` only where that count rose, and a read that is answered leaves it.
 #![tactic(auto)]
 
 use std::alloc::AllocError;

@@ -1,5 +1,5 @@
 // A source and a sink in memory that fail at the calls that they are told.
-ghost use Rattle.std.specs.Prelude.{◌≡◌, ℕ, List, [], ◌<◌, ◌≤◌, length, IfOk, OnErr, IsOk, Some, is_err};
+ghost use Rattle.std.specs.Prelude.{◌≡◌, ℕ, List, [], ◌<◌, ◌≤◌, length, IfOk, OnOk, OnErr, IsOk, Some, is_err};
 ghost use Rattle.std.specs.Io.{ReadsAtMost, WritesAtMost};
 ghost use Rattle.std.specs.Io.KnownBytes.{ReadConsumes, WriteAppends};
 ghost use Rattle.adept_io.specs.Counts.{Rose};
@@ -59,6 +59,7 @@ impl Source for MemorySource {
         ensures bound { ReadsAtMost result buf.new }
         ensures bytes { ReadConsumes (Some self.old.left) (Some self.new.left) result buf.new }
         ensures rose { OnErr result (Rose self.old.faults self.new.faults) }
+        ensures steady { OnOk result (self.new.faults ≡ self.old.faults) }
         ensures never_falls { self.old.faults ≤ self.new.faults }
         ensures fails { is_err result ≡ read_fails self.old }
         ensures count { IfOk result (λ n. n ≡ read_count self.old (length buf.old)) }

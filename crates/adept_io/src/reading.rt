@@ -65,8 +65,10 @@ pub fn read_to_limit<S: Source>(
     ensures end { OnOk result (IsAtEnd (S.left source.new)) }
     ensures within { IfOk result (λ bytes. length bytes ≤ limit) }
     ensures too_long { IsErrOf result ReadRefusal.TooLong → ConsumesMany (S.left source.old) (S.left source.new) (limit + 1) }
-    ensures err { OnErr result (ConsumesUpTo (S.left source.old) (S.left source.new) (limit + 1)) }
+    ensures failed { IsErrOf result ReadRefusal.Failed → ConsumesUpTo (S.left source.old) (S.left source.new) limit }
+    ensures no_memory { IsErrOf result ReadRefusal.NoMemory → ConsumesUpTo (S.left source.old) (S.left source.new) limit }
     ensures rose { IsErrOf result ReadRefusal.Failed → Rose (S.faults source.old) (S.faults source.new) }
+    ensures steady { ¬ IsErrOf result ReadRefusal.Failed → S.faults source.new ≡ S.faults source.old }
     ensures never_falls { S.faults source.old ≤ S.faults source.new }
 {
     let mut chunk = zeros(alloc, CHUNK)?;

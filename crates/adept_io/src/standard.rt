@@ -1,10 +1,69 @@
 // Sources and sinks over std's readers and writers.
-ghost use Rattle.std.specs.Prelude.{◌≡◌, ℕ, ◌<◌, ◌≤◌, length};
-ghost use Rattle.adept_io.specs.Counts.{Rose};
+ghost use Rattle.std.specs.Prelude.{◌≡◌, ◌≢◌, ℕ, ◌<◌, ◌≤◌, length, Ok, Err, IfOk, IfErr, OnErr};
+ghost use Rattle.std.specs.Io.{ReadsAtMost, WritesAtMost};
+ghost use Rattle.std.specs.Io.KnownBytes.{ReadConsumes, WriteAppends};
+ghost use Rattle.std.specs.IoError.{error_kind};
+ghost use Rattle.adept_io.specs.Counts.{Rose, one_more};
 ghost use Rattle.adept_io.specs.Standard.{reader_of, reader_faults, writer_of, writer_faults};
 
 use crate::{Failed, Sink, Source};
-use std::io::{Read, Write};
+use std::io::{self, ErrorKind, Read, Write};
+
+// A call of the system that a signal interrupted is no answer: it is made again. So one read of a reader.
+fn read_again<R: Read>(reader: &mut R, buf: &mut [u8]) -> io::Result<usize>
+    ensures bound { ReadsAtMost result buf.new }
+    ensures bytes { ReadConsumes (R.remaining reader.old) (R.remaining reader.new) result buf.new }
+    ensures again { IfErr result (λ e. error_kind e ≢ ErrorKind.Interrupted) }
+{
+    for _ in 0..u64::MAX {
+        match reader.read(buf) {
+            Ok(count) => return Ok(count),
+            Err(error) => {
+                if error.kind() != ErrorKind::Interrupted {
+                    return Err(error);
+                }
+            }
+        }
+    }
+    Err(io::Error::from(ErrorKind::TimedOut))
+}
+
+// So one write to a writer. A write of some bytes that takes none is an error.
+fn write_again<W: Write>(writer: &mut W, bytes: &[u8]) -> io::Result<usize>
+    ensures bound { WritesAtMost result bytes.now }
+    ensures bytes { WriteAppends (W.contents writer.old) (W.contents writer.new) result bytes.now }
+    ensures progress { IfOk result (λ n. 0 < length bytes.now → 0 < n) }
+    ensures again { IfErr result (λ e. error_kind e ≢ ErrorKind.Interrupted) }
+{
+    for _ in 0..u64::MAX {
+        match writer.write(bytes) {
+            Ok(count) if count > 0 || bytes.is_empty() => return Ok(count),
+            Ok(_) => return Err(io::Error::from(ErrorKind::WriteZero)),
+            Err(error) => {
+                if error.kind() != ErrorKind::Interrupted {
+                    return Err(error);
+                }
+            }
+        }
+    }
+    Err(io::Error::from(ErrorKind::TimedOut))
+}
+
+// What a call gave. An error is a fault, and nothing else is: a read that gives no byte is the end of the bytes.
+fn told(answer: io::Result<usize>, faults: &mut u64) -> Result<usize, Failed>
+    ensures ok { IfOk answer (λ n. (result ≡ Ok n) × (faults.new ≡ faults.old)) }
+    ensures err { OnErr answer ((result ≡ Err record {}) × (faults.new ≡ one_more faults.old)) }
+    ensures rose { OnErr result (Rose faults.old faults.new) }
+    ensures never_falls { faults.old ≤ faults.new }
+{
+    match answer {
+        Ok(count) => Ok(count),
+        Err(_) => {
+            *faults = faults.saturating_add(1);
+            Err(Failed)
+        }
+    }
+}
 
 /// One of std's readers as a source. An error of the reader is a fault.
 #[derive(Drop)]
@@ -43,15 +102,10 @@ impl<R: Read> Source for StdSource<R> {
 
     ghost faults = { λ s. s.faults };
 
-    /// One read of the reader.
+    /// One read of the reader, made again where a signal interrupts it.
     fn read(&mut self, buf: &mut [u8]) -> Result<usize, Failed> {
-        match self.reader.read(buf) {
-            Ok(count) => Ok(count),
-            Err(_) => {
-                self.faults = self.faults.saturating_add(1);
-                Err(Failed)
-            }
-        }
+        let answer = read_again(&mut self.reader, buf);
+        told(answer, &mut self.faults)
     }
 }
 
@@ -92,14 +146,9 @@ impl<W: Write> Sink for StdSink<W> {
 
     ghost faults = { λ s. s.faults };
 
-    /// One write of the writer.
+    /// One write of the writer, made again where a signal interrupts it.
     fn write(&mut self, bytes: &[u8]) -> Result<usize, Failed> {
-        match self.writer.write(bytes) {
-            Ok(count) if count > 0 || bytes.is_empty() => Ok(count),
-            _ => {
-                self.faults = self.faults.saturating_add(1);
-                Err(Failed)
-            }
-        }
+        let answer = write_again(&mut self.writer, bytes);
+        told(answer, &mut self.faults)
     }
 }

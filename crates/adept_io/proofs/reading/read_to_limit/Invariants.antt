@@ -7,7 +7,7 @@ invariant-loop-bytes g l = record {
   chunk : vec_len l.chunk ≡ 65536;
   within : vec_len l.bytes ≤ l.limit;
   consumes : Consumes (g.S.Source.left l.initial.source) (g.S.Source.left l.source) l.bytes.items;
-  never_falls : g.S.Source.faults l.initial.source ≤ g.S.Source.faults l.source;
+  steady : g.S.Source.faults l.source ≡ g.S.Source.faults l.initial.source;
 }
 
 abbrev pub decreases-loop-bytes : goal.decreases-loop-bytes
