@@ -1,7 +1,7 @@
 -- The two halves of a step, over any disk.
 use Rattle.std.proofs.Common.{◌≡◌, ℕ, ◌+◌, ◌<◌, ◌≤◌, ◌^◌, List, [], ◌∷◌, ◌++◌, length, get_or, take, drop, sym, ◌∙◌, ap, subst, arith, append_assoc, length-append}
 use Rattle.std.specs.Prelude.{max}
-use Rattle.std.proofs.lemmas.List.{append-nil, length-drop, length-take}
+use Rattle.std.proofs.lemmas.List.{append-nil, get_or_at, length-drop, length-take}
 use Rattle.store_disk.specs.Image.{frames, framed, all_framed, staged, u32, HasList}
 use Rattle.store_disk.specs.Disk.{Torn, spliced, Follows, Only}
 use Rattle.store_disk.specs.Rest.{IsAtRest, IsStaged, IsBeforeOrAfter}
@@ -88,6 +88,14 @@ module _ {D : Type 0} (content : D → List ℕ) (may_leave : D → List ℕ →
       let is = torn_gate (all_framed ps) s.gate (u32 (length p) ++ (p ++ 0 ∷ s.behind)) place s.stands c torn in
       subst (IsBeforeOrAfter ps p) (sym is) (frames_gate ps p s.behind (get_or c place 0) s.short s.fits)
 
+  -- with its gate open the record is the last of the list, and a closed gate stands behind it
+  opened-bytes : (old new : D) (ps : List (List ℕ)) (p : List ℕ) (place : ℕ) (s : IsStaged content may_leave old ps p place)
+      → (mid : List ℕ) → content new ≡ mid → mid ≡ spliced place (1 ∷ []) (content old) → content new ≡ all_framed (ps ++ p ∷ []) ++ 0 ∷ s.behind
+  opened-bytes old new ps p place s mid kept written =
+      kept ∙ written ∙ ap (spliced place (1 ∷ [])) s.bytes
+      ∙ written_gate (all_framed ps) s.gate (u32 (length p) ++ (p ++ 0 ∷ s.behind)) place s.stands
+      ∙ sym (spelled ps p s.behind)
+
   pub is-at-rest : (old new : D) (ps : List (List ℕ)) (p : List ℕ) (place : ℕ) → IsStaged content may_leave old ps p place
       → (mid : List ℕ) → content new ≡ mid → mid ≡ spliced place (1 ∷ []) (content old) → Only mid (may_leave new) → IsAtRest content may_leave new (ps ++ p ∷ []) (place + (5 + length p))
   is-at-rest old new ps p place s mid kept written durable = record {
@@ -97,10 +105,14 @@ module _ {D : Type 0} (content : D → List ℕ) (may_leave : D → List ℕ →
       shut = omega arith;
       stands = longer ps p place s.stands;
       short = all_short ps p s.short s.fits;
-      bytes =
-          kept ∙ written ∙ ap (spliced place (1 ∷ [])) s.bytes
-          ∙ written_gate (all_framed ps) s.gate (u32 (length p) ++ (p ++ 0 ∷ s.behind)) place s.stands
-          ∙ sym (spelled ps p s.behind);
+      bytes = opened-bytes old new ps p place s mid kept written;
     };
     durable = subst (λ f. Only f (may_leave new)) (sym kept) durable;
   }
+
+  -- the byte of the next gate
+  pub next-gate : (old new : D) (ps : List (List ℕ)) (p : List ℕ) (place : ℕ) → IsStaged content may_leave old ps p place
+      → (mid : List ℕ) → content new ≡ mid → mid ≡ spliced place (1 ∷ []) (content old) → get_or (content new) (place + (5 + length p)) 1 ≡ 0
+  next-gate old new ps p place s mid kept written =
+      ap (λ l. get_or l (place + (5 + length p)) 1) (opened-bytes old new ps p place s mid kept written)
+      ∙ get_or_at (all_framed (ps ++ p ∷ [])) 0 s.behind 1 (place + (5 + length p)) (sym (longer ps p place s.stands))

@@ -1,8 +1,8 @@
 -- A disk between two steps, and what a step leaves.
-use Rattle.std.specs.Prelude.{◌≡◌, ◌≢◌, ◌⊎◌, ℕ, ◌<◌, ◌^◌, List, [], ◌∷◌, ◌++◌, length}
+use Rattle.std.specs.Prelude.{◌≡◌, ◌≢◌, ◌⊎◌, ℕ, ◌+◌, ◌<◌, ◌^◌, List, [], ◌∷◌, ◌++◌, length}
 use Rattle.std.specs.List.{AllByRecursion}
-use Rattle.store_disk.specs.Disk.{Only}
-use Rattle.store_disk.specs.Image.{all_framed, u32, HasList}
+use Rattle.store_disk.specs.Disk.{Only, spliced}
+use Rattle.store_disk.specs.Image.{all_framed, staged, u32, HasList}
 
 -- payloads, and behind them at a place a gate that is not open and whatever stands behind it
 pub record EndsAt (content : List ℕ) (ps : List (List ℕ)) (place : ℕ) : Type 0 where
@@ -31,3 +31,7 @@ pub record IsStaged {D : Type 0} (content : D → List ℕ) (may_leave : D → L
 -- an image has the old list, or the old list and this payload
 abbrev pub IsBeforeOrAfter : List (List ℕ) → List ℕ → List ℕ → Type 0
 IsBeforeOrAfter ps p image = HasList ps image ⊎ HasList (ps ++ p ∷ []) image
+
+-- the bytes with one payload more behind the gate at a place
+abbrev pub appended : ℕ → List ℕ → List ℕ → List ℕ
+appended place p old = spliced place (1 ∷ []) (spliced (place + 1) (staged p) old)

@@ -1,7 +1,7 @@
 use Rattle.std.proofs.Common.{ℕ, List, arith}
 use Rattle.store_disk.specs.Rest.{IsBeforeOrAfter}
 use Rattle.store_disk.proofs.Moments.{started, goes_on}
-use Rattle.store_disk.proofs.Steps.{gate-list, gate-size, is-at-rest, staged-list, staged-room}
+use Rattle.store_disk.proofs.Steps.{gate-list, gate-size, is-at-rest, next-gate, staged-list, staged-room}
 use Rattle.store_disk.proofs.records.open_gate.Goals as goal
 
 pub write-requires : goal.write-requires
@@ -46,3 +46,9 @@ returns-clause-size g c =
     let k = g.D.Disk in
     gate-size c.args.gate (k.content c.args.disk.now) (k.content c.write.new.self) (k.content c.sync.new.self)
     (staged-room k.content k.may_leave c.args.disk.now g.ps c.args.framed.now c.args.gate c.requires.1.0) c.sync.ensures.content c.in_ok-write.ensures.written
+
+pub returns-clause-next_gate : goal.returns-clause-next_gate
+returns-clause-next_gate g c =
+    let k = g.D.Disk in
+    rw c.span.ensures (next-gate k.content k.may_leave c.args.disk.now c.sync.new.self g.ps c.args.framed.now c.args.gate c.requires.1.0
+    (k.content c.write.new.self) c.sync.ensures.content c.in_ok-write.ensures.written)
