@@ -1,10 +1,12 @@
 // Trails of which the reads are counted.
-ghost use Rattle.std.specs.Prelude.{◌≡◌, ℕ, ◌+◌, ◌≤◌};
+ghost use Rattle.std.specs.Prelude.{◌≡◌, ℕ, ◌+◌, ◌≤◌, []};
 ghost use Rattle.std.specs.Borrow.{sem};
 ghost use Rattle.std.specs.Io.BufRead.{Rests};
 ghost use Rattle.std.specs.Option.{option_copied};
 ghost use Rattle.wsm_schema.specs.Trail.{TrailModel};
 ghost use Rattle.wsm_trail.specs.EntryAt.{entry_at};
+ghost use mir.Syntax.{named};
+ghost use Rattle.wsm_trail.specs.contracts.reads.CountedTrail.{the_row};
 
 use crate::trails::Trail;
 use std::sync::ledger::Ledger;
@@ -48,7 +50,10 @@ impl<'a, L: Ledger> TrailReads for CountedTrail<'a, L> {
 
     ghost reads = { λ t. t.steps.now };
 
-    fn entry(&mut self, position: u32) -> Option<&Entry> {
+    fn entry(&mut self, position: u32) -> Option<&Entry>
+        ensures entry { option_copied result ≡ entry_at position self.old.trail.now.trail.entries }
+        ensures* after { sem 𝓛 (Rests (the_row (record { mir = named 0; lft = [] }) L.row L.Ledger) self.entry (λ new. (new.trail.now.trail ≡ self.old.trail.now.trail) × (new.steps.now ≡ self.old.steps.now + 1))) }
+    {
         self.steps.tick();
         self.trail.entry(position)
     }
