@@ -1,7 +1,7 @@
 -- The records of a log, as `csv` reads them.
-use Rattle.std.specs.Prelude.{ℕ, ◌≡◌, ◌+◌, List, [], Option, Some, None, length}
+use Rattle.std.specs.Prelude.{ℕ, ◌≡◌, ◌+◌, List, [], Option, Some, None, true, length}
 use Rattle.std.specs.Borrow.{Bor}
-use Rattle.csv.specs.Reading.{Ready, default_config, reader_config, reader_state, reader_trim, records, records_from, source_of, strip_bom}
+use Rattle.csv.specs.Reading.{Ready, default_config, is_flexible, reader_config, reader_state, reader_trim, records, records_from, source_of, strip_bom}
 use Rattle.csv.specs.declared.parser.State.{State}
 use Rattle.csv.specs.declared.reader.Reader.{Reader}
 use Rattle.csv.specs.declared.reader.Trim.TheVariants as trim
@@ -32,6 +32,6 @@ abbrev pub all_left : Option (Reader (Bor (List ℕ))) → List Fields
 all_left None = []
 all_left (Some r) = left_of r
 
--- a reader gives each record as it stands, and with the settings of `csv`
+-- a reader gives each record as it stands, however many fields it has, and with the settings of `csv`
 abbrev pub IsGoing : Reader (Bor (List ℕ)) → Type 0
-IsGoing r = (reader_trim r ≡ trim.None) × Ready r × (reader_config r ≡ default_config)
+IsGoing r = (reader_trim r ≡ trim.None) × Ready r × (reader_config r ≡ default_config) × (is_flexible r ≡ true)
