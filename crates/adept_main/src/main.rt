@@ -4,19 +4,16 @@
 use adept_io::{StdSink, StdSource};
 use adept_top::{Outcome, adept};
 use process_text::Refused;
+use standard_streams::hold_streams;
 use std::io::{self, ErrorKind};
 use std::process::ExitCode;
 use std::{env, mem, str};
 use turn_cell::OpenGate;
 
 fn main(rt: HostRuntime) -> ExitCode {
-    let outcome = match words(&rt) {
-        Ok(words) => {
-            let mut source = StdSource::new(rt.stdin());
-            let mut sink = StdSink::new(rt.stdout());
-            adept(&rt, rt.alloc(), &words, &mut source, &mut sink, &OpenGate)
-        }
-        Err(error) => Outcome::of_status(status_of(&error)),
+    let outcome = match hold_streams(&rt) {
+        Ok(()) => work(&rt),
+        Err(_) => Outcome::of_status(3),
     };
     // The status tells all; where nothing can be said beside it, it stays the same.
     let _ = tell(&rt, &outcome);
@@ -24,6 +21,18 @@ fn main(rt: HostRuntime) -> ExitCode {
     // The process ends here: its memory goes back as one, not piece by piece.
     mem::forget(outcome);
     status
+}
+
+// What the words ask for, over standard input and output.
+fn work(rt: &HostRuntime) -> Outcome {
+    match words(rt) {
+        Ok(words) => {
+            let mut source = StdSource::new(rt.stdin());
+            let mut sink = StdSink::new(rt.stdout());
+            adept(rt, rt.alloc(), &words, &mut source, &mut sink, &OpenGate)
+        }
+        Err(error) => Outcome::of_status(status_of(&error)),
+    }
 }
 
 // The words behind the program's name.

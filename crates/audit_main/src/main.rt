@@ -4,9 +4,13 @@
 
 use adept_io::{StdSink, StdSource};
 use case_audit::audit_input;
+use standard_streams::hold_streams;
 use std::process::ExitCode;
 
 fn main(rt: HostRuntime) -> ExitCode {
+    if hold_streams(&rt).is_err() {
+        return ExitCode::from(3);
+    }
     let mut source = StdSource::new(rt.stdin());
     let mut sink = StdSink::new(rt.stdout());
     ExitCode::from(audit_input(&rt, rt.alloc(), &mut source, &mut sink))

@@ -3,20 +3,28 @@
 
 use adept_io::{StdSink, StdSource};
 use log_fit::fit_input;
+use standard_streams::hold_streams;
 use std::env;
 use std::io::{self, ErrorKind};
 use std::process::ExitCode;
 
 fn main(rt: HostRuntime) -> ExitCode {
-    let status = match words(&rt) {
+    match hold_streams(&rt) {
+        Ok(()) => ExitCode::from(work(&rt)),
+        Err(_) => ExitCode::from(3),
+    }
+}
+
+// The status of what the words ask for, over standard input and output.
+fn work(rt: &HostRuntime) -> u8 {
+    match words(rt) {
         Ok(words) => {
             let mut source = StdSource::new(rt.stdin());
             let mut sink = StdSink::new(rt.stdout());
             fit_input(rt.alloc(), &words, &mut source, &mut sink)
         }
         Err(error) => status_of(&error),
-    };
-    ExitCode::from(status)
+    }
 }
 
 // The words behind the program's name.

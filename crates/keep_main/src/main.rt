@@ -8,6 +8,7 @@ use adept_io::{StdSink, StdSource};
 use case_keep::{Unkept, keep_file, read_process};
 use file_model::Refused;
 use opening::open;
+use standard_streams::hold_streams;
 use std::io::{self, ErrorKind};
 use std::process::ExitCode;
 use std::{env, str};
@@ -26,6 +27,9 @@ fn main(rt: HostRuntime) -> ExitCode {
 
 // The whole work: the file is read before the store is touched, and nothing is written before the store has all calls.
 fn work(rt: &HostRuntime) -> Result<(), Unkept> {
+    if hold_streams(rt).is_err() {
+        return Err(Unkept::Unread);
+    }
     let path = word(rt)?;
     let file = read_process(rt.alloc(), &mut StdSource::new(rt.stdin()))?;
     let mut disk = open(rt, path.as_str())?;

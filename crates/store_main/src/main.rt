@@ -4,6 +4,7 @@
 
 use adept_io::{Bytes, Calls, StdSink, StdSource};
 use case_keep::store_play;
+use standard_streams::hold_streams;
 use std::process::ExitCode;
 use store_disk::MemoryDisk;
 
@@ -13,6 +14,9 @@ const ROOM: usize = 268_435_456;
 const CALLS: usize = 2_000_000;
 
 fn main(rt: HostRuntime) -> ExitCode {
+    if hold_streams(&rt).is_err() {
+        return ExitCode::from(3);
+    }
     let alloc = rt.alloc();
     let none = Calls::new(alloc);
     let Ok(disk) = MemoryDisk::new(alloc, Bytes::new(alloc), ROOM, CALLS, none) else {
