@@ -173,3 +173,19 @@ fn a_draft_takes_away_what_is_not_there(rt: HostRuntime) -> Result<(), Fail> {
     assert_eq!(rt; right, Some(MergeRefusal::Right(fault)));
     Ok(())
 }
+
+// Of three drafts it is the second, and it is told before the gap that the first and the third touch.
+#[test]
+fn the_second_of_three_takes_away_what_is_not_there(rt: HostRuntime) -> Result<(), Fail> {
+    let alloc = rt.alloc();
+    let gone = Op::DeleteActivity { node: NOWHERE };
+    let refusal = all_merged(
+        alloc,
+        [step(SEE_RECEIPT, ENTER), gone, step(APPROVE, ENTER)],
+    )
+    .err();
+    let why = OpWhy::NoNode(NOWHERE);
+    let fault = OpFault { index: 1, why };
+    assert_eq!(rt; refusal, Some(ManyRefusal::List(2, fault)));
+    Ok(())
+}
