@@ -11,9 +11,13 @@ use std::{env, mem, str};
 use turn_cell::OpenGate;
 
 fn main(rt: HostRuntime) -> ExitCode {
-    let outcome = match hold_streams(&rt) {
-        Ok(()) => work(&rt),
-        Err(_) => Outcome::of_status(3),
+    let outcome = match begun(&rt) {
+        Ok(words) => {
+            let mut source = StdSource::new(rt.stdin());
+            let mut sink = StdSink::new(rt.stdout());
+            adept(&rt, rt.alloc(), &words, &mut source, &mut sink, &OpenGate)
+        }
+        Err(status) => Outcome::of_status(status),
     };
     // The status tells all; where nothing can be said beside it, it stays the same.
     let _ = tell(&rt, &outcome);
@@ -23,15 +27,14 @@ fn main(rt: HostRuntime) -> ExitCode {
     status
 }
 
-// What the words ask for, over standard input and output.
-fn work(rt: &HostRuntime) -> Outcome {
+// The words, once the standard streams have their numbers; else the status with which the program ends.
+fn begun(rt: &HostRuntime) -> Result<Vec<String>, u8> {
+    if hold_streams(rt).is_err() {
+        return Err(3);
+    }
     match words(rt) {
-        Ok(words) => {
-            let mut source = StdSource::new(rt.stdin());
-            let mut sink = StdSink::new(rt.stdout());
-            adept(rt, rt.alloc(), &words, &mut source, &mut sink, &OpenGate)
-        }
-        Err(error) => Outcome::of_status(status_of(&error)),
+        Ok(words) => Ok(words),
+        Err(error) => Err(status_of(&error)),
     }
 }
 
