@@ -1,4 +1,5 @@
 pub mod Given
 pub mod Payload
 pub mod Reading
+pub mod Shrinking
 pub mod Stored

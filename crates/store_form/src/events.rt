@@ -3,6 +3,7 @@ ghost use Rattle.std.specs.Prelude.{◌≡◌, ◌++◌, true, OnOk, IfOk};
 ghost use Rattle.store_form.specs.Given.{Gives};
 ghost use Rattle.store_form.specs.Payload.{IsPayloadOf, Reads, case_bytes, id_bytes, payload};
 ghost use Rattle.store_form.specs.Reading.{id_at, recorded_at, recorded_of, stored_behind};
+ghost use Rattle.store_form.specs.Shrinking.{id_shrinks};
 ghost use Rattle.store_form.specs.Stored.{Fits, FitsEvent, FitsId, HasNoVersion, IsPlain, is_shallow};
 
 use crate::fields::{Part, ReadFault, put_tagged};
@@ -31,6 +32,8 @@ impl Part for CaseId {
         let ((type_no, place), rest) = <(u32, u32)>::read(alloc, from)?;
         Ok((CaseId { type_no, place }, rest))
     }
+
+    ghost shrinks = { id_shrinks };
 }
 
 /// The payload of a call, in which blocks stand at most 64 deep one inside another. There is no memory for a list of 2^32

@@ -1,9 +1,10 @@
 // The fields of a payload: how each is written, and read.
-ghost use Rattle.std.specs.Prelude.{◌≡◌, ◌∷◌, ◌++◌, ℕ, List, Option, OnOk};
+ghost use Rattle.std.specs.Prelude.{◌≡◌, ◌∷◌, ◌++◌, ℕ, List, Option, IsErrOf, OnOk};
 ghost use Rattle.std.specs.Int.{w64};
 ghost use Rattle.store_form.specs.Given.{Gives};
 ghost use Rattle.store_form.specs.Payload.{u16, u32, flag, kind_bytes, optional};
 ghost use Rattle.store_form.specs.Reading.{both_at, code_at, u32_at, flag_at, kind_at, option_at};
+ghost use Rattle.store_form.specs.Shrinking.{Shrinks, both_shrinks, code_shrinks, flag_shrinks, kind_shrinks, option_shrinks, u32_shrinks};
 ghost use Rattle.store_form.specs.Stored.{IsCode, IsNumber, FitsOption};
 
 use adept_io::NoMemory;
@@ -59,6 +60,9 @@ pub(crate) trait Part: Sized + Drop {
     // Reads one at the front, and gives what is left.
     fn read(alloc: Global, from: &[u8]) -> Result<(Self, &[u8]), ReadFault>
         ensures { Gives (λ x. (x.0, x.1.now)) result (reading from.now) };
+
+    // Each takes at least one byte.
+    ghost shrinks: { Shrinks reading };
 }
 
 // Puts a tag, and the fields behind it.
@@ -88,6 +92,8 @@ impl Part for u16 {
         let (front, rest) = from.split_at(2);
         Ok((u16::from_be_bytes([front[0], front[1]]), rest))
     }
+
+    ghost shrinks = { code_shrinks };
 }
 
 impl Part for u32 {
@@ -101,7 +107,10 @@ impl Part for u32 {
         out.extend_from_slice(&self.to_be_bytes())
     }
 
-    fn read(_alloc: Global, from: &[u8]) -> Result<(u32, &[u8]), ReadFault> {
+    fn read(_alloc: Global, from: &[u8]) -> Result<(u32, &[u8]), ReadFault>
+        ensures read { Gives (λ x. (x.0, x.1.now)) result (u32_at from.now) }
+        ensures memory { IsErrOf result ReadFault.NoMemory → ⊥ }
+    {
         if from.len() < 4 {
             return Err(ReadFault::Malformed);
         }
@@ -109,6 +118,8 @@ impl Part for u32 {
         let number = u32::from_be_bytes([front[0], front[1], front[2], front[3]]);
         Ok((number, rest))
     }
+
+    ghost shrinks = { u32_shrinks };
 }
 
 impl Part for bool {
@@ -130,6 +141,8 @@ impl Part for bool {
             _ => Err(ReadFault::Malformed),
         }
     }
+
+    ghost shrinks = { flag_shrinks };
 }
 
 impl Part for ElementKind {
@@ -154,6 +167,8 @@ impl Part for ElementKind {
             Ok((ElementKind::Int, rest))
         }
     }
+
+    ghost shrinks = { kind_shrinks };
 }
 
 impl<A: Part, B: Part> Part for (A, B) {
@@ -173,6 +188,8 @@ impl<A: Part, B: Part> Part for (A, B) {
         let (two, rest) = B::read(alloc, rest)?;
         Ok(((one, two), rest))
     }
+
+    ghost shrinks = { both_shrinks A.reading B.reading A.shrinks B.shrinks };
 }
 
 impl<T: Part> Part for Option<T> {
@@ -201,4 +218,6 @@ impl<T: Part> Part for Option<T> {
             Ok((None, rest))
         }
     }
+
+    ghost shrinks = { option_shrinks T.reading T.shrinks };
 }

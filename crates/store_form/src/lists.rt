@@ -1,9 +1,10 @@
 // Lists in a payload: their number, and the items.
-ghost use Rattle.std.specs.Prelude.{◌≡◌, ◌++◌, ◌<◌, ◌^◌, flat_map, OnOk};
+ghost use Rattle.std.specs.Prelude.{◌≡◌, ◌++◌, ◌<◌, ◌≤◌, ◌^◌, flat_map, length, IsErrOf, OnOk};
 ghost use Rattle.std.specs.List.{AllByRecursion};
 ghost use Rattle.store_form.specs.Given.{Gives};
 ghost use Rattle.store_form.specs.Payload.{listed, u32};
 ghost use Rattle.store_form.specs.Reading.{many_at, list_at};
+ghost use Rattle.store_form.specs.Shrinking.{HasBytesForCount};
 ghost use Rattle.store_form.specs.Stored.{FitsEach};
 
 use crate::fields::{Part, ReadFault};
@@ -40,19 +41,25 @@ fn put_each<T: Part>(items: &[T], out: &mut Vec<u8>) -> Result<(), NoMemory>
     Ok(())
 }
 
-// Reads the number of items, and so many of them.
+// Reads the number of items, and so many of them. More than there are bytes behind their number are none, whether there is
+// memory or not.
 pub(crate) fn read_list<T: Part>(alloc: Global, from: &[u8]) -> Result<(Vec<T>, &[u8]), ReadFault>
-    ensures { Gives (λ x. (x.0.items, x.1.now)) result (list_at T.reading from.now) }
+    ensures read { Gives (λ x. (x.0.items, x.1.now)) result (list_at T.reading from.now) }
+    ensures memory { IsErrOf result ReadFault.NoMemory → HasBytesForCount from.now }
 {
     let (count, rest) = u32::read(alloc, from)?;
     read_many(alloc, count, rest)
 }
 
-// Reads so many items. No room is reserved by the count, which nobody has checked.
+// Reads so many items. Each takes a byte at least, so more than there are bytes are not looked for.
 fn read_many<T: Part>(alloc: Global, count: u32, from: &[u8]) -> Result<(Vec<T>, &[u8]), ReadFault>
-    ensures { Gives (λ x. (x.0.items, x.1.now)) result (many_at T.reading count from.now) }
+    ensures read { Gives (λ x. (x.0.items, x.1.now)) result (many_at T.reading count from.now) }
+    ensures memory { IsErrOf result ReadFault.NoMemory → count ≤ length from.now }
 {
     let mut items = Vec::new(alloc);
+    if count as usize > from.len() {
+        return Err(ReadFault::Malformed);
+    }
     let mut rest = from;
     for _ in 0..count {
         let (item, after) = T::read(alloc, rest)?;

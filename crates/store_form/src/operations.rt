@@ -3,6 +3,7 @@ ghost use Rattle.std.specs.Prelude.{◌≡◌, ◌≢◌, ◌≤◌, ◌∷◌, 
 ghost use Rattle.store_form.specs.Given.{Gives};
 ghost use Rattle.store_form.specs.Payload.{gap_bytes, op_bytes};
 ghost use Rattle.store_form.specs.Reading.{gap_at, op_at, op_behind};
+ghost use Rattle.store_form.specs.Shrinking.{gap_shrinks, op_shrinks};
 ghost use Rattle.store_form.specs.Stored.{FitsGap, FitsOp};
 
 use crate::fields::{Part, ReadFault, put_tagged};
@@ -46,6 +47,8 @@ impl Part for Gap {
             Ok((Gap::After(node), rest))
         }
     }
+
+    ghost shrinks = { gap_shrinks };
 }
 
 impl Part for Op {
@@ -66,6 +69,8 @@ impl Part for Op {
         };
         read_op(alloc, *row, rest)
     }
+
+    ghost shrinks = { op_shrinks };
 }
 
 // Puts an operation: its row, and its fields as they stand there.

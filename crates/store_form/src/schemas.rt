@@ -7,6 +7,7 @@ ghost use Rattle.wsm_schema.specs.Sound.{parts_depth};
 ghost use Rattle.store_form.specs.Given.{Gives};
 ghost use Rattle.store_form.specs.Payload.{u32, flag, listed, schema_bytes, tables_bytes, edges_bytes};
 ghost use Rattle.store_form.specs.Reading.{read_at, rises, rises_from, roles_at, schema_at, table_at};
+ghost use Rattle.store_form.specs.Shrinking.{read_shrinks};
 ghost use Rattle.store_form.specs.Stored.{FitsEach, FitsEdges, FitsSchema, FitsTables, IsNumber};
 
 use crate::fields::{Part, ReadFault};
@@ -37,6 +38,8 @@ impl Part for (u32, u32, bool) {
         let (mandatory, rest) = bool::read(alloc, rest)?;
         Ok(((node, element, mandatory), rest))
     }
+
+    ghost shrinks = { read_shrinks };
 }
 
 // Puts a schema: its ends, its tree, and its lists.

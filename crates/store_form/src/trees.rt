@@ -1,10 +1,11 @@
 // The tree of a schema in a payload.
-ghost use Rattle.std.specs.Prelude.{◌≡◌, ◌∷◌, ◌++◌, map, OnOk};
+ghost use Rattle.std.specs.Prelude.{◌≡◌, ◌≤◌, ◌∷◌, ◌++◌, length, map, IsErrOf, OnOk};
 ghost use Rattle.wsm_schema.specs.TreeOf.{part_of, parts_of, lane_of, lanes_of};
 ghost use Rattle.wsm_schema.specs.Tree.{act, lanes};
 ghost use Rattle.store_form.specs.Given.{Gives};
 ghost use Rattle.store_form.specs.Payload.{part_bytes, parts_bytes, lanes_bytes, body_bytes, branches_bytes};
 ghost use Rattle.store_form.specs.Reading.{as_at, part_at, body_at, lane_at, lanes_at, block_behind, many_at, u32_at};
+ghost use Rattle.store_form.specs.Shrinking.{HasBytesForCount};
 ghost use Rattle.store_form.specs.Stored.{FitsPart, FitsParts, FitsLanes, FitsItems, FitsBranches};
 
 use crate::fields::{Part, ReadFault, put_tagged};
@@ -162,13 +163,14 @@ fn read_round(alloc: Global, deep: u32, tag: u8, from: &[u8]) -> Result<(Block, 
 // Reads items behind their number.
 #[cycle(read)]
 pub(crate) fn read_items(alloc: Global, deep: u32, from: &[u8]) -> Result<(Items, &[u8]), ReadFault>
-    ensures { Gives (λ x. (parts_of x.0.items, x.1.now)) result (body_at (part_at deep) from.now) }
+    ensures read { Gives (λ x. (parts_of x.0.items, x.1.now)) result (body_at (part_at deep) from.now) }
+    ensures memory { IsErrOf result ReadFault.NoMemory → HasBytesForCount from.now }
 {
     let (count, rest) = u32::read(alloc, from)?;
     read_each_item(alloc, deep, count, rest)
 }
 
-// Reads so many items.
+// Reads so many items, of which each takes a byte at least.
 #[cycle(read)]
 fn read_each_item(
     alloc: Global,
@@ -176,9 +178,13 @@ fn read_each_item(
     count: u32,
     from: &[u8],
 ) -> Result<(Items, &[u8]), ReadFault>
-    ensures { Gives (λ x. (map part_of x.0.items, x.1.now)) result (many_at (part_at deep) count from.now) }
+    ensures read { Gives (λ x. (map part_of x.0.items, x.1.now)) result (many_at (part_at deep) count from.now) }
+    ensures memory { IsErrOf result ReadFault.NoMemory → count ≤ length from.now }
 {
     let mut items = Vec::new(alloc);
+    if count as usize > from.len() {
+        return Err(ReadFault::Malformed);
+    }
     let mut rest = from;
     for _ in 0..count {
         let (item, after) = read_block(alloc, deep, rest)?;
@@ -191,13 +197,14 @@ fn read_each_item(
 // Reads branches behind their number.
 #[cycle(read)]
 fn read_branches(alloc: Global, deep: u32, from: &[u8]) -> Result<(Branches, &[u8]), ReadFault>
-    ensures { Gives (λ x. (lanes (lanes_of x.0.items), x.1.now)) result (lanes_at (part_at deep) from.now) }
+    ensures read { Gives (λ x. (lanes (lanes_of x.0.items), x.1.now)) result (lanes_at (part_at deep) from.now) }
+    ensures memory { IsErrOf result ReadFault.NoMemory → HasBytesForCount from.now }
 {
     let (count, rest) = u32::read(alloc, from)?;
     read_each_branch(alloc, deep, count, rest)
 }
 
-// Reads so many branches.
+// Reads so many branches, of which each takes a byte at least.
 #[cycle(read)]
 fn read_each_branch(
     alloc: Global,
@@ -205,9 +212,13 @@ fn read_each_branch(
     count: u32,
     from: &[u8],
 ) -> Result<(Branches, &[u8]), ReadFault>
-    ensures { Gives (λ x. (lanes_of x.0.items, x.1.now)) result (many_at (lane_at (part_at deep)) count from.now) }
+    ensures read { Gives (λ x. (lanes_of x.0.items, x.1.now)) result (many_at (lane_at (part_at deep)) count from.now) }
+    ensures memory { IsErrOf result ReadFault.NoMemory → count ≤ length from.now }
 {
     let mut branches = Vec::new(alloc);
+    if count as usize > from.len() {
+        return Err(ReadFault::Malformed);
+    }
     let mut rest = from;
     for _ in 0..count {
         let (branch, after) = read_branch(alloc, deep, rest)?;

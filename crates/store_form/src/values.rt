@@ -4,6 +4,7 @@ ghost use Rattle.std.specs.List.{AllByRecursion};
 ghost use Rattle.store_form.specs.Given.{Gives};
 ghost use Rattle.store_form.specs.Payload.{u32, value_bytes};
 ghost use Rattle.store_form.specs.Reading.{int_at, text_at, value_at};
+ghost use Rattle.store_form.specs.Shrinking.{value_shrinks};
 ghost use Rattle.store_form.specs.Stored.{FitsValue};
 
 use crate::fields::{Part, ReadFault};
@@ -39,6 +40,8 @@ impl Part for Value {
             read_int(rest)
         }
     }
+
+    ghost shrinks = { value_shrinks };
 }
 
 // Puts the number of bytes, and the bytes.
