@@ -37,20 +37,20 @@ finds-all n place (p ∷ ps) =
 list-found : (all : List Recorded) (content : List ℕ) → HasList (map payload_of all) content → IsBeginning (finds 0 (map payload_of all) (frames content))
 list-found all content list = subst (λ f. IsBeginning (finds 0 (map payload_of all) f)) (sym list) (finds-all 0 0 (map payload_of all))
 
-pub second-faults : (all : List Recorded) (content : List ℕ) (e : KeepFault) → HasList (map payload_of all) content → length content ≤ 2 ^ 30 → Tells all content e → IsPlayFault e
-second-faults all content fault.Disk list short told = tt
-second-faults all content fault.NoMemory list short told = tt
-second-faults all content fault.Full list short told = tt
-second-faults all content fault.Unwritten list short told = tt
-second-faults all content fault.TooLong list short told = absurd (omega (arith, told, short))
-second-faults all content (fault.Damaged place) list short told = absurd (subst IsBeginning told (list-found all content list))
-second-faults all content (fault.Differs number) list short told = absurd (subst IsBeginning told (list-found all content list))
+pub second-faults : (limit : ℕ) (all : List Recorded) (content : List ℕ) (e : KeepFault) → HasList (map payload_of all) content → length content ≤ 2 ^ 30 → Tells limit all content e → IsPlayFault e
+second-faults limit all content fault.Disk list short told = tt
+second-faults limit all content fault.NoMemory list short told = tt
+second-faults limit all content fault.Full list short told = tt
+second-faults limit all content fault.Unwritten list short told = tt
+second-faults limit all content fault.TooLong list short told = absurd (omega (arith, told, short))
+second-faults limit all content (fault.Damaged place) list short told = absurd (subst IsBeginning told (list-found all content list))
+second-faults limit all content (fault.Differs number) list short told = absurd (subst IsBeginning told (list-found all content list))
 
 -- and no call is left that finds no room
-pub second-full : (all : List Recorded) (content : List ℕ) → HasList (map payload_of all) content → Tells all content fault.Full → ⊥
-second-full all content list told =
+pub second-full : (limit : ℕ) (all : List Recorded) (content : List ℕ) → HasList (map payload_of all) content → Tells limit all content fault.Full → ⊥
+second-full limit all content list told =
     let none : drop (length (held content)) all ≡ [] = drop_all (length (held content)) all (omega (arith, ap length (held-list (map payload_of all) content list), length-map all payload_of)) in
-    subst (Overflows _) none told
+    subst (Overflows limit _) none told
 
 -- what holds of each fault holds of the one that it is
 pub fault-is : {X : Type 0} (r : Result X KeepFault) (P : KeepFault → Type 0) {e : KeepFault} → IfErr r P → IsErrOf r e → P e

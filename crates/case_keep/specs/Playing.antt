@@ -57,13 +57,13 @@ pub record Reports {K : Type 0} (written : K → Option (List ℕ)) (faults : K 
   pub unwritten : status ≡ 4 → Rose (faults old) (faults new)
   pub untouched : status ≢ 0 → status ≢ 4 → new ≡ old
 
--- at both the calls of the serial run find room on the disk, and each image of it holds them in order; 7: the disk failed;
--- 8: they find no room
-pub record Stores {D : Type 0} (content : D → List ℕ) (may_leave : D → List ℕ → Type 0) (faults : D → ℕ) (f : File) (disk : D) (o : StoreOutcome D) : Type 0 where
+-- at both the calls of the serial run find room up to the limit, and each image holds them in order; 7: the disk failed; 8: they
+-- find no room, and no call of the disk failed before that was seen
+pub record Stores {D : Type 0} (content : D → List ℕ) (may_leave : D → List ℕ → Type 0) (faults : D → ℕ) (limit : ℕ) (f : File) (disk : D) (o : StoreOutcome D) : Type 0 where
   pub stored : (o.status ≡ 0) ⊎ (o.status ≡ 4) → IsStored content may_leave o.disk (payloads f)
-  pub fits : (o.status ≡ 0) ⊎ (o.status ≡ 4) → Overflows 0 (calls f) → ⊥
+  pub fits : (o.status ≡ 0) ⊎ (o.status ≡ 4) → Overflows limit 0 (calls f) → ⊥
   pub failed : o.status ≡ 7 → Rose (faults disk) (faults o.disk)
-  pub full : o.status ≡ 8 → Overflows 0 (calls f)
+  pub full : o.status ≡ 8 → Overflows limit 0 (calls f) × (faults o.disk ≡ faults disk)
 
 -- where the bytes stand for a file, an image holds a beginning of its calls
 abbrev pub HoldsBeginningOf : Option (List ℕ) → List ℕ → Type 0

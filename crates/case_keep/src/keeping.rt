@@ -19,7 +19,7 @@ use report_text::write_run;
 use script_run::serial_run;
 use std::alloc::Global;
 use store_calls::calls;
-use store_disk::Disk;
+use store_disk::{Disk, MAX_IMAGE};
 use store_keep::{KeepFault, keep};
 
 /// Works a process file over a disk: stores those of its calls that the disk does not hold yet, and then writes the report
@@ -37,42 +37,80 @@ pub fn keep_file<K: Sink, D: Disk>(
     ensures written { OnOk result (Appends (K.written sink.old) (K.written sink.new) (text file.now (serial file.now))) }
     ensures begun { OnOk result (IsBegun (payloads file.now) (D.content disk.old)) }
     ensures any_moment { KeepsBeginning D.content D.moment D.left_since (payloads file.now) disk.old disk.new }
-    ensures refused { IfErr result (λ e. Tells (calls file.now) (D.content disk.old) e) }
+    ensures refused { IfErr result (λ e. Tells (2 ^ 30) (calls file.now) (D.content disk.old) e) }
+    ensures fits { OnOk result (Tells (2 ^ 30) (calls file.now) (D.content disk.old) KeepFault.Full → ⊥) }
     ensures left { IfErr result (λ e. IsJudgement e → IsLeft D.content D.may_leave disk.old disk.new) }
     ensures same_records { IfErr result (λ e. IsRefusal e → LeavesOnly D.moment D.left_since disk.old disk.new (HoldsAsBefore (D.may_leave disk.old))) }
     ensures rose { IsErrOf result KeepFault.Disk → Rose (D.faults disk.old) (D.faults disk.new) }
+    ensures no_fault { OnOk result (D.faults disk.new ≡ D.faults disk.old) }
+    ensures no_other_fault { IfErr result (λ e. e ≢ KeepFault.Disk → D.faults disk.new ≡ D.faults disk.old) }
     ensures unwritten { IsErrOf result KeepFault.Unwritten → IsStored D.content D.may_leave disk.new (payloads file.now) }
     ensures part { IsErrOf result KeepFault.Unwritten → AppendsPrefix (K.written sink.old) (K.written sink.new) (text file.now (serial file.now)) }
     ensures sink_failed { IsErrOf result KeepFault.Unwritten → Rose (K.faults sink.old) (K.faults sink.new) }
     ensures untouched { IfErr result (λ e. e ≢ KeepFault.Unwritten → sink.new ≡ sink.old) }
 {
-    store_calls_of(alloc, file, disk)?;
-    report(alloc, file, sink)
+    keep_file_within(alloc, file, MAX_IMAGE, sink, disk)
 }
 
-// Stores those of a file's calls that the disk does not hold yet.
-pub(crate) fn store_calls_of<D: Disk>(
+/// The same in an image of at most so many bytes.
+pub fn keep_file_within<K: Sink, D: Disk>(
     alloc: Global,
     file: &File,
+    limit: u64,
+    sink: &mut K,
     disk: &mut D,
 ) -> Result<(), KeepFault>
     requires bounded { IsBounded file.now }
     requires workable { IsWorkable file.now }
+    requires limit { limit ≤ 2 ^ 30 }
+    requires settled { Only (D.content disk.old) (D.may_leave disk.old) }
+    ensures all { OnOk result (IsStored D.content D.may_leave disk.new (payloads file.now)) }
+    ensures written { OnOk result (Appends (K.written sink.old) (K.written sink.new) (text file.now (serial file.now))) }
+    ensures begun { OnOk result (IsBegun (payloads file.now) (D.content disk.old)) }
+    ensures any_moment { KeepsBeginning D.content D.moment D.left_since (payloads file.now) disk.old disk.new }
+    ensures refused { IfErr result (λ e. Tells limit (calls file.now) (D.content disk.old) e) }
+    ensures fits { OnOk result (Tells limit (calls file.now) (D.content disk.old) KeepFault.Full → ⊥) }
+    ensures left { IfErr result (λ e. IsJudgement e → IsLeft D.content D.may_leave disk.old disk.new) }
+    ensures same_records { IfErr result (λ e. IsRefusal e → LeavesOnly D.moment D.left_since disk.old disk.new (HoldsAsBefore (D.may_leave disk.old))) }
+    ensures rose { IsErrOf result KeepFault.Disk → Rose (D.faults disk.old) (D.faults disk.new) }
+    ensures no_fault { OnOk result (D.faults disk.new ≡ D.faults disk.old) }
+    ensures no_other_fault { IfErr result (λ e. e ≢ KeepFault.Disk → D.faults disk.new ≡ D.faults disk.old) }
+    ensures unwritten { IsErrOf result KeepFault.Unwritten → IsStored D.content D.may_leave disk.new (payloads file.now) }
+    ensures part { IsErrOf result KeepFault.Unwritten → AppendsPrefix (K.written sink.old) (K.written sink.new) (text file.now (serial file.now)) }
+    ensures sink_failed { IsErrOf result KeepFault.Unwritten → Rose (K.faults sink.old) (K.faults sink.new) }
+    ensures untouched { IfErr result (λ e. e ≢ KeepFault.Unwritten → sink.new ≡ sink.old) }
+{
+    store_calls_of(alloc, file, limit, disk)?;
+    report(alloc, file, sink)
+}
+
+// Stores those of a file's calls that the disk does not hold yet, in an image of at most so many bytes.
+pub(crate) fn store_calls_of<D: Disk>(
+    alloc: Global,
+    file: &File,
+    limit: u64,
+    disk: &mut D,
+) -> Result<(), KeepFault>
+    requires bounded { IsBounded file.now }
+    requires workable { IsWorkable file.now }
+    requires limit { limit ≤ 2 ^ 30 }
     requires settled { Only (D.content disk.old) (D.may_leave disk.old) }
     ensures all { OnOk result (IsStored D.content D.may_leave disk.new (payloads file.now)) }
     ensures begun { OnOk result (IsBegun (payloads file.now) (D.content disk.old)) }
     ensures within { OnOk result (length (D.content disk.new) ≤ 2 ^ 30) }
-    ensures fits { OnOk result (Tells (calls file.now) (D.content disk.old) KeepFault.Full → ⊥) }
+    ensures fits { OnOk result (Tells limit (calls file.now) (D.content disk.old) KeepFault.Full → ⊥) }
     ensures any_moment { KeepsBeginning D.content D.moment D.left_since (payloads file.now) disk.old disk.new }
-    ensures refused { IfErr result (λ e. Tells (calls file.now) (D.content disk.old) e) }
+    ensures refused { IfErr result (λ e. Tells limit (calls file.now) (D.content disk.old) e) }
     ensures left { IfErr result (λ e. IsJudgement e → IsLeft D.content D.may_leave disk.old disk.new) }
     ensures same_records { IfErr result (λ e. IsRefusal e → LeavesOnly D.moment D.left_since disk.old disk.new (HoldsAsBefore (D.may_leave disk.old))) }
     ensures others { IfErr result (λ e. IsKeepFault e) }
     ensures rose { IsErrOf result KeepFault.Disk → Rose (D.faults disk.old) (D.faults disk.new) }
+    ensures no_fault { OnOk result (D.faults disk.new ≡ D.faults disk.old) }
+    ensures no_other_fault { IfErr result (λ e. e ≢ KeepFault.Disk → D.faults disk.new ≡ D.faults disk.old) }
     ensures never_falls { D.faults disk.old ≤ D.faults disk.new }
 {
     let told = calls(alloc, file)?;
-    keep(alloc, &told, disk)
+    keep(alloc, &told, limit, disk)
 }
 
 // Works the lines of a file in order, and writes the report.

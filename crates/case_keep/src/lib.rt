@@ -7,7 +7,7 @@ mod playing;
 mod reading;
 mod unkept;
 
-pub use keeping::keep_file;
-pub use playing::{StoreOutcome, store_play};
+pub use keeping::{keep_file, keep_file_within};
+pub use playing::{StoreOutcome, store_play, store_play_within};
 pub use reading::read_process;
 pub use unkept::Unkept;

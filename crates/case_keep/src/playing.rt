@@ -1,5 +1,5 @@
 // The work of a process file over a disk without bytes.
-ghost use Rattle.std.specs.Prelude.{◌≡◌, ◌≢◌, ◌≤◌, ◌⊎◌, [], IfErr, OnOk, IsErrOf};
+ghost use Rattle.std.specs.Prelude.{◌≡◌, ◌≢◌, ◌≤◌, ◌^◌, ◌⊎◌, [], IfErr, OnOk, IsErrOf};
 ghost use Rattle.std.specs.Io.KnownBytes.{Appends, IsAtEnd};
 ghost use Rattle.adept_io.specs.Counts.{Rose};
 ghost use Rattle.adept_io.specs.Written.{AppendsPrefix};
@@ -13,20 +13,20 @@ ghost use Rattle.store_disk.specs.Disk.{IsSettled, LeavesOnly};
 ghost use Rattle.store_keep.specs.Keeping.{HoldsBeginning, IsStored};
 ghost use Rattle.store_keep.specs.Refusals.{Overflows};
 
-use crate::keeping::{keep_file, store_calls_of};
+use crate::keeping::{keep_file_within, store_calls_of};
 use crate::reading::read_process;
 use crate::unkept::keep_status;
 use adept_io::{Sink, Source};
 use file_model::File;
 use std::alloc::Global;
-use store_disk::Disk;
+use store_disk::{Disk, MAX_IMAGE};
 use store_keep::KeepFault;
 
 /// How the work of a process file over a disk without bytes ends.
 #[derive(Drop)]
 pub struct StoreOutcome<D: Disk + Drop> {
     /// 0: done; 1: the file is refused; 3: reading failed; 4: writing failed; 5: there was not enough memory; 6: the input
-    /// is too long; 7: the disk failed; 8: the store would have more than 1,073,741,824 bytes.
+    /// is too long; 7: the disk failed; 8: no call of the disk failed, and the store would pass its limit, 1,073,741,824 bytes.
     pub status: u8,
     /// The disk, as the work left it.
     pub disk: D,
@@ -46,12 +46,35 @@ pub fn store_play<S: Source, K: Sink, D: Disk + Drop>(
     ensures unread { IsUnreadStatus result.status → EndsUnplayed S.left S.faults source.old source.new disk result }
     ensures whole { IsReadStatus result.status → IsAtEnd (S.left source.new) }
     ensures report { IsReadStatus result.status → OfFile (S.left source.old) (λ f. Reports K.written K.faults f sink.old sink.new result.status) }
-    ensures stored { IsReadStatus result.status → OfFile (S.left source.old) (λ f. Stores D.content D.may_leave D.faults f disk result) }
+    ensures stored { IsReadStatus result.status → OfFile (S.left source.old) (λ f. Stores D.content D.may_leave D.faults (2 ^ 30) f disk result) }
+    ensures steady { result.status ≢ 7 → D.faults result.disk ≡ D.faults disk }
+    ensures untouched { result.status ≢ 0 → result.status ≢ 4 → sink.new ≡ sink.old }
+    ensures any_moment { LeavesOnly D.moment D.left_since disk result.disk (HoldsBeginningOf (S.left source.old)) }
+{
+    store_play_within(alloc, source, sink, disk, MAX_IMAGE)
+}
+
+/// The same in an image of at most so many bytes.
+pub fn store_play_within<S: Source, K: Sink, D: Disk + Drop>(
+    alloc: Global,
+    source: &mut S,
+    sink: &mut K,
+    disk: D,
+    limit: u64,
+) -> StoreOutcome<D>
+    requires settled { IsSettled D.content D.may_leave disk [] }
+    requires limit { limit ≤ 2 ^ 30 }
+    ensures statuses { IsPlayStatus result.status }
+    ensures unread { IsUnreadStatus result.status → EndsUnplayed S.left S.faults source.old source.new disk result }
+    ensures whole { IsReadStatus result.status → IsAtEnd (S.left source.new) }
+    ensures report { IsReadStatus result.status → OfFile (S.left source.old) (λ f. Reports K.written K.faults f sink.old sink.new result.status) }
+    ensures stored { IsReadStatus result.status → OfFile (S.left source.old) (λ f. Stores D.content D.may_leave D.faults limit f disk result) }
+    ensures steady { result.status ≢ 7 → D.faults result.disk ≡ D.faults disk }
     ensures untouched { result.status ≢ 0 → result.status ≢ 4 → sink.new ≡ sink.old }
     ensures any_moment { LeavesOnly D.moment D.left_since disk result.disk (HoldsBeginningOf (S.left source.old)) }
 {
     match read_process(alloc, source) {
-        Ok(file) => play_over(alloc, &file, sink, disk),
+        Ok(file) => play_over(alloc, &file, limit, sink, disk),
         Err(why) => StoreOutcome {
             status: why.status(),
             disk,
@@ -63,19 +86,22 @@ pub fn store_play<S: Source, K: Sink, D: Disk + Drop>(
 fn play_over<K: Sink, D: Disk + Drop>(
     alloc: Global,
     file: &File,
+    limit: u64,
     sink: &mut K,
     disk: D,
 ) -> StoreOutcome<D>
     requires bounded { IsBounded file.now }
     requires workable { IsWorkable file.now }
+    requires limit { limit ≤ 2 ^ 30 }
     requires settled { IsSettled D.content D.may_leave disk [] }
     ensures statuses { IsWorkStatus result.status }
     ensures report { Reports K.written K.faults file.now sink.old sink.new result.status }
-    ensures stored { Stores D.content D.may_leave D.faults file.now disk result }
+    ensures stored { Stores D.content D.may_leave D.faults limit file.now disk result }
+    ensures steady { result.status ≢ 7 → D.faults result.disk ≡ D.faults disk }
     ensures any_moment { LeavesOnly D.moment D.left_since disk result.disk (HoldsBeginning (payloads file.now) []) }
 {
     let mut disk = disk;
-    match play_file(alloc, file, sink, &mut disk) {
+    match play_file(alloc, file, limit, sink, &mut disk) {
         Ok(()) => StoreOutcome { status: 0, disk },
         Err(fault) => StoreOutcome {
             status: keep_status(fault),
@@ -88,25 +114,29 @@ fn play_over<K: Sink, D: Disk + Drop>(
 fn play_file<K: Sink, D: Disk>(
     alloc: Global,
     file: &File,
+    limit: u64,
     sink: &mut K,
     disk: &mut D,
 ) -> Result<(), KeepFault>
     requires bounded { IsBounded file.now }
     requires workable { IsWorkable file.now }
+    requires limit { limit ≤ 2 ^ 30 }
     requires settled { IsSettled D.content D.may_leave disk.old [] }
     ensures all { OnOk result (IsStored D.content D.may_leave disk.new (payloads file.now)) }
-    ensures fits { OnOk result (Overflows 0 (calls file.now) → ⊥) }
+    ensures fits { OnOk result (Overflows limit 0 (calls file.now) → ⊥) }
     ensures written { OnOk result (Appends (K.written sink.old) (K.written sink.new) (text file.now (serial file.now))) }
     ensures causes { IfErr result (λ e. IsPlayFault e) }
-    ensures full { IsErrOf result KeepFault.Full → Overflows 0 (calls file.now) }
+    ensures full { IsErrOf result KeepFault.Full → Overflows limit 0 (calls file.now) }
     ensures rose { IsErrOf result KeepFault.Disk → Rose (D.faults disk.old) (D.faults disk.new) }
+    ensures no_fault { OnOk result (D.faults disk.new ≡ D.faults disk.old) }
+    ensures no_other_fault { IfErr result (λ e. e ≢ KeepFault.Disk → D.faults disk.new ≡ D.faults disk.old) }
     ensures unwritten { IsErrOf result KeepFault.Unwritten → IsStored D.content D.may_leave disk.new (payloads file.now) }
-    ensures fits_unwritten { IsErrOf result KeepFault.Unwritten → Overflows 0 (calls file.now) → ⊥ }
+    ensures fits_unwritten { IsErrOf result KeepFault.Unwritten → Overflows limit 0 (calls file.now) → ⊥ }
     ensures part { IsErrOf result KeepFault.Unwritten → AppendsPrefix (K.written sink.old) (K.written sink.new) (text file.now (serial file.now)) }
     ensures sink_failed { IsErrOf result KeepFault.Unwritten → Rose (K.faults sink.old) (K.faults sink.new) }
     ensures untouched { IfErr result (λ e. e ≢ KeepFault.Unwritten → sink.new ≡ sink.old) }
     ensures any_moment { LeavesOnly D.moment D.left_since disk.old disk.new (HoldsBeginning (payloads file.now) []) }
 {
-    store_calls_of(alloc, file, disk)?;
-    keep_file(alloc, file, sink, disk)
+    store_calls_of(alloc, file, limit, disk)?;
+    keep_file_within(alloc, file, limit, sink, disk)
 }

@@ -89,6 +89,11 @@ impl From<FileRefusal> for Unkept {
 }
 
 impl From<OpenFault> for Unkept {
+    ghost use Rattle.std.specs.Prelude.{◌≡◌};
+    ghost use Rattle.case_keep.specs.Input.{of_open};
+
+    ghost from_gives = { λ r e. e ≡ of_open r };
+
     fn from(fault: OpenFault) -> Unkept {
         match fault {
             OpenFault::Held => Unkept::Held,
@@ -99,6 +104,11 @@ impl From<OpenFault> for Unkept {
 }
 
 impl From<KeepFault> for Unkept {
+    ghost use Rattle.std.specs.Prelude.{◌≡◌};
+    ghost use Rattle.case_keep.specs.declared.unkept.Unkept.TheVariants as unkept;
+
+    ghost from_gives = { λ r e. e ≡ unkept.Keep r };
+
     fn from(fault: KeepFault) -> Unkept {
         Unkept::Keep(fault)
     }

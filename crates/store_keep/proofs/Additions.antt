@@ -13,9 +13,9 @@ use Rattle.store_keep.specs.Refusals.{Overflows, Passes}
 use Rattle.store_keep.proofs.Held.{beginning, begins-more, begins-self, rest-held, rest-image}
 
 -- a call that finds room does not pass the limit
-pub not-passing : (gate : ℕ) (r : Recorded) (p : Bytes) → has_short_lists r.event ≡ true → payload_of r ≡ p → gate + (6 + length p) ≤ 2 ^ 30 → Passes gate r → ⊥
-not-passing gate r p short same fits (inl long) = absurd cc
-not-passing gate r p short same fits (inr over) = omega (arith, ap length same, fits, over)
+pub not-passing : (limit gate : ℕ) (r : Recorded) (p : Bytes) → has_short_lists r.event ≡ true → payload_of r ≡ p → gate + (6 + length p) ≤ limit → Passes limit gate r → ⊥
+not-passing limit gate r p short same fits (inl long) = absurd cc
+not-passing limit gate r p short same fits (inr over) = omega (arith, ap length same, fits, over)
 
 -- how far calls have been stored behind those of a disk
 pub record Progress {D : Type 0} (content : D → List ℕ) (may_leave : D → List ℕ → Type 0) (least all : List Bytes) (left : List Recorded) (disk : D) (gate : ℕ) : Type 0 where
@@ -72,9 +72,9 @@ module _ {D : Type 0} (content : D → List ℕ) (may_leave : D → List ℕ →
   all-stored least all disk gate so_far = (gate, subst (λ qs. IsAtRest content may_leave disk qs gate) (sym (append-nil so_far.ps) ∙ so_far.parts) so_far.rest)
 
 -- where the calls from one on overflow
-pub over-here : (gate next : ℕ) (r : Recorded) (rs : List Recorded) → next ≡ gate + (5 + length (payload_of r)) → Overflows next rs → Overflows gate (r ∷ rs)
-over-here gate next r rs is over = inr (subst (λ g. Overflows g rs) is over)
+pub over-here : (limit gate next : ℕ) (r : Recorded) (rs : List Recorded) → next ≡ gate + (5 + length (payload_of r)) → Overflows limit next rs → Overflows limit gate (r ∷ rs)
+over-here limit gate next r rs is over = inr (subst (λ g. Overflows limit g rs) is over)
 
-pub over-behind : (gate next : ℕ) (r : Recorded) (rs : List Recorded) → next ≡ gate + (5 + length (payload_of r)) → (Passes gate r → ⊥) → Overflows gate (r ∷ rs) → Overflows next rs
-over-behind gate next r rs is fits (inl passes) = absurd (fits passes)
-over-behind gate next r rs is fits (inr over) = subst (λ g. Overflows g rs) (sym is) over
+pub over-behind : (limit gate next : ℕ) (r : Recorded) (rs : List Recorded) → next ≡ gate + (5 + length (payload_of r)) → (Passes limit gate r → ⊥) → Overflows limit gate (r ∷ rs) → Overflows limit next rs
+over-behind limit gate next r rs is fits (inl passes) = absurd (fits passes)
+over-behind limit gate next r rs is fits (inr over) = subst (λ g. Overflows limit g rs) (sym is) over

@@ -110,11 +110,11 @@ module _ {D : Type 0} (content : D → List ℕ) (may_leave : D → List ℕ →
       many : length (held (content old)) ≡ count
       many = ap length held-old ∙ firsts-length calls count within
 
-      pub overflow-told : Overflows gate (drop count calls) → Tells calls (content old) fault.Full
-      overflow-told over = subst (λ g. Overflows g (drop (length (held (content old))) calls)) (sym at) (subst (λ n. Overflows gate (drop n calls)) (sym many) over)
+      pub overflow-told : (limit : ℕ) → Overflows limit gate (drop count calls) → Tells limit calls (content old) fault.Full
+      overflow-told limit over = subst (λ g. Overflows limit g (drop (length (held (content old))) calls)) (sym at) (subst (λ n. Overflows limit gate (drop n calls)) (sym many) over)
 
-      pub told-overflows : Tells calls (content old) fault.Full → Overflows gate (drop count calls)
-      told-overflows full = subst (λ n. Overflows gate (drop n calls)) many (subst (λ g. Overflows g (drop (length (held (content old))) calls)) at full)
+      pub told-overflows : (limit : ℕ) → Tells limit calls (content old) fault.Full → Overflows limit gate (drop count calls)
+      told-overflows limit full = subst (λ n. Overflows limit gate (drop n calls)) many (subst (λ g. Overflows limit g (drop (length (held (content old))) calls)) at full)
 
 -- what a fault of storing says
 no-add : {e : KeepFault} {X : Type 0} → (e ≡ fault.Full → ⊥) → (e ≡ fault.NoMemory → ⊥) → (e ≡ fault.Disk → ⊥) → IsAddFault e → X
@@ -122,12 +122,12 @@ no-add full memory disk (inl is) = absurd (full is)
 no-add full memory disk (inr (inl is)) = absurd (memory is)
 no-add full memory disk (inr (inr is)) = absurd (disk is)
 
-pub add-tells : {X : Type 0} (calls : List Recorded) (image : List ℕ) (r : Result X KeepFault) → IfErr r (λ e. IsAddFault e) → (IsErrOf r fault.Full → Tells calls image fault.Full) → IfErr r (λ e. Tells calls image e)
-add-tells calls image (Ok x) others full = tt
-add-tells calls image (Err fault.Disk) others full = tt
-add-tells calls image (Err fault.NoMemory) others full = tt
-add-tells calls image (Err fault.Full) others full = full refl
-add-tells calls image (Err fault.TooLong) others full = no-add (λ e. absurd cc) (λ e. absurd cc) (λ e. absurd cc) others
-add-tells calls image (Err (fault.Damaged place)) others full = no-add (λ e. absurd cc) (λ e. absurd cc) (λ e. absurd cc) others
-add-tells calls image (Err (fault.Differs number)) others full = no-add (λ e. absurd cc) (λ e. absurd cc) (λ e. absurd cc) others
-add-tells calls image (Err fault.Unwritten) others full = tt
+pub add-tells : {X : Type 0} (limit : ℕ) (calls : List Recorded) (image : List ℕ) (r : Result X KeepFault) → IfErr r (λ e. IsAddFault e) → (IsErrOf r fault.Full → Tells limit calls image fault.Full) → IfErr r (λ e. Tells limit calls image e)
+add-tells limit calls image (Ok x) others full = tt
+add-tells limit calls image (Err fault.Disk) others full = tt
+add-tells limit calls image (Err fault.NoMemory) others full = tt
+add-tells limit calls image (Err fault.Full) others full = full refl
+add-tells limit calls image (Err fault.TooLong) others full = no-add (λ e. absurd cc) (λ e. absurd cc) (λ e. absurd cc) others
+add-tells limit calls image (Err (fault.Damaged place)) others full = no-add (λ e. absurd cc) (λ e. absurd cc) (λ e. absurd cc) others
+add-tells limit calls image (Err (fault.Differs number)) others full = no-add (λ e. absurd cc) (λ e. absurd cc) (λ e. absurd cc) others
+add-tells limit calls image (Err fault.Unwritten) others full = tt

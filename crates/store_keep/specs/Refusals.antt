@@ -17,14 +17,14 @@ unopened read.Failed = fault.Disk
 unopened read.TooLong = fault.TooLong
 unopened read.NoMemory = fault.NoMemory
 
--- with this call, and a gate behind it, the image would pass its limit, as it does where a list has 2^32 items or more
-abbrev pub Passes : ℕ → Recorded → Type 0
-Passes gate r = (has_short_lists r.event ≡ false) ⊎ (2 ^ 30 < gate + (6 + length (payload_of r)))
+-- with this call, and a gate behind it, the image would pass a limit, as it does where a list has 2^32 items or more
+abbrev pub Passes : ℕ → ℕ → Recorded → Type 0
+Passes limit gate r = (has_short_lists r.event ≡ false) ⊎ (limit < gate + (6 + length (payload_of r)))
 
 -- so it would with one of these calls, one after another
-abbrev pub Overflows : ℕ → List Recorded → Type 0
-Overflows gate [] = ⊥
-Overflows gate (r ∷ rs) = Passes gate r ⊎ Overflows (gate + (5 + length (payload_of r))) rs
+abbrev pub Overflows : ℕ → ℕ → List Recorded → Type 0
+Overflows limit gate [] = ⊥
+Overflows limit gate (r ∷ rs) = Passes limit gate r ⊎ Overflows limit (gate + (5 + length (payload_of r))) rs
 
 abbrev pub IsAddFault : KeepFault → Type 0
 IsAddFault e = (e ≡ fault.Full) ⊎ (e ≡ fault.NoMemory) ⊎ (e ≡ fault.Disk)
@@ -46,10 +46,10 @@ abbrev pub IsKeepFault : KeepFault → Type 0
 IsKeepFault fault.Unwritten = ⊥
 IsKeepFault _ = Unit {0}
 
--- what a fault says of the image that was there
-abbrev pub Tells : List Recorded → List ℕ → KeepFault → Type 0
-Tells calls image (fault.Damaged place) = finds 0 (map payload_of calls) (frames image) ≡ found.Damaged place
-Tells calls image (fault.Differs number) = finds 0 (map payload_of calls) (frames image) ≡ found.Differs number
-Tells calls image fault.TooLong = 2 ^ 30 < length image
-Tells calls image fault.Full = Overflows (length (all_framed (held image))) (drop (length (held image)) calls)
-Tells calls image _ = Unit {0}
+-- what a fault says of the image that was there, and of the limit up to which it may grow
+abbrev pub Tells : ℕ → List Recorded → List ℕ → KeepFault → Type 0
+Tells limit calls image (fault.Damaged place) = finds 0 (map payload_of calls) (frames image) ≡ found.Damaged place
+Tells limit calls image (fault.Differs number) = finds 0 (map payload_of calls) (frames image) ≡ found.Differs number
+Tells limit calls image fault.TooLong = 2 ^ 30 < length image
+Tells limit calls image fault.Full = Overflows limit (length (all_framed (held image))) (drop (length (held image)) calls)
+Tells limit calls image _ = Unit {0}

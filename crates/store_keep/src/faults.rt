@@ -10,7 +10,7 @@ pub enum KeepFault {
     Disk,
     /// There was not enough memory. The disk holds such a beginning.
     NoMemory,
-    /// The image would pass 1,073,741,824 bytes. The disk holds such a beginning.
+    /// The image would pass its limit, 1,073,741,824 bytes at most. The disk holds such a beginning.
     Full,
     /// The image has more than 1,073,741,824 bytes.
     TooLong,

@@ -17,7 +17,7 @@ returns-clause-causes g c =
     let mid = c.store_calls_of.new.disk in
     let first = c.in_ok-store_calls_of.ensures in
     let list = stored-list k.content k.may_leave mid (payloads f) first.all in
-    IfErr-weaker c.keep_file.result (λ e. Tells (calls f) (k.content mid) e) (λ e. IsPlayFault e) (λ e told. second-faults (calls f) (k.content mid) e list first.within told) c.keep_file.ensures.refused
+    IfErr-weaker c.keep_file_within.result (λ e. Tells c.args.limit (calls f) (k.content mid) e) (λ e. IsPlayFault e) (λ e told. second-faults c.args.limit (calls f) (k.content mid) e list first.within told) c.keep_file_within.ensures.refused
 
 pub returns-clause-full : goal.returns-clause-full
 returns-clause-full g c full =
@@ -25,13 +25,13 @@ returns-clause-full g c full =
     let f = c.args.file.now in
     let mid = c.store_calls_of.new.disk in
     let list = stored-list k.content k.may_leave mid (payloads f) c.in_ok-store_calls_of.ensures.all in
-    absurd (second-full (calls f) (k.content mid) list (fault-is c.keep_file.result (λ e. Tells (calls f) (k.content mid) e) c.keep_file.ensures.refused full))
+    absurd (second-full c.args.limit (calls f) (k.content mid) list (fault-is c.keep_file_within.result (λ e. Tells c.args.limit (calls f) (k.content mid) e) c.keep_file_within.ensures.refused full))
 
 pub returns-clause-any_moment : goal.returns-clause-any_moment
 returns-clause-any_moment g c =
     let k = g.D.Disk in
     let f = c.args.file.now in
     let mid = c.store_calls_of.new.disk in
-    both-moments k.content k.may_leave k.moment k.left_since c.args.disk.now mid c.keep_file.new.disk (payloads f)
+    both-moments k.content k.may_leave k.moment k.left_since c.args.disk.now mid c.keep_file_within.new.disk (payloads f)
     (first-moments k.content k.may_leave k.moment k.left_since c.args.disk.now mid (payloads f) c.requires.settled.gives c.store_calls_of.ensures.any_moment)
-    (stored-list k.content k.may_leave mid (payloads f) c.in_ok-store_calls_of.ensures.all) c.keep_file.ensures.any_moment
+    (stored-list k.content k.may_leave mid (payloads f) c.in_ok-store_calls_of.ensures.all) c.keep_file_within.ensures.any_moment

@@ -23,7 +23,7 @@ loop-call-init g c =
           (map payload_of c.args.calls.now, refl) (begins-self least);
       over = λ o. o;
       fits = λ o. o;
-      falls = omega arith;
+      steady = refl;
     }
 
 pub add-requires-clause-rest : goal.add-requires-clause-rest
@@ -63,7 +63,7 @@ loop-call-preserved g c =
       within = λ le. added.within (l.invariant.within le);
       payable = (subst (AllByRecursion IsPayable) split l.invariant.payable).1;
       moments = moments k.content k.may_leave k.moment k.left_since least all r rs l.disk l.gate so_far c.args.disk.now c.add.new.disk l.invariant.moments c.add.ensures.any_moment;
-      over = λ o. l.invariant.over (subst (Overflows l.gate) (sym split) (over-here l.gate c.in_ok-gate.gate r rs added.next o));
-      fits = λ o. over-behind l.gate c.in_ok-gate.gate r rs added.next added.fits (subst (Overflows l.gate) split (l.invariant.fits o));
-      falls = omega (arith, l.invariant.falls, c.add.ensures.never_falls);
+      over = λ o. l.invariant.over (subst (Overflows c.args.limit l.gate) (sym split) (over-here c.args.limit l.gate c.in_ok-gate.gate r rs added.next o));
+      fits = λ o. over-behind c.args.limit l.gate c.in_ok-gate.gate r rs added.next added.fits (subst (Overflows c.args.limit l.gate) split (l.invariant.fits o));
+      steady = added.no_fault ∙ l.invariant.steady;
     }

@@ -1,4 +1,4 @@
-use Rattle.std.proofs.Common.{◌≤◌, ◌<◌, ◌^◌, ◌++◌, drop, length, map}
+use Rattle.std.proofs.Common.{◌≡◌, ◌≤◌, ◌<◌, ◌^◌, ◌++◌, drop, length, map}
 use Rattle.std.specs.List.{AllByRecursion}
 use Rattle.store_calls.specs.Calls.{IsPayable, payload_of}
 use Rattle.store_disk.specs.Disk.{LeavesOnly}
@@ -18,7 +18,7 @@ invariant-loop-call g l =
       within : length (k.content l.initial.disk) ≤ 2 ^ 30 → length (k.content l.disk) ≤ 2 ^ 30;
       payable : AllByRecursion IsPayable (drop l.call-index l.calls);
       moments : LeavesOnly k.moment k.left_since l.initial.disk l.disk (HoldsBeginning all least);
-      over : Overflows l.gate (drop l.call-index l.calls) → Overflows l.initial.gate l.calls;
-      fits : Overflows l.initial.gate l.calls → Overflows l.gate (drop l.call-index l.calls);
-      falls : k.faults l.initial.disk ≤ k.faults l.disk;
+      over : Overflows l.limit l.gate (drop l.call-index l.calls) → Overflows l.limit l.initial.gate l.calls;
+      fits : Overflows l.limit l.initial.gate l.calls → Overflows l.limit l.gate (drop l.call-index l.calls);
+      steady : k.faults l.disk ≡ k.faults l.initial.disk;
     }

@@ -78,10 +78,10 @@ returns-in-Beginning-clause-refused g c =
     let count = c.in-Beginning.count in
     let settled : IsSettled k.content k.may_leave mid image = subst (IsSettled k.content k.may_leave mid) (sym shown) c.in_ok-image.ensures.settled in
     let here : HoldsFound calls image (found.Beginning count c.in-Beginning.gate) = subst (HoldsFound calls image) c.in-Beginning.is c.in_ok-count.ensures.holds in
-    add-tells calls (k.content c.args.disk.now) c.add_all.result c.add_all.ensures.others
+    add-tells c.args.limit calls (k.content c.args.disk.now) c.add_all.result c.add_all.ensures.others
     (λ full.
-    overflow-told k.content k.may_leave k.moment k.left_since c.args.disk.now mid image settled (shown ∙ c.in_ok-image.ensures.bytes) calls count c.in-Beginning.gate here.0 here.1
-    (subst (Overflows c.in-Beginning.gate) (take_rest calls count) (c.add_all.ensures.full full)))
+    overflow-told k.content k.may_leave k.moment k.left_since c.args.disk.now mid image settled (shown ∙ c.in_ok-image.ensures.bytes) calls count c.in-Beginning.gate here.0 here.1 c.args.limit
+    (subst (Overflows c.args.limit c.in-Beginning.gate) (take_rest calls count) (c.add_all.ensures.full full)))
 
 pub returns-in-Beginning-clause-fits : goal.returns-in-Beginning-clause-fits
 returns-in-Beginning-clause-fits g c =
@@ -96,8 +96,8 @@ returns-in-Beginning-clause-fits g c =
     on_ok_weaker c.add_all.result
     (λ fits full.
     fits
-    (subst (Overflows c.in-Beginning.gate) (sym (take_rest calls count))
-    (told-overflows k.content k.may_leave k.moment k.left_since c.args.disk.now mid image settled (shown ∙ c.in_ok-image.ensures.bytes) calls count c.in-Beginning.gate here.0 here.1 full)))
+    (subst (Overflows c.args.limit c.in-Beginning.gate) (sym (take_rest calls count))
+    (told-overflows k.content k.may_leave k.moment k.left_since c.args.disk.now mid image settled (shown ∙ c.in_ok-image.ensures.bytes) calls count c.in-Beginning.gate here.0 here.1 c.args.limit full)))
     c.add_all.ensures.fits
 
 pub returns-in-Beginning-clause-within : goal.returns-in-Beginning-clause-within
