@@ -165,9 +165,9 @@ refused-here counts image held new rest place len p so_far gate (long, short, sp
     (split ∙ ap (λ q. framed q ++ drop (5 + len) rest) (sym bytes)) refused
 
 -- a call that finds room does not pass the limit
-pub not-passing : (gate caller : ℕ) (e : Stored) (p : Bytes) → has_short_lists e ≡ true → payload caller e ≡ p → gate + (6 + length p) ≤ 2 ^ 30 → Passes gate caller e → ⊥
-not-passing gate caller e p short same fits (inl long) = absurd cc
-not-passing gate caller e p short same fits (inr over) = omega (arith, ap length same, fits, over)
+pub not-passing : (limit gate caller : ℕ) (e : Stored) (p : Bytes) → has_short_lists e ≡ true → payload caller e ≡ p → gate + (6 + length p) ≤ limit → Passes limit gate caller e → ⊥
+not-passing limit gate caller e p short same fits (inl long) = absurd cc
+not-passing limit gate caller e p short same fits (inr over) = omega (arith, ap length same, fits, over)
 
 -- types and cases that nobody has called are the run of no records
 pub fresh-fold : (counts cases : List ℕ) (held : Held) → cases ≡ counts → held ≡ record { starts = starts_of cases; run = fresh cases } → IsFoldOf counts held []

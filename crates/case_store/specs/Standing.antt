@@ -46,9 +46,9 @@ pub record IsStore {D : Type 0} (content : D → List ℕ) (may_leave : D → Li
   -- no case is older than there are bytes
   pub young : oldest store.held.run.cases ≤ store.gate
 
--- with this call the image would pass its limit, as it does where a list has 2^32 items or more
-abbrev pub Passes : ℕ → ℕ → Stored → Type 0
-Passes gate caller e = (has_short_lists e ≡ false) ⊎ (2 ^ 30 < gate + (6 + length (payload caller e)))
+-- with this call the image would pass a limit, as it does where a list has 2^32 items or more
+abbrev pub Passes : ℕ → ℕ → ℕ → Stored → Type 0
+Passes limit gate caller e = (has_short_lists e ≡ false) ⊎ (limit < gate + (6 + length (payload caller e)))
 
 -- what an opened store holds is what the disk held
 abbrev pub Opens : {D : Type 0} → (D → List ℕ) → (D → List ℕ → Type 0) → List ℕ → List ℕ → StoreState D → Type 0

@@ -23,7 +23,7 @@ pub enum OpenRefusal<D: Disk + Drop> {
 pub enum StoreFault {
     /// An earlier step failed on the disk.
     Broken,
-    /// The image would pass 1,073,741,824 bytes.
+    /// The image would pass its limit, 1,073,741,824 bytes.
     Full,
     /// The disk failed. The store is broken from now on; the disk holds the call or does not.
     Disk,

@@ -1,10 +1,10 @@
 // The store.
-ghost use Rattle.std.specs.Prelude.{◌≡◌, ◌+◌, ◌<◌, ◌≤◌, ◌^◌, ◌++◌, ◌∷◌, [], ◌≢◌, ◌⊎◌, ◌↔◌, ℕ, List, Some, false, true, length, map, sum, IfOk, IfErr, OnOk, IsErrOf};
+ghost use Rattle.std.specs.Prelude.{◌≡◌, ◌+◌, ◌<◌, ◌≤◌, ◌^◌, ◌++◌, ◌∷◌, [], ◌≢◌, ◌⊎◌, ◌↔◌, ℕ, List, Some, false, true, get_or, length, map, sum, IfOk, IfErr, OnOk, IsErrOf};
 ghost use Rattle.adept_io.specs.Counts.{Rose};
 ghost use Rattle.store_disk.specs.Disk.{LeavesOnly};
 ghost use Rattle.store_disk.specs.Image.{HasList};
-ghost use Rattle.store_disk.specs.Opening.{HoldsAsBefore};
-ghost use Rattle.store_disk.specs.Rest.{IsBeforeOrAfter};
+ghost use Rattle.store_disk.specs.Opening.{HoldsAsBefore, with_gate};
+ghost use Rattle.store_disk.specs.Rest.{IsBeforeOrAfter, appended};
 ghost use Rattle.store_form.specs.Payload.{IsPayloadOf, payload};
 ghost use Rattle.store_form.specs.Stored.{HasNoVersion, is_shallow};
 ghost use Rattle.store_form.specs.declared.stored.Recorded.{Recorded};
@@ -53,7 +53,10 @@ impl<D: Disk + Drop> Store<D> {
         ensures within { IfOk result (λ store. length (D.content disk) ≤ 2 ^ 30) }
         ensures refused { IfErr result (λ e. Says cases.now (D.content disk) e) }
         ensures any_moment { LeavesOnly D.moment D.left_since disk (disk_of result) (HoldsAsBefore (D.may_leave disk)) }
+        ensures bytes { IfOk result (λ store. D.content store.disk ≡ with_gate (D.content disk)) }
         ensures rose { IfErr result (λ e. e ≡ OpenRefusal.Disk (disk_of result) → Rose (D.faults disk) (D.faults (disk_of result))) }
+        ensures no_fault { IfOk result (λ store. D.faults store.disk ≡ D.faults disk) }
+        ensures no_other_fault { IfErr result (λ e. e ≢ OpenRefusal.Disk (disk_of result) → D.faults (disk_of result) ≡ D.faults disk) }
         ensures never_falls { D.faults disk ≤ D.faults (disk_of result) }
     {
         let mut disk = disk;
@@ -99,12 +102,48 @@ impl<D: Disk + Drop> Store<D> {
         ensures whole { OnOk result (self.new.is_broken ≡ false) }
         ensures reply { IfOk result (λ reply. answer_of self.old.held.starts self.old.held.run event.now ≡ Some reply) }
         ensures every_image { OnOk result ((image : List ℕ) → D.may_leave self.new.disk image → HasList (map payload_of past.records ++ payload caller event.now ∷ []) image) }
+        ensures bytes { OnOk result (D.content self.new.disk ≡ appended self.old.gate (payload caller event.now) (D.content self.old.disk)) }
+        ensures next_gate { OnOk result (get_or (D.content self.new.disk) self.new.gate 1 ≡ 0) }
         ensures any_moment { self.old.is_broken ≡ false → LeavesOnly D.moment D.left_since self.old.disk self.new.disk (IsBeforeOrAfter (map payload_of past.records) (payload caller event.now)) }
         ensures broken { IsErrOf result StoreFault.Broken ↔ (self.old.is_broken ≡ true) }
-        ensures full { IsErrOf result StoreFault.Full → Passes self.old.gate caller event.now }
-        ensures fits { OnOk result (Passes self.old.gate caller event.now → ⊥) }
-        ensures fits_at_fault { IsErrOf result StoreFault.Disk → Passes self.old.gate caller event.now → ⊥ }
+        ensures full { IsErrOf result StoreFault.Full → Passes (2 ^ 30) self.old.gate caller event.now }
+        ensures fits { OnOk result (Passes (2 ^ 30) self.old.gate caller event.now → ⊥) }
+        ensures fits_at_fault { IsErrOf result StoreFault.Disk → Passes (2 ^ 30) self.old.gate caller event.now → ⊥ }
         ensures rose { IsErrOf result StoreFault.Disk → Rose (D.faults self.old.disk) (D.faults self.new.disk) }
+        ensures no_fault { OnOk result (D.faults self.new.disk ≡ D.faults self.old.disk) }
+        ensures breaks { IsErrOf result StoreFault.Disk → self.new.is_broken ≡ true }
+        ensures kept { IfErr result (λ e. e ≢ StoreFault.Disk → self.new ≡ self.old) }
+        ensures never_falls { D.faults self.old.disk ≤ D.faults self.new.disk }
+    {
+        self.step_within(alloc, caller, event, MAX_IMAGE)
+    }
+
+    /// The same in an image of at most so many bytes.
+    pub fn step_within(
+        &mut self,
+        alloc: Global,
+        caller: u32,
+        event: &Stored,
+        limit: u64,
+    ) -> Result<StoredReply, StoreFault>
+        ghost past: { Past }
+        requires store { self.old.is_broken ≡ false → IsStore D.content D.may_leave past.counts self.old past.records }
+        requires has { has self.old.held.starts self.old.held.run event.now ≡ true }
+        requires plain { HasNoVersion event.now }
+        requires limit { limit ≤ 2 ^ 30 }
+        ensures acknowledged { OnOk result (IsStore D.content D.may_leave past.counts self.new (past.records ++ record { caller = caller; event = event.now } ∷ [])) }
+        ensures whole { OnOk result (self.new.is_broken ≡ false) }
+        ensures reply { IfOk result (λ reply. answer_of self.old.held.starts self.old.held.run event.now ≡ Some reply) }
+        ensures every_image { OnOk result ((image : List ℕ) → D.may_leave self.new.disk image → HasList (map payload_of past.records ++ payload caller event.now ∷ []) image) }
+        ensures bytes { OnOk result (D.content self.new.disk ≡ appended self.old.gate (payload caller event.now) (D.content self.old.disk)) }
+        ensures next_gate { OnOk result (get_or (D.content self.new.disk) self.new.gate 1 ≡ 0) }
+        ensures any_moment { self.old.is_broken ≡ false → LeavesOnly D.moment D.left_since self.old.disk self.new.disk (IsBeforeOrAfter (map payload_of past.records) (payload caller event.now)) }
+        ensures broken { IsErrOf result StoreFault.Broken ↔ (self.old.is_broken ≡ true) }
+        ensures full { IsErrOf result StoreFault.Full → Passes limit self.old.gate caller event.now }
+        ensures fits { OnOk result (Passes limit self.old.gate caller event.now → ⊥) }
+        ensures fits_at_fault { IsErrOf result StoreFault.Disk → Passes limit self.old.gate caller event.now → ⊥ }
+        ensures rose { IsErrOf result StoreFault.Disk → Rose (D.faults self.old.disk) (D.faults self.new.disk) }
+        ensures no_fault { OnOk result (D.faults self.new.disk ≡ D.faults self.old.disk) }
         ensures breaks { IsErrOf result StoreFault.Disk → self.new.is_broken ≡ true }
         ensures kept { IfErr result (λ e. e ≢ StoreFault.Disk → self.new ≡ self.old) }
         ensures never_falls { D.faults self.old.disk ≤ D.faults self.new.disk }
@@ -113,7 +152,7 @@ impl<D: Disk + Drop> Store<D> {
             return Err(StoreFault::Broken);
         }
         let gate = self.gate;
-        let framed = frame(alloc, gate, caller, event)?;
+        let framed = frame(alloc, gate, caller, event, limit)?;
         let reply = self.held.call(alloc, caller, event)?;
         match append(&mut self.disk, gate, &framed) {
             Ok(next) => {
@@ -160,7 +199,10 @@ fn read_cells<D: Disk>(
     ensures within { OnOk result (length (D.content disk.old) ≤ 2 ^ 30) }
     ensures refused { IfErr result (λ e. Says cases.now (D.content disk.old) (refused e disk.new)) }
     ensures any_moment { LeavesOnly D.moment D.left_since disk.old disk.new (HoldsAsBefore (D.may_leave disk.old)) }
+    ensures bytes { OnOk result (D.content disk.new ≡ with_gate (D.content disk.old)) }
     ensures rose { IsErrOf result ImageFault.Disk → Rose (D.faults disk.old) (D.faults disk.new) }
+    ensures no_fault { OnOk result (D.faults disk.new ≡ D.faults disk.old) }
+    ensures no_other_fault { IfErr result (λ e. e ≢ ImageFault.Disk → D.faults disk.new ≡ D.faults disk.old) }
     ensures never_falls { D.faults disk.old ≤ D.faults disk.new }
 {
     let image = open_image(alloc, disk)?;
@@ -169,21 +211,27 @@ fn read_cells<D: Disk>(
     Ok((held, gate))
 }
 
-// The payload of a call, framed, where it finds room behind the gate.
-fn frame(alloc: Global, gate: u64, caller: u32, event: &Stored) -> Result<Framed, StoreFault>
+// The payload of a call, framed, where it finds room behind the gate in an image of at most so many bytes.
+fn frame(
+    alloc: Global,
+    gate: u64,
+    caller: u32,
+    event: &Stored,
+    limit: u64,
+) -> Result<Framed, StoreFault>
     requires shallow { is_shallow event.now ≡ true }
     requires plain { HasNoVersion event.now }
     requires gate { gate < 2 ^ 30 }
-    ensures framed { IfOk result (λ framed. IsPayloadOf framed caller event.now × (gate + (6 + length framed) ≤ 2 ^ 30)) }
-    ensures fits { OnOk result (Passes gate caller event.now → ⊥) }
-    ensures full { IsErrOf result StoreFault.Full → Passes gate caller event.now }
+    ensures framed { IfOk result (λ framed. IsPayloadOf framed caller event.now × (gate + (6 + length framed) ≤ limit)) }
+    ensures fits { OnOk result (Passes limit gate caller event.now → ⊥) }
+    ensures full { IsErrOf result StoreFault.Full → Passes limit gate caller event.now }
     ensures others { IfErr result (λ e. (e ≡ StoreFault.Full) ⊎ (e ≡ StoreFault.NoMemory)) }
 {
     if !has_short_lists(event) {
         return Err(StoreFault::Full);
     }
     let bytes = payload(alloc, caller, event)?;
-    if gate + (6 + bytes.len() as u64) > MAX_IMAGE {
+    if gate + (6 + bytes.len() as u64) > limit {
         return Err(StoreFault::Full);
     }
     Ok(Framed::new(alloc, bytes.as_slice())?)

@@ -40,3 +40,6 @@ returns-clause-opened g c =
     subst (λ counts. Opens k.content k.may_leave counts before (record { disk = new; gate = c.in_ok-gate.gate; held = c.take_all.new.self; is_broken = false })) (sym c.requires.1.1)
     (opens k.content k.may_leave g.counts c.args.disk.now new bytes c.take_all.new.self c.in_ok-gate.gate settled (shown ∙ c.in_ok-image.ensures.bytes)
     (subst (λ b. length b ≤ 2 ^ 30) (sym shown) c.in_ok-image.ensures.within) c.in_ok-gate.ensures.ends c.in_ok-gate.ensures.young)
+
+pub returns-clause-bytes : goal.returns-clause-bytes
+returns-clause-bytes g c = c.in_ok-image.ensures.settled.gives ∙ c.in_ok-image.ensures.bytes

@@ -1,6 +1,4 @@
-use Rattle.std.specs.Prelude.{map}
-use Rattle.case_store.specs.Folding.{payload_of}
 use Rattle.case_store.proofs.stores.Store.step.Given as goal
 
-abbrev pub ghost-append : goal.ghost-append
-ghost-append g a = map payload_of g.past.records
+abbrev pub ghost-step_within : goal.ghost-step_within
+ghost-step_within g a = g.past

@@ -1,12 +1,12 @@
-use Rattle.std.proofs.Common.{◌≡◌, ◌≤◌, ◌∙◌, false, true, map, ap, subst, sym}
+use Rattle.std.proofs.Common.{arith, ◌≡◌, ◌≤◌, ◌∙◌, false, true, map, ap, subst, sym}
 use Rattle.case_store.proofs.Folds.{one-step, room, stays}
 use Rattle.case_store.specs.Folding.{has, payload_of}
 use Rattle.case_store.specs.Standing.{IsStore, Passes}
 use Rattle.script_run.specs.Oldest.{oldest}
 use Rattle.store_disk.specs.Disk.{LeavesOnly}
-use Rattle.store_disk.specs.Rest.{IsBeforeOrAfter}
+use Rattle.store_disk.specs.Rest.{IsBeforeOrAfter, appended}
 use Rattle.store_form.specs.Payload.{payload}
-use Rattle.case_store.proofs.stores.Store.step.Goals as goal
+use Rattle.case_store.proofs.stores.Store.step_within.Goals as goal
 
 pub returns-in_err-framed-clause-any_moment : goal.returns-in_err-framed-clause-any_moment
 returns-in_err-framed-clause-any_moment g c =
@@ -22,7 +22,7 @@ call-requires-clause-young g c =
     let store = c.requires.1.0 whole in
     let found = c.in_ok-framed.ensures.framed in
     room c.args.caller c.args.event.now c.in_ok-framed.framed c.self.inside.gate (oldest c.self.inside.held.run.cases) found.0.same
-    (subst (λ s. oldest s.held.run.cases ≤ s.gate) (sym view) store.young) found.1
+    (subst (λ s. oldest s.held.run.cases ≤ s.gate) (sym view) store.young) (omega (arith, found.1, c.requires.1.1.1.1))
 
 pub returns-in_err-reply-clause-any_moment : goal.returns-in_err-reply-clause-any_moment
 returns-in_err-reply-clause-any_moment g c =
@@ -45,10 +45,21 @@ returns-in-Ok-clause-acknowledged g c =
     one-step k.content k.may_leave g.past.counts _
     (record { disk = c.append.new.disk; gate = c.in-Ok.next; held = c.call.new.self; is_broken = c.self.inside.is_broken })
     g.past.records (record { caller = c.args.caller; event = c.args.event.now }) c.in_ok-framed.framed store (found.0, there) c.in_ok-reply.ensures.run c.in-Ok.ensures.acknowledged
-    c.in-Ok.ensures.next found.1 c.in_ok-reply.ensures.young
+    c.in-Ok.ensures.next (omega (arith, found.1, c.requires.1.1.1.1)) c.in_ok-reply.ensures.young
 
 pub returns-in-Ok-clause-fits : goal.returns-in-Ok-clause-fits
-returns-in-Ok-clause-fits g c = subst (λ s. Passes s.gate c.args.caller c.args.event.now → ⊥) c.self.view_is c.in_ok-framed.ensures.fits
+returns-in-Ok-clause-fits g c = subst (λ s. Passes c.args.limit s.gate c.args.caller c.args.event.now → ⊥) c.self.view_is c.in_ok-framed.ensures.fits
 
 pub returns-clause-fits_at_fault : goal.returns-clause-fits_at_fault
-returns-clause-fits_at_fault g c = λ is. subst (λ s. Passes s.gate c.args.caller c.args.event.now → ⊥) c.self.view_is c.in_ok-framed.ensures.fits
+returns-clause-fits_at_fault g c = λ is. subst (λ s. Passes c.args.limit s.gate c.args.caller c.args.event.now → ⊥) c.self.view_is c.in_ok-framed.ensures.fits
+
+pub returns-in-Ok-clause-bytes : goal.returns-in-Ok-clause-bytes
+returns-in-Ok-clause-bytes g c =
+    let k = g.D.Disk in
+    subst (λ s. k.content c.append.new.disk ≡ appended s.gate (payload c.args.caller c.args.event.now) (k.content s.disk)) c.self.view_is
+    (c.in-Ok.ensures.bytes ∙ ap (λ p. appended c.self.inside.gate p (k.content c.self.inside.disk)) (sym c.in_ok-framed.ensures.framed.0.same))
+
+pub returns-in-Ok-clause-no_fault : goal.returns-in-Ok-clause-no_fault
+returns-in-Ok-clause-no_fault g c =
+    let k = g.D.Disk in
+    subst (λ s. k.faults c.append.new.disk ≡ k.faults s.disk) c.self.view_is c.in-Ok.ensures.no_fault
