@@ -4,6 +4,8 @@
 #[cfg(test)]
 mod disks;
 #[cfg(test)]
+mod keeping;
+#[cfg(test)]
 mod opening;
 #[cfg(test)]
 mod payloads;

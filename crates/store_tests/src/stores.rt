@@ -1,10 +1,10 @@
 // A store over a disk in memory, and what its disk holds then.
-ghost use Rattle.std.specs.Prelude.{◌≡◌, ◌∷◌, [], true, false, IfSome, IsErrOf};
+ghost use Rattle.std.specs.Prelude.{◌≡◌, ◌≤◌, ◌^◌, ◌∷◌, [], true, false, IfSome, IsErrOf};
 ghost use Rattle.case_store.specs.Standing.{IsStore};
 ghost use Rattle.store_disk.specs.History.{MayLeave, content};
 
 use adept_io::{Bytes, Calls};
-use case_store::{Store, StoreFault, StoredReply};
+use case_store::{OpenRefusal, Store, StoreFault, StoredReply};
 use std::alloc::Global;
 use std::test::Fail;
 use store_disk::MemoryDisk;
@@ -37,6 +37,27 @@ fn store_breaks_where_its_disk_fails(rt: HostRuntime) -> Result<(), Fail> {
     Ok(())
 }
 
+// The record has nine bytes, five more, and the gate behind it is the 15th byte.
+#[test]
+fn full_store_takes_no_call(rt: HostRuntime) -> Result<(), Fail> {
+    let full = asked_within(rt.alloc(), 14).ok_or("a call is answered")?;
+    assert!(rt; matches!(full, Err(StoreFault::Full)));
+    let taken = asked_within(rt.alloc(), 15).ok_or("a call is answered")?;
+    assert!(rt; matches!(taken, Ok(true)));
+    Ok(())
+}
+
+// A record whose list has no fewer items than can be told, of which none stands there.
+#[test]
+fn list_longer_than_its_bytes_is_damage(rt: HostRuntime) -> Result<(), Fail> {
+    let image = [
+        1, 0, 0, 0, 13, 2, 0, 0, 0, 0, 0, 0, 0, 0, 255, 255, 255, 255, 0,
+    ];
+    let place = damage(rt.alloc(), &image).ok_or("the image is damaged")?;
+    assert_eq!(rt; place, 0);
+    Ok(())
+}
+
 // A disk without bytes.
 fn empty_disk(alloc: Global, fails: Calls) -> Option<MemoryDisk>
     ensures { IfSome result (λ disk. content disk.first disk.past ≡ []) }
@@ -56,6 +77,31 @@ fn begun(alloc: Global, fails: Calls) -> Option<Store<MemoryDisk>>
     ensures { IfSome result (λ store. IsStore (λ d. content d.first d.past) (λ d. MayLeave d.first d.past) (1 ∷ []) store []) }
 {
     opened(alloc, empty_disk(alloc, fails)?)
+}
+
+// The same in an image of at most so many bytes, with a store that was just begun.
+fn asked_within(alloc: Global, limit: u64) -> Option<Result<bool, StoreFault>>
+    requires { limit ≤ 2 ^ 30 }
+{
+    let mut store = begun(alloc, Calls::new(alloc))?;
+    let event = Stored::Newest(0);
+    if !store.has(&event) {
+        return None;
+    }
+    match store.step_within(alloc, 0, &event, limit) {
+        Ok(reply) => Some(Ok(is_no_type(&reply))),
+        Err(fault) => Some(Err(fault)),
+    }
+}
+
+// Where an image is damaged.
+fn damage(alloc: Global, image: &[u8]) -> Option<u64> {
+    let bytes = Bytes::from_vec(image.to_vec(alloc).ok()?);
+    let disk = MemoryDisk::new(alloc, bytes, 100, 100, Calls::new(alloc)).ok()?;
+    match Store::open(alloc, disk, &[1]) {
+        Err(OpenRefusal::Damaged(_, place)) => Some(place),
+        _ => None,
+    }
 }
 
 // The program asks the type 0 for its newest version, where the store has the type: whether there is none.
