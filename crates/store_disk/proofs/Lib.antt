@@ -1,3 +1,4 @@
+mod Entries
 mod ExamplesDisks
 mod ExamplesImages
 pub mod Framing
