@@ -21,6 +21,7 @@ status_of unkept.Words = 2
 status_of unkept.Unread = 3
 status_of unkept.NoMemory = 5
 status_of unkept.TooLong = 6
+status_of unkept.NotAStore = 9
 status_of unkept.Held = 10
 status_of unkept.NoStore = 11
 status_of (unkept.Keep why) = keep_status why

@@ -24,6 +24,8 @@ pub enum Unkept {
     NoStore,
     /// Somebody else holds the store's lock.
     Held,
+    /// The file at the store's path holds bytes that are no store's.
+    NotAStore,
     /// The file's calls were not all stored, or its report was not written.
     Keep(KeepFault),
 }
@@ -39,6 +41,7 @@ impl Unkept {
             Unkept::Unread => 3,
             Unkept::NoMemory => 5,
             Unkept::TooLong => 6,
+            Unkept::NotAStore => 9,
             Unkept::Held => 10,
             Unkept::NoStore => 11,
             Unkept::Keep(fault) => keep_status(*fault),
@@ -97,8 +100,10 @@ impl From<OpenFault> for Unkept {
     fn from(fault: OpenFault) -> Unkept {
         match fault {
             OpenFault::Held => Unkept::Held,
-            OpenFault::Failed => Unkept::NoStore,
+            OpenFault::NotAStore => Unkept::NotAStore,
+            OpenFault::TooLong => Unkept::Keep(KeepFault::TooLong),
             OpenFault::NoMemory => Unkept::NoMemory,
+            OpenFault::Failed(_) => Unkept::NoStore,
         }
     }
 }

@@ -2,71 +2,65 @@
 //! to standard output. What the store holds already of the file's calls is not done again.
 #![tactic(auto)]
 
-mod opening;
+mod store_path;
 
 use adept_io::{StdSink, StdSource};
 use case_keep::{Unkept, keep_file, read_process};
 use file_model::Refused;
-use opening::open;
 use standard_streams::hold_streams;
-use std::io::{self, ErrorKind};
 use std::process::ExitCode;
-use std::{env, str};
+use std::{io, str};
+use store_disk::FileDisk;
 use store_keep::KeepFault;
+use store_path::{Store, open, word};
 
 fn main(rt: HostRuntime) -> ExitCode {
-    match work(&rt) {
+    let mut store = Store::unnamed(rt.alloc());
+    match work(&rt, &mut store) {
         Ok(()) => ExitCode::SUCCESS,
         Err(why) => {
             // The status tells all; where nothing can be said beside it, it stays the same.
-            let _ = tell(&rt, &why);
+            let _ = tell(&rt, &why, &store);
             ExitCode::from(why.status())
         }
     }
 }
 
 // The whole work: the file is read before the store is touched, and nothing is written before the store has all calls.
-fn work(rt: &HostRuntime) -> Result<(), Unkept> {
+fn work(rt: &HostRuntime, store: &mut Store) -> Result<(), Unkept> {
     if hold_streams(rt).is_err() {
         return Err(Unkept::Unread);
     }
-    let path = word(rt)?;
+    store.path = word(rt.alloc())?;
     let file = read_process(rt.alloc(), &mut StdSource::new(rt.stdin()))?;
-    let mut disk = open(rt, path.as_str())?;
-    keep_file(rt.alloc(), &file, &mut StdSink::new(rt.stdout()), &mut disk)?;
-    Ok(())
-}
-
-// The one word behind the program's name.
-fn word(rt: &HostRuntime) -> Result<String, Unkept> {
-    match words(rt) {
-        Ok(mut words) if words.len() == 1 => words.pop().ok_or(Unkept::Words),
-        Ok(_) => Err(Unkept::Words),
-        Err(error) if error.kind() == ErrorKind::OutOfMemory => Err(Unkept::NoMemory),
-        Err(_) => Err(Unkept::Words),
+    let mut disk = open(rt, store)?;
+    match keep_file(rt.alloc(), &file, &mut StdSink::new(rt.stdout()), &mut disk) {
+        Ok(()) => Ok(()),
+        Err(fault) => Err(unkept(fault, &disk, store)),
     }
 }
 
-// The words behind the program's name.
-fn words(rt: &HostRuntime) -> io::Result<Vec<String>> {
-    let mut words = Vec::new(rt.alloc());
-    for word in env::args(rt)?.skip(1) {
-        words.push(word)?;
+// Why the calls were not kept. A disk that finds no memory for what it is to hold fails too.
+fn unkept(fault: KeepFault, disk: &FileDisk, store: &mut Store) -> Unkept {
+    store.reason = disk.reason();
+    match fault {
+        KeepFault::Disk if store.reason == libc::ENOMEM => Unkept::NoMemory,
+        fault => Unkept::from(fault),
     }
-    Ok(words)
 }
 
 // Says on standard error why the work ended early.
-fn tell(rt: &HostRuntime, why: &Unkept) -> io::Result<()> {
+fn tell(rt: &HostRuntime, why: &Unkept, store: &Store) -> io::Result<()> {
     match why {
         Unkept::Refused(place) => tell_place(rt, place),
         Unkept::Words => eprintln!(rt; "usage: keep STORE"),
         Unkept::Unread => eprintln!(rt; "keep: cannot read"),
         Unkept::TooLong => eprintln!(rt; "keep: input too long"),
         Unkept::NoMemory => eprintln!(rt; "keep: out of memory"),
-        Unkept::NoStore => eprintln!(rt; "keep: cannot open the store"),
-        Unkept::Held => eprintln!(rt; "keep: the store is in use"),
-        Unkept::Keep(fault) => tell_fault(rt, *fault),
+        Unkept::NoStore => store.tell(rt, "cannot open the store"),
+        Unkept::Held => store.tell(rt, "the store is in use"),
+        Unkept::NotAStore => eprintln!(rt; "keep: not a store"),
+        Unkept::Keep(fault) => tell_fault(rt, *fault, store),
     }
 }
 
@@ -76,12 +70,12 @@ fn tell_place(rt: &HostRuntime, place: &Refused) -> io::Result<()> {
     eprintln!(rt; "keep: line {line}: {text}")
 }
 
-fn tell_fault(rt: &HostRuntime, fault: KeepFault) -> io::Result<()> {
+fn tell_fault(rt: &HostRuntime, fault: KeepFault, store: &Store) -> io::Result<()> {
     match fault {
         KeepFault::Unwritten => eprintln!(rt; "keep: cannot write"),
         KeepFault::NoMemory => eprintln!(rt; "keep: out of memory"),
-        KeepFault::Disk => eprintln!(rt; "keep: the store failed; run the same command again"),
-        KeepFault::Full => eprintln!(rt; "keep: the store is full"),
+        KeepFault::Disk => store.tell(rt, "the store failed; run the same command again"),
+        KeepFault::Full => store.tell(rt, "the store is full"),
         KeepFault::TooLong => eprintln!(rt; "keep: the store is not of this file: too long"),
         KeepFault::Damaged(place) => {
             eprintln!(rt; "keep: the store is not of this file: damaged {place}")
