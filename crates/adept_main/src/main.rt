@@ -11,7 +11,7 @@ use std::{env, mem, str};
 use turn_cell::OpenGate;
 
 fn main(rt: HostRuntime) -> ExitCode {
-    let outcome = match begun(&rt) {
+    let outcome = match asked(&rt) {
         Ok(words) => {
             let mut source = StdSource::new(rt.stdin());
             let mut sink = StdSink::new(rt.stdout());
@@ -27,8 +27,8 @@ fn main(rt: HostRuntime) -> ExitCode {
     status
 }
 
-// The words, once the standard streams have their numbers; else the status with which the program ends.
-fn begun(rt: &HostRuntime) -> Result<Vec<String>, u8> {
+// The words, once each standard stream is one; or the status with which the program ends at once.
+fn asked(rt: &HostRuntime) -> Result<Vec<String>, u8> {
     if hold_streams(rt).is_err() {
         return Err(3);
     }

@@ -4,6 +4,7 @@ use adept_io::{
     put_integer, put_line, put_number, put_pieces, read_to_limit, write_all, write_gathered,
 };
 use std::test::Fail;
+use text_follower::GrowingSink;
 
 #[test]
 fn lists_grow(rt: HostRuntime) -> Result<(), Fail> {
@@ -93,5 +94,17 @@ fn more_is_gathered_than_is_held_at_once(rt: HostRuntime) -> Result<(), Fail> {
     };
     assert!(rt; write_gathered(&mut sink, &text).is_ok());
     assert_eq!(rt; sink.bytes(), bytes.as_slice());
+    Ok(())
+}
+
+// The marking of some 1,000 nodes with long names is a line of so many bytes.
+#[test]
+fn growing_sink_takes_a_long_line(rt: HostRuntime) -> Result<(), Fail> {
+    let piece = vec![in rt.alloc(); b'x'; 1_000]?;
+    let mut sink = GrowingSink::new(rt.alloc());
+    for _ in 0..70 {
+        assert!(rt; write_all(&mut sink, piece.as_slice()).is_ok());
+    }
+    assert_eq!(rt; sink.as_slice().len(), 70_000);
     Ok(())
 }
