@@ -15,6 +15,7 @@ What must hold in any legal run:
 The machine is `PROGRAM play` on a file in which one actor after the other does what the journal says, on this cell alone.
 """
 import collections
+import os
 import re
 import subprocess
 import sys
@@ -319,7 +320,13 @@ def main(file, report, *program):
     return 1 if why else 0
 
 
+def judge_of(words):
+    if len(words) < 3:
+        commands.usage(__doc__)
+    sys.exit(main(*words))
+
+
 if __name__ == "__main__":
-    if len(sys.argv) < 4:
-        sys.exit(__doc__.split("\n", 1)[0])
-    sys.exit(main(*sys.argv[1:]))
+    sys.path.insert(0, os.path.join(os.path.dirname(os.path.dirname(os.path.realpath(__file__))), "tools"))
+    import commands
+    commands.run(judge_of, __doc__)

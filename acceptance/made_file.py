@@ -1,6 +1,11 @@
 #!/usr/bin/env python3
 """acceptance/made_file.py N: prints the process file that `adept load N` makes, as docs/FILE_FORMAT.md says."""
+import os
 import sys
+
+sys.dont_write_bytecode = True
+sys.path.insert(0, os.path.join(os.path.dirname(os.path.dirname(os.path.realpath(__file__))), "tools"))
+import commands
 
 HEAD = """adept 1
 type order
@@ -83,4 +88,10 @@ def made(count):
         yield from lines(case, LAST.get(case % 10, ""))
 
 
-sys.stdout.writelines(made(int(sys.argv[1])))
+def main(words):
+    if len(words) != 1 or not words[0].isdigit():
+        commands.usage(__doc__)
+    sys.stdout.writelines(made(int(words[0])))
+
+
+commands.run(main, __doc__)
