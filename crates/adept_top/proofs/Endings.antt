@@ -43,7 +43,7 @@ worked-exact (Some b) f n read s =
     ]
 
 pub worked_ends : {S K : Type 0} (left : S → Option (List ℕ)) (read_faults : S → ℕ) (written : K → Option (List ℕ)) (write_faults : K → ℕ) (c : Command) (from to : S) (f : File) (old new : K) (o : Outcome)
-    → IsInputOf left (load_size c) from to f → Works written write_faults c f old new o → Ends left read_faults written write_faults c from to old new o
+    → IsInputOf left read_faults (load_size c) from to f → Works written write_faults c f old new o → Ends left read_faults written write_faults c from to old new o
 worked_ends left read_faults written write_faults c from to f old new o got work = record {
   statuses = worked-status o.status work.statuses;
   done = λ zero. of-input (input (load_size c) (left from)) f _ got.file (work.done zero);
@@ -52,7 +52,9 @@ worked_ends left read_faults written write_faults c from to f old new o got work
   refused = λ one. absurd (not_worked o.status 1 work.statuses (inl refl) one);
   whole = λ _. got.whole;
   unread = λ three. absurd (not_worked o.status 3 work.statuses (inr (inl refl)) three);
+  steady = λ _. got.steady;
   too_long = λ six. absurd (not_worked o.status 6 work.statuses (inr (inr refl)) six);
+  within = λ _. got.within;
   made = got.made;
   untouched = work.untouched;
   no_run = work.no_run;
@@ -94,7 +96,9 @@ unworked_ends left read_faults written write_faults c from to sink o end = recor
   refused = λ one. (end.refused one).0;
   whole = unworked-whole o.status _ end.statuses (λ one. (end.refused one).1);
   unread = end.unread;
+  steady = end.steady;
   too_long = end.too_long;
+  within = end.within;
   made = end.made;
   untouched = λ _ _. refl;
   no_run = λ _ _. end.no_run;

@@ -2,7 +2,7 @@
 use Rattle.std.specs.Prelude.{ℕ, ◌≡◌, ◌≢◌, ◌≤◌, ◌+◌, ◌⊎◌, List, length, Option, Some, None, IsTrue, IfSome, IfNone, OnSome, IsOkAnd, IsErrAnd, Ok}
 use Rattle.std.specs.Io.KnownBytes.{Appends, IsAtEnd}
 use Rattle.adept_io.specs.Counts.{Rose}
-use Rattle.adept_io.specs.Read.{ConsumesMany}
+use Rattle.adept_io.specs.Read.{ConsumesMany, ConsumesUpTo}
 use Rattle.adept_io.specs.Written.{AppendsPrefix}
 use Rattle.adept_top.specs.Commands.{IsRunOf, load_size, input, output}
 use Rattle.adept_top.specs.Statuses.{is_end_status, status_of}
@@ -21,11 +21,13 @@ OfFile bytes P = IfSome bytes (λ b. (length b ≤ MAX_FILE_BYTES) × IsOkAnd (f
 abbrev pub IsRefused : Option (List ℕ) → Option Refused → Type 0
 IsRefused bytes place = IfSome bytes (λ b. (length b ≤ MAX_FILE_BYTES) × IsErrAnd (file b) (λ refusal. place ≡ Some refusal))
 
--- The file that a command works: its input stands for it, and was read to its end; a command that makes its file
--- leaves the source as it was.
-pub record IsInputOf {S : Type 0} (left : S → Option (List ℕ)) (cases : Option ℕ) (from to : S) (f : File) : Type 0 where
+-- The file that a command works: its input stands for it, and was read to its end, where no read failed; a command that
+-- makes its file leaves the source as it was.
+pub record IsInputOf {S : Type 0} (left : S → Option (List ℕ)) (faults : S → ℕ) (cases : Option ℕ) (from to : S) (f : File) : Type 0 where
   pub file : IfSome (input cases (left from)) (λ b. (length b ≤ MAX_FILE_BYTES) × (file b ≡ Ok f))
   pub whole : IfNone cases (IsAtEnd (left to))
+  pub within : ConsumesUpTo (left from) (left to) MAX_FILE_BYTES
+  pub steady : faults to ≡ faults from
   pub made : OnSome cases (to ≡ from)
 
 -- A command ends without a file to work: its input is refused (1), is not read (3) or is too long (6), or there is not
@@ -34,7 +36,9 @@ pub record EndsUnworked {S : Type 0} (left : S → Option (List ℕ)) (faults : 
   pub statuses : (o.status ≡ 1) ⊎ (o.status ≡ 3) ⊎ (o.status ≡ 5) ⊎ (o.status ≡ 6)
   pub refused : o.status ≡ 1 → IsRefused (input cases (left from)) o.place × IfNone cases (IsAtEnd (left to))
   pub unread : o.status ≡ 3 → Rose (faults from) (faults to)
+  pub steady : o.status ≢ 3 → faults to ≡ faults from
   pub too_long : o.status ≡ 6 → ConsumesMany (left from) (left to) (MAX_FILE_BYTES + 1)
+  pub within : o.status ≢ 6 → ConsumesUpTo (left from) (left to) MAX_FILE_BYTES
   pub made : OnSome cases (to ≡ from)
   pub no_run : o.run ≡ None
   pub no_place : o.status ≢ 1 → o.place ≡ None
@@ -52,9 +56,11 @@ pub record Ends {S K : Type 0} (left : S → Option (List ℕ)) (read_faults : S
   pub refused : o.status ≡ 1 → IsRefused (input (load_size c) (left from)) o.place
   -- at each of these the source was read to its end
   pub whole : (o.status ≡ 0) ⊎ (o.status ≡ 1) ⊎ (o.status ≡ 4) → IfNone (load_size c) (IsAtEnd (left to))
-  -- 3: a read failed; 6: there was one byte too many
+  -- 3: a read failed, and at no other end one did; 6: there was one byte too many, and at no other end so many were read
   pub unread : o.status ≡ 3 → Rose (read_faults from) (read_faults to)
+  pub steady : o.status ≢ 3 → read_faults to ≡ read_faults from
   pub too_long : o.status ≡ 6 → ConsumesMany (left from) (left to) (MAX_FILE_BYTES + 1)
+  pub within : o.status ≢ 6 → ConsumesUpTo (left from) (left to) MAX_FILE_BYTES
   -- a command that makes its file leaves the source as it was; no other end than 0 and 4 touches the sink or has a run
   pub made : OnSome (load_size c) (to ≡ from)
   pub untouched : o.status ≢ 0 → o.status ≢ 4 → new ≡ old

@@ -1,7 +1,8 @@
 // How a run of the program ends.
 ghost use Rattle.std.specs.Prelude.{◌≡◌, None, Some};
 
-use process_text::Refused;
+use adept_io::ReadRefusal;
+use process_text::{FileRefusal, Refused};
 use report_text::Run;
 
 /// How a run of the program ends.
@@ -36,6 +37,39 @@ impl Outcome {
             status,
             run: Some(run),
             place: None,
+        }
+    }
+}
+
+impl From<ReadRefusal> for Outcome {
+    ghost use Rattle.std.specs.Prelude.{◌≡◌};
+    ghost use Rattle.adept_top.specs.Statuses.{of_read};
+
+    ghost from_gives = { λ refusal end. end ≡ of_read refusal };
+
+    fn from(refusal: ReadRefusal) -> Outcome {
+        match refusal {
+            ReadRefusal::Failed => Outcome::of_status(3),
+            ReadRefusal::NoMemory => Outcome::of_status(5),
+            ReadRefusal::TooLong => Outcome::of_status(6),
+        }
+    }
+}
+
+impl From<FileRefusal> for Outcome {
+    ghost use Rattle.std.specs.Prelude.{◌≡◌};
+    ghost use Rattle.adept_top.specs.Statuses.{of_file};
+
+    ghost from_gives = { λ refusal end. end ≡ of_file refusal };
+
+    fn from(refusal: FileRefusal) -> Outcome {
+        match refusal {
+            FileRefusal::Refused(place) => Outcome {
+                status: 1,
+                run: None,
+                place: Some(place),
+            },
+            FileRefusal::NoMemory => Outcome::of_status(5),
         }
     }
 }

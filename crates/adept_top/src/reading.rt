@@ -8,31 +8,27 @@ ghost use Rattle.file_model.specs.Reading.{file};
 ghost use Rattle.file_model.specs.Sizes.{IsBounded};
 
 use crate::outcomes::Outcome;
-use adept_io::{ReadRefusal, Source, read_to_limit};
+use adept_io::{Source, read_to_limit};
 use adept_load::load_file;
 use file_limits::{MAX_CASES, MAX_FILE_BYTES};
-use process_text::{File, FileRefusal, read_workable};
+use process_text::{File, read_workable};
 use std::alloc::Global;
 
 /// Reads the source to its end: the process file that its bytes stand for, or how the program ends without one.
 pub fn read_process<S: Source>(alloc: Global, source: &mut S) -> Result<File, Outcome>
-    ensures input { IfOk result (λ read. IsInputOf S.left None source.old source.new read) }
+    ensures input { IfOk result (λ read. IsInputOf S.left S.faults None source.old source.new read) }
     ensures bounded { IfOk result (λ read. IsBounded read) }
     ensures workable { IfOk result (λ read. IsWorkable read) }
     ensures err { IfErr result (λ end. EndsUnworked S.left S.faults None source.old source.new end) }
 {
-    match read_to_limit(alloc, source, MAX_FILE_BYTES) {
-        Ok(bytes) => file_of(alloc, bytes.as_slice()),
-        Err(ReadRefusal::Failed) => Err(Outcome::of_status(3)),
-        Err(ReadRefusal::NoMemory) => Err(Outcome::of_status(5)),
-        Err(ReadRefusal::TooLong) => Err(Outcome::of_status(6)),
-    }
+    let bytes = read_to_limit(alloc, source, MAX_FILE_BYTES)?;
+    file_of(alloc, bytes.as_slice())
 }
 
 /// The process file that is made for so many cases, or how the program ends without one. The source is left as it is.
 pub fn made_process<S: Source>(alloc: Global, cases: u32, source: &mut S) -> Result<File, Outcome>
     requires { (1 ≤ cases) × (cases ≤ MAX_CASES) }
-    ensures input { IfOk result (λ made. IsInputOf S.left (Some cases) source.old source.new made) }
+    ensures input { IfOk result (λ made. IsInputOf S.left S.faults (Some cases) source.old source.new made) }
     ensures workable { IfOk result (λ made. IsWorkable made) }
     ensures err { IfErr result (λ end. EndsUnworked S.left S.faults (Some cases) source.old source.new end) }
 {
@@ -55,13 +51,6 @@ fn file_of(alloc: Global, bytes: &[u8]) -> Result<File, Outcome>
     ensures no_place { IfErr result (λ end. end.status ≢ 1 → end.place ≡ None) }
     ensures exact { IfErr result (λ end. (end.status ≡ status_of bytes.now) ⊎ (end.status ≡ 5)) }
 {
-    match read_workable(alloc, bytes) {
-        Ok(file) => Ok(file),
-        Err(FileRefusal::Refused(place)) => Err(Outcome {
-            status: 1,
-            run: None,
-            place: Some(place),
-        }),
-        Err(FileRefusal::NoMemory) => Err(Outcome::of_status(5)),
-    }
+    let file = read_workable(alloc, bytes)?;
+    Ok(file)
 }

@@ -4,9 +4,9 @@ use Rattle.std.proofs.lemmas.Bool.{le-ltb, lt-ltb}
 use Rattle.std.specs.Io.KnownBytes.{Appends, Consumes, IsAtEnd}
 use Rattle.std.specs.Prelude.{nat_lt}
 use Rattle.adept_io.specs.Counts.{Rose}
-use Rattle.adept_io.specs.Read.{ConsumesMany}
+use Rattle.adept_io.specs.Read.{ConsumesMany, ConsumesUpTo}
 use Rattle.adept_io.specs.Written.{AppendsPrefix}
-use Rattle.case_audit.specs.Endings.{EndsAudit, EndsJudged, EndsRead, EndsTold, IsRefused, Judged, is_end_status}
+use Rattle.case_audit.specs.Endings.{EndsAudit, EndsJudged, EndsRead, EndsTold, IsRefused, Judged, is_end_status, of_file}
 use Rattle.case_audit.specs.Endings.EndsJudged.{judged as was_judged, unjudged as was_unjudged}
 use Rattle.case_audit.specs.Endings.EndsRead.{long as was_long, refused as was_refused, unread as was_unread, read as was_read}
 use Rattle.case_audit.specs.Endings.EndsTold.{told as was_told, untold as was_untold}
@@ -14,8 +14,11 @@ use Rattle.case_audit.specs.Parts.{file_part, is_too_long, most_bytes, most_in_f
 use Rattle.case_audit.specs.Verdicts.{IsVerdict, verdict_status, verdict_text}
 use Rattle.case_audit.specs.declared.reports.Verdict.{Verdict}
 use Rattle.case_audit.specs.declared.reports.Verdict.TheVariants as verdict
+use Rattle.file_model.specs.Outcomes.{Tells}
 use Rattle.file_model.specs.Reading.{file}
 use Rattle.file_model.specs.declared.files.File.{File}
+use Rattle.file_model.specs.declared.refusals.FileRefusal.{FileRefusal}
+use Rattle.file_model.specs.declared.refusals.FileRefusal.TheVariants as refusal
 use Rattle.file_model.specs.declared.refusals.Refused.{Refused}
 
 -- ---- what was read is what the source had left
@@ -65,6 +68,12 @@ is-end (verdict.Wrong line) n is = rw is refl
 no-error : (bytes : List ℕ) (f : File) → file bytes ≡ Ok f → IsErr (file bytes) → ⊥
 no-error bytes f is bad = let never : IsErr {E = Refused} (Ok f) = subst IsErr is bad in absurd (cc (never))
 
+-- a file that is refused ends so, and want of memory otherwise
+pub refused-how : {K : Type 0} (written : K → Option (List ℕ)) (faults : K → ℕ) (bytes : List ℕ) (why : FileRefusal) (sink : K) → is_too_long bytes ≡ false → Tells (file (file_part bytes)) why
+    → EndsRead written faults bytes sink sink (of_file why)
+refused-how written faults bytes (refusal.Refused place) sink short tells = was_refused short (rw tells refl) refl refl
+refused-how written faults bytes refusal.NoMemory sink short tells = was_unread short refl refl
+
 module _ {S K : Type 0} (left : S → Option (List ℕ)) (read_faults : S → ℕ) (written : K → Option (List ℕ)) (write_faults : K → ℕ) (from to : S) (old new : K) (status : ℕ) where
   abbrev Ends : Type 0
   Ends = EndsAudit left read_faults written write_faults from to old new status
@@ -72,7 +81,15 @@ module _ {S K : Type 0} (left : S → Option (List ℕ)) (read_faults : S → �
   abbrev WasRead : List ℕ → Type 0
   WasRead bytes = IfSome (left from) (λ xs. xs ≡ bytes)
 
-  module _ (bytes : List ℕ) (same : WasRead bytes) (end : IsAtEnd (left to)) where
+  -- no more was taken than there may be
+  abbrev Few : Type 0
+  Few = ConsumesUpTo (left from) (left to) most_bytes
+
+  -- no read failed
+  abbrev Calm : Type 0
+  Calm = read_faults to ≡ read_faults from
+
+  module _ (bytes : List ℕ) (same : WasRead bytes) (end : IsAtEnd (left to)) (few : Few) (calm : Calm) where
     module _ (f : File) (v : Verdict) (short : is_too_long bytes ≡ false) (is : file (file_part bytes) ≡ Ok f) (right : IsVerdict f (report_part bytes) v) where
       judged-of : Judged (left from) v
       judged-of = on-known (left from) bytes (λ b. (is_too_long b ≡ false) × ((g : File) × (file (file_part b) ≡ Ok g) × IsVerdict g (report_part b) v)) same (short, (f, is, right))
@@ -93,6 +110,8 @@ module _ {S K : Type 0} (left : S → Option (List ℕ)) (read_faults : S → �
         unread = λ three. absurd (no-other v status 3 at three (λ e. omega (arith, e)) (λ e. omega (arith, e)));
         too_long = λ six. absurd (no-other v status 6 at six (λ e. omega (arith, e)) (λ e. omega (arith, e)));
         whole = λ s. end;
+        steady = λ _. calm;
+        within = λ _. few;
         untouched = λ zero four seven. absurd (either (two-ends v status at) zero seven);
         exactly_too_long = not-long;
         exactly_refused = not-refused;
@@ -108,6 +127,8 @@ module _ {S K : Type 0} (left : S → Option (List ℕ)) (read_faults : S → �
         unread = λ e. absurd (omega (arith, at, e));
         too_long = λ e. absurd (omega (arith, at, e));
         whole = λ s. end;
+        steady = λ _. calm;
+        within = λ _. few;
         untouched = λ zero four seven. absurd (four at);
         exactly_too_long = not-long;
         exactly_refused = not-refused;
@@ -123,6 +144,8 @@ module _ {S K : Type 0} (left : S → Option (List ℕ)) (read_faults : S → �
       unread = λ e. absurd (omega (arith, at, e));
       too_long = λ six. on-known (left from) bytes (λ b. is_too_long b ≡ true) same long;
       whole = λ s. end;
+      steady = λ _. calm;
+      within = λ _. few;
       untouched = λ zero four seven. still;
       exactly_too_long = always (left from) _ (λ b _. inl at);
       exactly_refused = on-known (left from) bytes (λ b. is_too_long b ≡ false → IsErr (file (file_part b)) → (status ≡ 1) ⊎ (status ≡ 5) ⊎ (status ≡ 3)) same (λ short _. absurd (cc (long, short)));
@@ -138,14 +161,16 @@ module _ {S K : Type 0} (left : S → Option (List ℕ)) (read_faults : S → �
       unread = λ e. absurd (omega (arith, at, e));
       too_long = λ e. absurd (omega (arith, at, e));
       whole = λ s. end;
+      steady = λ _. calm;
+      within = λ _. few;
       untouched = λ zero four seven. still;
       exactly_too_long = on-known (left from) bytes (λ b. is_too_long b ≡ true → (status ≡ 6) ⊎ (status ≡ 5) ⊎ (status ≡ 3)) same (λ long. absurd (cc (long, short)));
       exactly_refused = always (left from) _ (λ b _ _. inl at);
     }
 
   -- there was not enough memory
-  pub memory-ends : status ≡ 5 → new ≡ old → Ends
-  memory-ends at still = record {
+  pub memory-ends : status ≡ 5 → Few → Calm → new ≡ old → Ends
+  memory-ends at few calm still = record {
     statuses = rw at refl;
     told = λ s. absurd (either s (λ e. omega (arith, at, e)) (λ e. omega (arith, at, e)));
     begun = λ e. absurd (omega (arith, at, e));
@@ -154,14 +179,16 @@ module _ {S K : Type 0} (left : S → Option (List ℕ)) (read_faults : S → �
     unread = λ e. absurd (omega (arith, at, e));
     too_long = λ e. absurd (omega (arith, at, e));
     whole = λ s. absurd (either s (λ e. omega (arith, at, e)) (λ r. either r (λ e. omega (arith, at, e)) (λ q. either q (λ e. omega (arith, at, e)) (λ e. omega (arith, at, e)))));
+    steady = λ _. calm;
+    within = λ _. few;
     untouched = λ zero four seven. still;
     exactly_too_long = always (left from) _ (λ b _. inr (inl at));
     exactly_refused = always (left from) _ (λ b _ _. inr (inl at));
   }
 
   -- a read failed
-  pub unread-ends : status ≡ 3 → Rose (read_faults from) (read_faults to) → new ≡ old → Ends
-  unread-ends at rose still = record {
+  pub unread-ends : status ≡ 3 → Few → Rose (read_faults from) (read_faults to) → new ≡ old → Ends
+  unread-ends at few rose still = record {
     statuses = rw at refl;
     told = λ s. absurd (either s (λ e. omega (arith, at, e)) (λ e. omega (arith, at, e)));
     begun = λ e. absurd (omega (arith, at, e));
@@ -170,14 +197,16 @@ module _ {S K : Type 0} (left : S → Option (List ℕ)) (read_faults : S → �
     unread = λ three. rose;
     too_long = λ e. absurd (omega (arith, at, e));
     whole = λ s. absurd (either s (λ e. omega (arith, at, e)) (λ r. either r (λ e. omega (arith, at, e)) (λ q. either q (λ e. omega (arith, at, e)) (λ e. omega (arith, at, e)))));
+    steady = λ other. absurd (other at);
+    within = λ _. few;
     untouched = λ zero four seven. still;
     exactly_too_long = always (left from) _ (λ b _. inr (inr at));
     exactly_refused = always (left from) _ (λ b _ _. inr (inr at));
   }
 
   -- more bytes came than there may be
-  pub overlong-ends : status ≡ 6 → ConsumesMany (left from) (left to) (most_bytes + 1) → new ≡ old → Ends
-  overlong-ends at (bytes, taken, many) still =
+  pub overlong-ends : status ≡ 6 → ConsumesMany (left from) (left to) (most_bytes + 1) → Calm → new ≡ old → Ends
+  overlong-ends at (bytes, taken, many) calm still =
       let long = too-many (left from) (left to) bytes taken many in
       record {
         statuses = rw at refl;
@@ -188,6 +217,8 @@ module _ {S K : Type 0} (left : S → Option (List ℕ)) (read_faults : S → �
         unread = λ e. absurd (omega (arith, at, e));
         too_long = λ six. long;
         whole = λ s. absurd (either s (λ e. omega (arith, at, e)) (λ r. either r (λ e. omega (arith, at, e)) (λ q. either q (λ e. omega (arith, at, e)) (λ e. omega (arith, at, e)))));
+        steady = λ _. calm;
+        within = λ other. absurd (other at);
         untouched = λ zero four seven. still;
         exactly_too_long = always (left from) _ (λ b _. inl at);
         exactly_refused = both-never (left from) long;
@@ -198,13 +229,16 @@ module _ {S K : Type 0} (left : S → Option (List ℕ)) (read_faults : S → �
       both-never (Some xs) long = λ short bad. absurd (cc (long, short))
 
   -- all bytes came
-  pub read-ends : (bytes : List ℕ) → Consumes (left from) (left to) bytes → IsAtEnd (left to) → EndsRead written write_faults bytes old new status → Ends
-  read-ends bytes taken end how = by how (known (left from) (left to) bytes taken end)
+  pub read-ends : (bytes : List ℕ) → Consumes (left from) (left to) bytes → IsAtEnd (left to) → length bytes ≤ most_bytes → Calm → EndsRead written write_faults bytes old new status → Ends
+  read-ends bytes taken end within calm how = by how (known (left from) (left to) bytes taken end)
     where
+      few : Few
+      few = (bytes, taken, within)
+
       by : EndsRead written write_faults bytes old new status → WasRead bytes → Ends
-      by (was_long past at still) same = long-ends bytes same end past at still
-      by (was_refused short bad at still) same = refused-ends bytes same end short bad at still
-      by (was_unread short at still) same = memory-ends at still
-      by (was_read f short is (was_unjudged at still)) same = memory-ends at still
-      by (was_read f short is (was_judged v right (was_told at wrote))) same = told-ends bytes same end f v short is right at wrote
-      by (was_read f short is (was_judged v right (was_untold at wrote rose))) same = untold-ends bytes same end f v short is right at wrote rose
+      by (was_long past at still) same = long-ends bytes same end few calm past at still
+      by (was_refused short bad at still) same = refused-ends bytes same end few calm short bad at still
+      by (was_unread short at still) same = memory-ends at few calm still
+      by (was_read f short is (was_unjudged at still)) same = memory-ends at few calm still
+      by (was_read f short is (was_judged v right (was_told at wrote))) same = told-ends bytes same end few calm f v short is right at wrote
+      by (was_read f short is (was_judged v right (was_untold at wrote rose))) same = untold-ends bytes same end few calm f v short is right at wrote rose

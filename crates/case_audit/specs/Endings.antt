@@ -2,16 +2,24 @@
 use Rattle.std.specs.Prelude.{◌≡◌, ◌≢◌, ◌⊎◌, ℕ, Bool, true, false, ◌||◌, ◌==◌, List, Option, Ok, IsTrue, IfSome, IsErr}
 use Rattle.std.specs.Io.KnownBytes.{Appends, IsAtEnd}
 use Rattle.adept_io.specs.Counts.{Rose}
+use Rattle.adept_io.specs.Read.{ConsumesUpTo}
 use Rattle.adept_io.specs.Written.{AppendsPrefix}
 use Rattle.file_model.specs.Reading.{file}
 use Rattle.file_model.specs.declared.files.File.{File}
-use Rattle.case_audit.specs.Parts.{file_part, is_too_long, report_part}
+use Rattle.file_model.specs.declared.refusals.FileRefusal.{FileRefusal}
+use Rattle.file_model.specs.declared.refusals.FileRefusal.TheVariants as refusal
+use Rattle.case_audit.specs.Parts.{file_part, is_too_long, most_bytes, report_part}
 use Rattle.case_audit.specs.Verdicts.{IsVerdict, verdict_status, verdict_text}
 use Rattle.case_audit.specs.declared.reports.Verdict.{Verdict}
 
 -- the statuses with which it ends
 abbrev pub is_end_status : ℕ → Bool
 is_end_status n = n == 0 || n == 1 || n == 3 || n == 4 || n == 5 || n == 6 || n == 7
+
+-- the status of a process file that is refused
+abbrev pub of_file : FileRefusal → ℕ
+of_file (refusal.Refused place) = 1
+of_file refusal.NoMemory = 5
 
 -- The bytes, where they are known, are not too many, and are a process file and a report of which this is the verdict.
 abbrev pub Judged : Option (List ℕ) → Verdict → Type 0
@@ -28,10 +36,13 @@ pub record EndsAudit {S K : Type 0} (left : S → Option (List ℕ)) (read_fault
   -- 4: a write failed, and a beginning of what is said of the report was written
   pub begun : status ≡ 4 → (v : Verdict) × Judged (left from) v × AppendsPrefix (written old) (written new) (verdict_text v)
   pub unwritten : status ≡ 4 → Rose (write_faults old) (write_faults new)
-  -- 1: the file is refused; 3: a read failed; 6: the input, or a part of it, is too long
+  -- 1: the file is refused; 3: a read failed, and at no other end one did; 6: the input, or a part of it, is too long, and at
+  -- no other end more bytes were taken than there may be
   pub refused : status ≡ 1 → IsRefused (left from)
   pub unread : status ≡ 3 → Rose (read_faults from) (read_faults to)
+  pub steady : status ≢ 3 → read_faults to ≡ read_faults from
   pub too_long : status ≡ 6 → IfSome (left from) (λ b. is_too_long b ≡ true)
+  pub within : status ≢ 6 → ConsumesUpTo (left from) (left to) most_bytes
   -- at each of these the source was read to its end, and no other end touches the sink
   pub whole : (status ≡ 0) ⊎ (status ≡ 1) ⊎ (status ≡ 4) ⊎ (status ≡ 7) → IsAtEnd (left to)
   pub untouched : status ≢ 0 → status ≢ 4 → status ≢ 7 → new ≡ old

@@ -1,7 +1,7 @@
 // A process file with a report behind it, judged from bytes to bytes.
 ghost use Rattle.std.specs.Prelude.{◌≡◌, ◌≤◌, length, true};
 ghost use Rattle.adept_io.specs.Written.{Gives};
-ghost use Rattle.case_audit.specs.Endings.{EndsAudit, EndsJudged, EndsRead, EndsTold};
+ghost use Rattle.case_audit.specs.Endings.{EndsAudit, EndsJudged, EndsRead, EndsTold, of_file};
 ghost use Rattle.case_audit.specs.Parts.{most_bytes, most_in_report};
 ghost use Rattle.case_audit.specs.Verdicts.{IsRead, verdict_status, verdict_text};
 
@@ -39,6 +39,16 @@ pub fn audit_input<R: Threads + Sync, S: Source, K: Sink>(
     }
 }
 
+// The status of a process file that is refused.
+fn of_file(refusal: &FileRefusal) -> u8
+    ensures { result ≡ of_file refusal.now }
+{
+    match refusal {
+        FileRefusal::Refused(_) => 1,
+        FileRefusal::NoMemory => 5,
+    }
+}
+
 // Judges the report that stands behind the process file.
 fn audit_bytes<R: Threads + Sync, K: Sink>(rt: &R, alloc: Global, bytes: &[u8], sink: &mut K) -> u8
     requires { length bytes.now ≤ most_bytes }
@@ -50,8 +60,7 @@ fn audit_bytes<R: Threads + Sync, K: Sink>(rt: &R, alloc: Global, bytes: &[u8], 
     }
     match read_workable(alloc, file) {
         Ok(file) => audit_file(rt, alloc, &file, report, sink),
-        Err(FileRefusal::Refused(_)) => 1,
-        Err(FileRefusal::NoMemory) => 5,
+        Err(refusal) => of_file(&refusal),
     }
 }
 

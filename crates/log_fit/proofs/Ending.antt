@@ -5,7 +5,7 @@ use Rattle.std.specs.Io.KnownBytes.{Appends, IsAtEnd}
 use Rattle.std.proofs.lemmas.Bool.{cases_Bool, lt-ltb}
 use Rattle.std.proofs.lemmas.List.{length-append}
 use Rattle.adept_io.specs.Counts.{Rose}
-use Rattle.adept_io.specs.Read.{ConsumesMany}
+use Rattle.adept_io.specs.Read.{ConsumesMany, ConsumesUpTo}
 use Rattle.adept_io.specs.Written.{AppendsPrefix}
 use Rattle.file_words.specs.Lines.{Bytes}
 use Rattle.log_fit.specs.Answer.{answer, is_too_long, most_input, status_in}
@@ -51,7 +51,9 @@ unread_ends left read_faults written write_faults q from to sink status e = reco
   told = λ t. only_six status (λ n. IfSome (left from) (λ b. answer q b ≡ Err n)) e.statuses t long;
   whole = λ t. absurd (not_unread status e.statuses t);
   too_long = λ six. inr (e.too_long six);
+  within = e.within;
   unread = e.unread;
+  steady = e.steady;
   untouched = λ _ _. refl;
   exact = λ sure. follows (left from) e.statuses sure long;
 }
@@ -79,9 +81,9 @@ of_read None bytes P is p = tt
 of_read (Some b) bytes P is p = subst P (sym is) p
 
 pub read_ends : {S K : Type 0} (left : S → Option (List ℕ)) (read_faults : S → ℕ) (written : K → Option (List ℕ)) (write_faults : K → ℕ) (q : Question) (from to : S) (old new : K) (bytes : Bytes) (status : ℕ)
-    → IfSome (left from) (λ b. b ≡ bytes) → IsAtEnd (left to) → IsAnswered written write_faults (answer q bytes) old new status
+    → IfSome (left from) (λ b. b ≡ bytes) → IsAtEnd (left to) → ConsumesUpTo (left from) (left to) most_input → read_faults to ≡ read_faults from → IsAnswered written write_faults (answer q bytes) old new status
     → FitEnds left read_faults written write_faults q from to old new status
-read_ends left read_faults written write_faults q from to old new bytes status is end a = record {
+read_ends left read_faults written write_faults q from to old new bytes status is end taken same a = record {
   statuses = answer_is_fit status a.statuses;
   done = λ zero. of_read (left from) bytes (λ b. IsOkAnd (answer q b) (λ t. Appends (written old) (written new) t)) is (a.done zero);
   begun = λ four. of_read (left from) bytes (λ b. IsOkAnd (answer q b) (λ t. AppendsPrefix (written old) (written new) t)) is (a.begun four);
@@ -89,6 +91,8 @@ read_ends left read_faults written write_faults q from to old new bytes status i
   told = λ t. of_read (left from) bytes (λ b. answer q b ≡ Err status) is (a.told t);
   whole = λ _. end;
   too_long = λ _. inl end;
+  within = λ _. taken;
+  steady = λ _. same;
   unread = λ three. absurd (not_three status a.statuses three);
   untouched = a.untouched;
   exact = λ _. of_read (left from) bytes (λ b. Follows (answer q b) status) is a.exact;

@@ -1,10 +1,11 @@
 // A fit from the bytes of an input to those of a table.
 ghost use Rattle.std.specs.Prelude.{◌≡◌, ◌≤◌, length, map, string_bytes, Ok, None, IfOk, IfErr, IfSome, OnOk, option_map};
 ghost use Rattle.std.specs.Io.KnownBytes.{IsAtEnd};
+ghost use Rattle.adept_io.specs.Read.{ConsumesUpTo};
 ghost use Rattle.file_model.specs.Sizes.{HasNumbers, IsBounded};
 ghost use Rattle.log_fit.specs.Answer.{answer, most_input, with_file, with_log};
 ghost use Rattle.log_fit.specs.Asked.{asked};
-ghost use Rattle.log_fit.specs.Endings.{EndsUnread, FitEnds, IsAnswered};
+ghost use Rattle.log_fit.specs.Endings.{EndsUnread, FitEnds, IsAnswered, of_file};
 ghost use Rattle.log_fit.specs.Shown.{shown_question};
 ghost use Rattle.log_fit.specs.Table.{table};
 
@@ -61,6 +62,8 @@ fn read_input<S: Source>(alloc: Global, source: &mut S) -> Result<Bytes, u8>
     ensures bytes { IfOk result (λ bytes. IfSome (S.left source.old) (λ b. b ≡ bytes)) }
     ensures within { IfOk result (λ bytes. length bytes ≤ most_input) }
     ensures end { OnOk result (IsAtEnd (S.left source.new)) }
+    ensures taken { OnOk result (ConsumesUpTo (S.left source.old) (S.left source.new) most_input) }
+    ensures steady { OnOk result (S.faults source.new ≡ S.faults source.old) }
     ensures err { IfErr result (λ status. EndsUnread S.left S.faults source.old source.new status) }
 {
     match read_to_limit(alloc, source, MOST_INPUT) {
@@ -68,6 +71,16 @@ fn read_input<S: Source>(alloc: Global, source: &mut S) -> Result<Bytes, u8>
         Err(ReadRefusal::Failed) => Err(3),
         Err(ReadRefusal::NoMemory) => Err(5),
         Err(ReadRefusal::TooLong) => Err(6),
+    }
+}
+
+// The status of a process file that is refused.
+fn of_file(refusal: &FileRefusal) -> u8
+    ensures { result ≡ of_file refusal.now }
+{
+    match refusal {
+        FileRefusal::Refused(_) => 1,
+        FileRefusal::NoMemory => 5,
     }
 }
 
@@ -82,8 +95,7 @@ fn fit_bytes<K: Sink>(alloc: Global, asked: Asked<'_>, input: &[u8], sink: &mut 
     }
     match read_file(alloc, parts.file) {
         Ok(file) => fit_file(alloc, asked, &file, parts.log, sink),
-        Err(FileRefusal::Refused(_)) => 1,
-        Err(FileRefusal::NoMemory) => 5,
+        Err(refusal) => of_file(&refusal),
     }
 }
 
