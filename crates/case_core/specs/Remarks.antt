@@ -1,8 +1,9 @@
 -- What an event changes of a case's marks.
-use Rattle.std.specs.Prelude.{◌≡◌, ℕ, true, List, Option, Some, None, option_map}
+use Rattle.std.specs.Prelude.{◌≡◌, ℕ, ◌+◌, ◌≤◌, true, List, Option, Some, None, option_map}
 use Rattle.case_core.specs.CaseModel.{LiveModel, state_of}
 use Rattle.case_core.specs.Kept.{Kept, marks_in}
 use Rattle.case_core.specs.Machine.{repeated_trail, user_of, with_trail}
+use Rattle.wsm_adapt.specs.Adapted.{marks_to_read}
 use Rattle.wsm_adapt.specs.declared.adapting.Adapted.{Adapted}
 use Rattle.wsm_adapt.specs.declared.adapting.Adapted.TheVariants as adapted
 use Rattle.wsm_lists.specs.ByNumber.{changed, item_at}
@@ -10,7 +11,9 @@ use Rattle.wsm_lists.specs.Values.{Written}
 use Rattle.wsm_lists.specs.declared.values.Value.{Value}
 use Rattle.wsm_schema.specs.Flat.{card_at, cards_of, flat_of}
 use Rattle.wsm_schema.specs.Kinds.{is_loop_end}
+use Rattle.wsm_marks.specs.Schemas.{HasCard}
 use Rattle.wsm_schema.specs.Marks.{marks_of}
+use Rattle.wsm_schema.specs.Rank.{IsRank}
 use Rattle.wsm_schema.specs.Replay.{fails, is_in_state, replay_of}
 use Rattle.wsm_schema.specs.SchemaModel.{SchemaModel}
 use Rattle.wsm_schema.specs.Trail.{TrailModel, pushed}
@@ -22,8 +25,10 @@ use Rattle.wsm_schema.specs.declared.states.State.TheVariants.{Running}
 use Rattle.wsm_settle.specs.declared.timing.TimedMarks.{TimedMarks}
 use Rattle.wsm_settle.specs.declared.timing.TimedMarks.TheVariants as timed
 use Rattle.wsm_steps.specs.Whole.{is_whole}
+use Rattle.wsm_touch.specs.TouchedNodes.{touched_nodes}
 use Rattle.wsm_trail.specs.EntryAt.{entry_at}
 use Rattle.wsm_walk.specs.Kept.{mark_or}
+use Rattle.wsm_walk.specs.Spent.{reach_size}
 
 -- changes that make the marks those of the case with another trail
 abbrev pub Remarks : LiveModel → TrailModel → List (ℕ × Option Mark) → Type 0
@@ -42,6 +47,20 @@ EndRemarks l node choice changes =
 -- and of a loop that goes on
 abbrev pub AgainRemarks : LiveModel → ℕ → List (ℕ × Option Mark) → Type 0
 AgainRemarks l node changes = (writes : Written) → Remarks l (repeated_trail l node writes) changes
+
+-- no more marks are read than a node reaches nodes, with the edges into these
+abbrev pub ReadsBehind : SchemaModel → ℕ → ℕ → ℕ → Type 0
+ReadsBehind s node reads reads' = (rank : List ℕ) × IsRank (cards_of s) rank × (HasCard (cards_of s) node → reads' ≤ reads + reach_size (cards_of s) rank node)
+
+-- or than the start of a loop reaches
+abbrev pub ReadsInLoop : SchemaModel → ℕ → ℕ → ℕ → Type 0
+ReadsInLoop s node reads reads' =
+    (rank : List ℕ) × IsRank (cards_of s) rank ×
+    ((start : ℕ) (c : Card) → card_at node (cards_of s) ≡ Some c → is_loop_end c.kind ≡ true → c.partner ≡ Some start → reads' ≤ reads + reach_size (cards_of s) rank start)
+
+-- or than there are nodes that another schema does not have, nodes that a change reaches there, and edges into these from others
+abbrev pub ReadsOnto : SchemaModel → SchemaModel → ℕ → ℕ → Type 0
+ReadsOnto s new reads reads' = (rank : List ℕ) × IsRank (cards_of new) rank × reads' ≤ reads + marks_to_read (flat_of new) rank (touched_nodes (flat_of s) (flat_of new))
 
 -- the schema has the node, and it is running
 pub record Runs (l : LiveModel) (node : ℕ) : Type 0 where

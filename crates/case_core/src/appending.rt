@@ -12,18 +12,24 @@ ghost use Rattle.wsm_trail.specs.Withdrawn.{starts_of, withdrawn};
 use crate::item_changes::renew_items;
 use crate::live::Live;
 use std::alloc::Global;
-use wsm_rules::{Changes, Marks};
+use std::sync::ledger::Ledger;
+use wsm_lists::Steps;
+use wsm_rules::{Changes, CountedMarks};
 use wsm_schema::{Entry, NoMemory, Nodes, Writes};
 use wsm_trail::TrailKeep;
 
-// How many marks a case has room for once it is worked on.
-const FIRST_MARKS: usize = 8;
+// For how many more marks a case gets room when it is worked on first.
+const FIRST_MARKS: usize = 6;
 
-// For how many more marks room is asked, where so many may come.
-fn room_for(marks: &Marks, more: usize) -> usize
+// For how many more marks room is asked before an entry at that position, where so many may come.
+fn room_for(position: u32, more: usize) -> usize
     ensures { more ≤ result }
 {
-    more.max(FIRST_MARKS.saturating_sub(marks.as_slice().len()))
+    if position == 1 {
+        more.max(FIRST_MARKS)
+    } else {
+        more
+    }
 }
 
 impl Live {
@@ -44,7 +50,7 @@ impl Live {
         ensures count { T.reads trail.new ≡ T.reads trail.old }
     {
         trail.reserve(1)?;
-        self.marks.reserve(room_for(&self.marks, changes.len()))?;
+        self.marks.reserve(room_for(trail.next(), changes.len()))?;
         self.items.reserve(changes.len())?;
         renew_items(
             &self.now,
@@ -83,10 +89,11 @@ impl Live {
     }
 
     /// The loop that ends with the node goes on once more.
-    pub(crate) fn repeat<T: TrailKeep>(
+    pub(crate) fn repeat<T: TrailKeep, L: Ledger>(
         &mut self,
         alloc: Global,
         trail: &mut T,
+        steps: &mut Steps<L>,
         node: u32,
         writes: Writes,
     ) -> Result<(), NoMemory>
@@ -101,8 +108,12 @@ impl Live {
     {
         let case = self.of(trail);
         let body = case.checked().flat().loop_body(alloc, node)?;
-        let first = case.first_seen(body.as_slice());
-        let changes = case.again_changes(alloc, node)?;
+        let mut marks = CountedMarks {
+            marks: case.marks(),
+            steps,
+        };
+        let first = case.first_seen(&mut marks, body.as_slice());
+        let changes = case.again_changes(alloc, &mut marks, node)?;
         self.cut_and_append(trail, &body, first, node, writes, changes)
     }
 

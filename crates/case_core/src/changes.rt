@@ -1,6 +1,7 @@
 // Changes of a case's schema.
 ghost use Rattle.std.specs.Prelude.{◌≡◌, ◌+◌, ◌<◌, ◌≤◌, ◌^◌, [], ◌++◌, Ok, length, IfOk, IfErr, OnOk, OnErr};
 ghost use Rattle.case_core.specs.Instances.{IsLive, live_in, reads_onto, reads_where};
+ghost use Rattle.case_core.specs.Kept.{marks_in};
 ghost use Rattle.case_core.specs.Machine.{blocked_in, change_live, migrate_live, migrate_refusal, overlap_with, taken_on};
 ghost use Rattle.wsm_ops.specs.Apply.{applied};
 ghost use Rattle.wsm_sound.specs.Faults.{changed_by};
@@ -13,18 +14,22 @@ use crate::live_of::LiveOf;
 use crate::replies::{Reply, both};
 use std::alloc::Global;
 use std::sync::Arc;
+use std::sync::ledger::Ledger;
 use wsm_foot::{Name, overlap};
+use wsm_lists::Steps;
 use wsm_ops::{Op, Ops};
+use wsm_rules::{CountedMarks, MarkReads};
 use wsm_schema::{Entry, NoMemory, Writes};
 use wsm_sound::{Checked, SoundRefusal, Version, change};
 use wsm_trail::TrailKeep;
 
 impl Live {
     /// The operations change the case's schema, where its trail replays on what they make.
-    pub(crate) fn change<T: TrailKeep>(
+    pub(crate) fn change<T: TrailKeep, L: Ledger>(
         &mut self,
         alloc: Global,
         trail: &mut T,
+        steps: &mut Steps<L>,
         ops: &Ops,
     ) -> Result<(Reply, Reply), NoMemory>
         requires live { IsLive (T.kept trail.old) self.old }
@@ -38,24 +43,29 @@ impl Live {
         ensures reads { T.reads trail.new ≤ T.reads trail.old + reads_where self.old.now.value (changed_by self.old.now.value ops.now) }
     {
         let case = self.of(trail);
-        if case.is_finished() {
+        let mut marks = CountedMarks {
+            marks: case.marks(),
+            steps,
+        };
+        if case.is_finished_read(&mut marks) {
             return both(alloc, Reply::Finished);
         }
         match changed(alloc, case.checked(), ops) {
             Ok(schema) => {
                 let base = case.base().share()?;
                 let own = joined(alloc, case.own(), ops)?;
-                self.take(alloc, trail, base, own, schema, Reply::Changed)
+                self.take(alloc, trail, steps, base, own, schema, Reply::Changed)
             }
             Err(refusal) => both(alloc, Reply::Unsound(refusal.fault()?)),
         }
     }
 
     /// The case moves to the version, where its trail replays on what its own operations make of the version's schema.
-    pub(crate) fn migrate<T: TrailKeep>(
+    pub(crate) fn migrate<T: TrailKeep, L: Ledger>(
         &mut self,
         alloc: Global,
         trail: &mut T,
+        steps: &mut Steps<L>,
         version: &Version,
     ) -> Result<(Reply, Reply), NoMemory>
         requires { IsLive (T.kept trail.old) self.old }
@@ -68,24 +78,29 @@ impl Live {
         ensures reads { T.reads trail.new ≤ T.reads trail.old + reads_where self.old.now.value (changed_by version.now.schema self.old.own) }
     {
         let case = self.of(trail);
-        if let Some(refusal) = case.migrate_refusal(alloc, version)? {
+        let mut marks = CountedMarks {
+            marks: case.marks(),
+            steps,
+        };
+        if let Some(refusal) = case.migrate_refusal(alloc, &mut marks, version)? {
             return both(alloc, refusal);
         }
         match case.schema_on(alloc, version) {
             Ok(schema) => {
                 let own = case.own().copy(alloc)?;
                 let reply = Reply::Migrated(version.number());
-                self.take(alloc, trail, version.share()?, own, schema, reply)
+                self.take(alloc, trail, steps, version.share()?, own, schema, reply)
             }
             Err(refusal) => both(alloc, Reply::Unsound(refusal.fault()?)),
         }
     }
 
     // The case on another schema, where its trail replays on it; else the first entry that fails is named.
-    fn take<T: TrailKeep>(
+    fn take<T: TrailKeep, L: Ledger>(
         &mut self,
         alloc: Global,
         trail: &mut T,
+        steps: &mut Steps<L>,
         base: Version,
         own: Ops,
         schema: Arc<Checked>,
@@ -103,7 +118,7 @@ impl Live {
         ensures reads { T.reads trail.new ≤ T.reads trail.old + reads_onto self.old.now.value schema.value }
     {
         let replies = both(alloc, reply)?;
-        match self.try_on(alloc, trail, base, own, schema)? {
+        match self.try_on(alloc, trail, steps, base, own, schema)? {
             None => Ok(replies),
             Some(position) => both(alloc, blocked(alloc, trail, position)?),
         }
@@ -126,14 +141,23 @@ fn blocked<T: TrailKeep>(alloc: Global, trail: &mut T, position: u32) -> Result<
 
 impl<'a, T: TrailKeep> LiveOf<'a, T> {
     // The first reason, before any schema is made, why the case may not move to the version.
-    fn migrate_refusal(&self, alloc: Global, version: &Version) -> Result<Option<Reply>, NoMemory>
-        ensures { IfOk result (λ refusal. refusal ≡ migrate_refusal self.now version.now) }
+    fn migrate_refusal<M: MarkReads>(
+        &self,
+        alloc: Global,
+        marks: &mut M,
+        version: &Version,
+    ) -> Result<Option<Reply>, NoMemory>
+        requires marks { M.kept marks.old ≡ marks_in self.now }
+        ensures refusal { IfOk result (λ refusal. refusal ≡ migrate_refusal self.now version.now) }
+        ensures same { M.kept marks.new ≡ M.kept marks.old }
+        ensures rises { M.reads marks.old ≤ M.reads marks.new }
+        ensures count { M.reads marks.new ≤ M.reads marks.old + 1 }
     {
         let base = self.base().number();
         if version.number() <= base {
             return Ok(Some(Reply::NotNewer(base)));
         }
-        if self.is_finished() {
+        if self.is_finished_read(marks) {
             return Ok(Some(Reply::Finished));
         }
         match self.overlap_with(alloc, version)? {

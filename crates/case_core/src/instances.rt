@@ -1,5 +1,5 @@
 // Cases, over all that keep a trail.
-ghost use Rattle.std.specs.Prelude.{◌≡◌, ◌==◌, ◌+◌, ◌≤◌, true, not, Some, None, IfOk, OnErr};
+ghost use Rattle.std.specs.Prelude.{◌≡◌, ◌==◌, ◌+◌, ◌<◌, ◌≤◌, true, not, Some, None, IfOk, OnErr};
 ghost use Rattle.std.specs.Option.{option_copied, option_map};
 ghost use Rattle.case_core.specs.Ages.{age, weight};
 ghost use Rattle.case_core.specs.CaseModel.{not_created};
@@ -17,8 +17,10 @@ use crate::live_of::LiveOf;
 use crate::replies::{Reply, both};
 use crate::views::View;
 use std::alloc::Global;
-use std::marker::Model;
+use std::marker::{Brand, Model};
+use std::sync::ledger::{Blank, Ledger};
 use turn_cell::Machine;
+use wsm_lists::Steps;
 use wsm_schema::{NoMemory, State};
 use wsm_sound::{Checked, Version};
 use wsm_trail::{Trail, TrailKeep};
@@ -110,10 +112,37 @@ impl<T: TrailKeep> Instance<T> {
         ensures reads { self.new.reads ≤ self.old.reads + allowed self.old.state event.now }
     {
         let _ = self.live();
-        self.answer(alloc, event)
+        self.counted::<Brand>(alloc, event, Blank::new(1))
     }
 
-    fn answer(&mut self, alloc: Global, event: &Event) -> Result<(Reply, Reply), NoMemory>
+    // The same, with a count of the marks that are read.
+    fn counted<L: Ledger>(
+        &mut self,
+        alloc: Global,
+        event: &Event,
+        blank: Blank,
+    ) -> Result<(Reply, Reply), NoMemory>
+        requires room { age self.old.state + weight event.now ≤ 4000000000 }
+        requires name { blank.name ≡ L.name }
+        requires parts { blank.parts ≡ L.parts }
+        requires some { 0 < blank.parts }
+        ensures case { IfOk result (λ replies. self.new.state ≡ (next_case self.old.state event.now).0) }
+        ensures first { IfOk result (λ replies. replies.0 ≡ (next_case self.old.state event.now).1) }
+        ensures second { IfOk result (λ replies. replies.1 ≡ (next_case self.old.state event.now).1) }
+        ensures err { OnErr result (self.new.state ≡ self.old.state) }
+        ensures rises { self.old.reads ≤ self.new.reads }
+        ensures reads { self.new.reads ≤ self.old.reads + allowed self.old.state event.now }
+    {
+        let mut steps = Steps::<L>::open(blank);
+        self.answer(alloc, event, &mut steps)
+    }
+
+    fn answer<L: Ledger>(
+        &mut self,
+        alloc: Global,
+        event: &Event,
+        steps: &mut Steps<L>,
+    ) -> Result<(Reply, Reply), NoMemory>
         requires room { age self.old.state + weight event.now ≤ 4000000000 }
         ensures case { IfOk result (λ replies. self.new.state ≡ (next_case self.old.state event.now).0) }
         ensures first { IfOk result (λ replies. replies.0 ≡ (next_case self.old.state event.now).1) }
@@ -126,7 +155,7 @@ impl<T: TrailKeep> Instance<T> {
             Event::Create(version) => self.create(alloc, version),
             Event::Start { node, user, roles } => match &mut self.live {
                 None => both(alloc, Reply::NoCase),
-                Some(live) => live.start(alloc, &mut self.trail, *node, *user, roles),
+                Some(live) => live.start(alloc, &mut self.trail, steps, *node, *user, roles),
             },
             Event::End {
                 node,
@@ -135,17 +164,25 @@ impl<T: TrailKeep> Instance<T> {
                 choice,
             } => match &mut self.live {
                 None => both(alloc, Reply::NoCase),
-                Some(live) => live.end(alloc, &mut self.trail, *node, *user, writes, *choice),
+                Some(live) => live.end(
+                    alloc,
+                    &mut self.trail,
+                    steps,
+                    *node,
+                    *user,
+                    writes,
+                    *choice,
+                ),
             },
             Event::Withdraw { node, user } => match &mut self.live {
                 None => both(alloc, Reply::NoCase),
-                Some(live) => live.withdraw(alloc, &mut self.trail, *node, *user),
+                Some(live) => live.withdraw(alloc, &mut self.trail, steps, *node, *user),
             },
             Event::Change(ops) => match &mut self.live {
                 None => both(alloc, Reply::NoCase),
-                Some(live) => live.change(alloc, &mut self.trail, ops),
+                Some(live) => live.change(alloc, &mut self.trail, steps, ops),
             },
-            Event::Migrate(version) => self.migrate(alloc, version),
+            Event::Migrate(version) => self.migrate(alloc, version, steps),
         }
     }
 
@@ -166,7 +203,12 @@ impl<T: TrailKeep> Instance<T> {
         Ok((Reply::Created, Reply::Created))
     }
 
-    fn migrate(&mut self, alloc: Global, version: &Version) -> Result<(Reply, Reply), NoMemory>
+    fn migrate<L: Ledger>(
+        &mut self,
+        alloc: Global,
+        version: &Version,
+        steps: &mut Steps<L>,
+    ) -> Result<(Reply, Reply), NoMemory>
         ensures case { IfOk result (λ replies. self.new.state ≡ (next_case self.old.state (Event.Migrate version.now)).0) }
         ensures first { IfOk result (λ replies. replies.0 ≡ (next_case self.old.state (Event.Migrate version.now)).1) }
         ensures second { IfOk result (λ replies. replies.1 ≡ (next_case self.old.state (Event.Migrate version.now)).1) }
@@ -178,7 +220,7 @@ impl<T: TrailKeep> Instance<T> {
         match &mut self.live {
             None => both(alloc, Reply::NoCase),
             Some(_) if is_of_another_type => both(alloc, Reply::OtherType),
-            Some(live) => live.migrate(alloc, &mut self.trail, version),
+            Some(live) => live.migrate(alloc, &mut self.trail, steps, version),
         }
     }
 

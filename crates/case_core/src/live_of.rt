@@ -1,12 +1,12 @@
 // A case that was created.
-ghost use Rattle.std.specs.Prelude.{◌≡◌, ℕ, ◌<◌, ◌^◌, Some, length, IfOk};
+ghost use Rattle.std.specs.Prelude.{◌≡◌, ℕ, ◌+◌, ◌<◌, ◌≤◌, ◌^◌, Some, length, IfOk};
 ghost use Rattle.std.specs.Option.{option_copied};
 ghost use Rattle.case_core.specs.CaseModel.{state_of, value_now};
 ghost use Rattle.case_core.specs.Kept.{IsOnceEach, Kept, marks_in};
 ghost use Rattle.case_core.specs.KeptItems.{held_in};
 ghost use Rattle.case_core.specs.Machine.{reads_now};
 ghost use Rattle.case_core.specs.Promises.{HolderStarted};
-ghost use Rattle.case_core.specs.Remarks.{AgainRemarks, EndRemarks, Remarks, Runs, RunsLoop, StartRemarks};
+ghost use Rattle.case_core.specs.Remarks.{AgainRemarks, EndRemarks, ReadsBehind, ReadsInLoop, Remarks, Runs, RunsLoop, StartRemarks};
 ghost use Rattle.case_core.specs.Shown.{is_finished, items_of, shown_holder, shown_spots};
 ghost use Rattle.wsm_items.specs.WorkItems.{items_in};
 ghost use Rattle.wsm_lists.specs.ByNumber.{item_at};
@@ -18,13 +18,12 @@ ghost use Rattle.wsm_trail.specs.Withdrawn.{withdrawn};
 use crate::live::Live;
 use crate::rounds::first_seen;
 use crate::spots::{spot_by, unmarked};
-use crate::timing::Uncounted;
 use std::alloc::Global;
 use std::marker::Model;
 use wsm_items::{Item, Items};
 use wsm_lists::{GrowingTable, copy_option};
 use wsm_ops::Ops;
-use wsm_rules::{Changes, Marks};
+use wsm_rules::{Changes, MarkReads, Marks};
 use wsm_schema::{BySpot, Card, Marking, NoMemory, ReadValues, Spot, State, Value};
 use wsm_settle::{after_again, after_end, after_start, after_withdraw};
 use wsm_sound::{Checked, Version};
@@ -109,8 +108,33 @@ impl<'a, T: TrailKeep> LiveOf<'a, T> {
         }
     }
 
-    // The marks of the nodes of which something is known.
-    fn marks(&self) -> &'a Marks
+    /// The state of a node, by a read of its mark.
+    pub(crate) fn state_read<M: MarkReads>(&self, marks: &mut M, node: u32) -> State
+        requires marks { M.kept marks.old ≡ marks_in self.now }
+        ensures state { result ≡ state_of self.now node }
+        ensures same { M.kept marks.new ≡ M.kept marks.old }
+        ensures rises { M.reads marks.old ≤ M.reads marks.new }
+        ensures count { M.reads marks.new ≤ M.reads marks.old + 1 }
+    {
+        match self.card(node) {
+            None => State::NotActivated,
+            Some(card) => spot_by(card.kind, node, marks.get(node).as_ref()).state,
+        }
+    }
+
+    /// Whether the finish node is completed, by a read of its mark.
+    pub(crate) fn is_finished_read<M: MarkReads>(&self, marks: &mut M) -> bool
+        requires marks { M.kept marks.old ≡ marks_in self.now }
+        ensures finished { result ≡ is_finished self.now }
+        ensures same { M.kept marks.new ≡ M.kept marks.old }
+        ensures rises { M.reads marks.old ≤ M.reads marks.new }
+        ensures count { M.reads marks.new ≤ M.reads marks.old + 1 }
+    {
+        self.state_read(marks, self.live.now.schema().finish) == State::Completed
+    }
+
+    /// The marks of the nodes of which something is known.
+    pub(crate) fn marks(&self) -> &'a Marks
         ensures rows { result.now.rows ≡ marks_in self.now }
         ensures kept { Kept self.now }
     {
@@ -185,40 +209,48 @@ impl<'a, T: TrailKeep> LiveOf<'a, T> {
     }
 
     /// What the start of a node would change of the marks.
-    pub fn start_changes(&self, alloc: Global, node: u32) -> Result<Changes, NoMemory>
-        ensures { IfOk result (StartRemarks self.now node) }
+    pub(crate) fn start_changes<M: MarkReads>(
+        &self,
+        alloc: Global,
+        marks: &mut M,
+        node: u32,
+    ) -> Result<Changes, NoMemory>
+        requires marks { M.kept marks.old ≡ marks_in self.now }
+        ensures changes { IfOk result (StartRemarks self.now node) }
+        ensures rises { M.reads marks.old ≤ M.reads marks.new }
+        ensures count { M.reads marks.new ≤ M.reads marks.old + 1 }
     {
-        let mut marks = Uncounted {
-            marks: self.marks(),
-        };
+        let _ = self.base();
         after_start(
             alloc,
             self.checked().flat(),
-            &mut marks,
+            marks,
             node,
             self.trail().next(),
         )
     }
 
     /// What the end of a node with that choice would change of the marks.
-    pub fn end_changes(
+    pub(crate) fn end_changes<M: MarkReads>(
         &self,
         alloc: Global,
+        marks: &mut M,
         node: u32,
         choice: Option<u16>,
     ) -> Result<Changes, NoMemory>
-        ensures { IfOk result (EndRemarks self.now node choice) }
+        requires marks { M.kept marks.old ≡ marks_in self.now }
+        ensures changes { IfOk result (EndRemarks self.now node choice) }
+        ensures rises { M.reads marks.old ≤ M.reads marks.new }
+        ensures few { ReadsBehind self.now.schema node (M.reads marks.old) (M.reads marks.new) }
     {
-        let mut marks = Uncounted {
-            marks: self.marks(),
-        };
+        let _ = self.base();
         let schema = self.checked();
         let position = self.trail().next();
         after_end(
             alloc,
             schema.flat(),
             schema.rank(),
-            &mut marks,
+            marks,
             node,
             position,
             choice,
@@ -226,40 +258,50 @@ impl<'a, T: TrailKeep> LiveOf<'a, T> {
     }
 
     /// What the loop that ends with the node would change of the marks if it went on once more.
-    pub fn again_changes(&self, alloc: Global, node: u32) -> Result<Changes, NoMemory>
-        requires { RunsLoop self.now node }
-        ensures { IfOk result (AgainRemarks self.now node) }
+    pub(crate) fn again_changes<M: MarkReads>(
+        &self,
+        alloc: Global,
+        marks: &mut M,
+        node: u32,
+    ) -> Result<Changes, NoMemory>
+        requires runs { RunsLoop self.now node }
+        requires marks { M.kept marks.old ≡ marks_in self.now }
+        ensures changes { IfOk result (AgainRemarks self.now node) }
+        ensures rises { M.reads marks.old ≤ M.reads marks.new }
+        ensures few { ReadsInLoop self.now.schema node (M.reads marks.old) (M.reads marks.new) }
     {
-        let mut marks = Uncounted {
-            marks: self.marks(),
-        };
+        let _ = self.base();
         let schema = self.checked();
         let position = self.trail().next();
-        after_again(
-            alloc,
-            schema.flat(),
-            schema.rank(),
-            &mut marks,
-            node,
-            position,
-        )
+        after_again(alloc, schema.flat(), schema.rank(), marks, node, position)
     }
 
     /// What it would change of the marks if the node were given back.
-    pub fn withdraw_changes(&self, alloc: Global, node: u32) -> Result<Changes, NoMemory>
-        requires { Runs self.now node }
-        ensures { IfOk result (Remarks self.now (withdrawn node self.now.trail)) }
+    pub(crate) fn withdraw_changes<M: MarkReads>(
+        &self,
+        alloc: Global,
+        marks: &mut M,
+        node: u32,
+    ) -> Result<Changes, NoMemory>
+        requires runs { Runs self.now node }
+        requires marks { M.kept marks.old ≡ marks_in self.now }
+        ensures changes { IfOk result (Remarks self.now (withdrawn node self.now.trail)) }
+        ensures rises { M.reads marks.old ≤ M.reads marks.new }
+        ensures count { M.reads marks.new ≤ M.reads marks.old + 1 }
     {
-        let mut marks = Uncounted {
-            marks: self.marks(),
-        };
-        after_withdraw(alloc, &mut marks, node)
+        let _ = self.base();
+        after_withdraw(alloc, marks, node)
     }
 
     /// The position below which no entry is of these nodes.
-    pub fn first_seen(&self, nodes: &[u32]) -> u32
-        ensures { StaysBelow result nodes.now self.now.trail.entries }
+    pub(crate) fn first_seen<M: MarkReads>(&self, marks: &mut M, nodes: &[u32]) -> u32
+        requires marks { M.kept marks.old ≡ marks_in self.now }
+        ensures stays { StaysBelow result nodes.now self.now.trail.entries }
+        ensures same { M.kept marks.new ≡ M.kept marks.old }
+        ensures rises { M.reads marks.old ≤ M.reads marks.new }
+        ensures count { M.reads marks.new ≤ M.reads marks.old + length nodes.now }
     {
-        first_seen(self.marks(), nodes, self.trail().next())
+        let _ = self.base();
+        first_seen(marks, nodes, self.trail().next())
     }
 }

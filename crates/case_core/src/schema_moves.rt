@@ -4,7 +4,7 @@ ghost use Rattle.case_core.specs.CaseModel.{on_schema, replay_of_case, tried_on}
 ghost use Rattle.case_core.specs.Instances.{IsLive, live_in};
 ghost use Rattle.case_core.specs.Kept.{Kept};
 ghost use Rattle.case_core.specs.Machine.{failed_at};
-ghost use Rattle.case_core.specs.Remarks.{IsAdaptedTo, Moves};
+ghost use Rattle.case_core.specs.Remarks.{IsAdaptedTo, Moves, ReadsOnto};
 ghost use Rattle.wsm_ops.specs.Apply.{applied};
 ghost use Rattle.wsm_schema.specs.Flat.{flat_of};
 ghost use Rattle.wsm_sound.specs.Flattened.{IsChecked};
@@ -12,12 +12,13 @@ ghost use Rattle.wsm_touch.specs.TouchedNodes.{touched_nodes};
 
 use crate::item_changes::renew_items;
 use crate::live::Live;
-use crate::timing::Uncounted;
 use std::alloc::Global;
 use std::sync::Arc;
+use std::sync::ledger::Ledger;
 use wsm_adapt::{Adapted, adapt};
+use wsm_lists::Steps;
 use wsm_ops::Ops;
-use wsm_rules::Changes;
+use wsm_rules::{Changes, CountedMarks, MarkReads};
 use wsm_schema::NoMemory;
 use wsm_sound::{Checked, Version};
 use wsm_touch::touched;
@@ -26,10 +27,11 @@ use wsm_trail::TrailKeep;
 impl Live {
     /// The case on another version or schema, where its trail replays on that; else the case is as before, and this is the
     /// position of the first entry that fails.
-    pub(crate) fn try_on<T: TrailKeep>(
+    pub(crate) fn try_on<T: TrailKeep, L: Ledger>(
         &mut self,
         alloc: Global,
         trail: &mut T,
+        steps: &mut Steps<L>,
         base: Version,
         own: Ops,
         schema: Arc<Checked>,
@@ -45,7 +47,11 @@ impl Live {
         ensures rises { T.reads trail.old ≤ T.reads trail.new }
         ensures reads { T.reads trail.new ≤ T.reads trail.old + length (touched_nodes (flat_of self.old.now.value) (flat_of schema.value)) }
     {
-        match self.adapted_to(alloc, trail, &schema)? {
+        let mut marks = CountedMarks {
+            marks: &self.marks,
+            steps,
+        };
+        match self.adapted_to(alloc, &mut marks, trail, &schema)? {
             Adapted::Blocked { position } => Ok(Some(position)),
             Adapted::Moved(changes) => {
                 self.move_to(trail, base, own, schema, changes)?;
@@ -55,24 +61,27 @@ impl Live {
     }
 
     // What becomes of the marks on another schema, by a look at what differs there.
-    fn adapted_to<T: TrailKeep>(
+    fn adapted_to<M: MarkReads, T: TrailKeep>(
         &self,
         alloc: Global,
+        marks: &mut M,
         trail: &mut T,
         schema: &Checked,
     ) -> Result<Adapted, NoMemory>
-        requires { IsLive (T.kept trail.old) self.now }
+        requires live { IsLive (T.kept trail.old) self.now }
+        requires marks { M.kept marks.old ≡ self.now.marks.rows }
         ensures adapted { IfOk result (IsAdaptedTo (live_in (T.kept trail.old) self.entry.now) schema.now) }
         ensures checked { IsChecked schema.now }
         ensures trail { T.kept trail.new ≡ T.kept trail.old }
         ensures rises { T.reads trail.old ≤ T.reads trail.new }
         ensures reads { T.reads trail.new ≤ T.reads trail.old + length (touched_nodes (flat_of self.entry.now.now.value) (flat_of schema.now)) }
+        ensures marks_rise { M.reads marks.old ≤ M.reads marks.new }
+        ensures marks_few { ReadsOnto self.entry.now.now.value schema.now (M.reads marks.old) (M.reads marks.new) }
     {
-        let mut marks = Uncounted { marks: &self.marks };
         let old = self.now.flat();
         let new = schema.flat();
         let nodes = touched(alloc, old, new)?;
-        adapt(alloc, old, new, schema.rank(), &nodes, &mut marks, trail)
+        adapt(alloc, old, new, schema.rank(), &nodes, marks, trail)
     }
 
     // The case on another version or schema, with what that changes of the marks.

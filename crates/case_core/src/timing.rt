@@ -5,27 +5,10 @@ ghost use Rattle.case_core.specs.Remarks.{IsTimedOn};
 ghost use Rattle.wsm_sound.specs.Flattened.{IsChecked};
 
 use std::alloc::Global;
-use wsm_rules::{Mark, MarkReads, Marks};
 use wsm_schema::{Entry, NoMemory};
 use wsm_settle::{TimedMarks, timed};
 use wsm_sound::Checked;
 use wsm_trail::Trail;
-
-/// Marks, of which no read is counted.
-#[derive(Drop)]
-pub struct Uncounted<'a> {
-    pub marks: &'a Marks,
-}
-
-impl<'a> MarkReads for Uncounted<'a> {
-    ghost kept = { λ m. m.marks.now.rows };
-
-    ghost reads = { λ m. 0 };
-
-    fn get(&mut self, node: u32) -> Option<Mark> {
-        self.marks.get(node).copied()
-    }
-}
 
 /// The marks of a trail on a sound schema, where it replays.
 pub fn timed_on(alloc: Global, checked: &Checked, trail: &Trail) -> Result<TimedMarks, NoMemory>

@@ -1,6 +1,7 @@
 // Starts and ends of nodes, and nodes that are given back.
-ghost use Rattle.std.specs.Prelude.{◌≡◌, ◌==◌, ◌+◌, ◌<◌, ◌^◌, ◌||◌, not, IfOk, OnErr};
+ghost use Rattle.std.specs.Prelude.{◌≡◌, ◌==◌, ◌+◌, ◌<◌, ◌≤◌, ◌^◌, ◌||◌, not, IfOk, OnErr};
 ghost use Rattle.case_core.specs.Instances.{IsLive, live_in};
+ghost use Rattle.case_core.specs.Kept.{marks_in};
 ghost use Rattle.case_core.specs.Machine.{start_refusal, hold_refusal, end_refusal, start_live, end_live, withdraw_live, may_work, repeats, when_reply, wrong_reply, ended_reply};
 ghost use Rattle.case_core.specs.declared.replies.Reply.TheVariants as reply;
 ghost use Rattle.wsm_schema.specs.Replay.{fits_choice};
@@ -10,16 +11,20 @@ use crate::live_of::LiveOf;
 use crate::replies::{Reply, both};
 use case_writes::{by_element, is_one_of, wrong_elements};
 use std::alloc::Global;
+use std::sync::ledger::Ledger;
+use wsm_lists::Steps;
 use wsm_replay::fits_choice;
+use wsm_rules::{CountedMarks, MarkReads};
 use wsm_schema::{Card, Entry, NoMemory, NodeKind, Nodes, RoleList, State, Writes};
 use wsm_trail::TrailKeep;
 
 impl Live {
     /// A user with these roles starts the node.
-    pub(crate) fn start<T: TrailKeep>(
+    pub(crate) fn start<T: TrailKeep, L: Ledger>(
         &mut self,
         alloc: Global,
         trail: &mut T,
+        steps: &mut Steps<L>,
         node: u32,
         user: u32,
         roles: &RoleList,
@@ -34,25 +39,30 @@ impl Live {
         ensures count { T.reads trail.new ≡ T.reads trail.old }
     {
         let case = self.of(trail);
+        let mut marks = CountedMarks {
+            marks: case.marks(),
+            steps,
+        };
         let card = match case.card(node) {
             None => return both(alloc, Reply::NoNode),
             Some(card) => card,
         };
-        if let Some(refusal) = case.start_refusal(card, node, roles) {
+        if let Some(refusal) = case.start_refusal(&mut marks, card, node, roles) {
             return both(alloc, refusal);
         }
         let reads = case.reads(alloc, card)?;
         let replies = both(alloc, Reply::Started(reads.duplicate(alloc)?))?;
-        let changes = case.start_changes(alloc, node)?;
+        let changes = case.start_changes(alloc, &mut marks, node)?;
         self.append(trail, Entry::Start { node, user, reads }, changes)?;
         Ok(replies)
     }
 
     /// A user ends the node with these values and this choice.
-    pub(crate) fn end<T: TrailKeep>(
+    pub(crate) fn end<T: TrailKeep, L: Ledger>(
         &mut self,
         alloc: Global,
         trail: &mut T,
+        steps: &mut Steps<L>,
         node: u32,
         user: u32,
         writes: &Writes,
@@ -68,20 +78,26 @@ impl Live {
         ensures count { T.reads trail.new ≡ T.reads trail.old }
     {
         let case = self.of(trail);
+        let mut marks = CountedMarks {
+            marks: case.marks(),
+            steps,
+        };
         let card = match case.card(node) {
             None => return both(alloc, Reply::NoNode),
             Some(card) => card,
         };
-        if let Some(refusal) = case.end_refusal(alloc, card, node, user, writes, choice)? {
+        if let Some(refusal) = case.end_refusal(
+            alloc, &mut marks, card, node, user, writes, choice,
+        )? {
             return both(alloc, refusal);
         }
         let repeated = repeats(card, choice);
         let writes = by_element(alloc, writes)?;
         if repeated {
-            self.repeat(alloc, trail, node, writes)?;
+            self.repeat(alloc, trail, steps, node, writes)?;
             return Ok((Reply::Repeated, Reply::Repeated));
         }
-        let changes = case.end_changes(alloc, node, choice)?;
+        let changes = case.end_changes(alloc, &mut marks, node, choice)?;
         self.append(
             trail,
             Entry::End {
@@ -95,10 +111,11 @@ impl Live {
     }
 
     /// A user gives the node back, which is activated again.
-    pub(crate) fn withdraw<T: TrailKeep>(
+    pub(crate) fn withdraw<T: TrailKeep, L: Ledger>(
         &mut self,
         alloc: Global,
         trail: &mut T,
+        steps: &mut Steps<L>,
         node: u32,
         user: u32,
     ) -> Result<(Reply, Reply), NoMemory>
@@ -111,14 +128,18 @@ impl Live {
         ensures count { T.reads trail.new ≡ T.reads trail.old }
     {
         let case = self.of(trail);
+        let mut marks = CountedMarks {
+            marks: case.marks(),
+            steps,
+        };
         let _ = match case.card(node) {
             None => return both(alloc, Reply::NoNode),
             Some(card) => card,
         };
-        if let Some(refusal) = case.hold_refusal(node, user) {
+        if let Some(refusal) = case.hold_refusal(&mut marks, node, user) {
             return both(alloc, refusal);
         }
-        let changes = case.withdraw_changes(alloc, node)?;
+        let changes = case.withdraw_changes(alloc, &mut marks, node)?;
         self.drop_start(trail, node, changes)?;
         Ok((Reply::Withdrawn, Reply::Withdrawn))
     }
@@ -126,10 +147,20 @@ impl Live {
 
 impl<'a, T: TrailKeep> LiveOf<'a, T> {
     // The first reason why the user may not start the node of this card.
-    fn start_refusal(&self, card: &Card, node: u32, roles: &RoleList) -> Option<Reply>
-        ensures { result ≡ start_refusal self.now card.now node roles.now }
+    fn start_refusal<M: MarkReads>(
+        &self,
+        marks: &mut M,
+        card: &Card,
+        node: u32,
+        roles: &RoleList,
+    ) -> Option<Reply>
+        requires marks { M.kept marks.old ≡ marks_in self.now }
+        ensures refusal { result ≡ start_refusal self.now card.now node roles.now }
+        ensures same { M.kept marks.new ≡ M.kept marks.old }
+        ensures rises { M.reads marks.old ≤ M.reads marks.new }
+        ensures count { M.reads marks.new ≤ M.reads marks.old + 1 }
     {
-        let state = self.state(node);
+        let state = self.state_read(marks, node);
         if state != State::Activated {
             return Some(Reply::NotReady(state));
         }
@@ -140,18 +171,23 @@ impl<'a, T: TrailKeep> LiveOf<'a, T> {
     }
 
     // The first reason why the user may not end the node of this card so.
-    fn end_refusal(
+    fn end_refusal<M: MarkReads>(
         &self,
         alloc: Global,
+        marks: &mut M,
         card: &Card,
         node: u32,
         user: u32,
         writes: &Writes,
         choice: Option<u16>,
     ) -> Result<Option<Reply>, NoMemory>
-        ensures { IfOk result (λ refusal. refusal ≡ end_refusal self.now card.now node user writes.now choice) }
+        requires marks { M.kept marks.old ≡ marks_in self.now }
+        ensures refusal { IfOk result (λ refusal. refusal ≡ end_refusal self.now card.now node user writes.now choice) }
+        ensures same { M.kept marks.new ≡ M.kept marks.old }
+        ensures rises { M.reads marks.old ≤ M.reads marks.new }
+        ensures count { M.reads marks.new ≤ M.reads marks.old + 1 }
     {
-        if let Some(refusal) = self.hold_refusal(node, user) {
+        if let Some(refusal) = self.hold_refusal(marks, node, user) {
             return Ok(Some(refusal));
         }
         let wrong = wrong_elements(
@@ -170,12 +206,16 @@ impl<'a, T: TrailKeep> LiveOf<'a, T> {
     }
 
     // Why the user has not the node in hand.
-    fn hold_refusal(&self, node: u32, user: u32) -> Option<Reply>
-        ensures { result ≡ hold_refusal self.now node user }
+    fn hold_refusal<M: MarkReads>(&self, marks: &mut M, node: u32, user: u32) -> Option<Reply>
+        requires marks { M.kept marks.old ≡ marks_in self.now }
+        ensures refusal { result ≡ hold_refusal self.now node user }
+        ensures same { M.kept marks.new ≡ M.kept marks.old }
+        ensures rises { M.reads marks.old ≤ M.reads marks.new }
+        ensures count { M.reads marks.new ≤ M.reads marks.old + 1 }
     {
         let _ = self.base();
         match self.holder(node) {
-            None => Some(Reply::NotRunning(self.state(node))),
+            None => Some(Reply::NotRunning(self.state_read(marks, node))),
             Some(holder) => not_holder(holder, user),
         }
     }

@@ -1,12 +1,13 @@
-use Rattle.std.proofs.Common.{refl, ap, ◌∙◌}
+use Rattle.std.proofs.Common.{◌≡◌, ◌+◌, ◌≤◌, List, ℕ, arith, refl, ap, subst, ◌∙◌}
 use Rattle.case_core.proofs.Moving.{adapted-to, both-ok, net-of}
 use Rattle.case_core.specs.CaseModel.{LiveModel}
 use Rattle.case_core.specs.Instances.{live_in}
 use Rattle.case_core.specs.Remarks.{IsAdaptedTo}
-use Rattle.wsm_adapt.specs.Adapted.{AdaptsRight, TellsTouched}
-use Rattle.wsm_schema.specs.Flat.{flat_of}
+use Rattle.wsm_adapt.specs.Adapted.{AdaptsRight, TellsTouched, marks_to_read}
+use Rattle.wsm_schema.specs.Flat.{FlatModel, flat_of}
 use Rattle.wsm_schema.specs.SchemaModel.{SchemaModel}
 use Rattle.wsm_schema.specs.Trail.{TrailModel}
+use Rattle.wsm_touch.specs.TouchedNodes.{touched_nodes}
 use Rattle.case_core.proofs.live.Live.adapted_to.Goals as goal
 
 pub adapt-requires : goal.adapt-requires
@@ -19,7 +20,23 @@ returns-clause-adapted g c =
     let s : SchemaModel = c.args.schema.now in
     let old = c.flat-old.result.now in
     let new = c.flat-new.result.now in
-    let rows = c.args.self.now.marks.rows in
+    let rows = g.M.MarkReads.kept c.args.marks.now in
     let nodes = c.in_ok-nodes.nodes in
     both-ok c.adapt.result (AdaptsRight old new c.rank.result.now nodes rows t.entries) (TellsTouched nodes) (IsAdaptedTo l s)
-    (adapted-to l c.requires.0 s c.flat-new.ensures.checked old new (c.flat-old.ensures.flat ∙ ap flat_of c.deref.ensures) c.flat-new.ensures.flat c.rank.result.now nodes c.rank.ensures c.in_ok-nodes.ensures.others rows c.requires.1.0 t.entries refl) c.adapt.ensures.adapted c.adapt.ensures.touched
+    (adapted-to l c.requires.live.0 s c.flat-new.ensures.checked old new (c.flat-old.ensures.flat ∙ ap flat_of c.deref.ensures) c.flat-new.ensures.flat c.rank.result.now nodes c.rank.ensures c.in_ok-nodes.ensures.others rows (c.requires.marks ∙ c.requires.live.1.0) t.entries refl) c.adapt.ensures.adapted c.adapt.ensures.touched
+
+pub returns-clause-marks_few : goal.returns-clause-marks_few
+returns-clause-marks_few g c =
+    let s : SchemaModel = c.args.self.now.now.value in
+    let new : SchemaModel = c.args.schema.now in
+    let olds : c.flat-old.result.now ≡ flat_of s = c.flat-old.ensures.flat ∙ ap flat_of c.deref.ensures in
+    let news : c.flat-new.result.now ≡ flat_of new = c.flat-new.ensures.flat in
+    let nodes : c.in_ok-nodes.nodes ≡ touched_nodes (flat_of s) (flat_of new) = c.in_ok-nodes.ensures.nodes ∙ ap (λ (f : FlatModel). touched_nodes f c.flat-new.result.now) olds ∙ ap (touched_nodes (flat_of s)) news in (
+      c.rank.result.now,
+      c.rank.ensures,
+      subst (λ (f : FlatModel). g.M.MarkReads.reads c.adapt.new.marks ≤ g.M.MarkReads.reads c.args.marks.now + marks_to_read f c.rank.result.now (touched_nodes (flat_of s) (flat_of new))) news
+          (subst (λ (ns : List ℕ). g.M.MarkReads.reads c.adapt.new.marks ≤ g.M.MarkReads.reads c.args.marks.now + marks_to_read c.flat-new.result.now c.rank.result.now ns) nodes c.adapt.ensures.marks_few),
+    )
+
+pub returns-in_err-nodes-clause-marks_few : goal.returns-in_err-nodes-clause-marks_few
+returns-in_err-nodes-clause-marks_few g c = (c.flat-new.ensures.checked.rank, c.flat-new.ensures.checked.ranked, omega arith)

@@ -26,13 +26,13 @@ returns-clause-live g c =
     let olds : List (ℕ × Item) = c.args.self.now.items.rows in
     let old : KeepsItems l olds = keeps-of l l refl c.args.self.now.marks.rows c.requires.live.1.0 olds c.requires.live.1.1 in
     let cards : List Card = cards_of l.schema in
-    let renews : RenewsItems cards c.next.result (Some c.args.entry) olds c.args.changes c.renew_items.new.items.rows =
-    renews-of l.schema c.deref.result.now c.deref.ensures c.next.result (Some c.args.entry) c.reserve-3.new.self.rows olds c.reserve-3.ensures.same c.args.changes c.renew_items.new.items.rows c.renew_items.ensures.items in
-    let taken : List (ℕ × Option Item) = renewed_changes cards c.next.result (Some c.args.entry) olds c.args.changes in
+    let renews : RenewsItems cards c.next-2.result (Some c.args.entry) olds c.args.changes c.renew_items.new.items.rows =
+    renews-of l.schema c.deref.result.now c.deref.ensures c.next-2.result (Some c.args.entry) c.reserve-3.new.self.rows olds c.reserve-3.ensures.same c.args.changes c.renew_items.new.items.rows c.renew_items.ensures.items in
+    let taken : List (ℕ × Option Item) = renewed_changes cards c.next-2.result (Some c.args.entry) olds c.args.changes in
     let made : ChangesItems cards (entries_with l.trail (Some c.args.entry)) c.args.changes taken =
-    pushed-made l c.requires.live.0 olds old c.args.entry c.requires.kept c.args.changes c.renew_items.ensures.ascends c.requires.marks c.next.result (c.next.ensures.next ∙ ap (λ (t : TrailModel). t.next) c.reserve.ensures.same) taken
-    (made-so cards c.next.result (Some c.args.entry) olds c.args.changes) in
+    pushed-made l c.requires.live.0 olds old c.args.entry c.requires.kept c.args.changes c.renew_items.ensures.ascends c.requires.marks c.next-2.result (c.next-2.ensures.next ∙ ap (λ (t : TrailModel). t.next) c.reserve.ensures.same) taken
+    (made-so cards c.next-2.result (Some c.args.entry) olds c.args.changes) in
     let items : KeepsItems (with_trail l new) c.renew_items.new.items.rows =
     pushed-items l c.requires.live.0 c.args.entry c.requires.kept c.args.changes c.renew_items.ensures.ascends c.requires.marks olds c.renew_items.new.items.rows taken old made
-    (renewed-so cards c.next.result (Some c.args.entry) olds c.args.changes c.renew_items.new.items.rows renews) in
+    (renewed-so cards c.next-2.result (Some c.args.entry) olds c.args.changes c.renew_items.new.items.rows renews) in
     (marks.0, (marks.1, told-of (with_trail l new) m same c.take_in.new.self.rows marks.1 c.renew_items.new.items.rows items))

@@ -7,9 +7,9 @@ use Rattle.wsm_settle.specs.Events.{WithdrawsRight}
 use Rattle.wsm_trail.specs.Withdrawn.{withdrawn}
 use Rattle.case_core.proofs.live_of.LiveOf.withdraw_changes.Goals as goal
 
-pub returns : goal.returns
-returns g c =
+pub returns-clause-changes : goal.returns-clause-changes
+returns-clause-changes g c =
     let l : LiveModel = c.args.self.now in
-    let kept : Kept l = c.marks.ensures.kept in
-    IfOk-weaker c.after_withdraw.result (WithdrawsRight c.marks.result.now.rows c.args.node) (Remarks l (withdrawn c.args.node l.trail))
-    (withdraw-remarks l kept kept.checked.rank kept.checked.ranked c.marks.result.now.rows c.marks.ensures.rows c.args.node c.requires) c.after_withdraw.ensures.changes
+    let kept : Kept l = c.base.ensures.kept in
+    IfOk-weaker c.after_withdraw.result (WithdrawsRight (g.M.MarkReads.kept c.args.marks.now) c.args.node) (Remarks l (withdrawn c.args.node l.trail))
+    (withdraw-remarks l kept kept.checked.rank kept.checked.ranked (g.M.MarkReads.kept c.args.marks.now) c.requires.marks c.args.node c.requires.runs) c.after_withdraw.ensures.changes

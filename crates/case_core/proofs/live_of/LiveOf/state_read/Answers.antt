@@ -1,0 +1,25 @@
+use Rattle.std.proofs.Common.{◌≡◌, Some, None, refl, sym, ◌∙◌, ap}
+use Rattle.std.specs.Option.{option_copied}
+use Rattle.case_core.proofs.Marked.{spot-marked, spot-none}
+use Rattle.case_core.specs.CaseModel.{LiveModel}
+use Rattle.case_core.specs.Kept.{marks_in}
+use Rattle.wsm_lists.specs.ByNumber.{item_at}
+use Rattle.wsm_schema.specs.Flat.{card_at, cards_of}
+use Rattle.wsm_walk.specs.Kept.{mark_or}
+use Rattle.wsm_walk.specs.MarkStates.{mark_spot}
+use Rattle.case_core.proofs.live_of.LiveOf.state_read.Goals as goal
+
+pub returns-in-None-clause-state : goal.returns-in-None-clause-state
+returns-in-None-clause-state g c =
+    let l : LiveModel = c.args.self.now in
+    let none : card_at c.args.node (cards_of l.schema) ≡ None = sym c.card.ensures.card ∙ ap option_copied c.in-None.is in
+    ap (λ s. s.state) (spot-none l c.card.ensures.kept c.args.node none)
+
+pub returns-in-Some-clause-state : goal.returns-in-Some-clause-state
+returns-in-Some-clause-state g c =
+    let l : LiveModel = c.args.self.now in
+    let at : card_at c.args.node (cards_of l.schema) ≡ Some c.in-Some.card.now = sym c.card.ensures.card ∙ ap option_copied c.in-Some.is in
+    ap (λ s. s.state)
+    (c.spot_by.ensures
+    ∙ ap (λ o. mark_spot c.in-Some.card.now.kind c.args.node (mark_or o)) (c.as_ref.ensures.value ∙ c.get.ensures.mark ∙ ap (item_at c.args.node) c.requires.marks)
+    ∙ spot-marked l c.card.ensures.kept (marks_in l) refl c.args.node c.in-Some.card.now at)
