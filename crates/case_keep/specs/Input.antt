@@ -14,6 +14,7 @@ use Rattle.file_model.specs.declared.refusals.FileRefusal.{FileRefusal}
 use Rattle.file_model.specs.declared.refusals.FileRefusal.TheVariants as refusal
 use Rattle.store_disk.specs.declared.file.OpenFault.{OpenFault}
 use Rattle.store_disk.specs.declared.file.OpenFault.TheVariants as open_fault
+use Rattle.store_keep.specs.declared.faults.KeepFault.TheVariants as keep_fault
 
 abbrev pub of_read : ReadRefusal → Unkept
 of_read read.Failed = unkept.Unread
@@ -26,8 +27,10 @@ of_file refusal.NoMemory = unkept.NoMemory
 
 abbrev pub of_open : OpenFault → Unkept
 of_open open_fault.Held = unkept.Held
-of_open open_fault.Failed = unkept.NoStore
+of_open open_fault.NotAStore = unkept.NotAStore
+of_open open_fault.TooLong = unkept.Keep keep_fault.TooLong
 of_open open_fault.NoMemory = unkept.NoMemory
+of_open (open_fault.Failed reason) = unkept.NoStore
 
 -- bytes, where they are known, are not too many and stand for a file
 abbrev pub StandFor : Option (List ℕ) → File → Type 0
