@@ -3,6 +3,7 @@
  * REFUSED=memory:N    the Nth call for memory gives none; REFUSED=all-memory:N: neither does any later one
  * REFUSED=read:N      the Nth read fails; REFUSED=write:N: the Nth write
  * REFUSED=reads:N     each read gives N bytes at most; REFUSED=writes:N: each write takes N at most
+ * REFUSED=interrupted:N   a signal interrupts each read and each write but every Nth
  * COUNTED=FILE        holds three numbers of 8 bytes: how often it called for memory, read and wrote
  */
 #define _GNU_SOURCE
@@ -19,7 +20,8 @@ extern void *__libc_malloc(size_t), *__libc_calloc(size_t, size_t), *__libc_real
 
 enum { MEMORY, READ, WRITE, KINDS };
 static atomic_long own[KINDS], *counted = own;
-static long refused[KINDS], most[KINDS], all_from;
+static atomic_long turns;
+static long refused[KINDS], most[KINDS], all_from, made;
 static int is_on;
 
 static void take(const char *what, const char *name, long *to) {
@@ -37,6 +39,7 @@ __attribute__((constructor)) static void begin(void) {
         take(what, "write", &refused[WRITE]);
         take(what, "reads", &most[READ]);
         take(what, "writes", &most[WRITE]);
+        take(what, "interrupted", &made);
     }
     const char *path = getenv("COUNTED");
     int file = path ? open(path, O_RDWR) : -1;
@@ -75,6 +78,10 @@ int posix_memalign(void **to, size_t align, size_t size) {
 }
 
 static ssize_t moved(int kind, long number, int file, void *at, size_t count) {
+    if (is_on && made && (atomic_fetch_add(&turns, 1) + 1) % made) {
+        errno = EINTR;
+        return -1;
+    }
     if (is_refused(kind)) {
         errno = EIO;
         return -1;
