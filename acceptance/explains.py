@@ -1,6 +1,6 @@
 """Tries tools/explain on the folders of acceptance/explaining, and on the files of acceptance/limits that are refused.
 
-A folder has `stdin`, the file, and `told`: its lines stand in what is told, in that order, each as a part of a line (which may
+What documents show of it is the whole of what is told. A folder has `stdin`, the file, and `told`: its lines stand in what is told, in that order, each as a part of a line (which may
 have several); and those that begin with `line` or `lines` are all that do so.
 """
 import glob
@@ -39,8 +39,21 @@ def content(path):
         return file.read()
 
 
+def documents(command):
+    """What documents show as told of the last process file before it."""
+    for path in sorted(glob.glob(os.path.join(os.path.dirname(HERE), "docs", "*.md"))):
+        given = b""
+        for block in re.findall(rb"^```\n(.*?)^```$", content(path), re.M | re.S):
+            if re.match(rb"adept [12]\n", block):
+                given = block
+            elif re.match(rb"line \d+: ", block):
+                found = "\n".join(explained(command, given)[0]) + "\n"
+                yield "explaining a file in " + os.path.basename(path), None if found == block.decode() else "got %r" % found
+
+
 def tried(command):
     """The name of each case with what differs, or None."""
+    yield from documents(command)
     for folder in sorted(glob.glob(os.path.join(HERE, "explaining", "*"))):
         told = content(os.path.join(folder, "told")).decode().splitlines()
         yield os.path.relpath(folder, HERE), what_differs(told, *explained(command, content(os.path.join(folder, "stdin"))))

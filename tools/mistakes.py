@@ -498,7 +498,9 @@ def unsound(draft, at, why):
         empty_type(draft, at)
     else:
         told.mend(draft)
-    return None if "put-in-" in why else Mistake(row, why, [], told.says, told.rows)
+    mistake = Mistake(row, why, [], told.says, told.rows)
+    mistake.shown = ""
+    return None if "put-in-" in why else mistake
 
 
 KINDS_OF_REFUSAL = {"header": header, "unended": unended, "not-text": not_text, "form": form, "limit": limit,
