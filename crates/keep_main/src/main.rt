@@ -31,7 +31,7 @@ fn work(rt: &HostRuntime, store: &mut Store) -> Result<(), Unkept> {
     if hold_streams(rt).is_err() {
         return Err(Unkept::Unread);
     }
-    store.path = word(rt.alloc())?;
+    store.path = word(rt)?;
     let file = read_process(rt.alloc(), &mut StdSource::new(rt.stdin()))?;
     let mut disk = open(rt, store)?;
     match keep_file(rt.alloc(), &file, &mut StdSink::new(rt.stdout()), &mut disk) {
@@ -44,7 +44,7 @@ fn work(rt: &HostRuntime, store: &mut Store) -> Result<(), Unkept> {
 fn unkept(fault: KeepFault, disk: &FileDisk, store: &mut Store) -> Unkept {
     store.reason = disk.reason();
     match fault {
-        KeepFault::Disk if store.reason == libc::ENOMEM => Unkept::NoMemory,
+        KeepFault::Disk if disk.lacks_memory() => Unkept::NoMemory,
         fault => Unkept::from(fault),
     }
 }

@@ -1,19 +1,59 @@
 // The bytes of a file that a disk lies over: a mark, and behind it the image.
-ghost use Rattle.std.specs.Prelude.{◌≡◌, ◌≤◌, ◌↔◌, IsTrue, codes, length, take};
+ghost use Rattle.std.specs.Prelude.{◌≤◌, ◌↔◌, ◌≡◌, IsTrue, length, take};
 
 use crate::file::OpenFault;
+use crate::frames::{Frame, frame_in};
 use crate::opening::MAX_IMAGE;
+use adept_io::Failed;
 use std::alloc::Global;
-use std::fs::{File, TryLockError};
+use std::fs::File;
 use std::io;
-use std::os::fd::AsRawFd;
 use std::os::unix::fs::FileExt;
 
 /// What stands in front of the image on a file.
-pub const MARK: [u8; 16] = *b"rushowa store 1\n";
+const MARK: [u8; 16] = *b"rushowa store 1\n";
 
-/// How many bytes the mark has.
-pub const MARK_LEN: u64 = 16;
+// How many bytes the mark has.
+pub(crate) const MARK_LEN: u64 = 16;
+
+// A file that is written to, and the system's number for why that failed last.
+#[derive(Drop)]
+pub(crate) struct StoreFile {
+    file: File,
+    reason: Option<i32>,
+}
+
+impl StoreFile {
+    pub(crate) fn new(file: File) -> StoreFile {
+        StoreFile { file, reason: None }
+    }
+
+    pub(crate) fn reason(&self) -> Option<i32> {
+        self.reason
+    }
+
+    // Writes all of the bytes at a place of the image.
+    pub(crate) fn write_all_at(&mut self, bytes: &[u8], at: u64) -> Result<(), Failed> {
+        let done = self.file.write_all_at(bytes, MARK_LEN.saturating_add(at));
+        self.note(done)
+    }
+
+    // Waits until the medium has all that was written.
+    pub(crate) fn sync_data(&mut self) -> Result<(), Failed> {
+        let done = self.file.sync_data();
+        self.note(done)
+    }
+
+    fn note(&mut self, done: io::Result<()>) -> Result<(), Failed> {
+        match done {
+            Ok(()) => Ok(()),
+            Err(error) => {
+                self.reason = error.raw_os_error();
+                Err(Failed)
+            }
+        }
+    }
+}
 
 // Whether bytes are a beginning of the mark.
 fn is_begun(front: &[u8]) -> bool
@@ -23,31 +63,13 @@ fn is_begun(front: &[u8]) -> bool
     front == &MARK[..front.len()]
 }
 
-// Takes the file's lock, which is gone when the file is closed.
-pub(crate) fn lock(file: &File) -> Result<(), OpenFault> {
-    match file.try_lock() {
-        Ok(()) => Ok(()),
-        Err(TryLockError::WouldBlock) => Err(OpenFault::Held),
-        Err(TryLockError::Error(error)) => Err(OpenFault::from(error)),
-    }
-}
-
-// Syncs a file, and has the system drop what it keeps of it in memory, so that what is read then is what the medium has.
-fn settle_file(file: &File) -> io::Result<()> {
-    file.sync_all()?;
-    match libc::posix_fadvise(file.as_raw_fd(), 0, 0, libc::POSIX_FADV_DONTNEED) {
-        0 => Ok(()),
-        reason => Err(io::Error::from_raw_os_error(reason)),
-    }
-}
-
-/// Puts the mark in front of a file that holds nothing else, and syncs it.
+/// Puts the mark in front of a file that holds no more than a beginning of it, and syncs the file.
 pub fn put_mark(file: &File) -> io::Result<()> {
     file.write_all_at(&MARK, 0)?;
     file.sync_all()
 }
 
-// How many bytes the image of a file has. A file that holds a beginning of the mark gets the rest.
+// How many bytes the image of a file has. A file that holds a beginning of the mark has none.
 fn image_len(file: &File) -> Result<u64, OpenFault> {
     let len = file.metadata()?.len();
     let mut front = [0u8; 16];
@@ -56,21 +78,42 @@ fn image_len(file: &File) -> Result<u64, OpenFault> {
     if !is_begun(front) {
         return Err(OpenFault::NotAStore);
     }
-    if len < MARK_LEN {
-        put_mark(file)?;
-        return Ok(0);
-    }
-    Ok(len - MARK_LEN)
+    Ok(len.saturating_sub(MARK_LEN))
 }
 
-/// The image of a file, as the medium has it.
+// The place of the last gate that is open and has its record; 0 where there is none.
+fn last_gate(image: &[u8]) -> usize {
+    let mut last = 0;
+    let mut rest = image;
+    for _ in 0..image.len() {
+        let Frame::Record(len) = frame_in(rest) else {
+            break;
+        };
+        last = image.len().saturating_sub(rest.len());
+        rest = &rest[5 + len..];
+    }
+    last
+}
+
+// Writes the mark, or the rest of it, and the last open gate over themselves, and syncs them. An earlier run may have ended
+// at a sync that failed: then reads may give what it wrote last, and the medium may lack it.
+fn write_again(file: &File, image: &[u8]) -> io::Result<()> {
+    let gate = last_gate(image);
+    if gate < image.len() {
+        file.write_all_at(&image[gate..gate + 1], MARK_LEN.saturating_add(gate as u64))?;
+    }
+    put_mark(file)
+}
+
+// The image of a file, which the medium has as it is read.
 pub(crate) fn read_image(alloc: Global, file: &File) -> Result<Vec<u8>, OpenFault> {
-    settle_file(file)?;
+    file.sync_all()?;
     let len = image_len(file)?;
     if len > MAX_IMAGE {
         return Err(OpenFault::TooLong);
     }
-    let mut bytes = vec![in alloc; 0u8; len as usize]?;
-    file.read_exact_at(&mut bytes, MARK_LEN)?;
-    Ok(bytes)
+    let mut image = vec![in alloc; 0u8; len as usize]?;
+    file.read_exact_at(&mut image, MARK_LEN)?;
+    write_again(file, &image)?;
+    Ok(image)
 }

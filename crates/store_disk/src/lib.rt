@@ -21,7 +21,7 @@ pub use disks::Disk;
 pub use file::{FileDisk, OpenFault};
 pub use framed::Framed;
 pub use frames::{Frame, frame_in};
-pub use image_file::{MARK, MARK_LEN, put_mark};
+pub use image_file::put_mark;
 pub use memory::MemoryDisk;
 pub use opening::{MAX_IMAGE, open_image, settle};
 pub use records::append;
