@@ -5,12 +5,21 @@ tried: for each record its payload.
 """
 import fcntl
 import os
+import re
+import shutil
+import stat
 import subprocess
 import tempfile
 
 HERE = os.path.dirname(os.path.abspath(__file__))
 TOP = os.path.dirname(HERE)
 SECONDS = 300
+# What stands in front of the image on a file, and what a store may be made under before it has its name.
+MARK = b"rushowa store 1\n"
+OTHER = re.compile(r"\.rushowa-\d+$")
+# How long the image of a store may be.
+LIMIT = 1 << 30
+NOBODY = 65534
 SEQUENCE = b"""adept 1
 type t
 act A
@@ -132,17 +141,44 @@ class Keep:
     def path(self, name="store"):
         return os.path.join(self.folder, name)
 
-    def read(self):
-        with open(self.path(), "rb") as file:
+    def whole(self, name="store"):
+        """All bytes of a file."""
+        with open(self.path(name), "rb") as file:
             return file.read()
 
-    def write(self, held):
+    def read(self):
+        """The image of the store."""
+        held = self.whole()
+        wants(held[:len(MARK)], MARK)
+        return held[len(MARK):]
+
+    def put(self, held):
+        """Makes the store's file hold these bytes."""
         with open(self.path(), "wb") as file:
             file.write(held)
 
-    def run(self, given, *words, to=subprocess.PIPE):
-        done = subprocess.run([*self.command, *(words or [self.path()])], input=given, timeout=SECONDS, stdout=to, stderr=subprocess.PIPE)
+    def write(self, held):
+        """Makes the store hold this image."""
+        self.put(MARK + held)
+
+    def names(self):
+        return sorted(os.listdir(self.folder))
+
+    def clear(self):
+        for name in self.names():
+            os.remove(self.path(name))
+
+    def run(self, given, *words, to=subprocess.PIPE, before=(), user=None):
+        done = subprocess.run([*before, *self.command, *(words or [self.path()])], input=given, timeout=SECONDS, stdout=to, stderr=subprocess.PIPE, user=user)
         return done.returncode, done.stdout, done.stderr
+
+    def ends(self, status, text, given=SEQUENCE, **how):
+        """A run ends so, and writes nothing but this message."""
+        wants(self.run(given, **how), (status, b"", b"keep: %s\n" % text.encode()))
+
+    def injected(self, name, how, number):
+        """Before a run: its call of that number and name is met so."""
+        return ["strace", "-f", "-qq", "-o", "/dev/null", "-e", "trace=" + name, "-e", "inject=%s:%s:when=%d" % (name, how, number)]
 
     def done(self, given):
         """What a run ends with that works the file to its end."""
@@ -214,14 +250,201 @@ def refused_file(keep):
 
 
 def no_store(keep):
-    """What is no regular file is no store, and one that is held is refused."""
-    for path in keep.folder, keep.path("none/store"), "/dev/null":
-        wants(keep.run(SEQUENCE, path), (11, b"", b"keep: cannot open the store\n"))
-    keep.write(b"")
-    with open(keep.path(), "rb+") as file:
-        fcntl.flock(file, fcntl.LOCK_EX)
-        wants(keep.run(SEQUENCE), (10, b"", b"keep: the store is in use\n"))
-        wants(keep.read(), b"")
+    """What is no regular file is no store, and one that is held is refused; both are told with the path, and the system's reason."""
+    reasons = {keep.folder: ": Is a directory (os error 21)", keep.path("none/store"): ": No such file or directory (os error 2)", "/dev/null": ""}
+    for path, reason in reasons.items():
+        wants(keep.run(SEQUENCE, path), (11, b"", b"keep: cannot open the store: %s%s\n" % (path.encode(), reason.encode())))
+    for held in b"", b"bread\n":
+        keep.put(held)
+        with open(keep.path(), "rb+") as file:
+            fcntl.flock(file, fcntl.LOCK_EX)
+            keep.ends(10, "the store is in use: " + keep.path())
+            wants(keep.whole(), held)
+
+
+def other_files(keep):
+    """A file that holds something else is no store, and is left byte for byte as it is."""
+    payloads = payloads_of(STORED[0][1])
+    picture = b"\x89PNG\r\n\x1a\n\0\0\0\rIHDR" + bytes(17)
+    letters = b"bread\n", b"\n", b"\0", b"\1", b"rushowa", b"rushowa store 1", b"rushowa store 1\n"
+    near = [MARK[:count] + b"\0" for count in range(len(MARK))] + [b" " + MARK, MARK.replace(b"\n", b"\r\n"), MARK.replace(b"1", b"2") + image(payloads)]
+    for held in [letters[0], letters[1], letters[2], letters[3], SEQUENCE, picture, image(payloads), image([]), b"\xef\xbb\xbf" + MARK, *near]:
+        keep.put(held)
+        keep.ends(9, "not a store")
+        wants(keep.whole(), held)
+        wants(keep.names(), ["store"])
+
+
+def beginnings(keep):
+    """A file that holds a beginning of the mark, or nothing, is a new store."""
+    wanted = image(payloads_of(STORED[0][1]))
+    for count in range(len(MARK) + 1):
+        keep.put(MARK[:count])
+        wants(keep.run(SEQUENCE), keep.done(SEQUENCE))
+        wants(keep.read(), wanted)
+        wants(keep.names(), ["store"])
+
+
+def is_made(keep):
+    """A new store stands alone in its folder, and may be read by whom any new file may."""
+    with open(keep.path("beside"), "wb"):
+        pass
+    wants(keep.run(SEQUENCE), keep.done(SEQUENCE))
+    wants(keep.names(), ["beside", "store"])
+    wants(stat.S_IMODE(os.stat(keep.path()).st_mode), stat.S_IMODE(os.stat(keep.path("beside")).st_mode))
+    wants(os.stat(keep.path()).st_nlink, 1)
+
+
+def links(keep):
+    """Behind links to a name that is not there the store is made at that name, in its folder, and is gone on with there."""
+    os.mkdir(keep.path("far"))
+    os.symlink("far/second", keep.path("store"))
+    os.symlink(keep.path("far/third"), keep.path("far/second"))
+    for _ in range(2):
+        wants(keep.run(SEQUENCE), keep.done(SEQUENCE))
+        wants(sorted(os.listdir(keep.path("far"))), ["second", "third"])
+        wants(keep.read(), image(payloads_of(STORED[0][1])))
+        wants([os.path.islink(keep.path(name)) for name in ("store", "far/second", "far/third")], [True, True, False])
+    os.remove(keep.path())
+    os.symlink("nowhere/store", keep.path())
+    keep.ends(11, "cannot open the store: %s: No such file or directory (os error 2)" % keep.path())
+    os.remove(keep.path())
+    os.symlink("store", keep.path())
+    keep.ends(11, "cannot open the store: %s: Too many levels of symbolic links (os error 40)" % keep.path())
+
+
+def is_too_long(keep):
+    """A store that is too long is told by its length, and left as it is; so is a long file that is none."""
+    limited = ["sh", "-c", 'ulimit -v 800000; exec "$@"', "sh"]
+    starts = subprocess.run([*limited, *keep.command], input=b"", capture_output=True).returncode == 2
+    for front, text in (MARK, "the store is not of this file: too long"), (b"bread\n", "not a store"):
+        keep.put(front)
+        os.truncate(keep.path(), len(MARK) + LIMIT + 1)
+        keep.ends(9, text, before=limited if starts else ())
+        wants(os.path.getsize(keep.path()), len(MARK) + LIMIT + 1)
+        with open(keep.path(), "rb") as file:
+            wants(file.read(len(MARK)), front.ljust(len(MARK), b"\0"))
+
+
+def is_too_long_a_file(keep):
+    """A process file of one byte too many leaves the store alone."""
+    keep.ends(6, "input too long", given=SEQUENCE + b"#" * (16_777_216 - len(SEQUENCE)) + b"\n")
+    wants(keep.names(), [])
+
+
+def older(keep):
+    """What docs/STORE.md says in one line of shell gives a store from before its mark."""
+    with open(os.path.join(TOP, "docs", "STORE.md"), encoding="utf-8") as file:
+        line = re.search(r"^    (\{ printf .*)$", file.read(), re.M).group(1)
+    keep.put(image(payloads_of(STORED[0][1])[:4]))
+    os.rename(keep.path(), keep.path("claims.old"))
+    subprocess.run(["sh", "-c", line], cwd=keep.folder, check=True)
+    os.rename(keep.path("claims.store"), keep.path())
+    wants(keep.read(), image(payloads_of(STORED[0][1])[:4]))
+    wants(keep.run(SEQUENCE), keep.done(SEQUENCE))
+    wants(keep.read(), image(payloads_of(STORED[0][1])))
+
+
+def folder_without_reading(keep):
+    """In a folder that may not be read no store is made, and nothing is left."""
+    folder = keep.path("closed")
+    os.mkdir(folder)
+    is_root = os.geteuid() == 0
+    if is_root:
+        os.chmod(keep.folder, 0o755)
+        os.chown(folder, NOBODY, NOBODY)
+    os.chmod(folder, 0o300)
+    try:
+        done = keep.run(SEQUENCE, os.path.join(folder, "store"), user=NOBODY if is_root else None)
+    except PermissionError:
+        print("not tried keeps, folder_without_reading: the program may not be run by another user", flush=True)
+        return
+    wants(done, (11, b"", b"keep: cannot open the store: %s/store: Permission denied (os error 13)\n" % folder.encode()))
+    os.chmod(folder, 0o700)
+    wants(os.listdir(folder), [])
+
+
+def stops_while_made(keep):
+    """A stop at each call while a store is made leaves the name to no file, or to one with the whole mark; the next run goes on."""
+    names = {name: 0 for name in ("openat", "pwrite64", "fsync", "link", "unlink", "flock", "fdatasync")}
+    for name in names:
+        while True:
+            keep.clear()
+            status = keep.run(SEQUENCE, before=keep.injected(name, "signal=KILL", names[name] + 1))[0]
+            if status == 0:
+                break
+            names[name] += 1
+            wants([other for other in keep.names() if other != "store" and not OTHER.match(other)], [])
+            if os.path.exists(keep.path()):
+                keep.read()
+            wants(keep.run(SEQUENCE), keep.done(SEQUENCE))
+            wants(keep.read(), image(payloads_of(STORED[0][1])))
+    wants([name for name in ("openat", "pwrite64", "fsync", "link", "unlink", "fdatasync") if not names[name]], [])
+
+
+def fails_while_made(keep):
+    """Where a call fails while a store is made it is told so, and its name is no file's or that of one with the whole mark."""
+    for name in "pwrite64", "fsync", "link":
+        for number in 1, 2, 3:
+            keep.clear()
+            status, output, message = keep.run(SEQUENCE, before=keep.injected(name, "error=EIO", number))
+            if status == 0:
+                break
+            wants((status, output), (7 if b"failed" in message else 11, b""))
+            text = b"the store failed; run the same command again" if status == 7 else b"cannot open the store"
+            wants(message, b"keep: %s: %s: Input/output error (os error 5)\n" % (text, keep.path().encode()))
+            wants([other for other in keep.names() if other != "store"], [])
+            if os.path.exists(keep.path()):
+                keep.read()
+            wants(keep.run(SEQUENCE), keep.done(SEQUENCE))
+
+
+def fails(keep):
+    """Each write and each sync behind the opening that fails is a store that failed, for the system's reason."""
+    for name, error, reason in ("pwrite64", "ENOSPC", "No space left on device (os error 28)"), ("fdatasync", "EIO", "Input/output error (os error 5)"):
+        number = 3
+        while True:
+            keep.clear()
+            status, output, message = keep.run(SEQUENCE, before=keep.injected(name, "error=" + error, number))
+            if status == 0:
+                break
+            wants((status, output), (7, b""))
+            wants(message.decode(), "keep: the store failed; run the same command again: %s: %s\n" % (keep.path(), reason))
+            wants(keep.run(SEQUENCE), keep.done(SEQUENCE))
+            number += 1
+        wants(number > 10, True)
+
+
+def interrupted(keep):
+    """A call that a signal interrupted is made again: the last two of each name."""
+    for name in "openat", "flock", "pread64", "pwrite64", "fsync", "fdatasync":
+        keep.clear()
+        keep.run(SEQUENCE, before=["strace", "-f", "-qq", "-o", keep.path("told"), "-e", "trace=" + name])
+        count = len(keep.whole("told").splitlines())
+        wants(count > 0, True)
+        for number in range(max(count - 1, 1), count + 1):
+            keep.clear()
+            wants(keep.run(SEQUENCE, before=keep.injected(name, "error=EINTR", number)), keep.done(SEQUENCE))
+            wants(keep.read(), image(payloads_of(STORED[0][1])))
+
+
+def syncs_its_folder(keep):
+    """The folder of the file behind a link is synced before the file is locked, at each opening, and a fault of it is told."""
+    os.mkdir(keep.path("far"))
+    os.symlink("far/store", keep.path("store"))
+    told, folder = keep.path("told"), os.path.realpath(keep.path("far"))
+    for _ in range(2):
+        wants(keep.run(SEQUENCE, before=["strace", "-f", "-y", "-qq", "-o", told, "-e", "trace=fsync,flock,link"]), keep.done(SEQUENCE))
+        calls = [re.search(r"(\w+)\((?:\d+<([^>]*)>|\")", line) for line in keep.whole("told").decode().splitlines()]
+        before = [(call[1], call[2]) for call in calls if call]
+        at = [name for name, _ in before].index("flock")
+        wants(before[at - 1], ("fsync", folder))
+    for number in range(1, 5):
+        status, _, message = keep.run(SEQUENCE, before=keep.injected("fsync", "error=EIO", number))
+        if status == 0:
+            wants(number, 4)
+            break
+        wants((status, message), (11, b"keep: cannot open the store: %s: Input/output error (os error 5)\n" % keep.path().encode()))
 
 
 def no_report(keep):
@@ -231,12 +454,18 @@ def no_report(keep):
     wants(keep.read(), image(payloads_of(STORED[0][1])))
 
 
-CHECKS = [is_stored, goes_on, grows, names_are_not_stored, is_damaged, words, refused_file, no_store, no_report]
+CHECKS = [is_stored, goes_on, grows, names_are_not_stored, is_damaged, words, refused_file, no_store, no_report, other_files, beginnings, is_made, links,
+          is_too_long, is_too_long_a_file, older, folder_without_reading]
+# These have strace stop a run, or fail one of its calls.
+TRACED = [stops_while_made, fails_while_made, fails, interrupted, syncs_its_folder]
 
 
 def tried(command, player):
     """Makes each check: its name, and what differs."""
-    for check in CHECKS:
+    has_strace = shutil.which("strace") is not None
+    if not has_strace:
+        print("not tried keeps, %s: there is no strace" % ", ".join(check.__name__ for check in TRACED), flush=True)
+    for check in CHECKS + (TRACED if has_strace else []):
         with tempfile.TemporaryDirectory(prefix="acceptance-") as folder:
             try:
                 check(Keep(command, player, folder))
