@@ -1,5 +1,5 @@
 -- What a type answers to whom it defines and who asks it.
-use Rattle.std.proofs.Common.{◌≡◌, ℕ, ◌<◌, true, List, [], ◌∷◌, ◌++◌, length, Option, Some, None, OnOk, IsErrAnd, Result, Ok, Err, slice_get, refl, sym, ap, ◌∙◌, subst, arith}
+use Rattle.std.proofs.Common.{◌≡◌, ℕ, ◌<◌, true, List, [], ◌∷◌, ◌++◌, length, Option, Some, None, OnOk, IfErr, IsErrAnd, ◌⊎◌, inl, Result, Ok, Err, slice_get, refl, sym, ap, ◌∙◌, subst, arith}
 use Rattle.std.specs.Result.{result_map_both}
 use Rattle.adept_server.proofs.Called.{not_called}
 use Rattle.adept_server.proofs.Histories.{state-append, last-reply}
@@ -118,6 +118,11 @@ case_failed e id v (Err f) is desk there = subst (λ x. CallsCase e id (Err x) v
 pub create_unasked : (id : CaseId) (v w : DeskView) (asked : Result KindReply CallFault) (answer : Result Reply CallFault) (f : CallFault) → asked ≡ Err f → IsErrAnd answer (λ x. x ≡ f) → CallsKind kind_event.Newest id.type_no asked v w → Creates id answer v w
 create_unasked id v w asked (Ok r) f is same called = absurd same
 create_unasked id v w asked (Err x) f is same called = unasked f (ap Err same) (subst (λ a. CallsKind kind_event.Newest id.type_no a v w) is called)
+
+-- want of memory is then the type's
+pub room_unasked : (A B : Type 0) (asked : Result KindReply CallFault) (answer : Result Reply CallFault) (f : CallFault) → asked ≡ Err f → IsErrAnd answer (λ x. x ≡ f) → IfErr asked (λ x. x ≡ NoMemory → A) → IfErr answer (λ x. x ≡ NoMemory → A ⊎ B)
+room_unasked A B asked (Ok r) f is same room = absurd same
+room_unasked A B asked (Err x) f is same room = λ none. inl (subst (λ o. IfErr o (λ y. y ≡ NoMemory → A)) is room (sym same ∙ none))
 
 -- where a type did not answer, or the batch was not made, the cases do not move
 pub none_asked : {X Y : Type 0} (g : X → Y) (o : Result X CallFault) (f : CallFault) → IsErrAnd o (λ x. x ≡ f) → result_map_both g (λ (x : CallFault). x) o ≡ Err f

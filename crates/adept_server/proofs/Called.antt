@@ -1,8 +1,9 @@
 -- One call with one of many passes.
-use Rattle.std.proofs.Common.{◌≡◌, ℕ, zero, suc, List, [], ◌∷◌, length, map, Some, Result, Ok, Err, IfOk, IfErr, OnErr, slice_get, set, refl, ap, ◌∙◌, subst}
+use Rattle.std.proofs.Common.{◌≡◌, ℕ, zero, suc, ◌<◌, ◌≤◌, List, [], ◌∷◌, length, map, Some, Result, Ok, Err, IfOk, IfErr, OnErr, slice_get, set, inl, inr, refl, ap, ◌∙◌, subst}
 use Rattle.std.proofs.lemmas.List.{map-set, append-nil}
 use Rattle.std.proofs.lemmas.Option.{slice_get-map}
 use Rattle.std.specs.Prelude.{option_map}
+use Rattle.adept_server.proofs.Places.{get-set_same}
 use Rattle.adept_server.specs.Calling.{IsAnswered, CallsOne}
 use Rattle.turn_batch.specs.Batch.{AreOf}
 use Rattle.turn_cell.specs.Passes.{PassView, view_of, IsPassOf, IsLegalView, Stays, Sees, Calls}
@@ -21,6 +22,10 @@ module _ {M E R W S : Type 0} {g : _} where
   passes-of_set (d ∷ cs) (p ∷ ps) k zero c q there of = (let same : c ≡ d = cc (there) in subst (λ x. IsPassOf x q) same of, k.1)
   passes-of_set (d ∷ cs) (p ∷ ps) k (suc i) c q there of = (k.0, passes-of_set cs ps k.1 i c q there of)
 
+  -- a pass stands where it was put
+  pub set-view : (ps : List (Pass M E R W S g)) (i : ℕ) (q : Pass M E R W S g) → i < length ps → slice_get (map view_of (set ps i q)) i ≡ Some (view_of q)
+  set-view ps i q lt = slice_get-map view_of (set ps i q) i ∙ ap (option_map view_of) (get-set_same ps i q lt)
+
   -- the rest of the cells and of the passes
   pub of_rest : (cs rest : List (Cell M E R W S)) (c : Cell M E R W S) (ps left : List (Pass M E R W S g)) (p : Pass M E R W S g) → cs ≡ c ∷ rest → ps ≡ p ∷ left → AreOf cs ps → AreOf rest left
   of_rest cs rest c ps left p cells passes of =
@@ -29,8 +34,8 @@ module _ {M E R W S : Type 0} {g : _} where
 module _ {M E R W S : Type 0} (after : S → E → S) (reply : S → E → R) (event : E) where
   -- what a call promises is what it leaves of the pass
   pub called_once : (v w : PassView M E R W S) (answer : Result R CallFault) → Stays v w → IfOk answer (λ r. Calls after reply event v r w) → OnErr answer (Sees after reply v w)
-      → IfErr answer (λ f. f ≡ Full → length w.seen ≡ MAX_ENTRIES) → IsAnswered after reply event v answer w
-  called_once v w (Ok r) s ok err full = record {
+      → length w.seen ≤ MAX_ENTRIES → IfErr answer (λ f. f ≡ Full → length w.seen ≡ MAX_ENTRIES) → IfErr answer (λ f. f ≡ NoMemory → length w.seen < MAX_ENTRIES) → IsAnswered after reply event v answer w
+  called_once v w (Ok r) s ok err room full memory = record {
     cell = s.cell;
     opening = s.opening;
     number = s.number;
@@ -38,9 +43,11 @@ module _ {M E R W S : Type 0} (after : S → E → S) (reply : S → E → R) (e
     taken = s.taken;
     past = s.past;
     outcome = ok;
+    room = room;
     full = λ is. absurd (cc);
+    memory = λ is. absurd (cc);
   }
-  called_once v w (Err f) s ok err full = record {
+  called_once v w (Err f) s ok err room full memory = record {
     cell = s.cell;
     opening = s.opening;
     number = s.number;
@@ -48,7 +55,9 @@ module _ {M E R W S : Type 0} (after : S → E → S) (reply : S → E → R) (e
     taken = s.taken;
     past = s.past;
     outcome = err;
+    room = tt;
     full = λ is. full (cc);
+    memory = λ is. inr (memory (cc));
   }
 
   -- where memory ran out before a call, the pass is as it was
@@ -61,7 +70,9 @@ module _ {M E R W S : Type 0} (after : S → E → S) (reply : S → E → R) (e
     taken = refl;
     past = refl;
     outcome = record { more = ([], append-nil v.seen); own_calls = refl; legal = legal.legal; own = legal.own };
+    room = tt;
     full = λ is. absurd (cc);
+    memory = λ is. inl refl;
   }
 
   -- a call with the pass at a place is one call of the list

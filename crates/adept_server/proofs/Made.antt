@@ -1,13 +1,14 @@
 -- The calls of a server's desks, and what they make of them.
-use Rattle.std.proofs.Common.{◌≡◌, ℕ, ◌<◌, Bool, true, List, length, map, IfOk, OnErr, Result, Ok, Err, set, refl, sym, ap, ◌∙◌, subst, arith, if◌then◌else◌}
+use Rattle.std.proofs.Common.{◌≡◌, ℕ, ◌<◌, Bool, true, List, length, map, IfOk, OnErr, Result, Ok, Err, set, slice_get, refl, sym, ap, ◌∙◌, subst, arith, if◌then◌else◌}
 use Rattle.std.proofs.Math.ListN.{length-map}
+use Rattle.std.proofs.lemmas.Option.{slice_get_within}
 use Rattle.adept_server.proofs.Keeping.{kind_call, kind_keeps, case_keeps, cases_keep}
 use Rattle.adept_server.proofs.Looks.{looks_keep}
 use Rattle.adept_server.specs.Offering.{AllLooked, Looks}
-use Rattle.adept_server.proofs.Places.{set_same}
+use Rattle.adept_server.proofs.Places.{get-set_same, set_same}
 use Rattle.adept_server.proofs.Rows.{AreVecsOf, RowAt, HasRow, row_of, row_there, rows_behind, view_there, views_behind}
-use Rattle.adept_server.specs.Calling.{CallEach, CallsOne, CallsKind, CallsCase, CallsCases, answer_tells}
-use Rattle.adept_server.specs.Desks.{DeskView, KindPass, CasePass, AreRowsOf, IsDeskOf, desk_view, IsDesk, has_kind, has_case}
+use Rattle.adept_server.specs.Calling.{CallEach, CallsOne, CallsKind, CallsCase, CallsCases, HasRoom, answer_tells}
+use Rattle.adept_server.specs.Desks.{DeskView, KindPass, CasePass, AreRowsOf, IsDeskOf, desk_view, IsDesk, case_pass, has_kind, has_case, in_row}
 use Rattle.adept_server.specs.declared.desks.Desk.{Desk}
 use Rattle.adept_server.specs.declared.servers.Server.{Server}
 use Rattle.case_core.specs.Machine.{case_after, case_reply}
@@ -75,6 +76,14 @@ case_made s d e event id answer k r row number made taken defined kinds cases of
       others = same_views (record (desk_view d) { cases = set (desk_view d).cases id.type_no (map view_of row.items) }) (desk_view e) number made taken (ap (λ (x : _). x.items) defined) (ap (λ (x : _). map view_of x.items) kinds)
           (views_behind d.cases.items e.cases.items id.type_no row cases);
     }
+
+-- what was seen of a case is what its row has at its place
+pub row_room : (s : Server) (d e : Desk) (id : CaseId) → (r : RowAt s.cases.items d.cases.items id.type_no) (row : _)
+    → e.cases.items ≡ set d.cases.items id.type_no row → HasRoom (slice_get (map view_of row.items) id.place) → HasRoom (case_pass (desk_view e) id)
+row_room s d e id r row cases room =
+    let within = slice_get_within (desk_view d).cases id.type_no (map view_of r.passes.items) (view_there s.cases.items d.cases.items id.type_no r) in
+    let here = ap (λ rows. slice_get rows id.type_no) (views_behind d.cases.items e.cases.items id.type_no row cases) ∙ get-set_same (desk_view d).cases id.type_no (map view_of row.items) within in
+    subst (λ o. HasRoom (in_row id.place o)) (sym here) room
 
 cases_there : (d : Desk) (t : ℕ) → IsDesk (desk_view d) → has_kind (desk_view d) t → t < length d.cases.items
 cases_there d t desk there = omega (arith, desk.rows, length-map d.cases.items (λ (row : _). map view_of row.items))

@@ -1,5 +1,5 @@
 -- What one call leaves of each pass of a list.
-use Rattle.std.proofs.Common.{◌≡◌, ℕ, zero, suc, List, [], ◌∷◌, ◌++◌, map, Some, Result, Ok, Err, IfOk, OnErr, MatchResult, slice_get, ◌⊎◌, inl, inr, refl, sym, ap, ◌∙◌, subst, append_assoc}
+use Rattle.std.proofs.Common.{◌≡◌, ℕ, zero, suc, List, [], ◌∷◌, ◌++◌, map, Some, Result, Ok, Err, IfOk, OnErr, OnOk, MatchResult, slice_get, ◌⊎◌, inl, inr, refl, sym, ap, ◌∙◌, subst, append_assoc}
 use mathlib.Core.List.{IsPrefix}
 use Rattle.adept_server.proofs.Places.{set_cases, stays_or_set}
 use Rattle.adept_server.specs.Calling.{IsAnswered, CallEach, CallsOne}
@@ -8,6 +8,11 @@ use Rattle.turn_cell.specs.Passes.{PassView, view_of, IsLegalView, Sees, Calls}
 use Rattle.turn_batch.specs.Batch.{AreCalled}
 use Rattle.turn_cell.specs.declared.pass.Pass.{Pass}
 use Rattle.turn_cell.specs.declared.faults.CallFault.{CallFault}
+
+-- what holds behind each answer holds behind a reply
+room_left : {A X Y : Type 0} (answer : Result X Y) → A → OnOk answer A
+room_left (Ok r) a = a
+room_left (Err f) a = tt
 
 module _ {M E R W S : Type 0} (after : S → E → S) (reply : S → E → R) (event : E) where
   -- a pass that was called has seen a legal list, which begins with the old one
@@ -71,7 +76,9 @@ module _ {M E R W S : Type 0} (after : S → E → S) (reply : S → E → R) (e
       taken = k.0.taken;
       past = k.0.past;
       outcome = k.0.outcome;
+      room = room_left a k.0.room;
       full = k.0.full;
+      memory = λ is. inr (k.0.memory is);
     },
     each_called ps answers qs k.2,
   )

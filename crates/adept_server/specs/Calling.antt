@@ -1,5 +1,5 @@
 -- What a call leaves of a desk: an entry more on each cell that it calls.
-use Rattle.std.specs.Prelude.{◌≡◌, ℕ, Bool, true, false, List, [], ◌∷◌, length, Some, Result, Ok, Err, MatchResult, slice_get, slice_set, if◌then◌else◌}
+use Rattle.std.specs.Prelude.{◌≡◌, ℕ, ◌<◌, ◌≤◌, ◌⊎◌, Bool, true, false, List, [], ◌∷◌, length, Option, Some, None, Result, Ok, Err, OnOk, MatchResult, slice_get, slice_set, if◌then◌else◌}
 use Rattle.adept_server.specs.Desks.{CasePass, DeskView}
 use Rattle.case_core.specs.Machine.{case_after, case_reply}
 use Rattle.case_core.specs.declared.events.Event.{Event}
@@ -17,8 +17,14 @@ use Rattle.type_core.specs.declared.replies.KindReply.TheVariants as kind_reply
 use Rattle.wsm_sound.specs.VersionModel.{VersionModel}
 use Rattle.wsm_sound.specs.declared.versions.CaseId.{CaseId}
 
+-- the journal of a cell has room in what its pass has seen
+abbrev pub HasRoom : {M E R W S : Type 0} → Option (PassView M E R W S) → Type 0
+HasRoom None = ⊥
+HasRoom (Some p) = length p.seen < MAX_ENTRIES
+
 module _ {M E R W S : Type 0} (after : S → E → S) (reply : S → E → R) where
   -- What a call with that answer leaves of a pass. Where the answer is a fault, no call was made, and the pass may have seen more.
+  -- Want of memory is told where the journal has room, or before the cell was asked.
   pub record IsAnswered (event : E) (v : PassView M E R W S) (answer : Result R CallFault) (w : PassView M E R W S) : Type 0 where
     pub cell : w.cell ≡ v.cell
     pub opening : w.opening ≡ v.opening
@@ -27,7 +33,9 @@ module _ {M E R W S : Type 0} (after : S → E → S) (reply : S → E → R) wh
     pub taken : w.taken ≡ v.taken
     pub past : w.past ≡ v.past
     pub outcome : MatchResult answer (λ r. Calls after reply event v r w) (λ _. Sees after reply v w)
+    pub room : OnOk answer (length w.seen ≤ MAX_ENTRIES)
     pub full : answer ≡ Err fault.Full → length w.seen ≡ MAX_ENTRIES
+    pub memory : answer ≡ Err fault.NoMemory → (w ≡ v) ⊎ (length w.seen < MAX_ENTRIES)
 
   -- one pass of a list makes a call with that answer, and no other changes
   pub record CallsOne (event : E) (index : ℕ) (answer : Result R CallFault) (vs ws : List (PassView M E R W S)) : Type 0 where

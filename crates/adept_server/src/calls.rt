@@ -1,7 +1,7 @@
 // The calls that a desk makes.
-ghost use Rattle.std.specs.Prelude.{◌≡◌, ◌<◌, ◌≤◌, None, Ok, true, length, OnOk, IfOk};
-ghost use Rattle.adept_server.specs.Calling.{CallsCase, CallsKind, Creates, answer_tells, tells_newest};
-ghost use Rattle.adept_server.specs.Desks.{IsDefinedFor, IsDeskOf, desk_view, has_case, has_kind};
+ghost use Rattle.std.specs.Prelude.{◌≡◌, ◌<◌, ◌≤◌, ◌⊎◌, None, Ok, true, length, OnOk, IfOk, IfErr, slice_get};
+ghost use Rattle.adept_server.specs.Calling.{CallsCase, CallsKind, Creates, HasRoom, answer_tells, tells_newest};
+ghost use Rattle.adept_server.specs.Desks.{IsDefinedFor, IsDeskOf, case_pass, desk_view, has_case, has_kind};
 ghost use Rattle.case_core.specs.Ages.{weight};
 ghost use Rattle.type_core.specs.Machine.{weight as kind_weight};
 ghost use Rattle.wsm_schema.specs.Flat.{cards_of};
@@ -58,6 +58,7 @@ impl Server {
         requires light { kind_weight event.now ≤ 60000 }
         ensures desk { IsDeskOf self.now desk.new }
         ensures called { CallsKind event.now type_no result (desk_view desk.old) (desk_view desk.new) }
+        ensures memory { IfErr result (λ f. f ≡ CallFault.NoMemory → HasRoom (slice_get (desk_view desk.new).kinds type_no)) }
     {
         let index = type_no as usize;
         let answer = call_at(
@@ -92,6 +93,7 @@ impl Server {
         requires light { weight event.now ≤ 60000 }
         ensures desk { IsDeskOf self.now desk.new }
         ensures called { CallsCase event.now id result (desk_view desk.old) (desk_view desk.new) }
+        ensures memory { IfErr result (λ f. f ≡ CallFault.NoMemory → HasRoom (case_pass (desk_view desk.new) id)) }
     {
         let index = id.type_no as usize;
         let cells = &self.cases[index];
@@ -165,6 +167,7 @@ impl Server {
         requires there { has_kind (desk_view desk.old) type_no }
         ensures desk { IsDeskOf self.now desk.new }
         ensures called { CallsKind KindEvent.Newest type_no result (desk_view desk.old) (desk_view desk.new) }
+        ensures memory { IfErr result (λ f. f ≡ CallFault.NoMemory → HasRoom (slice_get (desk_view desk.new).kinds type_no)) }
     {
         self.call_kind(rt, alloc, desk, type_no, &KindEvent::Newest, gate, line)
     }
@@ -184,6 +187,7 @@ impl Server {
         requires defined { IsDefinedFor (desk_view desk.old) id.type_no }
         ensures desk { IsDeskOf self.now desk.new }
         ensures called { Creates id result (desk_view desk.old) (desk_view desk.new) }
+        ensures memory { IfErr result (λ f. f ≡ CallFault.NoMemory → HasRoom (slice_get (desk_view desk.new).kinds id.type_no) ⊎ HasRoom (case_pass (desk_view desk.new) id)) }
     {
         let reply = self.newest(rt, alloc, desk, id.type_no, gate, line)?;
         let event = Event::Create(answered_version(reply));
@@ -230,6 +234,7 @@ impl Server {
         requires there { has_case (desk_view desk.old) id }
         ensures desk { IsDeskOf self.now desk.new }
         ensures called { CallsCase (Event.Withdraw node (desk_view desk.old).number) id result (desk_view desk.old) (desk_view desk.new) }
+        ensures memory { IfErr result (λ f. f ≡ CallFault.NoMemory → HasRoom (case_pass (desk_view desk.new) id)) }
     {
         let event = Event::Withdraw {
             node,

@@ -1,6 +1,6 @@
 // One call with one of many passes.
-ghost use Rattle.std.specs.Prelude.{◌≡◌, ◌<◌, ◌≤◌, length, map};
-ghost use Rattle.adept_server.specs.Calling.{CallsOne};
+ghost use Rattle.std.specs.Prelude.{◌≡◌, ◌<◌, ◌≤◌, length, map, IfErr, slice_get};
+ghost use Rattle.adept_server.specs.Calling.{CallsOne, HasRoom};
 ghost use Rattle.turn_batch.specs.Batch.{AreOf};
 ghost use Rattle.turn_cell.specs.Passes.{view_of};
 
@@ -24,6 +24,7 @@ pub(crate) fn call_at<M: Machine, R: Wait, G: Gate>(
     requires light { M.weight event.now ≤ MAX_WEIGHT }
     ensures cells { AreOf cells.now passes.new }
     ensures called { CallsOne M.after M.reply event.now index result (map view_of passes.old) (map view_of passes.new) }
+    ensures memory { IfErr result (λ f. f ≡ CallFault.NoMemory → HasRoom (slice_get (map view_of passes.new) index)) }
 {
     cells[index].call(rt, alloc, &mut passes[index], event, gate, line)
 }

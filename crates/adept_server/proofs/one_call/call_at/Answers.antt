@@ -1,8 +1,10 @@
-use Rattle.std.proofs.Common.{◌≡◌, ◌<◌, length, slice_index_or, Some, slice_get, arith, rules, refl}
+use Rattle.std.proofs.Common.{◌≡◌, ◌<◌, length, map, slice_index_or, Some, slice_get, sym, arith, rules, refl, subst}
 use Rattle.std.proofs.lemmas.Option.{slice_get_read, slice_get-get_or}
 use Rattle.turn_batch.proofs.Calls.{length-passes, pass_at}
 use Rattle.turn_cell.specs.Passes.{view_of}
-use Rattle.adept_server.proofs.Called.{passes-of_set, called_once, calls_one}
+use Rattle.adept_server.proofs.Called.{passes-of_set, called_once, calls_one, set-view}
+use Rattle.adept_server.specs.Calling.{HasRoom}
+use Rattle.std.proofs.lemmas.Result.{IfErr-weaker}
 use Rattle.adept_server.proofs.one_call.call_at.Goals as goal
 
 pub bounds-cells-index : goal.bounds-cells-index
@@ -24,7 +26,12 @@ returns-clause-called g c =
     let before = slice_index_or c.args.passes.now c.args.index c.index-passes-index.result in
     let k = c.call.ensures in
     calls_one g.M.Machine.after g.M.Machine.reply c.args.event.now c.args.passes.now c.args.index before c.call.new.pass c.call.result there
-    (called_once g.M.Machine.after g.M.Machine.reply c.args.event.now (view_of before) (view_of c.call.new.pass) c.call.result k.stays k.ok k.err k.full)
+    (called_once g.M.Machine.after g.M.Machine.reply c.args.event.now (view_of before) (view_of c.call.new.pass) c.call.result k.stays k.ok k.err k.room k.full k.memory)
+
+pub returns-clause-memory : goal.returns-clause-memory
+returns-clause-memory g c =
+    let here = set-view c.args.passes.now c.args.index c.call.new.pass c.requires.there in
+    IfErr-weaker c.call.result _ _ (λ f room is. subst HasRoom (sym here) (room is)) c.call.ensures.memory
 
 pub offset_bounds-cells-index : goal.offset_bounds-cells-index
 offset_bounds-cells-index g c =

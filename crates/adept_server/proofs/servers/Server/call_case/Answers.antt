@@ -1,14 +1,15 @@
-use Rattle.std.proofs.Common.{◌<◌, length, map, refl, sym, ◌∙◌, subst, arith}
+use Rattle.std.proofs.Common.{◌<◌, length, map, slice_get, refl, sym, ◌∙◌, subst, arith}
 use Rattle.std.proofs.lemmas.List.{with_items_is}
 use Rattle.std.proofs.lemmas.Option.{slice_get_within}
-use Rattle.adept_server.specs.Calling.{CallsOne}
+use Rattle.adept_server.specs.Calling.{CallsOne, HasRoom}
+use Rattle.std.proofs.lemmas.Result.{IfErr-weaker}
 use Rattle.std.specs.Vec.{with_item, with_items}
 use Rattle.case_core.specs.Machine.{case_after, case_reply}
 use Rattle.turn_cell.specs.Passes.{view_of}
 use Rattle.turn_batch.specs.Batch.{AreOf}
 use Rattle.adept_server.proofs.Sent.{case-send, case-sync, event-send, event-sync}
 use Rattle.adept_server.proofs.Rows.{items_at}
-use Rattle.adept_server.proofs.Made.{case_row, case_made}
+use Rattle.adept_server.proofs.Made.{case_row, case_made, row_room}
 use Rattle.std.proofs.Crossing.{crosses}
 use denote.Param.Send.{sendable}
 use Rattle.adept_server.proofs.servers.Server.call_case.Goals as goal
@@ -79,3 +80,15 @@ returns-clause-called g c =
     let called = subst (λ qs. CallsOne case_after case_reply c.args.event.now c.args.id.place c.call_at.result (map view_of r.row.passes.items) (map view_of qs)) (sym whole)
     (subst (λ qs. CallsOne case_after case_reply c.args.event.now c.args.id.place c.call_at.result (map view_of qs) (map view_of ps)) passes c.call_at.ensures.called) in
     (case_made s d (record d { cases = with_item d.cases c.args.id.type_no row }) c.args.event.now c.args.id c.call_at.result c.requires.desk r.row row refl refl refl refl refl refl of called).1
+
+pub returns-clause-memory : goal.returns-clause-memory
+returns-clause-memory g c =
+    let s = c.args.self.now in
+    let d = c.args.desk.now in
+    let r = case_row s d c.args.id c.requires.desk c.requires.there in
+    let ps = c.call_at.new.passes in
+    let row = with_items c.index_mut-passes.result.now ps in
+    let whole = with_items_is c.index_mut-passes.result.now ps (c.call_at.auto.passes ∙ c.deref_mut.ensures.len) in
+    IfErr-weaker c.call_at.result _ _
+    (λ f room is. row_room s d (record d { cases = with_item d.cases c.args.id.type_no row }) c.args.id r.row row refl (subst (λ qs. HasRoom (slice_get (map view_of qs) c.args.id.place)) (sym whole) (room is)))
+    c.call_at.ensures.memory

@@ -1,12 +1,13 @@
-use Rattle.std.proofs.Common.{map, true, false, refl, sym, ◌∙◌, subst}
+use Rattle.std.proofs.Common.{◌≡◌, IfErr, slice_get, map, true, false, refl, sym, ◌∙◌, subst}
 use Rattle.adept_server.proofs.Made.{kind_made}
 use Rattle.adept_server.proofs.Sent.{version-send, version-sync}
 use Rattle.std.proofs.Crossing.{crosses}
 use denote.Param.Send.{sendable}
 use Rattle.std.proofs.lemmas.List.{with_items_is}
-use Rattle.adept_server.specs.Calling.{CallsOne}
+use Rattle.adept_server.specs.Calling.{CallsOne, HasRoom}
 use Rattle.turn_batch.specs.Batch.{AreOf}
 use Rattle.turn_cell.specs.Passes.{view_of}
+use Rattle.turn_cell.specs.declared.faults.CallFault.TheVariants as fault
 use Rattle.adept_server.proofs.servers.Server.call_kind.Goals as goal
 use Rattle.type_core.specs.Machine.{kind_after, kind_reply}
 
@@ -39,3 +40,15 @@ returns-else-tells_version-clause-desk g c =
     let called = subst (λ ps. CallsOne kind_after kind_reply c.args.event.now c.args.type_no c.call_at-answer.result (map view_of ps) (map view_of kinds)) c.deref_mut.ensures.value c.call_at-answer.ensures.called in
     let whole = with_items_is d.kinds kinds (c.call_at-answer.auto.passes ∙ c.deref_mut.ensures.len) in
     (kind_made c.args.self.now d _ c.args.event.now c.args.type_no c.call_at-answer.result false kinds (sym c.tells_version.ensures ∙ c.if-tells_version.false) c.requires.desk refl refl refl refl refl whole of called).0
+
+pub returns-then-tells_version-clause-memory : goal.returns-then-tells_version-clause-memory
+returns-then-tells_version-clause-memory g c =
+    let kinds = c.call_at-answer.new.passes in
+    let whole = with_items_is c.args.desk.now.kinds kinds (c.call_at-answer.auto.passes ∙ c.deref_mut.ensures.len) in
+    subst (λ ps. IfErr c.call_at-answer.result (λ f. f ≡ fault.NoMemory → HasRoom (slice_get (map view_of ps) c.args.type_no))) (sym whole) c.call_at-answer.ensures.memory
+
+pub returns-else-tells_version-clause-memory : goal.returns-else-tells_version-clause-memory
+returns-else-tells_version-clause-memory g c =
+    let kinds = c.call_at-answer.new.passes in
+    let whole = with_items_is c.args.desk.now.kinds kinds (c.call_at-answer.auto.passes ∙ c.deref_mut.ensures.len) in
+    subst (λ ps. IfErr c.call_at-answer.result (λ f. f ≡ fault.NoMemory → HasRoom (slice_get (map view_of ps) c.args.type_no))) (sym whole) c.call_at-answer.ensures.memory

@@ -1,8 +1,9 @@
-use Rattle.std.proofs.Common.{Ok, ap, ◌∙◌, subst}
-use Rattle.adept_server.proofs.Asked.{create_unasked, newest_answered}
-use Rattle.adept_server.specs.Calling.{CallsKind}
+use Rattle.std.proofs.Common.{Ok, slice_get, inr, ap, ◌∙◌, subst}
+use Rattle.std.proofs.lemmas.Result.{IfErr-weaker}
+use Rattle.adept_server.proofs.Asked.{create_unasked, newest_answered, room_unasked}
+use Rattle.adept_server.specs.Calling.{CallsKind, HasRoom}
 use Rattle.adept_server.specs.Calling.Creates.{asked}
-use Rattle.adept_server.specs.Desks.{desk_view}
+use Rattle.adept_server.specs.Desks.{case_pass, desk_view}
 use Rattle.type_core.specs.declared.events.KindEvent.TheVariants.{Newest}
 use Rattle.adept_server.proofs.servers.Server.create.Goals as goal
 
@@ -19,3 +20,10 @@ returns-clause-called g c =
     asked c.answered_version.result (desk_view c.newest.new.desk)
     (subst (λ a. CallsKind Newest c.args.id.type_no a (desk_view c.args.desk.now) (desk_view c.newest.new.desk)) (c.in_ok-reply.was ∙ ap Ok c.answered_version.ensures) c.newest.ensures.called)
     c.call_case.ensures.called
+
+pub returns-in_err-reply-clause-memory : goal.returns-in_err-reply-clause-memory
+returns-in_err-reply-clause-memory g c =
+    room_unasked (HasRoom (slice_get (desk_view c.newest.new.desk).kinds c.args.id.type_no)) (HasRoom (case_pass (desk_view c.newest.new.desk) c.args.id)) c.newest.result c.from_residual.result c.in_err-reply.field-0.0 c.in_err-reply.was c.from_residual.ensures.1 c.newest.ensures.memory
+
+pub returns-clause-memory : goal.returns-clause-memory
+returns-clause-memory g c = IfErr-weaker c.call_case.result _ _ (λ f room is. inr (room is)) c.call_case.ensures.memory
