@@ -21,6 +21,9 @@ use std::sync::Wait;
 use std::thread::{Threads, available_parallelism, for_each_mut};
 use turn_cell::{CallFault, Gate};
 
+/// A phase has a thread for each actor where it has at least so many lines for each of them.
+const LINES_OF_A_THREAD: usize = 1024;
+
 /// Works the phases one after another, each in threads among which the workers are shared. Behind each of them all have met, at
 /// the cells that its lines name.
 pub fn work_phases<R: Threads + Wait + Sync, G: Gate + Sync>(
@@ -41,23 +44,36 @@ pub fn work_phases<R: Threads + Wait + Sync, G: Gate + Sync>(
     ensures full { IfErr result (λ fault. fault ≡ CallFault.Full → SeesMany (desk_view first.new)) }
     ensures done { OnOk result (PhasesDone file.now file.now.phases (desk_view first.old) (desks_of crew.old) (desk_view first.new) (desks_of crew.new)) }
 {
-    let threads = thread_count(rt);
+    let processors = processor_count(rt);
     for lines in file.phases.as_slice() {
         work_phase(
-            rt, alloc, server, file, first, crew, called, lines, threads, gate,
+            rt, alloc, server, file, first, crew, called, lines, processors, gate,
         )?;
     }
     Ok(())
 }
 
-// In how many threads a phase is worked: as many as there are processors, since more would wait for one another and cost their
-// start. One processor has two, so that actors work side by side there too.
-fn thread_count<R: Threads>(rt: &R) -> usize
+// How many processors there are. One counts as two, so that actors work side by side there too.
+fn processor_count<R: Threads>(rt: &R) -> usize
     ensures { 0 < result }
 {
     match available_parallelism(rt) {
         Ok(count) => count.get().max(2),
         Err(_) => 2,
+    }
+}
+
+// In how many threads a phase with so many lines is worked: each actor has one of its own where there are many, and else they
+// share as many as there are processors, since the start of more would cost too much beside the lines.
+fn thread_count(lines: usize, actors: usize, processors: usize) -> usize
+    requires { 0 < processors }
+    ensures some { 0 < result }
+    ensures own { actors ≤ lines / LINES_OF_A_THREAD → actors ≤ result }
+{
+    if actors <= lines / LINES_OF_A_THREAD {
+        processors.max(actors)
+    } else {
+        processors
     }
 }
 
@@ -70,10 +86,10 @@ fn work_phase<R: Threads + Wait + Sync, G: Gate + Sync>(
     crew: &mut [Worker],
     called: &mut CallFlags,
     lines: &Lines,
-    threads: usize,
+    processors: usize,
     gate: &G,
 ) -> Result<(), CallFault>
-    requires threads { 0 < threads }
+    requires processors { 0 < processors }
     requires file { IsWorkable file.now }
     requires lines { AllRows (IsKnown (length file.now.types) (length file.now.actors) file.now.cases) lines.now }
     requires crew { IsCrew server.now file.now first.old crew.old }
@@ -84,6 +100,7 @@ fn work_phase<R: Threads + Wait + Sync, G: Gate + Sync>(
     ensures full { IfErr result (λ fault. fault ≡ CallFault.Full → SeesMany (desk_view first.new)) }
     ensures done { OnOk result (PhaseDone (AreCallsOfActor file.now lines.now) (desk_view first.old) (desks_of crew.old) (desk_view first.new) (desks_of crew.new)) }
 {
+    let threads = thread_count(lines.len(), crew.len(), processors);
     work_lines(rt, alloc, server, file, crew, lines, threads, gate);
     note_lines(called, lines);
     meet_all(server, called, first, crew);

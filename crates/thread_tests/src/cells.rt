@@ -1,5 +1,5 @@
 // One cell, called by one thread and by two.
-ghost use Rattle.std.specs.Prelude.{IfOk};
+ghost use Rattle.std.specs.Prelude.{◌≡◌, ◌+◌, IfOk, OnOk, true, false};
 ghost use Rattle.turn_cell.specs.Passes.{view_of, IsPassOf, Stays};
 
 use crate::counters::Counter;
@@ -46,7 +46,7 @@ fn call_once<G: Gate, R: Wait>(
     Ok(pass)
 }
 
-// Whether the call found the turn taken.
+// Whether the call found the turn taken. Its pass has then met one turn more, and none otherwise.
 fn finds_busy<G: Gate>(
     alloc: Global,
     cell: &Cell<Counter>,
@@ -54,7 +54,9 @@ fn finds_busy<G: Gate>(
     gate: &G,
 ) -> (Pass<Counter>, bool)
     requires { IsPassOf cell.now pass }
-    ensures { IsPassOf cell.now result.0 × Stays (view_of pass) (view_of result.0) }
+    ensures pass { IsPassOf cell.now result.0 × Stays (view_of pass) (view_of result.0) }
+    ensures busy { result.1 ≡ true → (view_of result.0).met ≡ (view_of pass).met + 1 }
+    ensures free { result.1 ≡ false → (view_of result.0).met ≡ (view_of pass).met }
 {
     gate.reach(0, 8, Side::Before);
     let answer = cell.try_call(alloc, &mut pass, &6, gate, 8);
@@ -233,6 +235,121 @@ fn two_callers_thousand(rt: HostRuntime) -> Result<(), Fail> {
     assert!(rt; closed.machine.count == 999_000 && closed.journal.items.len() == 2000);
     assert!(rt; has_thousand_in_order(&closed.journal, 0));
     assert!(rt; has_thousand_in_order(&closed.journal, 1));
+    Ok(())
+}
+
+// Who finds the turn taken asks again.
+fn call_behind_gate<G: Gate, R: Wait>(
+    rt: &R,
+    alloc: Global,
+    cell: &Cell<Counter>,
+    mut pass: Pass<Counter>,
+    gate: &G,
+) -> Result<u64, CallFault>
+    requires { IsPassOf cell.now pass }
+{
+    gate.reach(0, 8, Side::Before);
+    cell.call(rt, alloc, &mut pass, &6, gate, 8)
+}
+
+fn call_while_called<G: Gate + Sync, R: Threads + Wait + Sync>(
+    rt: &R,
+    alloc: Global,
+    cell: &Cell<Counter>,
+    first: Pass<Counter>,
+    second: Pass<Counter>,
+    gate: &G,
+) -> (Result<u64, CallFault>, Result<Pass<Counter>, CallFault>)
+    requires { IsPassOf cell.now first × IsPassOf cell.now second }
+{
+    join(
+        rt,
+        || -> Result<u64, CallFault>
+            requires { IsPassOf cell.now first }
+        { call_behind_gate(rt, alloc, cell, first, gate) },
+        || -> Result<Pass<Counter>, CallFault>
+            requires { IsPassOf cell.now second }
+        { call_once(rt, alloc, cell, second, gate) },
+    )
+}
+
+// Reached by nobody.
+const NOWHERE: Place = Place {
+    actor: 9,
+    line: 9,
+    side: Side::Before,
+};
+
+// One has the turn until its gate has waited in vain. The other calls as soon as the turn is taken, and is served behind it.
+#[test]
+fn taken_turn_is_waited_for(rt: HostRuntime) -> Result<(), Fail> {
+    let alloc = rt.alloc();
+    let (cell, mut first) = Cell::new(alloc, 7, Counter { count: 3 })?;
+    let second = cell.split(&mut first);
+    let gate = TwoGates {
+        first: HoldGate::new(0, 8, Side::Before, INSIDE),
+        second: HoldGate::new(1, 5, Side::Inside(7), NOWHERE),
+    };
+    let (waited, called) = call_while_called(&rt, alloc, &cell, first, second, &gate);
+    let _ = called?;
+    assert!(rt; waited? == 8);
+    assert!(rt; !gate.first.ran_out() && gate.second.ran_out());
+    Ok(())
+}
+
+// Makes 65,536 calls.
+fn fill<R: Wait>(
+    rt: &R,
+    alloc: Global,
+    cell: &Cell<Counter>,
+    pass: &mut Pass<Counter>,
+) -> Result<(), CallFault>
+    requires { IsPassOf cell.now pass.old }
+    ensures { OnOk result (IsPassOf cell.now pass.new × Stays (view_of pass.old) (view_of pass.new)) }
+{
+    for _ in 0..65_536 {
+        cell.call(rt, alloc, pass, &1, &OpenGate, 1)?;
+    }
+    Ok(())
+}
+
+#[test]
+fn full_journal_takes_no_call(rt: HostRuntime) -> Result<(), Fail> {
+    let alloc = rt.alloc();
+    let (cell, mut pass) = Cell::new(alloc, 7, Counter { count: 3 })?;
+    fill(&rt, alloc, &cell, &mut pass)?;
+    let called = cell.call(&rt, alloc, &mut pass, &1, &OpenGate, 2);
+    let tried = cell.try_call(alloc, &mut pass, &1, &OpenGate, 3);
+    assert!(rt; matches!(called, Err(CallFault::Full)) && matches!(tried, Err(TryFault::Full)));
+    assert!(rt; cell.look(&rt, alloc, &mut pass)? == 65_539);
+    let closed = cell.close(pass);
+    assert!(rt; closed.machine.count == 65_539 && closed.journal.items.len() == 65_536);
+    Ok(())
+}
+
+#[test]
+fn faults_are_told_apart(rt: HostRuntime) -> Result<(), Fail> {
+    let alloc = rt.alloc();
+    assert_eq!(rt;
+        TryFault::Busy.to_string(alloc)?.as_str(),
+        "another has the turn"
+    );
+    assert_eq!(rt;
+        TryFault::Full.to_string(alloc)?.as_str(),
+        "the journal is full"
+    );
+    assert_eq!(rt;
+        TryFault::NoMemory.to_string(alloc)?.as_str(),
+        "out of memory"
+    );
+    assert_eq!(rt;
+        CallFault::Full.to_string(alloc)?.as_str(),
+        "the journal is full"
+    );
+    assert_eq!(rt;
+        CallFault::NoMemory.to_string(alloc)?.as_str(),
+        "out of memory"
+    );
     Ok(())
 }
 

@@ -21,3 +21,24 @@ impl Gate for TwoGates {
         self.second.reach(actor, line, side);
     }
 }
+
+/// Any number of gates, of which each is told of every place in turn.
+#[derive(Drop)]
+pub struct Gates {
+    pub items: Vec<HoldGate>,
+}
+
+impl Gates {
+    /// Whether none of them waited in vain.
+    pub fn held(&self) -> bool {
+        self.items.iter().all(|gate| !gate.ran_out())
+    }
+}
+
+impl Gate for Gates {
+    fn reach(&self, actor: u32, line: u32, side: Side) {
+        for gate in &self.items {
+            gate.reach(actor, line, side);
+        }
+    }
+}
