@@ -1,15 +1,14 @@
 // What a server offers to roles: a node that is ready, and no longer once it is started.
-ghost use Rattle.std.specs.Prelude.{◌≤◌, length, IfOk, OnOk};
+ghost use Rattle.std.specs.Prelude.{OnOk};
 ghost use Rattle.adept_server.specs.Desks.{IsDeskOf};
-ghost use Rattle.wsm_schema.specs.Flat.{cards_of};
 
+use crate::schemas::{NODE, ROLE, one_activity};
 use adept_server::{Desk, Offer, Offers, Server};
 use std::alloc::Global;
 use std::sync::Wait;
 use std::test::Fail;
 use turn_cell::{CallFault, OpenGate};
 use wsm_lists::RoleList;
-use wsm_schema::{Block, NoMemory, Schema};
 use wsm_sound::CaseId;
 
 const CASE: CaseId = CaseId {
@@ -17,26 +16,12 @@ const CASE: CaseId = CaseId {
     place: 0,
 };
 
-// The one activity, and the role that may start it.
-const NODE: u32 = 2;
-
-const ROLE: u32 = 5;
-
 // What is offered to that role, to another one, and to that role behind the start.
 #[derive(Drop)]
 struct Offered {
     own: Offers,
     others: Offers,
     behind: Offers,
-}
-
-fn one_activity(alloc: Global) -> Result<Schema, NoMemory>
-    ensures { IfOk result (λ schema. length (cards_of schema) ≤ 60000) }
-{
-    let body = vec![in alloc; Block::Act(NODE)]?;
-    let mut schema = Schema::new(alloc, 0, 1, body);
-    schema.put_role(NODE, ROLE)?;
-    Ok(schema)
 }
 
 fn define<R: Wait>(rt: &R, alloc: Global, server: &Server, desk: &mut Desk) -> Result<(), CallFault>
