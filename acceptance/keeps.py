@@ -236,8 +236,8 @@ def is_damaged(keep):
 
 
 def words(keep):
-    """One word is wanted; then nothing is read."""
-    for words in [], [keep.path(), keep.path()]:
+    """One word is wanted, text or not; else nothing is read."""
+    for words in [], [keep.path(), keep.path()], [keep.path(), b"\xff"]:
         done = subprocess.run([*keep.command, *words], input=SEQUENCE, timeout=SECONDS, stdout=subprocess.PIPE, stderr=subprocess.PIPE)
         wants((done.returncode, done.stdout, done.stderr), (2, b"", b"usage: keep STORE\n"))
     wants(os.path.exists(keep.path()), False)
