@@ -1,10 +1,12 @@
 """Whether crates.txt, and the table and the picture of ARCHITECTURE.md, say the same of crates and layers.
 
 In crates.txt each crate stands on crates further up alone, below the heading of its layer; the table has the crates in that
-order, read from its end; and in the picture a layer stands on layers in rows further down alone.
+order, read from its end; and in the picture a layer stands on layers in rows further down alone. Besides, whether editors know the words of the format.
 """
+import json
 import os
 import re
+import sys
 
 TOP = os.path.dirname(os.path.dirname(os.path.realpath(__file__)))
 
@@ -78,9 +80,26 @@ def wrong_picture(crates, rows, twice):
     return None
 
 
+def wrong_words():
+    """Whether the editors know other words of the format than docs/FILE_FORMAT.md and the scripts."""
+    sys.path.append(os.path.join(TOP, "tools"))
+    from line_forms import KEYWORDS
+    vim = re.search(r"^syntax keyword adeptWord (.*)$", text_of("editors/vim/syntax/adept.vim"), re.M).group(1).split()
+    code = [rule["match"] for rule in json.loads(text_of("editors/vscode/syntaxes/adept.json"))["patterns"]]
+    code = next(re.search(r"\(\?:([a-z|]+)\)", match).group(1).split("|") for match in code if "(?:act|" in match)
+    shown = {word for span in re.findall(r"`([^`]*)`", text_of("docs/FILE_FORMAT.md")) for word in span.split()}
+    absent = KEYWORDS - shown
+    words = KEYWORDS - {"adept"}
+    if absent:
+        return "docs/FILE_FORMAT.md lacks %s" % absent
+    other = (set(vim) ^ words) | (set(code) ^ words)
+    return "other words: %s" % other if other else None
+
+
 def tried():
     """The name of each comparison with what is wrong, or None."""
     crates, map_text = list(listed(text_of("crates.txt"))), text_of("ARCHITECTURE.md")
     yield "the order of crates.txt", wrong_order(crates)
     yield "the table of ARCHITECTURE.md", first_difference([(name, layer) for name, layer, _ in reversed(crates)], list(tabled(map_text)))
     yield "the picture of ARCHITECTURE.md", wrong_picture(crates, *drawn(map_text))
+    yield "the words of the format in editors/", wrong_words()

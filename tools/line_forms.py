@@ -43,7 +43,7 @@ TEXT = ("a text", "stands between two `\"`, in which `\"` is written `\\\"` and 
 INTEGER = ("an integer", "has 1 to 20 digits, perhaps behind a `-`, and is from -9223372036854775808 to 9223372036854775807; "
            "there are no decimals")
 LOOKS = {"ROLE": r"\d{1,10}$", "CODE": r"\d{1,5}$", "PAIR": r'[A-Za-z_][\w.-]*=(-?\d{1,20}|"([^"\\]|\\["\\])*")$'}
-KEYWORDS = {word for forms in FORMS.values() for form in forms for word in re.findall(r"\b[a-z]+\b", form)}
+KEYWORDS = {word for forms in [*FORMS.values(), PLACES] for form in forms for word in re.findall(r"\b[a-z]+\b", form)}
 
 
 def is_kind(token):

@@ -1,0 +1,16 @@
+" Process files of Rushowa: docs/FILE_FORMAT.md.
+if exists("b:current_syntax")
+  finish
+endif
+syntax iskeyword @,48-57,_,-,.
+syntax keyword adeptWord act actor after and around branch case change choice conditional create delete done element end head insert install int loop migrate move optional parallel phase read role roles start sync text type unread unsync unwrite with withdraw write xor
+syntax match adeptHeader "^\s*adept\s\+[12]\>"
+syntax match adeptComment "^\s*#.*$"
+syntax region adeptText start=+"+ skip=+\\[\\"]+ end=+"+ oneline
+syntax match adeptNumber "\(^\|[ \t=]\)\@<=-\?\d\+\>"
+highlight default link adeptHeader PreProc
+highlight default link adeptWord Keyword
+highlight default link adeptComment Comment
+highlight default link adeptText String
+highlight default link adeptNumber Number
+let b:current_syntax = "adept"
