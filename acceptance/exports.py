@@ -1,7 +1,7 @@
 """Tries tools/eventlog on exports of event logs, and the fit of the logs that it makes of them.
 
 A folder of exporting/ has `export`, and where it is not refused `log`, the log that is wanted, with `table`, what `fit` says of
-it on version 1 of the type `claim` of exporting/process. `options` are further words, one a line; each line of `said` stands on
+it on version 1 of the type `claim` of `process`, there or in exporting/. `options` are further words, one a line; each line of `said` stands on
 standard error, in that order, as a part of a line.
 """
 import glob
@@ -29,7 +29,7 @@ def lacks(wanted, found):
 
 def what_differs(folder, fit):
     words, log = content(folder, "options").decode().splitlines(), content(folder, "log", None)
-    done = subprocess.run([EVENTLOG, *words], input=content(folder, "export"), stdout=subprocess.PIPE, stderr=subprocess.PIPE)
+    done = subprocess.run([EVENTLOG, *words], input=content(folder, "export"), cwd=folder, stdout=subprocess.PIPE, stderr=subprocess.PIPE)
     if (done.returncode, done.stdout) != (int(log is None), log or b""):
         return "status %d, %r, %r" % (done.returncode, done.stdout, done.stderr)
     missing = lacks(content(folder, "said").decode().splitlines(), done.stderr.decode().splitlines())
@@ -37,7 +37,7 @@ def what_differs(folder, fit):
         return "wanted %r in %r" % (missing, done.stderr)
     table = content(folder, "table")
     if fit and table:
-        given = content(FOLDER, "process") + b"log\n" + log
+        given = (content(folder, "process") or content(FOLDER, "process")) + b"log\n" + log
         found = subprocess.run([fit, "claim", "1"], input=given, stdout=subprocess.PIPE).stdout
         return None if found == table else "wanted the table %r, got %r" % (table, found)
     return None
