@@ -1,4 +1,4 @@
-use Rattle.std.proofs.Common.{◌≡◌, ◌<◌, length, map, slice_index_or, Some, slice_get, sym, arith, rules, refl, subst}
+use Rattle.std.proofs.Common.{◌≡◌, ◌<◌, length, slice_index_or, Some, slice_get, sym, arith, rules, refl, subst}
 use Rattle.std.proofs.lemmas.Option.{slice_get_read, slice_get-get_or}
 use Rattle.turn_batch.proofs.Calls.{length-passes, pass_at}
 use Rattle.turn_cell.specs.Passes.{view_of}
