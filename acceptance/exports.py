@@ -27,8 +27,8 @@ def lacks(wanted, found):
     return next((line for line in wanted if not any(line in other for other in left)), None)
 
 
-def what_differs(folder, fit):
-    words, log = content(folder, "options").decode().splitlines(), content(folder, "log", None)
+def what_differs(folder, fit, command):
+    words, log = ["--program", command[0], *content(folder, "options").decode().splitlines()], content(folder, "log", None)
     done = subprocess.run([EVENTLOG, *words], input=content(folder, "export"), cwd=folder, stdout=subprocess.PIPE, stderr=subprocess.PIPE)
     if (done.returncode, done.stdout) != (int(log is None), log or b""):
         return "status %d, %r, %r" % (done.returncode, done.stdout, done.stderr)
@@ -43,7 +43,7 @@ def what_differs(folder, fit):
     return None
 
 
-def tried(fit):
+def tried(fit, command):
     """The name of each case with what differs, or None."""
     for folder in sorted(glob.glob(os.path.join(FOLDER, "*", ""))):
-        yield os.path.relpath(folder, HERE), what_differs(folder, fit)
+        yield os.path.relpath(folder, HERE), what_differs(folder, fit, command)

@@ -202,11 +202,11 @@ def of_type(fault, rows, fresh):
     if fault[0] == "twice" and fault[1] not in ("start", "finish"):
         about = about[1:2] + about[:1]
     if fault[0] == "code-twice":
-        about = second_branch(rows, schema, fault) + about
-    return Told(says, list(dict.fromkeys(about)), mend_of(fault, rows, about, fresh))
+        about = second_branch(schema, fault) + about
+    return Told(says, list(dict.fromkeys(about)), mend_of(fault, about, fresh))
 
 
-def second_branch(rows, schema, fault):
+def second_branch(schema, fault):
     """The row of the second branch of a split that has the code."""
     for block in schema.blocks():
         if block.first == fault[1]:
@@ -215,7 +215,7 @@ def second_branch(rows, schema, fault):
     return []
 
 
-def mend_of(fault, rows, about, fresh):
+def mend_of(fault, about, fresh):
     """What to do so that the type is refused for something else next, or None."""
     kind, row = fault[0], about[0] if about else None
     if row is None or kind in ("limit", "op"):

@@ -228,7 +228,7 @@ def out_of_place(draft, at, words, here):
     if place == "type" and line_forms.has_form(words, "type"):
         return inside_a_type(draft, at, words, here)
     if line_forms.has_form(words, place):
-        return format_1(draft, words, here)
+        return format_1(words, here)
     if place in ("type", "operation") and set(at_other) & {"declaration", "script"}:
         opened, lacking = here.type or here.group, len(here.blocks) if here.type else 0
         draft.put(at, *["done"] * lacking, "end")
@@ -249,7 +249,7 @@ def out_of_place(draft, at, words, here):
     return None
 
 
-def format_1(draft, words, here):
+def format_1(words, here):
     if words[1:2] != ["withdraw"] or words_of(text_of(here.header))[-1] != "1":
         return None
     here.header.text = b"adept 2"
