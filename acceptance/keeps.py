@@ -244,9 +244,17 @@ def words(keep):
 
 
 def refused_file(keep):
-    """A file that is refused leaves the store alone."""
-    wants(keep.run(SEQUENCE[:-1])[0], 1)
-    wants(os.path.exists(keep.path()), False)
+    """A file that is refused leaves the store alone, and is told with its line."""
+    last = SEQUENCE.count(b"\n")
+    for given, text in ((SEQUENCE[:-1], "line %d: unended" % last), (b"", "line 1: header"), (SEQUENCE.replace(b"end c B", b"end d B"), "line %d: unknown" % last),
+                        (SEQUENCE + b"ann fly c\n", "line %d: form" % (last + 1))):
+        keep.ends(1, text, given=given)
+        wants(keep.names(), [])
+    folder = os.open("/", os.O_RDONLY)
+    done = subprocess.run([*keep.command, keep.path()], stdin=folder, capture_output=True)
+    os.close(folder)
+    wants((done.returncode, done.stdout, done.stderr), (3, b"", b"keep: cannot read\n"))
+    wants(keep.names(), [])
 
 
 def no_store(keep):
@@ -330,6 +338,25 @@ def is_too_long_a_file(keep):
     """A process file of one byte too many leaves the store alone."""
     keep.ends(6, "input too long", given=SEQUENCE + b"#" * (16_777_216 - len(SEQUENCE)) + b"\n")
     wants(keep.names(), [])
+
+
+def little_memory(keep):
+    """With little memory a run ends as it should, or is told so, and the next one goes on."""
+    given, ended = SEQUENCE + b"# " + b"x" * 8_000_000 + b"\n", set()
+    for limit in range(2000, 60_000, 1500):
+        limited = ["sh", "-c", 'ulimit -v %d; exec "$@"' % limit, "sh"]
+        if subprocess.run([*limited, *keep.command], capture_output=True).returncode != 2:
+            continue
+        done = keep.run(given, before=limited)
+        if done[0] != 0:
+            wants(done, (5, b"", b"keep: out of memory\n"))
+        wants(keep.run(SEQUENCE), keep.done(SEQUENCE))
+        ended.add(done[0])
+        keep.clear()
+    if ended:
+        wants(ended, {0, 5})
+    else:
+        print("not tried keeps, little_memory: the program does not start with so little", flush=True)
 
 
 def older(keep):
@@ -456,16 +483,17 @@ def no_report(keep):
 
 
 CHECKS = [is_stored, goes_on, grows, names_are_not_stored, is_damaged, words, refused_file, no_store, no_report, other_files, beginnings, is_made, links,
-          is_too_long, is_too_long_a_file, older, folder_without_reading]
+          is_too_long, is_too_long_a_file, little_memory, older, folder_without_reading]
 # These have strace stop a run, or fail one of its calls.
 TRACED = [stops_while_made, fails_while_made, fails, interrupted, syncs_its_folder]
 
 
 def tried(command, player):
     """Makes each check: its name, and what differs."""
-    has_strace = shutil.which("strace") is not None
+    traced = ["strace", "-qq", "-o", "/dev/null", *command]
+    has_strace = shutil.which("strace") is not None and subprocess.run(traced, capture_output=True).returncode == 2
     if not has_strace:
-        print("not tried keeps, %s: there is no strace" % ", ".join(check.__name__ for check in TRACED), flush=True)
+        print("not tried keeps, %s: there is no strace that can trace" % ", ".join(check.__name__ for check in TRACED), flush=True)
     for check in CHECKS + (TRACED if has_strace else []):
         with tempfile.TemporaryDirectory(prefix="acceptance-") as folder:
             try:

@@ -17,10 +17,11 @@ pub(crate) fn folder_of(path: &str) -> &str {
 pub(crate) fn end_of_links(rt: &HostRuntime, path: &str) -> io::Result<String> {
     let mut name = String::from_str(rt.alloc(), path)?;
     for _ in 0..LINKS {
-        let Ok(text) = fs::read_link(rt, name.as_str()) else {
-            break;
-        };
-        name = linked(rt, name.as_str(), text.as_str())?;
+        match fs::read_link(rt, name.as_str()) {
+            Ok(text) => name = linked(rt, name.as_str(), text.as_str())?,
+            Err(error) if error.kind() == ErrorKind::OutOfMemory => return Err(error),
+            Err(_) => break,
+        }
     }
     Ok(name)
 }
