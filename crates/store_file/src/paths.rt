@@ -1,6 +1,7 @@
 // Folders, and links.
+use std::fs;
+use std::io::{self, ErrorKind};
 use std::path::Path;
-use std::{fs, io};
 
 // How many links may lead from one to the next.
 const LINKS: u32 = 40;
