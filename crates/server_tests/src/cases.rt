@@ -1,6 +1,6 @@
 // What a case shows to who looks at it, and versions of another type.
 ghost use Rattle.std.specs.Prelude.{◌≤◌, IfOk};
-ghost use Rattle.case_core.specs.Ages.{weight};
+ghost use Rattle.case_core.specs.Ages.{age, weight};
 ghost use Rattle.turn_cell.specs.Passes.{IsPassOf};
 
 use crate::schemas::{NODE, ROLE, one_activity};
@@ -17,7 +17,7 @@ const TYPE: u32 = 4;
 
 const OTHER_TYPE: u32 = 6;
 
-// The number of the pass that starts the node.
+// Who starts the node.
 const STARTER: u32 = 1;
 
 fn first_version(alloc: Global, type_no: u32) -> Result<Version, NoMemory> {
@@ -50,24 +50,12 @@ fn started(alloc: Global) -> Result<Event, NoMemory>
     })
 }
 
-// The cell of a case that is not created, with two passes.
-#[derive(Drop)]
-struct Opened {
-    cell: Cell<Case>,
-    first: Pass<Case>,
-    second: Pass<Case>,
-}
-
-fn open(alloc: Global) -> Result<Opened, NoMemory>
-    ensures { IfOk result (λ o. IsPassOf o.cell o.first × IsPassOf o.cell o.second) }
+// The cell of a case, and its first pass.
+fn open(alloc: Global, case: Case) -> Result<(Cell<Case>, Pass<Case>), NoMemory>
+    requires { age case.state ≤ 60000000 }
+    ensures { IfOk result (λ r. IsPassOf r.0 r.1) }
 {
-    let (cell, mut first) = Cell::new(alloc, 1, Case::new(alloc, TYPE))?;
-    let second = cell.split(&mut first);
-    Ok(Opened {
-        cell,
-        first,
-        second,
-    })
+    Cell::new(alloc, 1, case)
 }
 
 fn tell<R: Wait>(
@@ -150,19 +138,14 @@ fn shows_running(view: &View) -> bool {
     marking.iter().any(is_running) && items.as_slice() == [held].as_slice()
 }
 
-// One pass creates the case, and the other starts its node. Then both look.
+// The case is created, its node is started, and then its cell is looked at.
 fn seen_behind_start<R: Wait>(rt: &R, alloc: Global) -> Result<bool, CallFault> {
-    let Opened {
-        cell,
-        mut first,
-        mut second,
-    } = open(alloc)?;
-    let created = create(rt, alloc, &cell, &mut first, TYPE)?;
-    let started = start(rt, alloc, &cell, &mut second)?;
-    let own = see(rt, alloc, &cell, &mut second)?;
-    let others = see(rt, alloc, &cell, &mut first)?;
+    let (cell, mut pass) = open(alloc, Case::new(alloc, TYPE))?;
+    let created = create(rt, alloc, &cell, &mut pass, TYPE)?;
+    let started = start(rt, alloc, &cell, &mut pass)?;
+    let view = see(rt, alloc, &cell, &mut pass)?;
     let told = matches!((created, started), (Reply::Created, Reply::Started(_)));
-    Ok(told && shows_running(&own) && shows_running(&others))
+    Ok(told && shows_running(&view))
 }
 
 #[test]
@@ -173,14 +156,10 @@ fn a_look_sees_a_started_node(rt: HostRuntime) -> Result<(), Fail> {
 
 // Whether a version of another type is refused by a case that is not created, and by one that is.
 fn refuses_other_types<R: Wait>(rt: &R, alloc: Global) -> Result<bool, CallFault> {
-    let Opened {
-        cell,
-        mut first,
-        ..
-    } = open(alloc)?;
-    let create_other = create(rt, alloc, &cell, &mut first, OTHER_TYPE)?;
-    let create_own = create(rt, alloc, &cell, &mut first, TYPE)?;
-    let migrate_other = migrate(rt, alloc, &cell, &mut first, OTHER_TYPE)?;
+    let (cell, mut pass) = open(alloc, Case::new(alloc, TYPE))?;
+    let create_other = create(rt, alloc, &cell, &mut pass, OTHER_TYPE)?;
+    let create_own = create(rt, alloc, &cell, &mut pass, TYPE)?;
+    let migrate_other = migrate(rt, alloc, &cell, &mut pass, OTHER_TYPE)?;
     let replies = (create_other, create_own, migrate_other);
     Ok(matches!(
         replies,
