@@ -41,17 +41,17 @@ fn asker_in(recorded: &Recorded) -> Option<u32> {
     }
 }
 
-// Before the writes stand a tag, five numbers of four bytes and their count; each has thirteen bytes, and behind them stands
-// that there is no choice.
+// Before the writes stand a tag, the caller, the type, the place, the node, the user and their count; each has thirteen
+// bytes, and behind them stands that there is no choice.
 #[test]
 fn end_with_65536_writes_has_its_payload(rt: HostRuntime) -> Result<(), Fail> {
     let bytes = end_with(rt.alloc(), 65_536)?;
     assert_eq!(rt; bytes.as_slice().len(), 25 + 65_536 * 13 + 1);
-    assert!(rt; bytes.as_slice().starts_with(&[6, 0, 0, 0, 1]));
-    assert_eq!(rt;
-        &bytes.as_slice()[21..38],
-        [0, 1, 0, 0, 0, 0, 0, 2, 0, 0, 0, 0, 0, 0, 0, 0, 7].as_slice()
-    );
+    let first = [
+        6, 0, 0, 0, 1, 0, 0, 0, 0, 0, 0, 0, 0, 0, 0, 0, 0, 0, 0, 0, 1, 0, 1, 0, 0, 0, 0, 0, 2, 0,
+        0, 0, 0, 0, 0, 0, 0, 7,
+    ];
+    assert!(rt; bytes.as_slice().starts_with(&first));
     Ok(())
 }
 
