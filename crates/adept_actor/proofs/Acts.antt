@@ -79,7 +79,7 @@ module _ (roles : List ℕ) (v w : DeskView) (desk : IsDesk v) where
   withdraw-acts id node (Ok r) k = (told v.number id (event.Withdraw node v.number) r ∷ [], (r, refl), case-done (event.Withdraw node v.number) id (Ok r) v w desk k)
   withdraw-acts id node (Err f) k = (([], refl, case-done (event.Withdraw node v.number) id (Err f) v w desk k), λ is. case-full (event.Withdraw node v.number) id (Err f) v w k (ap Err is))
 
-  pub end-acts : (id : CaseId) (node : ℕ) (writes : _) (choice : Option ℕ) (answer : Result Reply CallFault) → CallsCase (event.End node v.number choice writes) id answer v w → Acts roles (act.End id node writes choice) answer v w
+  pub end-acts : (id : CaseId) (node : ℕ) (writes : _) (choice : Option ℕ) (answer : Result Reply CallFault) → CallsCase (event.End node v.number choice writes) id answer v w → Acts roles (act.End id node choice writes) answer v w
   end-acts id node writes choice (Ok r) k = (told v.number id (event.End node v.number choice writes) r ∷ [], (r, refl), case-done (event.End node v.number choice writes) id (Ok r) v w desk k)
   end-acts id node writes choice (Err f) k = (([], refl, case-done (event.End node v.number choice writes) id (Err f) v w desk k), λ is. case-full (event.End node v.number choice writes) id (Err f) v w k (ap Err is))
 
@@ -164,7 +164,7 @@ same-act : (many others : ℕ → ℕ) → ((t : ℕ) → many t ≡ others t) �
 same-act many others same roles a (act.Create c) calls k = k
 same-act many others same roles a (act.Start c n) calls k = k
 same-act many others same roles a (act.Withdraw c n) calls k = k
-same-act many others same roles a (act.End c n writes choice) calls k = k
+same-act many others same roles a (act.End c n choice writes) calls k = k
 same-act many others same roles a (act.Change c ops) calls k = k
 same-act many others same roles a (act.Install t ops) calls k = k
 same-act many others same roles a (act.Migrate t) calls (v, rs, many_told, is) = (v, rs, many_told ∙ same t, is)
@@ -173,7 +173,7 @@ same-part : (many others : ℕ → ℕ) → ((t : ℕ) → many t ≡ others t) 
 same-part many others same roles a (act.Create c) calls k = k
 same-part many others same roles a (act.Start c n) calls k = k
 same-part many others same roles a (act.Withdraw c n) calls k = k
-same-part many others same roles a (act.End c n writes choice) calls k = k
+same-part many others same roles a (act.End c n choice writes) calls k = k
 same-part many others same roles a (act.Change c ops) calls k = k
 same-part many others same roles a (act.Install t ops) calls k = k
 same-part many others same roles a (act.Migrate t) calls (inl none) = inl none
@@ -270,7 +270,7 @@ module _ (calls : List Call) (v w : DeskView) (d : DeskHasDone calls v w) where
   act-still (act.Create c) (there, known) = (case-still c there, done-defined calls v w d c.type_no known)
   act-still (act.Start c node) there = case-still c there
   act-still (act.Withdraw c node) there = case-still c there
-  act-still (act.End c node writes choice) there = case-still c there
+  act-still (act.End c node choice writes) there = case-still c there
   act-still (act.Change c ops) (there, few) = (case-still c there, few)
   act-still (act.Install t ops) (there, few) = (kind-still t there, few)
   act-still (act.Migrate t) (there, known) = (kind-still t there, done-defined calls v w d t known)

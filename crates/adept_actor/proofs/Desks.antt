@@ -17,7 +17,8 @@ use Rattle.case_core.specs.declared.replies.Reply.{Reply}
 use Rattle.legal_run.proofs.OnMachines.{calls_of_kind-append, calls_of_case-append}
 use Rattle.legal_run.proofs.Places.{set-here, set-other, some_one, there-as}
 use Rattle.legal_run.proofs.Told.{entry_if, some-at, some-kind, some-other}
-use Rattle.legal_run.specs.LineCalls.{Call, of_kind, calls_of_kind, calls_of_case, is_case, told, told_some}
+use Rattle.legal_run.specs.LineCalls.{Call, of_kind, calls_of_kind, calls_of_case, told, told_some}
+use Rattle.line_calls.specs.Calls.{is_case}
 use Rattle.turn_cell.specs.History.{entry}
 use Rattle.turn_cell.specs.declared.faults.CallFault.{CallFault}
 use Rattle.type_core.specs.Machine.{kind_after, kind_reply}

@@ -8,7 +8,7 @@ use Rattle.adept_server.specs.Desks.{DeskView, at_case, case_pass, in_row}
 use Rattle.case_core.specs.declared.events.Event.{Event}
 use Rattle.case_core.specs.declared.replies.Reply.{Reply}
 use Rattle.legal_run.proofs.Places.{set-other, some_one}
-use Rattle.legal_run.specs.LineCalls.{is_case}
+use Rattle.line_calls.specs.Calls.{is_case}
 use Rattle.file_model.specs.declared.files.Act.{Act}
 use Rattle.file_model.specs.declared.files.Act.TheVariants as act
 use Rattle.file_model.specs.declared.files.Line.{Line}
@@ -89,8 +89,8 @@ module _ (v w : DeskView) where
   pub withdraw-leaves : (id : CaseId) (node : ℕ) (e : Event) (answer : Result Reply CallFault) → CallsCase e id answer v w → LeavesOthers (act.Withdraw id node) v w
   withdraw-leaves id node e answer k = case-leaves (λ t. names_kind t (act.Withdraw id node) ≡ false) (λ c. names_case c (act.Withdraw id node) ≡ false) e id answer v w (named-case id) k
 
-  pub end-leaves : (id : CaseId) (node : ℕ) (writes : _) (choice : Option ℕ) (e : Event) (answer : Result Reply CallFault) → CallsCase e id answer v w → LeavesOthers (act.End id node writes choice) v w
-  end-leaves id node writes choice e answer k = case-leaves (λ t. names_kind t (act.End id node writes choice) ≡ false) (λ c. names_case c (act.End id node writes choice) ≡ false) e id answer v w (named-case id) k
+  pub end-leaves : (id : CaseId) (node : ℕ) (writes : _) (choice : Option ℕ) (e : Event) (answer : Result Reply CallFault) → CallsCase e id answer v w → LeavesOthers (act.End id node choice writes) v w
+  end-leaves id node writes choice e answer k = case-leaves (λ t. names_kind t (act.End id node choice writes) ≡ false) (λ c. names_case c (act.End id node choice writes) ≡ false) e id answer v w (named-case id) k
 
   pub change-leaves : (id : CaseId) (ops : _) (e : Event) (answer : Result Reply CallFault) → CallsCase e id answer v w → LeavesOthers (act.Change id ops) v w
   change-leaves id ops e answer k = case-leaves (λ t. names_kind t (act.Change id ops) ≡ false) (λ c. names_case c (act.Change id ops) ≡ false) e id answer v w (named-case id) k

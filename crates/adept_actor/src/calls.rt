@@ -32,25 +32,30 @@ pub fn act<R: Threads + Wait + Sync, G: Gate + Sync>(
     ensures others { LeavesOthers act.now (desk_view desk.old) (desk_view desk.new) }
 {
     match act {
-        Act::Create(id) => {
+        Act::Create { id } => {
             server.create(rt, alloc, desk, *id, gate, line)?;
         }
-        Act::Start(id, node) => {
+        Act::Start { id, node } => {
             server.start(rt, alloc, desk, *id, *node, roles, gate, line)?;
         }
-        Act::Withdraw(id, node) => {
+        Act::Withdraw { id, node } => {
             server.withdraw(rt, alloc, desk, *id, *node, gate, line)?;
         }
-        Act::End(id, node, writes, choice) => {
+        Act::End {
+            id,
+            node,
+            choice,
+            writes,
+        } => {
             server.end(rt, alloc, desk, *id, *node, writes, *choice, gate, line)?;
         }
-        Act::Change(id, ops) => {
+        Act::Change { id, ops } => {
             server.change(rt, alloc, desk, *id, ops, gate, line)?;
         }
-        Act::Install(type_no, ops) => {
+        Act::Install { type_no, ops } => {
             server.install(rt, alloc, desk, *type_no, ops, gate, line)?;
         }
-        Act::Migrate(type_no) => {
+        Act::Migrate { type_no } => {
             let answers = server.migrate_all(rt, alloc, desk, *type_no, gate, line)?;
             if let Some(fault) = first_fault(answers) {
                 return Err(fault);

@@ -113,7 +113,7 @@ acted-named (to_withdraw n node) actor lines at c named h written =
 acted-named (to_end n node choice writes) actor lines at c named h written =
     let c1 = with_node node c in
     found-named (case_in n c) _ c (λ id.
-    line-named lines at actor (act.End id (node_in node c) (numbered writes c1) choice) (with_elements writes c1) (numbered-one writes c1 named.1) (elements-named writes c1 named.1 (node-named node c named.0 h)) written)
+    line-named lines at actor (act.End id (node_in node c) choice (numbered writes c1)) (with_elements writes c1) (numbered-one writes c1 named.1) (elements-named writes c1 named.1 (node-named node c named.0 h)) written)
 acted-named (to_change n) actor lines at c named h written = found-named (case_in n c) _ c (λ id. unless-named _ c _ (λ none. group-named lines at actor (target.Case id) c h written))
 acted-named (to_install n) actor lines at c named h written =
     found-named (place_of c.types.names n) _ c (λ t. unless-named _ c _ (λ none. group-named lines at actor (target.«Type» t) (one_install c) (install-named c h) written))

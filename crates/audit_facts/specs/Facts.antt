@@ -5,8 +5,8 @@ use Rattle.wsm_lists.specs.declared.values.Value.{Value}
 use Rattle.wsm_lists.specs.declared.values.Value.TheVariants as value
 use Rattle.file_words.specs.Lines.{Bytes}
 use Rattle.file_words.specs.Names.{is_name}
+use Rattle.file_model.specs.Written.{act_writes}
 use Rattle.file_model.specs.declared.files.Act.{Act}
-use Rattle.file_model.specs.declared.files.Act.TheVariants as act
 use Rattle.file_model.specs.declared.files.ActorDecl.{ActorDecl}
 use Rattle.file_model.specs.declared.files.File.{File}
 use Rattle.file_model.specs.declared.files.Line.{Line}
@@ -32,8 +32,7 @@ IsOneLineWrite w = IsOneLineValue w.1
 
 -- so is each value that a line writes
 abbrev pub HasOneLineWrites : Act → Type 0
-HasOneLineWrites (act.End id node writes choice) = AllRows IsOneLineWrite writes
-HasOneLineWrites _ = Unit {0}
+HasOneLineWrites x = AllRows IsOneLineWrite (act_writes x)
 
 abbrev pub WritesOneLine : Line → Type 0
 WritesOneLine l = HasOneLineWrites l.act

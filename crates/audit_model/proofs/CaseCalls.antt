@@ -9,23 +9,31 @@ use Rattle.case_core.specs.Machine.{case_after, case_reply}
 use Rattle.case_core.specs.declared.events.Event.{Event}
 use Rattle.case_core.specs.declared.events.Event.TheVariants as event
 use Rattle.case_core.specs.declared.replies.Reply.{Reply}
-use Rattle.file_facts.proofs.Cases.{declared-placed, declared-typed}
+use Rattle.file_facts.proofs.Cases.{declared-placed}
 use Rattle.file_facts.specs.Facts.{IsDeclared, IsKnown, IsKnownAct, IsWorkable}
 use Rattle.file_model.specs.declared.files.Act.{Act}
-use Rattle.file_model.specs.declared.files.Act.TheVariants as act
 use Rattle.file_model.specs.declared.files.File.{File}
 use Rattle.file_model.specs.declared.files.Line.{Line}
 use Rattle.legal_run.proofs.OnMachines.{calls_of_case-append, calls_of_kind-append}
 use Rattle.legal_run.proofs.Told.{each-all, each-kind, entry_if, some-at, some-other}
 use Rattle.legal_run.specs.Legal.{AreTraces, IsActor, Trace, declared_cases, done_by}
-use Rattle.legal_run.specs.LineCalls.{AreCallsOf, AreCallsOfLines, Call, is_case, lines_of, calls_of_case, calls_of_kind, told, told_each}
+use Rattle.legal_run.specs.LineCalls.{AreOf, AreCallsOf, AreCallsOfLines, Call as Made, lines_of, calls_of_case, calls_of_kind, told, told_each}
+use Rattle.line_calls.proofs.Facts.{asked-known, cells-same, known-call, plain-call}
+use Rattle.line_calls.specs.Calls.{asked_among, call_of, case_event_in as event_in, cells_in, cells_of, has_case, is_case}
+use Rattle.line_calls.specs.Known.{IsPlain, is_install}
+use Rattle.line_calls.specs.declared.calls.Call.{Call}
+use Rattle.line_calls.specs.declared.calls.Call.TheVariants as call
+use Rattle.line_calls.specs.declared.calls.Cells.{Cells}
+use Rattle.line_calls.specs.declared.calls.Told.TheVariants as tell
 use Rattle.line_readers.proofs.Answers.{Fit}
 use Rattle.line_readers.proofs.Owed.{by-append}
 use Rattle.line_readers.specs.Owed.{all_owed, lines_by}
-use Rattle.script_run.specs.Calls.{roles_of}
+use Rattle.line_calls.specs.Files.{roles_of}
 use Rattle.script_run.specs.Entries.{CaseEntry, KindEntry}
 use Rattle.turn_cell.specs.History.{entry}
+use Rattle.type_core.specs.declared.events.KindEvent.{KindEvent}
 use Rattle.type_core.specs.declared.events.KindEvent.TheVariants as kind_event
+use Rattle.type_core.specs.declared.replies.KindReply.{KindReply}
 use Rattle.type_core.specs.declared.replies.KindReply.TheVariants as kind_answer
 use Rattle.wsm_lists.specs.Rows.{AllRows}
 use Rattle.wsm_sound.specs.VersionModel.{VersionModel}
@@ -66,6 +74,12 @@ none-told : (b : Bool) (e : KindEntry) → told_by e.event e.reply ≡ None → 
 none-told true e is = ap (λ o. and_told o []) is
 none-told false e is = refl
 
+-- who does not ask is told nothing
+pub not-told : (e : KindEvent) (r : KindReply) → is_install e ≡ true → told_by e r ≡ None
+not-told (kind_event.Define schema) r is = refl
+not-told (kind_event.Install ops) r is = refl
+not-told kind_event.Newest r is = absurd (cc (is))
+
 -- a line calls a case once, or not at all
 data Called (on : List CaseEntry) (calls : Bool) (o : Option Event) : Type 0 where
   once : (e : CaseEntry) → on ≡ e ∷ [] → calls ≡ true → o ≡ Some e.event → Called on calls o
@@ -75,23 +89,18 @@ called-if : (b : Bool) (on : List CaseEntry) (calls : Bool) (o : Option Event) (
 called-if true on calls o e is same event = once e is same event
 called-if false on calls o e is same event = never is same
 
--- the calls of a line, as a case and the types see them
-record OfAct (f : File) (c : CaseId) (a : ℕ) (x : Act) (first : List Call) (ver : Option VersionModel) : Type 0 where
-  some : (t : ℕ) → asks x ≡ Some t → (v : VersionModel) × (ver ≡ Some v)
-  none : asks x ≡ None → ver ≡ None
-  tells : (u : ℕ) → told_in (calls_of_kind u first) ≡ told_if (asks x) ver u
-  called : Called (calls_of_case c first) (calls_case c x) (case_event_in (roles_of f a) a ver x)
+-- the calls of cells, as a case and the types see them, where this is the event of the case
+record OfCells (c : CaseId) (x : Cells) (o : Option Event) (first : List Made) (ver : Option VersionModel) : Type 0 where
+  some : (t : ℕ) → asked_among x ≡ Some t → (v : VersionModel) × (ver ≡ Some v)
+  none : asked_among x ≡ None → ver ≡ None
+  tells : (u : ℕ) → told_in (calls_of_kind u first) ≡ told_if (asked_among x) ver u
+  called : Called (calls_of_case c first) (has_case c x) o
+
+-- those of a line
+abbrev OfAct : File → CaseId → ℕ → Act → List Made → Option VersionModel → Type 0
+OfAct f c a x first ver = OfCells c (cells_of x) (case_event_in (roles_of f a) a ver x) first ver
 
 module _ (f : File) (workable : IsWorkable f) (a : ℕ) (c : CaseId) (declared : IsDeclared c f.cases) where
-  -- one call of a case
-  one-case : (x : Act) (d : CaseId) (e : Event) (r : Reply) (first : List Call) → asks x ≡ None → calls_case c x ≡ is_case c d → case_event_in (roles_of f a) a None x ≡ Some e → first ≡ told a d e r ∷ [] → OfAct f c a x first None
-  one-case x d e r first asks_none calls event is = record {
-    some = λ t same. absurd (cc (same, asks_none));
-    none = λ same. refl;
-    tells = λ u. ap (λ cs. told_in (calls_of_kind u cs)) is ∙ ap (λ o. told_if o None u) (sym asks_none);
-    called = called-if (is_case c d) (calls_of_case c first) (calls_case c x) (case_event_in (roles_of f a) a None x) (entry a e r) (ap (calls_of_case c) is) calls event;
-  }
-
   each-called : (t : ℕ) (v : VersionModel) (rs : List Reply) → length rs ≡ declared_cases f t → Called (calls_of_case c (told_each a t (event.Migrate v) 0 rs)) (t == c.type_no) (Some (event.Migrate v))
   each-called t v rs many = dite (ℕ_discrete t c.type_no) of_type other
     where
@@ -115,30 +124,35 @@ module _ (f : File) (workable : IsWorkable f) (a : ℕ) (c : CaseId) (declared :
             | inr past ↦ absurd (omega (arith, past.0, low))
           ]
 
-  of-act : (x : Act) (first : List Call) → AreCallsOf (declared_cases f) (roles_of f a) a x first → (ver : Option VersionModel) × OfAct f c a x first ver
-  of-act (act.Create d) first (v, r, is) = (
-    Some v,
-    record {
-      some = λ t same. (v, refl);
-      none = λ same. absurd (cc (same));
-      tells = λ u. ap (λ cs. told_in (calls_of_kind u cs)) is ∙ one-told (eqb d.type_no u) a v;
-      called = called-if (is_case c d) (calls_of_case c first) (is_case c d) (Some (event.Create v)) (entry a (event.Create v) r) (ap (calls_of_case c) is) refl refl;
-    },
-  )
-  of-act (act.Start d n) first (r, is) = (None, one-case (act.Start d n) d (event.Start n a (roles_of f a)) r first refl refl refl is)
-  of-act (act.Withdraw d n) first (r, is) = (None, one-case (act.Withdraw d n) d (event.Withdraw n a) r first refl refl refl is)
-  of-act (act.End d n writes choice) first (r, is) = (None, one-case (act.End d n writes choice) d (event.End n a choice writes) r first refl refl refl is)
-  of-act (act.Change d ops) first (r, is) = (None, one-case (act.Change d ops) d (event.Change ops) r first refl refl refl is)
-  of-act (act.Install t ops) first (r, is) = (
+  of-call : (k : Call) (first : List Made) → IsPlain k → AreOf (declared_cases f) a k first → (ver : Option VersionModel) × OfCells c (cells_in k) (event_in ver k) first ver
+  of-call (call.Kind t e) first plain (r, is) = (
     None,
     record {
       some = λ u same. absurd (cc (same));
       none = λ same. refl;
-      tells = λ u. ap (λ cs. told_in (calls_of_kind u cs)) is ∙ none-told (eqb t u) (entry a (kind_event.Install ops) r) refl;
+      tells = λ u. ap (λ cs. told_in (calls_of_kind u cs)) is ∙ none-told (eqb t u) (entry a e r) (not-told e r plain);
       called = never (ap (calls_of_case c) is) refl;
     },
   )
-  of-act (act.Migrate t) first (v, rs, many, is) = (
+  of-call (call.Case d e) first plain (r, is) = (
+    None,
+    record {
+      some = λ t same. absurd (cc (same));
+      none = λ same. refl;
+      tells = λ u. ap (λ cs. told_in (calls_of_kind u cs)) is;
+      called = called-if (is_case c d) (calls_of_case c first) (is_case c d) (Some e) (entry a e r) (ap (calls_of_case c) is) refl refl;
+    },
+  )
+  of-call (call.Newest t (tell.Create d)) first plain (v, r, is) = (
+    Some v,
+    record {
+      some = λ u same. (v, refl);
+      none = λ same. absurd (cc (same));
+      tells = λ u. ap (λ cs. told_in (calls_of_kind u cs)) is ∙ one-told (eqb t u) a v;
+      called = called-if (is_case c d) (calls_of_case c first) (is_case c d) (Some (event.Create v)) (entry a (event.Create v) r) (ap (calls_of_case c) is) refl refl;
+    },
+  )
+  of-call (call.Newest t tell.Migrate) first plain (v, rs, many, is) = (
     Some v,
     record {
       some = λ u same. (v, refl);
@@ -149,24 +163,23 @@ module _ (f : File) (workable : IsWorkable f) (a : ℕ) (c : CaseId) (declared :
     },
   )
 
+  of-act : (x : Act) (first : List Made) → AreCallsOf (declared_cases f) (roles_of f a) a x first → (ver : Option VersionModel) × OfAct f c a x first ver
+  of-act x first made =
+      let (ver, h) = of-call (call_of a (roles_of f a) x) first (plain-call a (roles_of f a) x) made in
+      (ver, subst (λ cs. OfCells c cs (case_event_in (roles_of f a) a ver x) first ver) (cells-same a (roles_of f a) x) h)
+
   -- ---- what is still to be told
-  abbrev pub Told : Telling → List Call → Type 0
+  abbrev pub Told : Telling → List Made → Type 0
   Told q calls = (t : ℕ) → t < length f.types → (more : List VersionModel) × (q a t ≡ told_in (calls_of_kind t calls) ++ more)
 
-  told-parts : (t : ℕ) (first rest : List Call) → told_in (calls_of_kind t (first ++ rest)) ≡ told_in (calls_of_kind t first) ++ told_in (calls_of_kind t rest)
+  told-parts : (t : ℕ) (first rest : List Made) → told_in (calls_of_kind t (first ++ rest)) ≡ told_in (calls_of_kind t first) ++ told_in (calls_of_kind t rest)
   told-parts t first rest = ap told_in (calls_of_kind-append t first rest) ∙ told-append (calls_of_kind t first) (calls_of_kind t rest)
 
   known-type : (x : Act) (t : ℕ) → IsKnownAct (length f.types) f.cases x → asks x ≡ Some t → t < length f.types
-  known-type (act.Create d) t known is = subst (λ n. n < length f.types) (cc (is)) (declared-typed (length f.types) f.cases d workable.typed known)
-  known-type (act.Start d n) t known is = absurd (cc (is))
-  known-type (act.Withdraw d n) t known is = absurd (cc (is))
-  known-type (act.End d n writes choice) t known is = absurd (cc (is))
-  known-type (act.Change d ops) t known is = absurd (cc (is))
-  known-type (act.Install u ops) t known is = absurd (cc (is))
-  known-type (act.Migrate u) t known is = subst (λ n. n < length f.types) (cc (is)) known
+  known-type x t known is = asked-known (length f.types) f.cases workable.typed (call_of 0 [] x) t (known-call 0 [] (length f.types) f.cases x known) is
 
   -- what stands first in the line of versions to tell
-  queue-is : (q : Telling) (x : Act) (first rest : List Call) (ver : Option VersionModel) (t : ℕ) → OfAct f c a x first ver → Told q (first ++ rest) → asks x ≡ Some t → (u : ℕ) → u < length f.types
+  queue-is : (q : Telling) (x : Act) (first rest : List Made) (ver : Option VersionModel) (t : ℕ) → OfAct f c a x first ver → Told q (first ++ rest) → asks x ≡ Some t → (u : ℕ) → u < length f.types
       → (more : List VersionModel) × (q a u ≡ told_if (Some t) ver u ++ (told_in (calls_of_kind u rest) ++ more))
   queue-is q x first rest ver t h to_tell is u low =
       let (more, queue) = to_tell u low in
@@ -180,7 +193,7 @@ module _ (f : File) (workable : IsWorkable f) (a : ℕ) (c : CaseId) (declared :
   told-other t u None not = refl
   told-other t u (Some v) not = ap (λ test. if test then v ∷ [] else []) (ne_eqb t u not)
 
-  version-is : (q : Telling) (x : Act) (first rest : List Call) (ver : Option VersionModel) → IsKnownAct (length f.types) f.cases x → OfAct f c a x first ver → Told q (first ++ rest) → version_for q a (asks x) ≡ ver
+  version-is : (q : Telling) (x : Act) (first rest : List Made) (ver : Option VersionModel) → IsKnownAct (length f.types) f.cases x → OfAct f c a x first ver → Told q (first ++ rest) → version_for q a (asks x) ≡ ver
   version-is q x first rest ver known h to_tell = by (asks x) refl
     where
       by : (o : Option ℕ) → asks x ≡ o → version_for q a o ≡ ver
@@ -191,7 +204,7 @@ module _ (f : File) (workable : IsWorkable f) (a : ℕ) (c : CaseId) (declared :
           ap first_of queue ∙ (ap (λ vs. first_of (vs ++ (told_in (calls_of_kind t rest) ++ more))) (told-one t ver v same) ∙ sym same)
 
   -- what is to tell behind a line of the actor, and behind a line of another
-  told-behind : (q : Telling) (x : Act) (first rest : List Call) (ver : Option VersionModel) → IsKnownAct (length f.types) f.cases x → OfAct f c a x first ver → Told q (first ++ rest) → Told (told_at q a (asks x)) rest
+  told-behind : (q : Telling) (x : Act) (first rest : List Made) (ver : Option VersionModel) → IsKnownAct (length f.types) f.cases x → OfAct f c a x first ver → Told q (first ++ rest) → Told (told_at q a (asks x)) rest
   told-behind q x first rest ver known h to_tell u low = by (asks x) refl
     where
       by : (o : Option ℕ) → asks x ≡ o → (more : List VersionModel) × (told_at q a o a u ≡ told_in (calls_of_kind u rest) ++ more)
@@ -217,7 +230,7 @@ module _ (f : File) (workable : IsWorkable f) (a : ℕ) (c : CaseId) (declared :
                 ∙ (queue ∙ ap (λ vs. vs ++ (told_in (calls_of_kind u rest) ++ more)) none)),
           ))
 
-  told-apart : (q : Telling) (b : ℕ) (o : Option ℕ) (calls : List Call) → a ≢ b → Told q calls → Told (told_at q b o) calls
+  told-apart : (q : Telling) (b : ℕ) (o : Option ℕ) (calls : List Made) → a ≢ b → Told q calls → Told (told_at q b o) calls
   told-apart q b None calls not to_tell u low = to_tell u low
   told-apart q b (Some t) calls not to_tell u low = let (more, queue) = to_tell u low in (more, ap (λ test. if test && u == t then rest_of (q a u) else q a u) (ne_eqb a b not) ∙ queue)
 
@@ -225,18 +238,18 @@ module _ (f : File) (workable : IsWorkable f) (a : ℕ) (c : CaseId) (declared :
   abbrev own-lines : List Asked → List Asked
   own-lines ls = filter (to_case c) (filter (λ l. asked_actor l == a) ls)
 
-  record HasTold (q : Telling) (ls : List Line) (calls later : List Call) : Type 0 where
+  record HasTold (q : Telling) (ls : List Line) (calls later : List Made) : Type 0 where
     left : Told (left_to_tell q ls) later
     fit : FitCase f (calls_of_case c calls) (own-lines (asked_lines q ls))
 
-  fit-called : (x : Asked) (es : List CaseEntry) (rest : List Asked) (first : List Call) (o : Option Event) → case_event_of f x ≡ o → Called (calls_of_case c first) (to_case c x) o → FitCase f es rest
+  fit-called : (x : Asked) (es : List CaseEntry) (rest : List Asked) (first : List Made) (o : Option Event) → case_event_of f x ≡ o → Called (calls_of_case c first) (to_case c x) o → FitCase f es rest
       → FitCase f (calls_of_case c first ++ es) (if to_case c x then x ∷ rest else rest)
   fit-called x es rest first o event (once e is calls same) fit =
       subst (λ xs. FitCase f (xs ++ es) (if to_case c x then x ∷ rest else rest)) (sym is) (subst (λ test. FitCase f (e ∷ es) (if test then x ∷ rest else rest)) (sym calls) (event ∙ same, fit))
   fit-called x es rest first o event (never is calls) fit =
       subst (λ xs. FitCase f (xs ++ es) (if to_case c x then x ∷ rest else rest)) (sym is) (subst (λ test. FitCase f es (if test then x ∷ rest else rest)) (sym calls) fit)
 
-  has-told : (ls : List Line) (q : Telling) (calls later : List Call) → AllRows (λ l. IsKnown (length f.types) (length f.actors) f.cases l) ls → AreCallsOfLines (declared_cases f) (roles_of f a) a (lines_of a ls) calls → Told q (calls ++ later) → HasTold q ls calls later
+  has-told : (ls : List Line) (q : Telling) (calls later : List Made) → AllRows (λ l. IsKnown (length f.types) (length f.actors) f.cases l) ls → AreCallsOfLines (declared_cases f) (roles_of f a) a (lines_of a ls) calls → Told q (calls ++ later) → HasTold q ls calls later
   has-told [] q calls later known are to_tell = record {
     left = subst (λ cs. Told q (cs ++ later)) are to_tell;
     fit = subst (λ cs. FitCase f (calls_of_case c cs) []) (sym are) tt;
@@ -244,7 +257,7 @@ module _ (f : File) (workable : IsWorkable f) (a : ℕ) (c : CaseId) (declared :
   has-told (l ∷ ls) q calls later (k, known) are to_tell = by (l.actor == a) refl are (λ r cs t. has-told ls r cs later known t)
     where
       More : Type 0
-      More = (r : Telling) (cs : List Call) → AreCallsOfLines (declared_cases f) (roles_of f a) a (lines_of a ls) cs → Told r (cs ++ later) → HasTold r ls cs later
+      More = (r : Telling) (cs : List Made) → AreCallsOfLines (declared_cases f) (roles_of f a) a (lines_of a ls) cs → Told r (cs ++ later) → HasTold r ls cs later
 
       by : (test : Bool) → (l.actor == a) ≡ test → AreCallsOfLines (declared_cases f) (roles_of f a) a (lines_of a (l ∷ ls)) calls → More → HasTold q (l ∷ ls) calls later
       by false other are more =

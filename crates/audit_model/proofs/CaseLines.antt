@@ -1,21 +1,25 @@
 -- A line of a case's journal, right or wrong.
 use Rattle.std.proofs.Common.{◌≡◌, ℕ, ◌+◌, ◌<◌, ◌==◌, Bool, true, false, List, [], ◌∷◌, ◌++◌, length, Option, Some, None, length-append, refl, sym, ap, ◌∙◌, subst, arith}
-use Rattle.std.specs.Prelude.{IfSome, option_map}
-use Rattle.audit_facts.specs.Facts.{HasOneLineWrites, IsAuditable, WritesOneLine}
+use Rattle.std.specs.Prelude.{IfSome}
+use Rattle.audit_facts.specs.Facts.{IsAuditable, IsOneLineWrite, WritesOneLine}
 use Rattle.audit_model.proofs.Texts.{case-line}
-use Rattle.audit_model.specs.Asked.{Asked, case_event_in, case_event_of}
+use Rattle.audit_model.specs.Asked.{Asked, case_event_of}
 use Rattle.audit_model.specs.Printed.{caller_in, case_shown}
 use Rattle.audit_model.proofs.Live.{case-line-one, tells-case}
 use Rattle.audit_model.specs.Kept.{KeptCase, WritesValues}
 use Rattle.case_core.specs.Machine.{case_after, case_reply}
 use Rattle.case_core.specs.declared.events.Event.{Event}
-use Rattle.case_core.specs.declared.events.Event.TheVariants as event
 use Rattle.file_facts.specs.Facts.{IsWorkable}
-use Rattle.file_model.specs.declared.files.Act.{Act}
-use Rattle.file_model.specs.declared.files.Act.TheVariants as act
 use Rattle.file_model.specs.declared.files.File.{File}
 use Rattle.file_words.specs.Lines.{Bytes}
 use Rattle.legal_run.specs.Legal.{IsActor}
+use Rattle.line_calls.proofs.Facts.{writes-same}
+use Rattle.line_calls.specs.Calls.{call_of, case_event_in, version_event}
+use Rattle.line_calls.specs.Known.{call_writes}
+use Rattle.line_calls.specs.declared.calls.Call.{Call}
+use Rattle.line_calls.specs.declared.calls.Call.TheVariants as call
+use Rattle.line_calls.specs.declared.calls.Told.{Told}
+use Rattle.line_calls.specs.declared.calls.Told.TheVariants as tell
 use Rattle.line_followers.proofs.JournalLines.{caller-none, event-none, first-none}
 use Rattle.line_followers.proofs.Rests.{rest-differs, rest-line, rest-wrong}
 use Rattle.line_followers.proofs.Turns.{IsTurn, turn-none, turn-taken}
@@ -27,11 +31,12 @@ use Rattle.line_readers.specs.FirstWrong.{ended}
 use Rattle.line_readers.specs.Journals.{shown}
 use Rattle.line_readers.specs.Owed.{first_by}
 use Rattle.report_text.specs.Journals.{case_line}
-use Rattle.script_run.specs.Calls.{roles_of}
+use Rattle.line_calls.specs.Files.{roles_of}
 use Rattle.script_run.specs.Entries.{CaseEntry}
 use Rattle.script_run.specs.declared.runs.ClosedCase.{ClosedCase}
 use Rattle.text_follower.specs.Followed.{Followed, followed, same_front}
 use Rattle.turn_cell.specs.History.{entry}
+use Rattle.wsm_lists.specs.Rows.{AllRows}
 use Rattle.wsm_sound.specs.VersionModel.{VersionModel}
 use Rattle.audit_model.proofs.CallerLines.{caller-of-first}
 use Rattle.audit_model.proofs.KindLines.{caller-range}
@@ -40,25 +45,21 @@ use Rattle.audit_model.specs.Judging.{FollowedBy}
 use Rattle.audit_model.specs.Lines.{actor_of}
 
 -- an event writes what its line writes
-created-writes : (o : Option VersionModel) → IfSome (option_map event.Create o) WritesValues
-created-writes None = tt
-created-writes (Some v) = tt
+told-writes : (w : Told) (v : VersionModel) → WritesValues (version_event w v)
+told-writes (tell.Create c) v = tt
+told-writes tell.Migrate v = tt
 
-migrated-writes : (o : Option VersionModel) → IfSome (option_map event.Migrate o) WritesValues
-migrated-writes None = tt
-migrated-writes (Some v) = tt
-
-pub event-writes : (roles : List ℕ) (a : ℕ) (o : Option VersionModel) (x : Act) → HasOneLineWrites x → IfSome (case_event_in roles a o x) WritesValues
-event-writes roles a o (act.Create c) one = created-writes o
-event-writes roles a o (act.Start c n) one = tt
-event-writes roles a o (act.Withdraw c n) one = tt
-event-writes roles a o (act.End c n writes choice) one = one
-event-writes roles a o (act.Change c ops) one = tt
-event-writes roles a o (act.Install t ops) one = tt
-event-writes roles a o (act.Migrate t) one = migrated-writes o
+event-writes : (o : Option VersionModel) (k : Call) → AllRows IsOneLineWrite (call_writes k) → IfSome (case_event_in o k) WritesValues
+event-writes o (call.Kind t e) one = tt
+event-writes o (call.Case c e) one = one
+event-writes None (call.Newest t w) one = tt
+event-writes (Some v) (call.Newest t w) one = told-writes w v
 
 pub line-writes : (f : File) (c : Asked) (e : Event) → WritesOneLine c.0 → case_event_of f c ≡ Some e → WritesValues e
-line-writes f c e one is = subst (λ o. IfSome o WritesValues) is (event-writes (roles_of f c.0.actor) c.0.actor c.1 c.0.act one)
+line-writes f c e one is =
+    let a = c.0.actor in
+    let writes = subst (AllRows IsOneLineWrite) (sym (writes-same a (roles_of f a) c.0.act)) one in
+    subst (λ o. IfSome o WritesValues) is (event-writes c.1 (call_of a (roles_of f a) c.0.act) writes)
 
 module _ (f : File) (workable : IsWorkable f) (auditable : IsAuditable f) where
   caller-actor : (k : ℕ) (text : Bytes) (a : ℕ) → caller_in f k text ≡ Some a → IsActor f a × (a < length f.actors + 1)

@@ -45,8 +45,8 @@ abbrev line : ℕ → ℕ → Act → Line
 line order actor a = record { at = order; order = order; actor = actor; act = a }
 
 abbrev two_nodes : File
-two_nodes = file_of ((line 1 1 (act.Create the_case) ∷ line 2 1 (act.Start the_case 2) ∷ line 3 1 (act.End the_case 2 [] None)
-    ∷ line 4 1 (act.Start the_case 3) ∷ line 5 1 (act.End the_case 3 [] None) ∷ []) ∷ [])
+two_nodes = file_of ((line 1 1 (act.Create the_case) ∷ line 2 1 (act.Start the_case 2) ∷ line 3 1 (act.End the_case 2 None [])
+    ∷ line 4 1 (act.Start the_case 3) ∷ line 5 1 (act.End the_case 3 None []) ∷ []) ∷ [])
 
 abbrev begun : Bytes
 begun = codes "adept report 1\ntype t\n1 - define -> defined\n2 ann newest -> is 1\ncase c t\n1 ann create 1 -> created\n2 ann start A -> started\n3 ann end A -> ended\n"

@@ -1,25 +1,28 @@
 -- The calls of one type that an actor's lines stand for are the answers to those of its lines that call the type.
 use Rattle.std.proofs.Common.{◌≡◌, ℕ, zero, suc, ◌==◌, eqb, Bool, true, false, List, [], ◌∷◌, ◌++◌, filter, map, take, Some, refl, sym, ap, ◌∙◌, subst, append_assoc, if◌then◌else◌}
 use Rattle.case_core.specs.declared.events.Event.TheVariants as event
-use Rattle.file_model.specs.declared.files.Act.{Act}
-use Rattle.file_model.specs.declared.files.Act.TheVariants as act
 use Rattle.file_model.specs.declared.files.File.{File}
 use Rattle.file_model.specs.declared.files.Line.{Line}
 use Rattle.legal_run.proofs.OnMachines.{calls_of_kind-append}
 use Rattle.legal_run.proofs.Told.{each-kind}
 use Rattle.legal_run.specs.Legal.{AreTraces, IsActor, Trace, declared_cases, done_by}
-use Rattle.legal_run.specs.LineCalls.{AreCallsOf, AreCallsOfLines, Call, lines_of, calls_of_kind, told_each}
+use Rattle.legal_run.specs.LineCalls.{AreOf, AreCallsOf, AreCallsOfLines, Call as Made, lines_of, calls_of_kind, told_each}
+use Rattle.line_calls.proofs.Facts.{cells-same, kind_event-same}
+use Rattle.line_calls.specs.Calls.{call_of, cells_in, has_kind, kind_event_in}
+use Rattle.line_calls.specs.declared.calls.Call.{Call}
+use Rattle.line_calls.specs.declared.calls.Call.TheVariants as call
+use Rattle.line_calls.specs.declared.calls.Told.TheVariants as tell
 use Rattle.line_readers.proofs.Answers.{Fit}
 use Rattle.line_readers.proofs.Owed.{by-append}
 use Rattle.line_readers.specs.Owed.{all_owed, lines_by}
-use Rattle.script_run.specs.Calls.{roles_of}
+use Rattle.line_calls.specs.Files.{roles_of}
 use Rattle.script_run.specs.Entries.{KindEntry}
 use Rattle.turn_cell.specs.History.{entry}
 use Rattle.wsm_lists.specs.Rows.{AllRows}
 use Rattle.type_core.specs.Machine.{kind_after, kind_reply}
 use Rattle.type_core.specs.declared.events.KindEvent.TheVariants as kind_event
 use Rattle.type_core.specs.declared.replies.KindReply.TheVariants as kind_answer
-use Rattle.audit_model.specs.Asked.{kind_event_in, kind_event_of}
+use Rattle.audit_model.specs.Asked.{kind_event_of}
 use Rattle.audit_model.specs.Owed.{calls_kind}
 
 abbrev pub actor_of : Line → ℕ
@@ -37,32 +40,31 @@ fit-one true e l es rest event fit = (event, fit)
 fit-one false e l es rest event fit = fit
 
 module _ (many : ℕ → ℕ) (roles : List ℕ) (a t : ℕ) where
-  fit-act : (x : Act) (l : Line) (calls : List Call) (es : List KindEntry) (rest : List Line) → kind_event_of l ≡ kind_event_in x → AreCallsOf many roles a x calls → FitKind es rest
-      → FitKind (calls_of_kind t calls ++ es) (if calls_kind t x then l ∷ rest else rest)
-  fit-act (act.Create c) l calls es rest event k fit = subst (λ xs. FitKind (calls_of_kind t xs ++ es) (if eqb c.type_no t then l ∷ rest else rest)) (sym k.2) (fit-one (eqb c.type_no t) _ l es rest event fit)
-  fit-act (act.Start c n) l calls es rest event k fit = subst (λ xs. FitKind (calls_of_kind t xs ++ es) rest) (sym k.1) fit
-  fit-act (act.Withdraw c n) l calls es rest event k fit = subst (λ xs. FitKind (calls_of_kind t xs ++ es) rest) (sym k.1) fit
-  fit-act (act.End c n writes choice) l calls es rest event k fit = subst (λ xs. FitKind (calls_of_kind t xs ++ es) rest) (sym k.1) fit
-  fit-act (act.Change c ops) l calls es rest event k fit = subst (λ xs. FitKind (calls_of_kind t xs ++ es) rest) (sym k.1) fit
-  fit-act (act.Install u ops) l calls es rest event k fit = subst (λ xs. FitKind (calls_of_kind t xs ++ es) (if eqb u t then l ∷ rest else rest)) (sym k.1) (fit-one (eqb u t) _ l es rest event fit)
-  fit-act (act.Migrate u) l calls es rest newest k fit =
-      let e : KindEntry = entry a kind_event.Newest (kind_answer.Is k.0) in
-      let none : calls_of_kind t (told_each a u (event.Migrate k.0) 0 k.1) ≡ [] = each-kind a u (event.Migrate k.0) t 0 k.1 in
-      subst (λ xs. FitKind (calls_of_kind t xs ++ es) (if eqb u t then l ∷ rest else rest)) (sym k.3)
-      (subst (λ (xs : List KindEntry). FitKind ((if eqb u t then e ∷ xs else xs) ++ es) (if eqb u t then l ∷ rest else rest)) (sym none) (fit-one (eqb u t) e l es rest is_newest fit))
-    where
-      is_newest : kind_event_of l ≡ Some kind_event.Newest
-      is_newest = newest
+  fit-call : (k : Call) (l : Line) (calls : List Made) (es : List KindEntry) (rest : List Line) → kind_event_of l ≡ kind_event_in k → AreOf many a k calls → FitKind es rest
+      → FitKind (calls_of_kind t calls ++ es) (if has_kind t (cells_in k) then l ∷ rest else rest)
+  fit-call (call.Kind u e) l calls es rest event m fit = subst (λ xs. FitKind (calls_of_kind t xs ++ es) (if eqb u t then l ∷ rest else rest)) (sym m.1) (fit-one (eqb u t) _ l es rest event fit)
+  fit-call (call.Case c e) l calls es rest event m fit = subst (λ xs. FitKind (calls_of_kind t xs ++ es) rest) (sym m.1) fit
+  fit-call (call.Newest u (tell.Create c)) l calls es rest event m fit = subst (λ xs. FitKind (calls_of_kind t xs ++ es) (if eqb u t then l ∷ rest else rest)) (sym m.2) (fit-one (eqb u t) _ l es rest event fit)
+  fit-call (call.Newest u tell.Migrate) l calls es rest newest m fit =
+      let e : KindEntry = entry a kind_event.Newest (kind_answer.Is m.0) in
+      let none : calls_of_kind t (told_each a u (event.Migrate m.0) 0 m.1) ≡ [] = each-kind a u (event.Migrate m.0) t 0 m.1 in
+      subst (λ xs. FitKind (calls_of_kind t xs ++ es) (if eqb u t then l ∷ rest else rest)) (sym m.3)
+      (subst (λ (xs : List KindEntry). FitKind ((if eqb u t then e ∷ xs else xs) ++ es) (if eqb u t then l ∷ rest else rest)) (sym none) (fit-one (eqb u t) e l es rest newest fit))
+
+  fit-line : (l : Line) (calls : List Made) (es : List KindEntry) (rest : List Line) → AreCallsOf many roles a l.act calls → FitKind es rest → FitKind (calls_of_kind t calls ++ es) (if to_kind t l then l ∷ rest else rest)
+  fit-line l calls es rest m fit =
+      subst (λ x. FitKind (calls_of_kind t calls ++ es) (if has_kind t x then l ∷ rest else rest)) (cells-same a roles l.act)
+      (fit-call (call_of a roles l.act) l calls es rest (sym (kind_event-same a roles l.act)) m fit)
 
   if-append : (b : Bool) (l : Line) (xs ys : List Line) → (if b then l ∷ xs else xs) ++ ys ≡ (if b then l ∷ (xs ++ ys) else xs ++ ys)
   if-append true l xs ys = refl
   if-append false l xs ys = refl
 
-  pub fit-lines : (ls : List Line) (calls : List Call) (es : List KindEntry) (rest : List Line) → AreCallsOfLines many roles a ls calls → FitKind es rest → FitKind (calls_of_kind t calls ++ es) (filter (to_kind t) ls ++ rest)
+  pub fit-lines : (ls : List Line) (calls : List Made) (es : List KindEntry) (rest : List Line) → AreCallsOfLines many roles a ls calls → FitKind es rest → FitKind (calls_of_kind t calls ++ es) (filter (to_kind t) ls ++ rest)
   fit-lines [] calls es rest k fit = subst (λ xs. FitKind (calls_of_kind t xs ++ es) rest) (sym k) fit
   fit-lines (l ∷ ls) calls es rest (first, others, is, here, more) fit =
       let behind = fit-lines ls others es rest more fit in
-      let whole = fit-act l.act l first (calls_of_kind t others ++ es) (filter (to_kind t) ls ++ rest) refl here behind in
+      let whole = fit-line l first (calls_of_kind t others ++ es) (filter (to_kind t) ls ++ rest) here behind in
       let parts : calls_of_kind t calls ++ es ≡ calls_of_kind t first ++ (calls_of_kind t others ++ es) = ap (λ xs. calls_of_kind t xs ++ es) is ∙ (ap (λ xs. xs ++ es) (calls_of_kind-append t first others) ∙ append_assoc (calls_of_kind t first) (calls_of_kind t others) es) in
       subst (λ xs. FitKind xs (filter (to_kind t) (l ∷ ls) ++ rest)) (sym parts)
       (subst (FitKind (calls_of_kind t first ++ (calls_of_kind t others ++ es))) (sym (if-append (to_kind t l) l (filter (to_kind t) ls) rest)) whole)

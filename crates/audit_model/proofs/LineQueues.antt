@@ -15,13 +15,18 @@ use Rattle.file_facts.proofs.Lists.{any-at}
 use Rattle.file_facts.specs.Facts.{ArePlaced, IsDeclared, IsKnownAct, IsWorkable}
 use Rattle.file_model.specs.CaseCounts.{cases_of_type, has_id}
 use Rattle.file_model.specs.declared.files.Act.{Act}
-use Rattle.file_model.specs.declared.files.Act.TheVariants as act
 use Rattle.file_model.specs.declared.files.CaseDecl.{CaseDecl}
 use Rattle.file_model.specs.declared.files.File.{File}
 use Rattle.file_model.specs.declared.files.Line.{Line}
 use Rattle.legal_run.specs.Legal.{declared_cases}
-use Rattle.legal_run.specs.LineCalls.{AreCallsOf, AreCallsOfLines, asked, told, told_each}
-use Rattle.script_run.specs.Calls.{roles_of}
+use Rattle.legal_run.specs.LineCalls.{AreOf, AreCallsOf, AreCallsOfLines, asked, told, told_each}
+use Rattle.line_calls.proofs.Facts.{cells-same, kind_event-same, known-call, plain-call}
+use Rattle.line_calls.specs.Calls.{asked_among, call_of, case_event_in as event_of_case, cells_in, has_case, has_kind, is_case, kind_event_in as event_of_kind}
+use Rattle.line_calls.specs.Known.{IsKnownCall, IsPlain, is_install}
+use Rattle.line_calls.specs.declared.calls.Call.{Call}
+use Rattle.line_calls.specs.declared.calls.Call.TheVariants as call
+use Rattle.line_calls.specs.declared.calls.Told.TheVariants as tell
+use Rattle.line_calls.specs.Files.{roles_of}
 use Rattle.script_run.specs.Entries.{CaseEntry, KindEntry}
 use Rattle.turn_cell.specs.History.{entry}
 use Rattle.turn_cell.specs.declared.journal.Entry.{Entry}
@@ -32,12 +37,12 @@ use Rattle.type_core.specs.declared.replies.KindReply.TheVariants as kind_answer
 use Rattle.wsm_lists.specs.Rows.{AllRows}
 use Rattle.wsm_sound.specs.VersionModel.{VersionModel}
 use Rattle.wsm_sound.specs.declared.versions.CaseId.{CaseId}
-use Rattle.audit_model.proofs.CaseCalls.{FitCase, to_case}
+use Rattle.audit_model.proofs.CaseCalls.{FitCase, not-told, to_case}
 use Rattle.audit_model.proofs.KindCalls.{FitKind, keeps, to_kind}
 use Rattle.audit_model.specs.Asked.{Asked, and_told, asks, case_event_in, case_event_of, first_of, kind_event_in, kind_event_of, rest_of, told_by, told_in}
 use Rattle.audit_model.specs.Owed.{calls_case, calls_kind}
 use Rattle.audit_model.proofs.OwnLines.{OwnTelling, asked_own, own_left, own_then, own_version}
-use Rattle.audit_model.proofs.Queues.{CaseQueues, KindQueues, calls_along, calls_at, cases_left, cases_then, id_at, kinds_left, kinds_then, of_each, of_one, of_type}
+use Rattle.audit_model.proofs.Queues.{CaseQueues, KindQueues, calls_along, calls_at, calls_in, cases_left, cases_then, id_at, kinds_left, kinds_then, of_each, of_one, of_type}
 
 -- ---- places of a type have cases
 some-case : (cases : List CaseDecl) → ArePlaced cases → (t i n : ℕ) → n ≤ length cases → i < cases_of_type t (take n cases) → IsDeclared (id_at t i) cases
@@ -116,44 +121,46 @@ module _ (f : File) (workable : IsWorkable f) (a : ℕ) where
     pub own : (c : CaseId) → IsDeclared c f.cases → AllRows OfActor (C c)
 
   -- ---- the first of a type
-  record IsAsked (K : KindQueues) (x : Act) (t : ℕ) : Type 0 where
+  record IsAsked (K : KindQueues) (k : Call) (t : ℕ) : Type 0 where
     first : KindEntry
     others : List KindEntry
     queue : K t ≡ first ∷ others
-    event : kind_event_in x ≡ Some first.event
+    event : event_of_kind k ≡ Some first.event
     caller : first.caller ≡ a
     tells : TellsVersion first
 
-  first-kind : (K : KindQueues) (x : Act) (t : ℕ) (es : List KindEntry) (l : Line) (ls : List Line) → K t ≡ es → kind_event_of l ≡ kind_event_in x → FitKind es (l ∷ ls) → AllRows IsOfActor es → IsAsked K x t
-  first-kind K x t [] l ls is same fit own = absurd fit
-  first-kind K x t (e ∷ es) l ls is same (event, fit) (here, own) = record { first = e; others = es; queue = is; event = sym same ∙ event; caller = here.0; tells = here.1 }
+  first-kind : (K : KindQueues) (k : Call) (t : ℕ) (es : List KindEntry) (l : Line) (ls : List Line) → K t ≡ es → kind_event_of l ≡ event_of_kind k → FitKind es (l ∷ ls) → AllRows IsOfActor es → IsAsked K k t
+  first-kind K k t [] l ls is same fit own = absurd fit
+  first-kind K k t (e ∷ es) l ls is same (event, fit) (here, own) = record { first = e; others = es; queue = is; event = sym same ∙ event; caller = here.0; tells = here.1 }
 
-  asked-kind : (K : KindQueues) (r : OwnTelling) (l : Line) (ls : List Line) → AsksReady K r (l ∷ ls) → (t : ℕ) → t < length f.types → calls_kind t l.act ≡ true → IsAsked K l.act t
-  asked-kind K r l ls ready t low calls = first-kind K l.act t (K t) l (filter (to_kind t) ls) refl refl (subst (FitKind (K t)) (keeps (to_kind t) l ls calls) (ready.kinds t low)) (ready.own t low)
+  -- by whomever the line is called
+  asked-kind : (K : KindQueues) (r : OwnTelling) (l : Line) (ls : List Line) → AsksReady K r (l ∷ ls) → (b : ℕ) (roles : List ℕ) (t : ℕ) → t < length f.types → calls_kind t l.act ≡ true → IsAsked K (call_of b roles l.act) t
+  asked-kind K r l ls ready b roles t low calls =
+      first-kind K (call_of b roles l.act) t (K t) l (filter (to_kind t) ls) refl (sym (kind_event-same b roles l.act)) (subst (FitKind (K t)) (keeps (to_kind t) l ls calls) (ready.kinds t low)) (ready.own t low)
 
   -- ---- the first of a case
-  record IsTold (C : CaseQueues) (ver : Option VersionModel) (x : Act) (c : CaseId) : Type 0 where
+  record IsTold (C : CaseQueues) (ver : Option VersionModel) (k : Call) (c : CaseId) : Type 0 where
     first : CaseEntry
     others : List CaseEntry
     queue : C c ≡ first ∷ others
-    event : case_event_in (roles_of f a) a ver x ≡ Some first.event
+    event : event_of_case ver k ≡ Some first.event
     caller : first.caller ≡ a
 
-  first-case : (C : CaseQueues) (ver : Option VersionModel) (x : Act) (c : CaseId) (es : List CaseEntry) (l : Asked) (ls : List Asked) → C c ≡ es → case_event_of f l ≡ case_event_in (roles_of f a) a ver x → FitCase f es (l ∷ ls) → AllRows OfActor es → IsTold C ver x c
-  first-case C ver x c [] l ls is same fit own = absurd fit
-  first-case C ver x c (e ∷ es) l ls is same (event, fit) (here, own) = record { first = e; others = es; queue = is; event = sym same ∙ event; caller = here }
+  first-case : (C : CaseQueues) (ver : Option VersionModel) (k : Call) (c : CaseId) (es : List CaseEntry) (l : Asked) (ls : List Asked) → C c ≡ es → case_event_of f l ≡ event_of_case ver k → FitCase f es (l ∷ ls) → AllRows OfActor es → IsTold C ver k c
+  first-case C ver k c [] l ls is same fit own = absurd fit
+  first-case C ver k c (e ∷ es) l ls is same (event, fit) (here, own) = record { first = e; others = es; queue = is; event = sym same ∙ event; caller = here }
 
-  told-case : (C : CaseQueues) (r : OwnTelling) (l : Line) (ls : List Line) → l.actor ≡ a → CasesReady C r (l ∷ ls) → (c : CaseId) → IsDeclared c f.cases → calls_case c l.act ≡ true → IsTold C (own_version r (asks l.act)) l.act c
+  told-case : (C : CaseQueues) (r : OwnTelling) (l : Line) (ls : List Line) → l.actor ≡ a → CasesReady C r (l ∷ ls) → (c : CaseId) → IsDeclared c f.cases → calls_case c l.act ≡ true → IsTold C (own_version r (asks l.act)) (call_of a (roles_of f a) l.act) c
   told-case C r l ls own ready c declared calls =
       let ver = own_version r (asks l.act) in
       let x : Asked = (l, ver) in
       let rest = asked_own (own_then r (asks l.act)) ls in
       let event : case_event_of f x ≡ case_event_in (roles_of f a) a ver l.act = ap (λ b. case_event_in (roles_of f b) b ver l.act) own in
-      first-case C ver l.act c (C c) x (filter (to_case c) rest) refl event (subst (FitCase f (C c)) (keeps (to_case c) x rest calls) (ready.cases c declared)) (ready.own c declared)
+      first-case C ver (call_of a (roles_of f a) l.act) c (C c) x (filter (to_case c) rest) refl event (subst (FitCase f (C c)) (keeps (to_case c) x rest calls) (ready.cases c declared)) (ready.own c declared)
 
   -- ---- the calls of a line
-  module _ (K : KindQueues) (C : CaseQueues) (ver : Option VersionModel) (x : Act) (asks_kind : (t : ℕ) → t < length f.types → calls_kind t x ≡ true → IsAsked K x t)
-      (tells_case : (c : CaseId) → IsDeclared c f.cases → calls_case c x ≡ true → IsTold C ver x c) (told_first : (t : ℕ) → t < length f.types → asks x ≡ Some t → ver ≡ first_of (told_in (K t))) where
+  module _ (K : KindQueues) (C : CaseQueues) (ver : Option VersionModel) (k : Call) (asks_kind : (t : ℕ) → t < length f.types → has_kind t (cells_in k) ≡ true → IsAsked K k t)
+      (tells_case : (c : CaseId) → IsDeclared c f.cases → has_case c (cells_in k) ≡ true → IsTold C ver k c) (told_first : (t : ℕ) → t < length f.types → asked_among (cells_in k) ≡ Some t → ver ≡ first_of (told_in (K t))) where
     -- the version that the first of a type tells
     record TellsFirst (t : ℕ) : Type 0 where
       version : VersionModel
@@ -161,7 +168,7 @@ module _ (f : File) (workable : IsWorkable f) (a : ℕ) where
       queue : K t ≡ entry a kind_event.Newest (kind_answer.Is version) ∷ others
       is : ver ≡ Some version
 
-    tells-first : (t : ℕ) → t < length f.types → calls_kind t x ≡ true → kind_event_in x ≡ Some kind_event.Newest → asks x ≡ Some t → TellsFirst t
+    tells-first : (t : ℕ) → t < length f.types → has_kind t (cells_in k) ≡ true → event_of_kind k ≡ Some kind_event.Newest → asked_among (cells_in k) ≡ Some t → TellsFirst t
     tells-first t low calls newest asking =
         let h = asks_kind t low calls in
         let event : h.first.event ≡ kind_event.Newest = same_Some h.first.event kind_event.Newest (sym h.event ∙ newest) in
@@ -178,7 +185,7 @@ module _ (f : File) (workable : IsWorkable f) (a : ℕ) where
       answer : Reply
       calls : of_one c (C c) ≡ told a c e answer ∷ []
 
-    tells-one : (c : CaseId) (e : Event) → IsDeclared c f.cases → calls_case c x ≡ true → case_event_in (roles_of f a) a ver x ≡ Some e → TellsOne c e
+    tells-one : (c : CaseId) (e : Event) → IsDeclared c f.cases → has_case c (cells_in k) ≡ true → event_of_case ver k ≡ Some e → TellsOne c e
     tells-one c e declared calls is_event =
         let h = tells_case c declared calls in
         let event : h.first.event ≡ e = same_Some h.first.event e (sym h.event ∙ is_event) in
@@ -186,7 +193,7 @@ module _ (f : File) (workable : IsWorkable f) (a : ℕ) where
         record { answer = h.first.reply; calls = ap (of_one c) (h.queue ∙ ap (λ y. y ∷ h.others) is) }
 
     -- each case of a type
-    each-told : (t : ℕ) (v : VersionModel) → ((c : CaseId) → (t == c.type_no) ≡ true → calls_case c x ≡ true) → case_event_in (roles_of f a) a ver x ≡ Some (event.Migrate v)
+    each-told : (t : ℕ) (v : VersionModel) → ((c : CaseId) → (t == c.type_no) ≡ true → has_case c (cells_in k) ≡ true) → event_of_case ver k ≡ Some (event.Migrate v)
         → (n place : ℕ) → place + n ≡ declared_cases f t → (rs : List Reply) × (length rs ≡ n) × (of_each C t place n ≡ told_each a t (event.Migrate v) place rs)
     each-told t v calls is_event zero place many = ([], refl, refl)
     each-told t v calls is_event (suc n) place many =
@@ -198,32 +205,31 @@ module _ (f : File) (workable : IsWorkable f) (a : ℕ) where
           ap (λ xs. xs ++ of_each C t (place + 1) n) here.calls ∙ ap (λ xs. told a c (event.Migrate v) here.answer ∷ xs) more,
         )
 
-  abbrev Given : KindQueues → CaseQueues → Option VersionModel → Act → Type 0
-  Given K C ver x =
-      ((t : ℕ) → t < length f.types → calls_kind t x ≡ true → IsAsked K x t) × ((c : CaseId) → IsDeclared c f.cases → calls_case c x ≡ true → IsTold C ver x c)
-      × ((t : ℕ) → t < length f.types → asks x ≡ Some t → ver ≡ first_of (told_in (K t)))
+  abbrev Given : KindQueues → CaseQueues → Option VersionModel → Call → Type 0
+  Given K C ver k =
+      ((t : ℕ) → t < length f.types → has_kind t (cells_in k) ≡ true → IsAsked K k t) × ((c : CaseId) → IsDeclared c f.cases → has_case c (cells_in k) ≡ true → IsTold C ver k c)
+      × ((t : ℕ) → t < length f.types → asked_among (cells_in k) ≡ Some t → ver ≡ first_of (told_in (K t)))
 
-  same-case : (c : CaseId) → calls_case c (act.Create c) ≡ true
+  same-case : (c : CaseId) → is_case c c ≡ true
   same-case c = and_from (c.type_no == c.type_no) (c.place == c.place) (eq-eqb c.type_no c.type_no refl) (eq-eqb c.place c.place refl)
 
-  calls-are : (K : KindQueues) (C : CaseQueues) (ver : Option VersionModel) (x : Act) → IsKnownAct (length f.types) f.cases x → Given K C ver x → AreCallsOf (declared_cases f) (roles_of f a) a x (calls_at (declared_cases f) K C x)
-  calls-are K C ver (act.Create c) known (kinds, cases, version) =
-      let low = declared-typed (length f.types) f.cases c workable.typed known in
-      let h = tells-first K C ver (act.Create c) kinds cases version c.type_no low (eq-eqb c.type_no c.type_no refl) refl refl in
-      let one = tells-one K C ver (act.Create c) kinds cases version c (event.Create h.version) known (same-case c) (ap (λ o. case_event_in (roles_of f a) a o (act.Create c)) h.is) in
-      (h.version, one.answer, ap (λ xs. of_type c.type_no xs ++ of_one c (C c)) h.queue ∙ ap (λ xs. asked a c.type_no h.version ∷ xs) one.calls)
-  calls-are K C ver (act.Start c n) known (kinds, cases, version) = let one = tells-one K C ver (act.Start c n) kinds cases version c (event.Start n a (roles_of f a)) known (same-case c) refl in (one.answer, one.calls)
-  calls-are K C ver (act.Withdraw c n) known (kinds, cases, version) = let one = tells-one K C ver (act.Withdraw c n) kinds cases version c (event.Withdraw n a) known (same-case c) refl in (one.answer, one.calls)
-  calls-are K C ver (act.End c n writes choice) known (kinds, cases, version) = let one = tells-one K C ver (act.End c n writes choice) kinds cases version c (event.End n a choice writes) known (same-case c) refl in (one.answer, one.calls)
-  calls-are K C ver (act.Change c ops) known (kinds, cases, version) = let one = tells-one K C ver (act.Change c ops) kinds cases version c (event.Change ops) known.0 (same-case c) refl in (one.answer, one.calls)
-  calls-are K C ver (act.Install t ops) known (kinds, cases, version) =
-      let h = kinds t known.0 (eq-eqb t t refl) in
-      let event : h.first.event ≡ kind_event.Install ops = same_Some h.first.event (kind_event.Install ops) (sym h.event) in
-      let is : h.first ≡ entry a (kind_event.Install ops) h.first.reply = entry-is h.first a (kind_event.Install ops) h.first.reply h.caller event refl in
-      (h.first.reply, ap (of_type t) (h.queue ∙ ap (λ e. e ∷ h.others) is))
-  calls-are K C ver (act.Migrate t) known (kinds, cases, version) =
-      let h = tells-first K C ver (act.Migrate t) kinds cases version t known (eq-eqb t t refl) refl refl in
-      let (rs, many, calls) = each-told K C ver (act.Migrate t) kinds cases version t h.version (λ c of_type. of_type) (ap (λ o. case_event_in (roles_of f a) a o (act.Migrate t)) h.is) (declared_cases f t) 0 (omega arith) in
+  calls-are : (K : KindQueues) (C : CaseQueues) (ver : Option VersionModel) (k : Call) → IsKnownCall (length f.types) f.cases k → Given K C ver k → AreOf (declared_cases f) a k (calls_in (declared_cases f) K C (cells_in k))
+  calls-are K C ver (call.Kind t e) low (kinds, cases, version) =
+      let h = kinds t low (eq-eqb t t refl) in
+      let event : h.first.event ≡ e = same_Some h.first.event e (sym h.event) in
+      let is : h.first ≡ entry a e h.first.reply = entry-is h.first a e h.first.reply h.caller event refl in
+      (h.first.reply, ap (of_type t) (h.queue ∙ ap (λ x. x ∷ h.others) is))
+  calls-are K C ver (call.Case c e) known (kinds, cases, version) = let one = tells-one K C ver (call.Case c e) kinds cases version c e known (same-case c) refl in (one.answer, one.calls)
+  calls-are K C ver (call.Newest t (tell.Create c)) (own, known) (kinds, cases, version) =
+      let k = call.Newest t (tell.Create c) in
+      let low : t < length f.types = subst (λ n. n < length f.types) (sym own) (declared-typed (length f.types) f.cases c workable.typed known) in
+      let h = tells-first K C ver k kinds cases version t low (eq-eqb t t refl) refl refl in
+      let one = tells-one K C ver k kinds cases version c (event.Create h.version) known (same-case c) (ap (λ o. event_of_case o k) h.is) in
+      (h.version, one.answer, ap (λ xs. of_type t xs ++ of_one c (C c)) h.queue ∙ ap (λ xs. asked a t h.version ∷ xs) one.calls)
+  calls-are K C ver (call.Newest t tell.Migrate) low (kinds, cases, version) =
+      let k = call.Newest t tell.Migrate in
+      let h = tells-first K C ver k kinds cases version t low (eq-eqb t t refl) refl refl in
+      let (rs, many, calls) = each-told K C ver k kinds cases version t h.version (λ c of_type. of_type) (ap (λ o. event_of_case o k) h.is) (declared_cases f t) 0 (omega arith) in
       (h.version, rs, many, ap (λ xs. of_type t xs ++ of_each C t 0 (declared_cases f t)) h.queue ∙ ap (λ xs. asked a t h.version ∷ xs) calls)
 
   -- ---- behind a line
@@ -245,50 +251,48 @@ module _ (f : File) (workable : IsWorkable f) (a : ℕ) where
   rest-rows P false xs all = all
 
   -- what is told behind the first of a type
-  told-rest : (K : KindQueues) (x : Act) (t : ℕ) → calls_kind t x ≡ true → kind_event_in x ≡ Some kind_event.Newest → IsAsked K x t → rest_of (told_in (K t)) ≡ told_in (rest_of (K t))
-  told-rest K x t calls newest h =
+  told-rest : (K : KindQueues) (k : Call) (t : ℕ) → event_of_kind k ≡ Some kind_event.Newest → IsAsked K k t → rest_of (told_in (K t)) ≡ told_in (rest_of (K t))
+  told-rest K k t newest h =
       let event : h.first.event ≡ kind_event.Newest = same_Some h.first.event kind_event.Newest (sym h.event ∙ newest) in
       let (v, reply) = h.tells event in
       let is : h.first ≡ entry a kind_event.Newest (kind_answer.Is v) = entry-is h.first a kind_event.Newest (kind_answer.Is v) h.caller event reply in
       let queue : K t ≡ entry a kind_event.Newest (kind_answer.Is v) ∷ h.others = h.queue ∙ ap (λ e. e ∷ h.others) is in
       ap (λ es. rest_of (told_in es)) queue ∙ sym (ap (λ es. told_in (rest_of es)) queue)
 
-  told-install : (K : KindQueues) (t : ℕ) (x : Act) (e : KindEvent) → kind_event_in x ≡ Some e → ((r : KindReply) → told_by e r ≡ None) → IsAsked K x t → told_in (K t) ≡ told_in (rest_of (K t))
-  told-install K t x e is_event none h =
-      let event : h.first.event ≡ e = same_Some h.first.event e (sym h.event ∙ is_event) in
-      let nothing : told_by h.first.event h.first.reply ≡ None = ap (λ y. told_by y h.first.reply) event ∙ none h.first.reply in
+  told-install : (K : KindQueues) (t u : ℕ) (e : KindEvent) → is_install e ≡ true → IsAsked K (call.Kind u e) t → told_in (K t) ≡ told_in (rest_of (K t))
+  told-install K t u e plain h =
+      let event : h.first.event ≡ e = same_Some h.first.event e (sym h.event) in
+      let nothing : told_by h.first.event h.first.reply ≡ None = ap (λ y. told_by y h.first.reply) event ∙ not-told e h.first.reply plain in
       ap told_in h.queue ∙ (ap (λ o. and_told o (told_in h.others)) nothing ∙ sym (ap (λ es. told_in (rest_of es)) h.queue))
 
   -- of a line that asks a type
-  told-asking : (K : KindQueues) (r : OwnTelling) (x : Act) (u t : ℕ) → (calls_kind t x ≡ eqb u t) → kind_event_in x ≡ Some kind_event.Newest → (calls_kind t x ≡ true → IsAsked K x t) → r t ≡ told_in (K t) → (if eqb t u then rest_of (r t) else r t) ≡ told_in (if calls_kind t x then rest_of (K t) else K t)
-  told-asking K r x u t calls newest asked_now same =
+  told-asking : (K : KindQueues) (r : OwnTelling) (k : Call) (u t : ℕ) → (has_kind t (cells_in k) ≡ eqb u t) → event_of_kind k ≡ Some kind_event.Newest → (has_kind t (cells_in k) ≡ true → IsAsked K k t) → r t ≡ told_in (K t)
+      → (if eqb t u then rest_of (r t) else r t) ≡ told_in (if has_kind t (cells_in k) then rest_of (K t) else K t)
+  told-asking K r k u t calls newest asked_now same =
       dite (ℕ_discrete t u)
       (λ (here : t ≡ u).
-      let yes : calls_kind t x ≡ true = calls ∙ eq-eqb u t (sym here) in
+      let yes : has_kind t (cells_in k) ≡ true = calls ∙ eq-eqb u t (sym here) in
       ap (λ test. if test then rest_of (r t) else r t) (eq-eqb t u here)
-      ∙ (ap rest_of same ∙ (told-rest K x t yes newest (asked_now yes) ∙ sym (ap (λ test. told_in (if test then rest_of (K t) else K t)) yes))))
+      ∙ (ap rest_of same ∙ (told-rest K k t newest (asked_now yes) ∙ sym (ap (λ test. told_in (if test then rest_of (K t) else K t)) yes))))
       (λ (not : t ≢ u).
-      let no : calls_kind t x ≡ false = calls ∙ ne_eqb u t (λ is. not (sym is)) in
+      let no : has_kind t (cells_in k) ≡ false = calls ∙ ne_eqb u t (λ is. not (sym is)) in
       ap (λ test. if test then rest_of (r t) else r t) (ne_eqb t u not) ∙ (same ∙ sym (ap (λ test. told_in (if test then rest_of (K t) else K t)) no)))
 
-  told-then : (K : KindQueues) (r : OwnTelling) (x : Act) (t : ℕ) → (calls_kind t x ≡ true → IsAsked K x t) → r t ≡ told_in (K t) → own_then r (asks x) t ≡ told_in (kinds_then K x t)
-  told-then K r (act.Create c) t asked_now same = told-asking K r (act.Create c) c.type_no t refl refl asked_now same
-  told-then K r (act.Start c n) t asked_now same = same
-  told-then K r (act.Withdraw c n) t asked_now same = same
-  told-then K r (act.End c n writes choice) t asked_now same = same
-  told-then K r (act.Change c ops) t asked_now same = same
-  told-then K r (act.Install u ops) t asked_now same = by (u == t) refl
+  told-then : (K : KindQueues) (r : OwnTelling) (k : Call) (t : ℕ) → IsPlain k → (has_kind t (cells_in k) ≡ true → IsAsked K k t) → r t ≡ told_in (K t) → own_then r (asked_among (cells_in k)) t ≡ told_in (if has_kind t (cells_in k) then rest_of (K t) else K t)
+  told-then K r (call.Kind u e) t plain asked_now same = by (u == t) refl
     where
       by : (test : Bool) → (u == t) ≡ test → r t ≡ told_in (if test then rest_of (K t) else K t)
-      by true calls = same ∙ told-install K t (act.Install u ops) (kind_event.Install ops) refl (λ reply. refl) (asked_now calls)
+      by true calls = same ∙ told-install K t u e plain (asked_now calls)
       by false not = same
-  told-then K r (act.Migrate u) t asked_now same = told-asking K r (act.Migrate u) u t refl refl asked_now same
+  told-then K r (call.Case c e) t plain asked_now same = same
+  told-then K r (call.Newest u (tell.Create c)) t plain asked_now same = told-asking K r (call.Newest u (tell.Create c)) u t refl refl asked_now same
+  told-then K r (call.Newest u tell.Migrate) t plain asked_now same = told-asking K r (call.Newest u tell.Migrate) u t refl refl asked_now same
 
   pub asks-then : (K : KindQueues) (r : OwnTelling) (l : Line) (ls : List Line) → AsksReady K r (l ∷ ls) → AsksReady (kinds_then K l.act) (own_then r (asks l.act)) ls
   asks-then K r l ls ready = record {
     kinds = λ t low. rest-fits FitKind kind-rest (calls_kind t l.act) (K t) l (filter (to_kind t) ls) (ready.kinds t low);
     own = λ t low. rest-rows IsOfActor (calls_kind t l.act) (K t) (ready.own t low);
-    told = λ t low. told-then K r l.act t (λ calls. asked-kind K r l ls ready t low calls) (ready.told t low);
+    told = λ t low. told-then K r (call_of 0 [] l.act) t (plain-call 0 [] l.act) (λ calls. asked-kind K r l ls ready 0 [] t low calls) (ready.told t low);
   }
 
   pub cases-then : (C : CaseQueues) (r : OwnTelling) (l : Line) (ls : List Line) → CasesReady C r (l ∷ ls) → CasesReady (cases_then C l.act) (own_then r (asks l.act)) ls
@@ -304,13 +308,19 @@ module _ (f : File) (workable : IsWorkable f) (a : ℕ) where
   pub line-calls : (K : KindQueues) (C : CaseQueues) (r : OwnTelling) (l : Line) (ls : List Line) → IsKnownAct (length f.types) f.cases l.act → l.actor ≡ a → AsksReady K r (l ∷ ls) → CasesReady C r (l ∷ ls)
       → AreCallsOf (declared_cases f) (roles_of f a) a l.act (calls_at (declared_cases f) K C l.act)
   line-calls K C r l ls known own asking telling =
-      calls-are K C (own_version r (asks l.act)) l.act known
-      (λ t low calls. asked-kind K r l ls asking t low calls, λ c declared calls. told-case C r l ls own telling c declared calls, λ t low is. version-first K r (l ∷ ls) (asks l.act) t asking low is)
+      let k = call_of a (roles_of f a) l.act in
+      let cells = cells-same a (roles_of f a) l.act in
+      subst (λ x. AreOf (declared_cases f) a k (calls_in (declared_cases f) K C x)) cells
+      (calls-are K C (own_version r (asks l.act)) k (known-call a (roles_of f a) (length f.types) f.cases l.act known) (
+        λ t low calls. asked-kind K r l ls asking a (roles_of f a) t low (subst (λ x. has_kind t x ≡ true) cells calls),
+        λ c declared calls. told-case C r l ls own telling c declared (subst (λ x. has_case c x ≡ true) cells calls),
+        λ t low is. version-first K r (l ∷ ls) (asks l.act) t asking low (subst (λ x. asked_among x ≡ Some t) cells is),
+      ))
 
   -- there is a version for each line that asks
   pub version-there : (K : KindQueues) (r : OwnTelling) (l : Line) (ls : List Line) (t : ℕ) → AsksReady K r (l ∷ ls) → t < length f.types → calls_kind t l.act ≡ true → kind_event_in l.act ≡ Some kind_event.Newest → asks l.act ≡ Some t → (v : VersionModel) × (own_version r (asks l.act) ≡ Some v)
   version-there K r l ls t ready low calls newest asking =
-      let h = asked-kind K r l ls ready t low calls in
+      let h = asked-kind K r l ls ready 0 [] t low calls in
       let event : h.first.event ≡ kind_event.Newest = same_Some h.first.event kind_event.Newest (sym h.event ∙ newest) in
       let (v, reply) = h.tells event in
       let is : h.first ≡ entry a kind_event.Newest (kind_answer.Is v) = entry-is h.first a kind_event.Newest (kind_answer.Is v) h.caller event reply in

@@ -1,19 +1,23 @@
 -- The reader of a report goes on wherever it stands.
 use Rattle.std.proofs.Common.{◌≡◌, ℕ, ◌+◌, Bool, true, false, List, [], ◌∷◌, ◌++◌, filter, length, map, Option, Some, slice_get, refl, ap, if◌then◌else◌}
-use Rattle.std.specs.Prelude.{codes}
+use Rattle.std.specs.Prelude.{codes, option_map}
 use Rattle.case_core.specs.CaseModel.{CaseModel, not_created}
 use Rattle.case_core.specs.Machine.{case_after, case_reply}
 use Rattle.case_core.specs.declared.events.Event.{Event}
 use Rattle.case_core.specs.declared.events.Event.TheVariants as event
 use Rattle.file_facts.specs.Facts.{IsWorkable}
-use Rattle.file_model.specs.declared.files.Act.{Act}
-use Rattle.file_model.specs.declared.files.Act.TheVariants as act
 use Rattle.file_model.specs.declared.files.CaseDecl.{CaseDecl}
 use Rattle.file_model.specs.declared.files.File.{File}
 use Rattle.file_model.specs.declared.files.Line.{Line}
 use Rattle.file_model.specs.declared.files.TypeDecl.{TypeDecl}
 use Rattle.file_words.specs.Lines.{Bytes}
 use Rattle.legal_run.specs.Legal.{IsActor}
+use Rattle.line_calls.proofs.Facts.{cells-same, writes-same}
+use Rattle.line_calls.specs.Calls.{asked_among, call_of, case_event_in as event_of_case, cells_in, has_case, has_kind, kind_event_in as event_of_kind}
+use Rattle.line_calls.specs.Known.{call_writes}
+use Rattle.line_calls.specs.declared.calls.Call.{Call}
+use Rattle.line_calls.specs.declared.calls.Call.TheVariants as call
+use Rattle.line_calls.specs.declared.calls.Told.TheVariants as tell
 use Rattle.line_readers.proofs.Journals.{IsGood, journal-live, mapped-live}
 use Rattle.line_readers.proofs.Sequences.{expected-live, then-live}
 use Rattle.line_readers.specs.FirstWrong.{ended}
@@ -23,7 +27,7 @@ use Rattle.line_readers.specs.Readers.{IsLive, IsOneLine, Reader, and_then, mapp
 use Rattle.report_text.specs.Ends.{end_text}
 use Rattle.report_text.specs.Journals.{event_text, kind_event_text, kind_reply_text, reply_text}
 use Rattle.report_text.specs.Report.{first_line, case_head, summary, type_head}
-use Rattle.script_run.specs.Calls.{roles_of}
+use Rattle.line_calls.specs.Files.{roles_of}
 use Rattle.script_run.specs.Entries.{CaseEntry, KindEntry}
 use Rattle.script_run.specs.Serial.{defined}
 use Rattle.script_run.specs.declared.runs.ClosedCase.{ClosedCase}
@@ -38,11 +42,11 @@ use Rattle.wsm_lists.proofs.Lists.{all-rows-map, both_rows, rows-map}
 use Rattle.wsm_lists.specs.Rows.{AllRows}
 use Rattle.wsm_sound.specs.VersionModel.{VersionModel}
 use Rattle.wsm_sound.specs.declared.versions.CaseId.{CaseId}
-use Rattle.audit_facts.specs.Facts.{HasOneLineWrites, IsAuditable, WritesOneLine}
+use Rattle.audit_facts.specs.Facts.{IsAuditable, IsOneLineWrite, WritesOneLine}
 use Rattle.audit_model.proofs.CaseCalls.{asked_actor}
 use Rattle.audit_model.proofs.KindCalls.{actor_of}
 use Rattle.audit_model.proofs.KindRuns.{known-actors}
-use Rattle.audit_model.specs.Asked.{Asked, Telling, asked_lines, asked_phases, asks, case_event_in, case_event_of, kind_event_in, kind_event_of, left_to_tell, owed_case, told_at}
+use Rattle.audit_model.specs.Asked.{Asked, Telling, asked_lines, asked_phases, asks, case_event_of, kind_event_of, left_to_tell, owed_case, told_at}
 use Rattle.audit_model.specs.Owed.{calls_case, calls_kind, owed_kind}
 use Rattle.audit_model.specs.Printed.{caller_in, case_shown, kind_shown}
 use Rattle.audit_model.specs.ReportReader.{case_journal, case_made, case_reader, cases_behind, cases_reader, defined_line, given, kind_behind, kind_journal, kind_reader, kinds_reader, report_reader, telling}
@@ -87,17 +91,13 @@ module _ (f : File) (workable : IsWorkable f) (auditable : IsAuditable f) where
   abbrev GoodForKind : Line → Type 0
   GoodForKind l = IsGood kind_after kind_reply actor_of kind_event_of (caller_in f) (kind_shown f) (IsActor f) AnyKind AnyEvent (λ s e kept good. tt) kind-line-one tells-kind l
 
-  kind-event : (t : ℕ) (x : Act) → calls_kind t x ≡ true → (e : KindEvent) × (kind_event_in x ≡ Some e)
-  kind-event t (act.Create c) calls = (kind_event.Newest, refl)
-  kind-event t (act.Start c n) calls = absurd (cc (calls))
-  kind-event t (act.Withdraw c n) calls = absurd (cc (calls))
-  kind-event t (act.End c n writes choice) calls = absurd (cc (calls))
-  kind-event t (act.Change c ops) calls = absurd (cc (calls))
-  kind-event t (act.Install u ops) calls = (kind_event.Install ops, refl)
-  kind-event t (act.Migrate u) calls = (kind_event.Newest, refl)
+  kind-event : (t : ℕ) (k : Call) → has_kind t (cells_in k) ≡ true → (e : KindEvent) × (event_of_kind k ≡ Some e)
+  kind-event t (call.Kind u e) calls = (e, refl)
+  kind-event t (call.Case c e) calls = absurd (cc (calls))
+  kind-event t (call.Newest u w) calls = (kind_event.Newest, refl)
 
   good-kind : (t : ℕ) (l : Line) → IsActor f l.actor → calls_kind t l.act ≡ true → GoodForKind l
-  good-kind t l actor calls = let (e, is) = kind-event t l.act calls in record { actor = actor; event = e; is = is; good = tt }
+  good-kind t l actor calls = let (e, is) = kind-event t (call_of 0 [] l.act) calls in record { actor = actor; event = e; is = is; good = tt }
 
   kind_journal-live : (t : ℕ) (k : ClosedKind) → IsLive (kind_journal f t k)
   kind_journal-live t k =
@@ -130,21 +130,24 @@ module _ (f : File) (workable : IsWorkable f) (auditable : IsAuditable f) where
     is : o ≡ Some event
     good : WritesValues event
 
-  case-event : (a : ℕ) (ver : Option VersionModel) (c : CaseId) (x : Act) → ((t : ℕ) → asks x ≡ Some t → (v : VersionModel) × (ver ≡ Some v)) → HasOneLineWrites x → calls_case c x ≡ true → HasEvent (case_event_in (roles_of f a) a ver x)
-  case-event a ver c (act.Create d) told one calls = let (v, is) = told d.type_no refl in record { event = event.Create v; is = ap (λ o. case_event_in (roles_of f a) a o (act.Create d)) is; good = tt }
-  case-event a ver c (act.Start d n) told one calls = record { event = event.Start n a (roles_of f a); is = refl; good = tt }
-  case-event a ver c (act.Withdraw d n) told one calls = record { event = event.Withdraw n a; is = refl; good = tt }
-  case-event a ver c (act.End d n writes choice) told one calls = record { event = event.End n a choice writes; is = refl; good = one }
-  case-event a ver c (act.Change d ops) told one calls = record { event = event.Change ops; is = refl; good = tt }
-  case-event a ver c (act.Install t ops) told one calls = absurd (cc (calls))
-  case-event a ver c (act.Migrate t) told one calls = let (v, is) = told t refl in record { event = event.Migrate v; is = ap (λ o. case_event_in (roles_of f a) a o (act.Migrate t)) is; good = tt }
+  case-event : (ver : Option VersionModel) (c : CaseId) (k : Call) → ((t : ℕ) → asked_among (cells_in k) ≡ Some t → (v : VersionModel) × (ver ≡ Some v)) → AllRows IsOneLineWrite (call_writes k) → has_case c (cells_in k) ≡ true → HasEvent (event_of_case ver k)
+  case-event ver c (call.Kind t e) told one calls = absurd (cc (calls))
+  case-event ver c (call.Case d e) told one calls = record { event = e; is = refl; good = one }
+  case-event ver c (call.Newest t (tell.Create d)) told one calls = let (v, is) = told t refl in record { event = event.Create v; is = ap (option_map event.Create) is; good = tt }
+  case-event ver c (call.Newest t tell.Migrate) told one calls = let (v, is) = told t refl in record { event = event.Migrate v; is = ap (option_map event.Migrate) is; good = tt }
 
   -- what is known of a line that is asked
   abbrev KnownAsked : Asked → Type 0
   KnownAsked x = (IsActor f x.0.actor × WritesOneLine x.0) × HasVersion f workable x
 
   good-case : (c : CaseId) (x : Asked) → KnownAsked x → calls_case c x.0.act ≡ true → GoodForCase x
-  good-case c x ((actor, one), told) calls = let h = case-event x.0.actor x.1 c x.0.act told one calls in record { actor = actor; event = h.event; is = h.is; good = h.good }
+  good-case c x ((actor, one), told) calls =
+      let a = x.0.actor in
+      let k = call_of a (roles_of f a) x.0.act in
+      let cells = sym (cells-same a (roles_of f a) x.0.act) in
+      let h = case-event x.1 c k (subst (λ y. (t : ℕ) → asked_among y ≡ Some t → (v : VersionModel) × (x.1 ≡ Some v)) cells told)
+      (subst (AllRows IsOneLineWrite) (sym (writes-same a (roles_of f a) x.0.act)) one) (subst (λ y. has_case c y ≡ true) cells calls) in
+      record { actor = actor; event = h.event; is = h.is; good = h.good }
 
   asked-lines-rows : (P : Line → Type 0) (q : Telling) (ls : List Line) → AllRows P ls → AllRows (λ (x : Asked). P x.0) (asked_lines q ls)
   asked-lines-rows P q [] all = tt

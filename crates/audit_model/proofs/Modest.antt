@@ -1,9 +1,9 @@
 -- Lines that ask little: what their events weigh, and how old a case is behind them.
 use Rattle.std.proofs.Common.{◌≡◌, ℕ, zero, suc, ◌+◌, ◌<◌, ◌≤◌, ◌==◌, Bool, true, false, List, [], ◌∷◌, ◌++◌, length, length-append, map, Option, Some, None, refl, sym, ap, ◌∙◌, subst, arith, if◌then◌else◌}
 use Rattle.std.proofs.lemmas.List.Sums.{sum_by-cons}
-use Rattle.std.specs.Prelude.{filter, slice_set, option_map}
+use Rattle.std.specs.Prelude.{filter, slice_set}
 use Rattle.audit_facts.specs.Facts.{IsAuditable, WritesOneLine}
-use Rattle.audit_model.specs.Asked.{Asked, Telling, asked_lines, asked_phases, asks, case_event_in, case_event_of, kind_event_in, left_to_tell, told_at, version_for}
+use Rattle.audit_model.specs.Asked.{Asked, Telling, asked_lines, asked_phases, asks, case_event_of, kind_event_of, left_to_tell, told_at, version_for}
 use Rattle.audit_model.specs.Owed.{calls_kind, owed_kind}
 use Rattle.audit_model.proofs.KeptValues.{case-kept}
 use Rattle.audit_model.specs.Kept.{KeptCase, WritesValues}
@@ -12,14 +12,13 @@ use Rattle.case_core.specs.Ages.{weight}
 use Rattle.case_core.specs.CaseModel.{not_created}
 use Rattle.case_core.specs.Machine.{case_after}
 use Rattle.case_core.specs.declared.events.Event.{Event}
-use Rattle.case_core.specs.declared.events.Event.TheVariants as event
-use Rattle.file_facts.specs.Facts.{IsKnown, IsKnownAct, IsWorkable, lines_in}
-use Rattle.file_model.specs.Sizes.{act_effort}
-use Rattle.file_model.specs.declared.files.Act.{Act}
-use Rattle.file_model.specs.declared.files.Act.TheVariants as act
+use Rattle.file_facts.specs.Facts.{IsKnown, IsWorkable, lines_in}
 use Rattle.file_model.specs.declared.files.CaseDecl.{CaseDecl}
 use Rattle.file_model.specs.declared.files.File.{File}
 use Rattle.file_model.specs.declared.files.Line.{Line}
+use Rattle.line_calls.proofs.Facts.{case-light as call-case-light, kind-light as call-kind-light, known-light}
+use Rattle.line_calls.specs.Calls.{call_of}
+use Rattle.line_calls.specs.Files.{roles_of}
 use Rattle.line_followers.proofs.Dues.{filled-many}
 use Rattle.line_followers.specs.Filled.{filled}
 use Rattle.line_followers.specs.Turns.{AreTurns, behind_front, one_taken, queue_of}
@@ -28,11 +27,9 @@ use Rattle.script_run.specs.Entries.{CaseEntry}
 use Rattle.script_run.specs.declared.runs.ClosedCase.{ClosedCase}
 use Rattle.type_core.specs.Machine.{weight as kind_weight}
 use Rattle.type_core.specs.declared.events.KindEvent.{KindEvent}
-use Rattle.type_core.specs.declared.events.KindEvent.TheVariants as kind_event
 use Rattle.wsm_lists.specs.Rows.{AllRows}
-use Rattle.wsm_sound.specs.VersionModel.{VersionModel}
 use Rattle.audit_model.specs.Cases.{IsSteady}
-use Rattle.audit_model.specs.Lines.{IsModest, actor_of, line_of}
+use Rattle.audit_model.specs.Lines.{IsModest, IsModestLine, actor_of, line_of}
 
 -- ---- the queues of actors
 module _ {L : Type 0} (P : L → Type 0) where
@@ -85,34 +82,14 @@ module _ {L : Type 0} (P : L → Type 0) where
   called-rows p phases all = filled-rows (map (λ lines. filter p lines) phases) (each-filtered p phases all)
 
 -- ---- what events weigh
-pub kind-light : (x : Act) (e : KindEvent) → act_effort x ≤ 768 → kind_event_in x ≡ Some e → kind_weight e ≤ 768
-kind-light (act.Create c) e few is = let same : kind_event.Newest ≡ e = cc is in rw (← same) (omega arith)
-kind-light (act.Install t ops) e few is = let same : kind_event.Install ops ≡ e = cc is in rw (← same) few
-kind-light (act.Migrate t) e few is = let same : kind_event.Newest ≡ e = cc is in rw (← same) (omega arith)
-kind-light (act.Start c n) e few is = absurd (cc (is))
-kind-light (act.Withdraw c n) e few is = absurd (cc (is))
-kind-light (act.End c n writes choice) e few is = absurd (cc (is))
-kind-light (act.Change c ops) e few is = absurd (cc (is))
-
-created-light : (o : Option VersionModel) (e : Event) → option_map event.Create o ≡ Some e → weight e ≤ 768
-created-light None e is = absurd (cc (is))
-created-light (Some v) e is = let same : event.Create v ≡ e = cc is in rw (← same) (omega arith)
-
-migrated-light : (o : Option VersionModel) (e : Event) → option_map event.Migrate o ≡ Some e → weight e ≤ 768
-migrated-light None e is = absurd (cc (is))
-migrated-light (Some v) e is = let same : event.Migrate v ≡ e = cc is in rw (← same) (omega arith)
-
-event-light : (roles : List ℕ) (a : ℕ) (o : Option VersionModel) (x : Act) (e : Event) → act_effort x ≤ 768 → case_event_in roles a o x ≡ Some e → weight e ≤ 768
-event-light roles a o (act.Create c) e few is = created-light o e is
-event-light roles a o (act.Start c n) e few is = let same : event.Start n a roles ≡ e = cc is in rw (← same) (omega arith)
-event-light roles a o (act.Withdraw c n) e few is = let same : event.Withdraw n a ≡ e = cc is in rw (← same) (omega arith)
-event-light roles a o (act.End c n writes choice) e few is = let same : event.End n a choice writes ≡ e = cc is in rw (← same) (omega arith)
-event-light roles a o (act.Change c ops) e few is = let same : event.Change ops ≡ e = cc is in rw (← same) few
-event-light roles a o (act.Install t ops) e few is = absurd (cc (is))
-event-light roles a o (act.Migrate t) e few is = migrated-light o e is
+pub kind-light : (l : Line) (e : KindEvent) → IsModestLine l → kind_event_of l ≡ Some e → kind_weight e ≤ 768
+kind-light l e modest is = let weighs = call-kind-light (call_of 0 [] l.act) e is in omega (arith, modest.1 0 [], weighs)
 
 pub case-light : (f : File) (l : Asked) (e : Event) → IsModest l → case_event_of f l ≡ Some e → weight e ≤ 768
-case-light f l e modest is = event-light _ l.0.actor l.1 l.0.act e modest.1 is
+case-light f l e modest is =
+    let a = l.0.actor in
+    let weighs = call-case-light l.1 (call_of a (roles_of f a) l.0.act) e is in
+    omega (arith, modest.1 a (roles_of f a), weighs)
 
 -- ---- a case between two lines
 pub steady-begun : (t : ℕ) → IsSteady (record { machine = not_created t; journal = [] })
@@ -127,21 +104,9 @@ steady-on from to e made (kept, young) writes light machine journal =
     )
 
 -- ---- the lines of a file
-abbrev pub IsModestLine : Line → Type 0
-IsModestLine l = WritesOneLine l × (act_effort l.act ≤ 768)
-
-known-light : (types : ℕ) (cases : List CaseDecl) (x : Act) → IsKnownAct types cases x → act_effort x ≤ 768
-known-light types cases (act.Create c) known = omega arith
-known-light types cases (act.Start c n) known = omega arith
-known-light types cases (act.Withdraw c n) known = omega arith
-known-light types cases (act.End c n writes choice) known = omega arith
-known-light types cases (act.Change c ops) known = omega (arith, known.1)
-known-light types cases (act.Install t ops) known = omega (arith, known.1)
-known-light types cases (act.Migrate t) known = omega arith
-
 lines-modest : (types actors : ℕ) (cases : List CaseDecl) (lines : List Line) → AllRows (IsKnown types actors cases) lines → AllRows WritesOneLine lines → AllRows IsModestLine lines
 lines-modest types actors cases [] known writes = tt
-lines-modest types actors cases (l ∷ ls) (one, known) (shown, writes) = ((shown, known-light types cases l.act one.act), lines-modest types actors cases ls known writes)
+lines-modest types actors cases (l ∷ ls) (one, known) (shown, writes) = ((shown, λ a roles. known-light a roles types cases l.act one.act), lines-modest types actors cases ls known writes)
 
 phases-modest : (types actors : ℕ) (cases : List CaseDecl) (phases : List (List Line)) → AllRows (AllRows (IsKnown types actors cases)) phases → AllRows (AllRows WritesOneLine) phases → AllRows (AllRows IsModestLine) phases
 phases-modest types actors cases [] known writes = tt

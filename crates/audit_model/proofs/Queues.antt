@@ -4,11 +4,13 @@ use Rattle.std.proofs.lemmas.Bool.{and_from, and_parts, eqb-true}
 use mathlib.Core.Logic.{dite}
 use native.Mathlib.Decide.{ℕ_discrete}
 use Rattle.file_model.specs.declared.files.Act.{Act}
-use Rattle.file_model.specs.declared.files.Act.TheVariants as act
 use Rattle.file_model.specs.declared.files.Line.{Line}
 use Rattle.legal_run.proofs.OnMachines.{calls_of_case-append, calls_of_kind-append}
 use Rattle.legal_run.specs.Legal.{Trace, done_by}
-use Rattle.legal_run.specs.LineCalls.{Call, calls_of_case, calls_of_kind, is_case, lines_of, of_case, of_kind}
+use Rattle.legal_run.specs.LineCalls.{Call, calls_of_case, calls_of_kind, lines_of, of_case, of_kind}
+use Rattle.line_calls.specs.Calls.{cells_of, has_case, has_kind, is_case}
+use Rattle.line_calls.specs.declared.calls.Cells.{Cells}
+use Rattle.line_calls.specs.declared.calls.Cells.TheVariants as cells
 use Rattle.script_run.specs.Entries.{CaseEntry, KindEntry}
 use Rattle.wsm_sound.specs.declared.versions.CaseId.{CaseId}
 use Rattle.audit_model.specs.Asked.{rest_of}
@@ -140,28 +142,25 @@ each-own C c t place (suc n) same low high =
     not-here not = ap (λ test. test && place == c.place) (eq-eqb t c.type_no same) ∙ ne_eqb place c.place not
 
 module _ (many : ℕ → ℕ) where
-  -- the calls of a line
+  -- the calls of cells, and of a line
+  abbrev pub calls_in : KindQueues → CaseQueues → Cells → List Call
+  calls_in K C (cells.Kind t) = of_type t (K t)
+  calls_in K C (cells.Case c) = of_one c (C c)
+  calls_in K C (cells.KindAndCase t c) = of_type t (K t) ++ of_one c (C c)
+  calls_in K C (cells.KindAndEach t) = of_type t (K t) ++ of_each C t 0 (many t)
+
   abbrev pub calls_at : KindQueues → CaseQueues → Act → List Call
-  calls_at K C (act.Create c) = of_type c.type_no (K c.type_no) ++ of_one c (C c)
-  calls_at K C (act.Start c n) = of_one c (C c)
-  calls_at K C (act.Withdraw c n) = of_one c (C c)
-  calls_at K C (act.End c n writes choice) = of_one c (C c)
-  calls_at K C (act.Change c ops) = of_one c (C c)
-  calls_at K C (act.Install t ops) = of_type t (K t)
-  calls_at K C (act.Migrate t) = of_type t (K t) ++ of_each C t 0 (many t)
+  calls_at K C x = calls_in K C (cells_of x)
 
   kind-behind : (t u : ℕ) (K : KindQueues) (calls : List Call) → calls_of_kind t calls ≡ [] → calls_of_kind t (of_type u (K u) ++ calls) ≡ (if eqb u t then ahead (K t) else [])
   kind-behind t u K calls none =
       calls_of_kind-append t (of_type u (K u)) calls ∙ (ap (λ xs. calls_of_kind t (of_type u (K u)) ++ xs) none ∙ (append-nil (calls_of_kind t (of_type u (K u))) ∙ type-at K t u))
 
-  kind-taken : (K : KindQueues) (C : CaseQueues) (t : ℕ) (x : Act) → calls_of_kind t (calls_at K C x) ≡ (if calls_kind t x then ahead (K t) else [])
-  kind-taken K C t (act.Create c) = kind-behind t c.type_no K (of_one c (C c)) (one-no_kind t c (C c))
-  kind-taken K C t (act.Start c n) = one-no_kind t c (C c)
-  kind-taken K C t (act.Withdraw c n) = one-no_kind t c (C c)
-  kind-taken K C t (act.End c n writes choice) = one-no_kind t c (C c)
-  kind-taken K C t (act.Change c ops) = one-no_kind t c (C c)
-  kind-taken K C t (act.Install u ops) = type-at K t u
-  kind-taken K C t (act.Migrate u) = kind-behind t u K (of_each C u 0 (many u)) (each-no_kind C u t 0 (many u))
+  kind-taken : (K : KindQueues) (C : CaseQueues) (t : ℕ) (x : Cells) → calls_of_kind t (calls_in K C x) ≡ (if has_kind t x then ahead (K t) else [])
+  kind-taken K C t (cells.Kind u) = type-at K t u
+  kind-taken K C t (cells.Case c) = one-no_kind t c (C c)
+  kind-taken K C t (cells.KindAndCase u c) = kind-behind t u K (of_one c (C c)) (one-no_kind t c (C c))
+  kind-taken K C t (cells.KindAndEach u) = kind-behind t u K (of_each C u 0 (many u)) (each-no_kind C u t 0 (many u))
 
   case-behind : (c : CaseId) (u : ℕ) (es : List KindEntry) (calls : List Call) → calls_of_case c (of_type u es ++ calls) ≡ calls_of_case c calls
   case-behind c u es calls = calls_of_case-append c (of_type u es) calls ∙ ap (λ xs. xs ++ calls_of_case c calls) (type-no_case c u es)
@@ -172,14 +171,11 @@ module _ (many : ℕ → ℕ) where
       (λ (same : t ≡ c.type_no). each-own C c t 0 (many t) same (omega arith) (let there : c.place < many t = subst (λ n. c.place < many n) (sym same) low in omega (arith, there)) ∙ ap (λ test. if test then ahead (C c) else []) (sym (eq-eqb t c.type_no same)))
       (λ (not : t ≢ c.type_no). each-other C c t 0 (many t) (inl not) ∙ ap (λ test. if test then ahead (C c) else []) (sym (ne_eqb t c.type_no not)))
 
-  case-taken : (K : KindQueues) (C : CaseQueues) (c : CaseId) → c.place < many c.type_no → (x : Act) → calls_of_case c (calls_at K C x) ≡ (if calls_case c x then ahead (C c) else [])
-  case-taken K C c low (act.Create d) = case-behind c d.type_no (K d.type_no) (of_one d (C d)) ∙ case-at C c d
-  case-taken K C c low (act.Start d n) = case-at C c d
-  case-taken K C c low (act.Withdraw d n) = case-at C c d
-  case-taken K C c low (act.End d n writes choice) = case-at C c d
-  case-taken K C c low (act.Change d ops) = case-at C c d
-  case-taken K C c low (act.Install u ops) = type-no_case c u (K u)
-  case-taken K C c low (act.Migrate u) = case-behind c u (K u) (of_each C u 0 (many u)) ∙ migrated C c u low
+  case-taken : (K : KindQueues) (C : CaseQueues) (c : CaseId) → c.place < many c.type_no → (x : Cells) → calls_of_case c (calls_in K C x) ≡ (if has_case c x then ahead (C c) else [])
+  case-taken K C c low (cells.Kind u) = type-no_case c u (K u)
+  case-taken K C c low (cells.Case d) = case-at C c d
+  case-taken K C c low (cells.KindAndCase u d) = case-behind c u (K u) (of_one d (C d)) ∙ case-at C c d
+  case-taken K C c low (cells.KindAndEach u) = case-behind c u (K u) (of_each C u 0 (many u)) ∙ migrated C c u low
 
   -- ---- lines one after another
   abbrev pub calls_along : KindQueues → CaseQueues → List Line → List Call
@@ -207,7 +203,7 @@ module _ (many : ℕ → ℕ) where
       ap (λ xs. xs ++ left) (calls_of_kind-append t here later)
       ∙ (append_assoc (calls_of_kind t here) (calls_of_kind t later) left
       ∙ (ap (λ xs. calls_of_kind t here ++ xs) (kinds-split ls (kinds_then K l.act) (cases_then C l.act) t)
-      ∙ (ap (λ xs. xs ++ kinds_then K l.act t) (kind-taken K C t l.act) ∙ if-split (calls_kind t l.act) (K t))))
+      ∙ (ap (λ xs. xs ++ kinds_then K l.act t) (kind-taken K C t (cells_of l.act)) ∙ if-split (calls_kind t l.act) (K t))))
 
   cases-split : (ls : List Line) (K : KindQueues) (C : CaseQueues) (c : CaseId) → c.place < many c.type_no → calls_of_case c (calls_along K C ls) ++ cases_left C ls c ≡ C c
   cases-split [] K C c low = refl
@@ -218,7 +214,7 @@ module _ (many : ℕ → ℕ) where
       ap (λ xs. xs ++ left) (calls_of_case-append c here later)
       ∙ (append_assoc (calls_of_case c here) (calls_of_case c later) left
       ∙ (ap (λ xs. calls_of_case c here ++ xs) (cases-split ls (kinds_then K l.act) (cases_then C l.act) c low)
-      ∙ (ap (λ xs. xs ++ cases_then C l.act c) (case-taken K C c low l.act) ∙ if-split (calls_case c l.act) (C c))))
+      ∙ (ap (λ xs. xs ++ cases_then C l.act c) (case-taken K C c low (cells_of l.act)) ∙ if-split (calls_case c l.act) (C c))))
 
   -- ---- phases one after another, for all actors
   abbrev pub traces_of : List (List Line) → (ℕ → KindQueues) → (ℕ → CaseQueues) → List Trace

@@ -2,10 +2,8 @@
 use Rattle.std.proofs.Common.{◌≡◌, ℕ, ◌<◌, ◌==◌, eq-eqb, Bool, true, false, List, [], ◌∷◌, ◌++◌, filter, length, Some, slice_get, inl, inr, refl, sym, ap, ◌∙◌, subst, arith, if◌then◌else◌}
 use Rattle.std.proofs.lemmas.Bool.{eqb-true}
 use Rattle.std.proofs.lemmas.Option.{slice_get_cases}
-use Rattle.file_facts.proofs.Cases.{declared-typed, row-at}
-use Rattle.file_facts.specs.Facts.{IsKnown, IsKnownAct, IsSound, IsWorkable}
-use Rattle.file_model.specs.declared.files.Act.{Act}
-use Rattle.file_model.specs.declared.files.Act.TheVariants as act
+use Rattle.file_facts.proofs.Cases.{row-at}
+use Rattle.file_facts.specs.Facts.{IsKnown, IsSound, IsWorkable}
 use Rattle.file_model.specs.declared.files.File.{File}
 use Rattle.file_model.specs.declared.files.Line.{Line}
 use Rattle.file_model.specs.declared.files.TypeDecl.{TypeDecl}
@@ -13,6 +11,11 @@ use Rattle.file_words.specs.Lines.{Bytes}
 use Rattle.legal_run.proofs.Places.{there-as}
 use Rattle.legal_run.specs.Legal.{IsActor}
 use Rattle.legal_run.specs.LineCalls.{lines_of}
+use Rattle.line_calls.proofs.Facts.{asked-known, known-call}
+use Rattle.line_calls.specs.Calls.{asked_among, call_of, cells_in, has_kind, kind_event_in as event_of_kind}
+use Rattle.line_calls.specs.declared.calls.Call.{Call}
+use Rattle.line_calls.specs.declared.calls.Call.TheVariants as call
+use Rattle.line_calls.specs.declared.calls.Told.TheVariants as tell
 use Rattle.line_readers.proofs.Answers.{IsWhole, answers-whole}
 use Rattle.script_run.specs.Entries.{KindEntry}
 use Rattle.script_run.specs.Serial.{defined, program}
@@ -121,24 +124,12 @@ module _ (f : File) (workable : IsWorkable f) where
   abbrev AllReady : Telling → List Line → List (List Line) → Type 0
   AllReady q ls later = (a : ℕ) → IsActor f a → IsReadyFor q a (lines_of a ls ++ own_lines a later)
 
-  -- a line that asks a type calls it for its newest version
-  asks-calls : (x : Act) (t : ℕ) → asks x ≡ Some t → (calls_kind t x ≡ true) × (kind_event_in x ≡ Some kind_event.Newest)
-  asks-calls (act.Create c) t is = (eq-eqb c.type_no t (cc (is)), refl)
-  asks-calls (act.Start c n) t is = absurd (cc (is))
-  asks-calls (act.Withdraw c n) t is = absurd (cc (is))
-  asks-calls (act.End c n writes choice) t is = absurd (cc (is))
-  asks-calls (act.Change c ops) t is = absurd (cc (is))
-  asks-calls (act.Install u ops) t is = absurd (cc (is))
-  asks-calls (act.Migrate u) t is = (eq-eqb u t (cc (is)), refl)
-
-  asked-type : (x : Act) (t : ℕ) → IsKnownAct (length f.types) f.cases x → asks x ≡ Some t → t < length f.types
-  asked-type (act.Create d) t known is = subst (λ n. n < length f.types) (cc (is)) (declared-typed (length f.types) f.cases d workable.typed known)
-  asked-type (act.Start d n) t known is = absurd (cc (is))
-  asked-type (act.Withdraw d n) t known is = absurd (cc (is))
-  asked-type (act.End d n writes choice) t known is = absurd (cc (is))
-  asked-type (act.Change d ops) t known is = absurd (cc (is))
-  asked-type (act.Install u ops) t known is = absurd (cc (is))
-  asked-type (act.Migrate u) t known is = subst (λ n. n < length f.types) (cc (is)) known
+  -- a call that asks a type calls it for its newest version
+  asks-calls : (k : Call) (t : ℕ) → asked_among (cells_in k) ≡ Some t → (has_kind t (cells_in k) ≡ true) × (event_of_kind k ≡ Some kind_event.Newest)
+  asks-calls (call.Kind u e) t is = absurd (cc (is))
+  asks-calls (call.Case c e) t is = absurd (cc (is))
+  asks-calls (call.Newest u (tell.Create c)) t is = (eq-eqb u t (cc (is)), refl)
+  asks-calls (call.Newest u tell.Migrate) t is = (eq-eqb u t (cc (is)), refl)
 
   own-front : (a : ℕ) (l : Line) (ls later : List Line) → l.actor ≡ a → lines_of a (l ∷ ls) ++ later ≡ l ∷ (lines_of a ls ++ later)
   own-front a l ls later own = ap (λ xs. xs ++ later) (keeps (λ (x : Line). x.actor == a) l ls (eq-eqb l.actor a own))
@@ -147,9 +138,11 @@ module _ (f : File) (workable : IsWorkable f) where
   has-version q l ls later known all t asking =
       let a = l.actor in
       let h = all a (known.from_1, known.actor) in
-      let (calls, newest) = asks-calls l.act t asking in
+      let k = call_of 0 [] l.act in
+      let (calls, newest) = asks-calls k t asking in
+      let low = asked-known (length f.types) f.cases workable.typed k t (known-call 0 [] (length f.types) f.cases l.act known.act) asking in
       let ready = subst (AsksReady f workable a h.queues h.told) (own-front a l ls (own_lines a later) refl) h.ready in
-      let (v, is) = version-there f workable a h.queues h.told l (lines_of a ls ++ own_lines a later) t ready (asked-type l.act t known.act asking) calls newest asking in
+      let (v, is) = version-there f workable a h.queues h.told l (lines_of a ls ++ own_lines a later) t ready low calls newest asking in
       (v, own-version a q h.told h.same a refl (asks l.act) ∙ is)
 
   ready-then : (q : Telling) (l : Line) (ls : List Line) (later : List (List Line)) → AllReady q (l ∷ ls) later → AllReady (told_at q l.actor (asks l.act)) ls later

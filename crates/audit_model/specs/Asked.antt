@@ -5,9 +5,8 @@ use Rattle.file_model.specs.declared.files.Act.{Act}
 use Rattle.file_model.specs.declared.files.File.{File}
 use Rattle.file_model.specs.declared.files.Line.{Line}
 use Rattle.line_calls.specs.Calls as line
-use Rattle.line_calls.specs.declared.calls.Cells.{Cells}
-use Rattle.line_calls.specs.declared.calls.Cells.TheVariants as cells
-use Rattle.script_run.specs.Calls.{roles_of, answered_version}
+use Rattle.script_run.specs.Calls.{answered_version}
+use Rattle.line_calls.specs.Files.{roles_of}
 use Rattle.script_run.specs.Entries.{KindEntry}
 use Rattle.turn_cell.specs.History.{calls_of}
 use Rattle.type_core.specs.declared.events.KindEvent.{KindEvent}
@@ -46,14 +45,8 @@ abbrev pub Telling : Type 0
 Telling = ℕ → ℕ → List VersionModel
 
 -- the type that a line asks for its newest version
-abbrev pub asked_type : Cells → Option ℕ
-asked_type (cells.Kind t) = None
-asked_type (cells.Case c) = None
-asked_type (cells.KindAndCase t c) = Some t
-asked_type (cells.KindAndEach t) = Some t
-
 abbrev pub asks : Act → Option ℕ
-asks x = asked_type (line.cells_of x)
+asks x = line.asked_among (line.cells_of x)
 
 abbrev pub rest_of : {X : Type 0} → List X → List X
 rest_of [] = []

@@ -3,9 +3,9 @@ use Rattle.std.specs.Prelude.{ℕ, Option, IfSome}
 use Rattle.audit_facts.specs.Facts.{IsOneLineValue, IsOneLineWrite}
 use Rattle.case_core.specs.CaseModel.{CaseModel, LiveModel}
 use Rattle.case_core.specs.declared.events.Event.{Event}
-use Rattle.case_core.specs.declared.events.Event.TheVariants as event
 use Rattle.case_core.specs.declared.replies.Reply.{Reply}
 use Rattle.case_core.specs.declared.replies.Reply.TheVariants as reply
+use Rattle.line_calls.specs.Known.{written}
 use Rattle.wsm_lists.specs.Rows.{AllRows}
 use Rattle.wsm_lists.specs.declared.values.Value.{Value}
 use Rattle.wsm_schema.specs.Trail.{TrailModel, written_by}
@@ -21,8 +21,7 @@ ShowsOneLine _ = Unit {0}
 
 -- an event writes values in one line
 abbrev pub WritesValues : Event → Type 0
-WritesValues (event.End n user choice writes) = AllRows IsOneLineWrite writes
-WritesValues _ = Unit {0}
+WritesValues e = AllRows IsOneLineWrite (written e)
 
 -- a case keeps such
 abbrev pub KeptEntry : ℕ × Entry → Type 0

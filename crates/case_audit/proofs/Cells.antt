@@ -12,9 +12,9 @@ use Rattle.file_model.specs.CaseCounts.{has_id}
 use Rattle.file_model.specs.declared.files.Act.{Act}
 use Rattle.file_model.specs.declared.files.Act.TheVariants as act
 use Rattle.file_model.specs.declared.files.CaseDecl.{CaseDecl}
-use Rattle.legal_run.specs.LineCalls.{is_case}
+use Rattle.line_calls.specs.Calls.{is_case}
 use Rattle.line_followers.specs.Numbered.{with_line}
-use Rattle.script_run.proofs.Places.{position-from_0}
+use Rattle.line_calls.proofs.Places.{position-from_0}
 use Rattle.script_run.specs.Calls.{changed_at, changed_where}
 use Rattle.wsm_sound.specs.declared.versions.CaseId.{CaseId}
 use Rattle.case_audit.proofs.Sharing.{phase-put, put-at, put-map, put-none, put-one, put-same}
@@ -37,7 +37,7 @@ kind-put-line n p xs l few = by l.0.act refl
     by (act.Migrate t) is = put-at (with_line p l) n t xs few
     by (act.Start c node) is = sym (put-none (λ t. false) (with_line p l) (range_with_len 0 n) xs (λ i t at. refl))
     by (act.Withdraw c node) is = sym (put-none (λ t. false) (with_line p l) (range_with_len 0 n) xs (λ i t at. refl))
-    by (act.End c node writes choice) is = sym (put-none (λ t. false) (with_line p l) (range_with_len 0 n) xs (λ i t at. refl))
+    by (act.End c node choice writes) is = sym (put-none (λ t. false) (with_line p l) (range_with_len 0 n) xs (λ i t at. refl))
     by (act.Change c ops) is = sym (put-none (λ t. false) (with_line p l) (range_with_len 0 n) xs (λ i t at. refl))
 
 kind-lines : (n p : ℕ) (lines : List Asked) (g : ℕ → Numbered) → fold (kind_put p) (map g (range_with_len 0 n)) lines ≡ fold (put_line calls_number (range_with_len 0 n) p) (map g (range_with_len 0 n)) lines
@@ -106,7 +106,7 @@ one-called cases p xs l c placed is = by l.0.act refl (case-called cases c (with
     by (act.Create d) at called is = let same : d ≡ c = cc is in called ∙ ap (λ e. put_where (λ d. is_case d.id e) (with_line p l) cases xs) (sym same)
     by (act.Start d n) at called is = let same : d ≡ c = cc is in called ∙ ap (λ e. put_where (λ d. is_case d.id e) (with_line p l) cases xs) (sym same)
     by (act.Withdraw d n) at called is = let same : d ≡ c = cc is in called ∙ ap (λ e. put_where (λ d. is_case d.id e) (with_line p l) cases xs) (sym same)
-    by (act.End d n writes choice) at called is = let same : d ≡ c = cc is in called ∙ ap (λ e. put_where (λ d. is_case d.id e) (with_line p l) cases xs) (sym same)
+    by (act.End d n choice writes) at called is = let same : d ≡ c = cc is in called ∙ ap (λ e. put_where (λ d. is_case d.id e) (with_line p l) cases xs) (sym same)
     by (act.Change d ops) at called is = let same : d ≡ c = cc is in called ∙ ap (λ e. put_where (λ d. is_case d.id e) (with_line p l) cases xs) (sym same)
     by (act.Install t ops) at called is = absurd (cc (is))
     by (act.Migrate t) at called is = absurd (cc (is))
@@ -118,7 +118,7 @@ none-called cases p xs l none still = by l.0.act none still
     by (act.Create d) none still = absurd (cc (none))
     by (act.Start d n) none still = absurd (cc (none))
     by (act.Withdraw d n) none still = absurd (cc (none))
-    by (act.End d n writes choice) none still = absurd (cc (none))
+    by (act.End d n choice writes) none still = absurd (cc (none))
     by (act.Change d ops) none still = absurd (cc (none))
     by (act.Install t ops) none still = sym (put-none (λ (d : CaseDecl). false) (with_line p l) cases xs (λ i d is. refl))
     by (act.Migrate t) none still = absurd (cc (still))
@@ -131,6 +131,6 @@ type-called cases p xs l t is = by l.0.act is
     by (act.Create d) is = absurd (cc (is))
     by (act.Start d n) is = absurd (cc (is))
     by (act.Withdraw d n) is = absurd (cc (is))
-    by (act.End d n writes choice) is = absurd (cc (is))
+    by (act.End d n choice writes) is = absurd (cc (is))
     by (act.Change d ops) is = absurd (cc (is))
     by (act.Install u ops) is = absurd (cc (is))

@@ -20,7 +20,7 @@ ghost use Rattle.report_text.specs.Ends.{end_text};
 ghost use Rattle.report_text.specs.Journals.{case_line};
 ghost use Rattle.report_text.specs.Report.{case_head};
 ghost use Rattle.line_calls.specs.Calls.{version_event};
-ghost use Rattle.script_run.specs.Calls.{roles_of};
+ghost use Rattle.line_calls.specs.Files.{roles_of};
 ghost use Rattle.turn_cell.specs.History.{entry};
 ghost use Rattle.wsm_lists.specs.Rows.{AllRows};
 

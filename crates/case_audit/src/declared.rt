@@ -1,7 +1,7 @@
 // Where cases were declared.
 ghost use Rattle.std.specs.Prelude.{◌≡◌, IfOk};
 ghost use Rattle.case_audit.specs.Owing.{declared_at};
-ghost use Rattle.script_run.specs.Places.{Indexes};
+ghost use Rattle.line_calls.specs.Places.{Indexes};
 
 use file_model::CaseDecl;
 use std::alloc::Global;

@@ -64,7 +64,7 @@ module _ (f : File) (workable : IsWorkable f) (v : DeskView) (able : IsAble f v)
   can-act (act.Create c) k = (has-declared f v.cases c workable able.counted k, able.knows c.type_no (omega arith) (declared-typed (length f.types) f.cases c workable.typed k))
   can-act (act.Start c node) k = has-declared f v.cases c workable able.counted k
   can-act (act.Withdraw c node) k = has-declared f v.cases c workable able.counted k
-  can-act (act.End c node writes choice) k = has-declared f v.cases c workable able.counted k
+  can-act (act.End c node choice writes) k = has-declared f v.cases c workable able.counted k
   can-act (act.Change c ops) (k, few) = (has-declared f v.cases c workable able.counted k, few)
   can-act (act.Install t ops) (k, few) = ((let e = able.types in omega (arith, k)), few)
   can-act (act.Migrate t) k = ((let e = able.types in omega (arith, k)), able.knows t (omega arith) k)

@@ -9,7 +9,7 @@ use Rattle.crew_run.specs.Workers.{AreDesksOf, desks_of}
 use Rattle.crew_run.specs.declared.workers.Worker.{Worker}
 use Rattle.file_model.specs.declared.files.ActorDecl.{ActorDecl}
 use Rattle.file_model.specs.declared.files.File.{File}
-use Rattle.script_run.specs.Calls.{roles_in, roles_of}
+use Rattle.line_calls.specs.Files.{roles_in, roles_of}
 
 -- each of a crew
 pub desk-at : (s : Server) (ws : List Worker) → AreDesksOf s ws → (i : ℕ) (d : Worker) → i < length ws → IsDeskOf s (get_or ws i d).desk

@@ -16,7 +16,7 @@ use Rattle.crew_run.specs.declared.workers.Worker.{Worker}
 use Rattle.legal_run.proofs.Places.{set-here}
 use Rattle.file_model.specs.declared.files.File.{File}
 use Rattle.file_model.specs.declared.files.Line.{Line}
-use Rattle.script_run.specs.Calls.{roles_of}
+use Rattle.line_calls.specs.Files.{roles_of}
 use Rattle.turn_cell.specs.declared.faults.CallFault.{CallFault}
 use Rattle.turn_cell.specs.declared.faults.CallFault.TheVariants as fault
 use Rattle.turn_rows.specs.Rows.{IsSeenBy}

@@ -26,7 +26,7 @@ use Rattle.legal_run.specs.LineCalls.{Call, lines_of, calls_of_case, calls_of_ki
 use Rattle.legal_run.specs.Legal.{declared_cases}
 use Rattle.file_model.specs.declared.files.File.{File}
 use Rattle.file_model.specs.declared.files.Line.{Line}
-use Rattle.script_run.specs.Calls.{roles_of}
+use Rattle.line_calls.specs.Files.{roles_of}
 use Rattle.turn_cell.specs.Passes.{IsClosed, IsLegalView, PassView, joined}
 use Rattle.turn_cell.specs.declared.journal.Entry.{Entry}
 use Rattle.turn_cell.specs.declared.limits.TheConstants.{MAX_ENTRIES}

@@ -19,7 +19,7 @@ use Rattle.legal_run.specs.LineCalls.{AreCallsOfLines, Call, lines_of}
 use Rattle.legal_run.specs.Legal.{declared_cases}
 use Rattle.file_model.specs.declared.files.File.{File}
 use Rattle.file_model.specs.declared.files.Line.{Line}
-use Rattle.script_run.specs.Calls.{roles_of}
+use Rattle.line_calls.specs.Files.{roles_of}
 use Rattle.turn_cell.specs.declared.faults.CallFault.{CallFault}
 
 -- how an actor's work ended, as the worker keeps it

@@ -2,7 +2,7 @@
 use Rattle.std.proofs.Common.{◌≡◌, ◌≢◌, ℕ, ◌==◌, Bool, true, false, eqb-true, ne_eqb, refl, sym}
 use Rattle.std.proofs.lemmas.Bool.{and_parts}
 use Rattle.adept_actor.proofs.Leaving.{one-case}
-use Rattle.legal_run.specs.LineCalls.{is_case}
+use Rattle.line_calls.specs.Calls.{is_case}
 use Rattle.wsm_sound.specs.declared.versions.CaseId.{CaseId}
 
 pub other-kind : (t u : ℕ) → t ≢ u → (u == t) ≡ false

@@ -8,7 +8,7 @@ use Rattle.legal_run.specs.Legal.{declared_cases}
 use Rattle.legal_run.specs.LineCalls.{Call, AreCallsOfLines, lines_of}
 use Rattle.file_model.specs.declared.files.File.{File}
 use Rattle.file_model.specs.declared.files.Line.{Line}
-use Rattle.script_run.specs.Calls.{roles_of}
+use Rattle.line_calls.specs.Files.{roles_of}
 use Rattle.wsm_sound.specs.declared.versions.CaseId.{CaseId}
 
 -- the pass of a type, and of a case

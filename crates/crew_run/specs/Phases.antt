@@ -21,7 +21,7 @@ use Rattle.legal_run.specs.LineCalls.{Call, AreBegun, lines_of}
 use Rattle.file_limits.specs.declared.TheConstants.{MAX_ACTORS}
 use Rattle.file_model.specs.declared.files.File.{File}
 use Rattle.file_model.specs.declared.files.Line.{Line}
-use Rattle.script_run.specs.Calls.{roles_of}
+use Rattle.line_calls.specs.Files.{roles_of}
 use Rattle.turn_cell.specs.declared.faults.CallFault.{CallFault}
 use Rattle.turn_cell.specs.declared.faults.CallFault.TheVariants as fault
 use Rattle.turn_cell.specs.declared.limits.TheConstants.{MAX_ENTRIES}

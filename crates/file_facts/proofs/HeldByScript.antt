@@ -158,7 +158,7 @@ acted-held (to_end n node choice writes) actor lines at c is h =
     let c1 = with_node node c in
     found-held (case_in n c) _ c (λ id found.
     let k = elements-held writes actor id lines c1 is (case-known n c id found) h in
-    with_line-held lines at actor (act.End id (node_in node c) (numbered writes c1) choice) (with_elements writes c1) k.0 k.1 k.2)
+    with_line-held lines at actor (act.End id (node_in node c) choice (numbered writes c1)) (with_elements writes c1) k.0 k.1 k.2)
 acted-held (to_change n) actor lines at c is h = found-held (case_in n c) _ c (λ id found. changing-held lines at actor id c is (case-known n c id found) h)
 acted-held (to_install n) actor lines at c is h =
     found-held (place_of c.types.names n) _ c (λ t found. installing-held lines at actor t c is (type-known n lines 0 c t found h) h)

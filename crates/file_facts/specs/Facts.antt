@@ -37,7 +37,7 @@ abbrev pub IsKnownAct : ℕ → List CaseDecl → Act → Type 0
 IsKnownAct types cases (act.Create c) = IsDeclared c cases
 IsKnownAct types cases (act.Start c node) = IsDeclared c cases
 IsKnownAct types cases (act.Withdraw c node) = IsDeclared c cases
-IsKnownAct types cases (act.End c node writes choice) = IsDeclared c cases
+IsKnownAct types cases (act.End c node choice writes) = IsDeclared c cases
 IsKnownAct types cases (act.Change c ops) = IsDeclared c cases × (length ops ≤ MAX_OPS)
 IsKnownAct types cases (act.Install t ops) = (t < types) × (length ops ≤ MAX_OPS)
 IsKnownAct types cases (act.Migrate t) = t < types

@@ -109,7 +109,7 @@ acted-kept (to_withdraw n node) actor lines at c h =
 acted-kept (to_end n node choice writes) actor lines at c h =
     let c1 = with_node node c in
     known-kept (case_in n c) _ c (λ id.
-    with_line-kept lines at actor (act.End id (node_in node c) (numbered writes c1) choice) (with_elements writes c1) refl (elements-kept writes c1 (phase_effort lines) h))
+    with_line-kept lines at actor (act.End id (node_in node c) choice (numbered writes c1)) (with_elements writes c1) refl (elements-kept writes c1 (phase_effort lines) h))
 acted-kept (to_change n) actor lines at c h = known-kept (case_in n c) _ c (λ id. changing-kept lines at actor id c h)
 acted-kept (to_install n) actor lines at c h = known-kept (place_of c.types.names n) _ c (λ t. installing-kept lines at actor t c h)
 acted-kept (to_migrate n) actor lines at c h = known-kept (place_of c.types.names n) _ c (λ t. migrating-kept lines at actor t c h)

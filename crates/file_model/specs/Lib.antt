@@ -5,6 +5,7 @@ pub mod CaseCounts
 pub mod Declaring
 pub mod Typing
 pub mod Scripting
+pub mod Written
 pub mod Operating
 pub mod Reading
 pub mod Sizes

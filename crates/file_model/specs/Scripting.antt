@@ -86,7 +86,7 @@ acted (to_withdraw n node) actor lines at c =
 acted (to_end n node choice writes) actor lines at c =
     if_known (case_in n c) (λ id.
     let c1 = with_node node c in
-    with_line lines at actor (act.End id (node_in node c) (numbered writes c1) choice) (with_elements writes c1)) c
+    with_line lines at actor (act.End id (node_in node c) choice (numbered writes c1)) (with_elements writes c1)) c
 acted (to_change n) actor lines at c = if_known (case_in n c) (λ id. changing lines at actor id c) c
 acted (to_install n) actor lines at c = if_known (place_of c.types.names n) (λ t. installing lines at actor t c) c
 acted (to_migrate n) actor lines at c = if_known (place_of c.types.names n) (λ t. migrating lines at actor t c) c

@@ -45,19 +45,40 @@ pub type Phases = Listing<Lines>;
 #[derive(Drop)]
 pub enum Act {
     /// The case comes to be.
-    Create(CaseId),
+    Create {
+        id: CaseId,
+    },
     /// The node is started.
-    Start(CaseId, u32),
+    Start {
+        id: CaseId,
+        node: u32,
+    },
     /// The node is given back.
-    Withdraw(CaseId, u32),
-    /// The node is ended with these writes, in the order given, and with a choice.
-    End(CaseId, u32, Writes, Option<u16>),
+    Withdraw {
+        id: CaseId,
+        node: u32,
+    },
+    /// The node is ended with a choice, and with these writes, in the order given.
+    End {
+        id: CaseId,
+        node: u32,
+        choice: Option<u16>,
+        writes: Writes,
+    },
     /// The case's schema is changed.
-    Change(CaseId, Ops),
+    Change {
+        id: CaseId,
+        ops: Ops,
+    },
     /// The type gets a new version.
-    Install(u32, Ops),
+    Install {
+        type_no: u32,
+        ops: Ops,
+    },
     /// Each case of the type moves to the newest version.
-    Migrate(u32),
+    Migrate {
+        type_no: u32,
+    },
 }
 
 /// A script line. `at` is its physical line, from 1, `order` counts the script lines of the file from 1, and `actor` counts

@@ -22,8 +22,8 @@ fn line_of_group(group: Group) -> Line
     ensures { result ≡ line_of_group group }
 {
     let act = match group.target {
-        Target::Case(id) => Act::Change(id, group.ops),
-        Target::Type(type_no) => Act::Install(type_no, group.ops),
+        Target::Case(id) => Act::Change { id, ops: group.ops },
+        Target::Type(type_no) => Act::Install { type_no, ops: group.ops },
     };
     Line {
         at: group.at,

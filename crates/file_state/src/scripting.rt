@@ -191,7 +191,7 @@ fn create_line(
 {
     match case_of(contents, case) {
         None => Err(Stop::Refused(Why::Unknown)),
-        Some(id) => with_line(contents, at, lines, actor, Act::Create(id)),
+        Some(id) => with_line(contents, at, lines, actor, Act::Create { id }),
     }
 }
 
@@ -231,7 +231,7 @@ fn start_line(
     ensures refused { IfErr result (λ stop. Stops (acted (shown_deed (Deed.Start case.entry node.entry)) actor lines at contents.old) contents.new stop) }
 {
     let (id, node) = case_and_node(contents, alloc, case, node)?;
-    with_line(contents, at, lines, actor, Act::Start(id, node))
+    with_line(contents, at, lines, actor, Act::Start { id, node })
 }
 
 fn withdraw_line(
@@ -249,7 +249,7 @@ fn withdraw_line(
     ensures refused { IfErr result (λ stop. Stops (acted (shown_deed (Deed.Withdraw case.entry node.entry)) actor lines at contents.old) contents.new stop) }
 {
     let (id, node) = case_and_node(contents, alloc, case, node)?;
-    with_line(contents, at, lines, actor, Act::Withdraw(id, node))
+    with_line(contents, at, lines, actor, Act::Withdraw { id, node })
 }
 
 fn end_line(
@@ -275,7 +275,12 @@ fn end_line(
         at,
         lines,
         actor,
-        Act::End(id, node, writes, choice),
+        Act::End {
+            id,
+            node,
+            choice,
+            writes,
+        },
     )
 }
 
@@ -414,7 +419,7 @@ fn migrating(
         return Err(Stop::Refused(Why::Limit(FileLimit::Migrations)));
     }
     contents.counts.migrations = migrations as u32;
-    Ok(Section::InPhase(push_line(contents, at, lines, actor, Act::Migrate(type_no))?))
+    Ok(Section::InPhase(push_line(contents, at, lines, actor, Act::Migrate { type_no })?))
 }
 
 fn with_line(

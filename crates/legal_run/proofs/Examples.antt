@@ -12,7 +12,7 @@ use Rattle.legal_run.specs.LineCalls.{Call, AreCallsOfLines, asked, lines_of, ca
 use Rattle.file_model.specs.declared.files.Act.TheVariants as act
 use Rattle.file_model.specs.declared.files.File.{File}
 use Rattle.file_model.specs.declared.files.Line.{Line}
-use Rattle.script_run.specs.Calls.{roles_of}
+use Rattle.line_calls.specs.Files.{roles_of}
 use Rattle.script_run.specs.Entries.{CaseEntry, KindEntry}
 use Rattle.script_run.specs.Serial.{serial}
 use Rattle.script_run.specs.declared.runs.ClosedCase.{ClosedCase}

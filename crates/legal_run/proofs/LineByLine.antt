@@ -20,14 +20,20 @@ use Rattle.legal_run.proofs.OnMachines.{caller_of}
 use Rattle.legal_run.proofs.Places.{one-becomes, some_one, there-as}
 use Rattle.legal_run.proofs.Told.{each-all, each-kind, entry_if, some-at, some-other}
 use Rattle.legal_run.specs.Legal.{declared_cases}
-use Rattle.legal_run.specs.LineCalls.{AreCallsOf, Call, asked, is_case, of_kind, calls_of_case, calls_of_kind, told, told_each}
+use Rattle.legal_run.specs.LineCalls.{AreOf, Call, asked, of_kind, calls_of_case, calls_of_kind, told, told_each}
+use Rattle.line_calls.proofs.Facts.{known-call}
+use Rattle.line_calls.specs.Calls.{call_of, is_case}
+use Rattle.line_calls.specs.Known.{IsKnownCall}
+use Rattle.line_calls.specs.declared.calls.Call as line
+use Rattle.line_calls.specs.declared.calls.Call.TheVariants as call
+use Rattle.line_calls.specs.declared.calls.Told.TheVariants as tell
 use Rattle.file_model.specs.CaseCounts.{cases_of_type as counted, has_id}
 use Rattle.file_model.specs.declared.files.Act.{Act}
-use Rattle.file_model.specs.declared.files.Act.TheVariants as act
 use Rattle.file_model.specs.declared.files.CaseDecl.{CaseDecl}
 use Rattle.file_model.specs.declared.files.File.{File}
-use Rattle.script_run.proofs.Places.{position-from_0}
-use Rattle.script_run.specs.Calls.{acted, call_case, call_kind, changed_where, created, each_of, if_of_type, migrated, newest, newest_in, on_case as case_called, on_each as each_called, on_kind as kind_called, place_of, put_back, roles_of, answered_version}
+use Rattle.line_calls.proofs.Places.{position-from_0}
+use Rattle.script_run.specs.Calls.{acted, call_case, call_kind, called, changed_where, created, each_of, if_of_type, migrated, newest, newest_in, on_case as case_called, on_each as each_called, on_kind as kind_called, put_back, answered_version}
+use Rattle.line_calls.specs.Files.{place_of, roles_of}
 use Rattle.script_run.specs.declared.runs.ClosedCase.{ClosedCase}
 use Rattle.script_run.specs.declared.runs.ClosedKind.{ClosedKind}
 use Rattle.script_run.specs.declared.runs.Run.{Run}
@@ -230,43 +236,38 @@ own-each a t e place [] = tt
 own-each a t e place (r ∷ rs) = (refl, own-each a t e (place + 1) rs)
 
 -- ---- a line
--- the line of an actor has made its calls, and no others
-pub record HasActed (f : File) (a : ℕ) (x : Act) (r s : Run) : Type 0 where
+-- the call of a line has made its calls, and no others
+pub record HasCalled (f : File) (a : ℕ) (k : line.Call) (r s : Run) : Type 0 where
   pub calls : List Call
-  pub fit : AreCallsOf (declared_cases f) (roles_of f a) a x calls
+  pub fit : AreOf (declared_cases f) a k calls
   pub own : AllRows (λ c. caller_of c ≡ a) calls
   pub gone : HasGone f calls r s
 
--- that of one call of a case
-one-case : (f : File) → IsWorkable f → (a : ℕ) (x : Act) (c : CaseId) (e : Event) (r : Run) → IsRunning f r → IsDeclared c f.cases → ((answer : Reply) → AreCallsOf (declared_cases f) (roles_of f a) a x (told a c e answer ∷ [])) → HasActed f a x r (case_called f a c e r)
-one-case f workable a x c e r running declared fit = let (answer, gone) = call-case f workable a c e r running declared in record { calls = told a c e answer ∷ []; fit = fit answer; own = (refl, tt); gone = gone }
-
-pub has-acted : (f : File) → IsWorkable f → (a : ℕ) (x : Act) (r : Run) → IsRunning f r → IsKnownAct (length f.types) f.cases x → HasActed f a x r (acted f a x r)
-has-acted f workable a (act.Create c) r running declared =
-    let (v, is, first) = call-newest f a c.type_no r running (declared-typed (length f.types) f.cases c workable.typed declared) in
-    let asking = asked a c.type_no v ∷ [] in
-    let between = kind_called a c.type_no kind_event.Newest r in
+has-called : (f : File) → IsWorkable f → (a : ℕ) (k : line.Call) (r : Run) → IsRunning f r → IsKnownCall (length f.types) f.cases k → HasCalled f a k r (called f a k r)
+has-called f workable a (call.Kind t e) r running low =
+    let (k, at) = kind-there f r t running low in
+    record {
+      calls = of_kind t (entry a e (kind_reply k.machine e)) ∷ [];
+      fit = (kind_reply k.machine e, refl);
+      own = (refl, tt);
+      gone = call-kind f a t e r k at;
+    }
+has-called f workable a (call.Case c e) r running declared =
+    let (answer, gone) = call-case f workable a c e r running declared in
+    record { calls = told a c e answer ∷ []; fit = (answer, refl); own = (refl, tt); gone = gone }
+has-called f workable a (call.Newest t (tell.Create c)) r running (same, declared) =
+    let (v, is, first) = call-newest f a t r running (subst (λ n. n < length f.types) (sym same) (declared-typed (length f.types) f.cases c workable.typed declared)) in
+    let asking = asked a t v ∷ [] in
+    let between = kind_called a t kind_event.Newest r in
     let (answer, second) = call-case f workable a c (event.Create v) between (running-still f asking r between first running) declared in
     let creating = told a c (event.Create v) answer ∷ [] in
     record {
-      calls = asked a c.type_no v ∷ told a c (event.Create v) answer ∷ [];
+      calls = asked a t v ∷ told a c (event.Create v) answer ∷ [];
       fit = (v, answer, refl);
       own = (refl, (refl, tt));
-      gone = subst (λ o. HasGone f (asked a c.type_no v ∷ told a c (event.Create v) answer ∷ []) r (created f a c o between)) (sym is) (gone-then f asking creating r between (case_called f a c (event.Create v) between) first second);
+      gone = subst (λ o. HasGone f (asked a t v ∷ told a c (event.Create v) answer ∷ []) r (created f a c o between)) (sym is) (gone-then f asking creating r between (case_called f a c (event.Create v) between) first second);
     }
-has-acted f workable a (act.Start c node) r running declared = one-case f workable a (act.Start c node) c (event.Start node a (roles_of f a)) r running declared (λ answer. (answer, refl))
-has-acted f workable a (act.Withdraw c node) r running declared = one-case f workable a (act.Withdraw c node) c (event.Withdraw node a) r running declared (λ answer. (answer, refl))
-has-acted f workable a (act.End c node writes choice) r running declared = one-case f workable a (act.End c node writes choice) c (event.End node a choice writes) r running declared (λ answer. (answer, refl))
-has-acted f workable a (act.Change c ops) r running (declared, few) = one-case f workable a (act.Change c ops) c (event.Change ops) r running declared (λ answer. (answer, refl))
-has-acted f workable a (act.Install t ops) r running (low, few) =
-    let (k, at) = kind-there f r t running low in
-    record {
-      calls = of_kind t (entry a (kind_event.Install ops) (kind_reply k.machine (kind_event.Install ops))) ∷ [];
-      fit = (kind_reply k.machine (kind_event.Install ops), refl);
-      own = (refl, tt);
-      gone = call-kind f a t (kind_event.Install ops) r k at;
-    }
-has-acted f workable a (act.Migrate t) r running low =
+has-called f workable a (call.Newest t tell.Migrate) r running low =
     let (v, is, first) = call-newest f a t r running low in
     let asking = asked a t v ∷ [] in
     let between = kind_called a t kind_event.Newest r in
@@ -278,3 +279,10 @@ has-acted f workable a (act.Migrate t) r running low =
       gone = subst (λ o. HasGone f (asked a t v ∷ told_each a t (event.Migrate v) 0 answers) r (migrated f a t o between)) (sym is)
           (gone-then f asking (told_each a t (event.Migrate v) 0 answers) r between (each_called f a t (event.Migrate v) between) first second);
     }
+
+-- so has a line
+abbrev pub HasActed : File → ℕ → Act → Run → Run → Type 0
+HasActed f a x r s = HasCalled f a (call_of a (roles_of f a) x) r s
+
+pub has-acted : (f : File) → IsWorkable f → (a : ℕ) (x : Act) (r : Run) → IsRunning f r → IsKnownAct (length f.types) f.cases x → HasActed f a x r (acted f a x r)
+has-acted f workable a x r running known = has-called f workable a (call_of a (roles_of f a) x) r running (known-call a (roles_of f a) (length f.types) f.cases x known)

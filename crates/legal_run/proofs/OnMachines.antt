@@ -1,7 +1,8 @@
 -- The calls of one type, and of one case, among calls one after another.
 use Rattle.std.proofs.Common.{◌≡◌, ℕ, eqb, Bool, true, false, ◌==◌, List, [], ◌∷◌, ◌++◌, filter, All, refl, sym, ap, ◌∙◌, if◌then◌else◌}
 use Rattle.std.proofs.lemmas.List.Elements.{All-cons, All-nil, filter-append}
-use Rattle.legal_run.specs.LineCalls.{Call, of_kind, of_case, calls_of_kind, calls_of_case, is_case}
+use Rattle.legal_run.specs.LineCalls.{Call, of_kind, of_case, calls_of_kind, calls_of_case}
+use Rattle.line_calls.specs.Calls.{is_case}
 use Rattle.turn_cell.specs.History.{calls_of}
 use Rattle.turn_cell.specs.declared.journal.Entry.{Entry}
 use Rattle.wsm_lists.specs.Rows.{AllRows}

@@ -8,7 +8,7 @@ use Rattle.file_model.specs.declared.files.CaseDecl.{CaseDecl}
 use Rattle.file_model.specs.declared.files.File.{File}
 use Rattle.file_model.specs.declared.files.Line.{Line}
 use Rattle.file_model.specs.declared.files.TypeDecl.{TypeDecl}
-use Rattle.script_run.specs.Calls.{roles_of}
+use Rattle.line_calls.specs.Files.{roles_of}
 use Rattle.script_run.specs.Entries.{KindEntry}
 use Rattle.script_run.specs.Serial.{program}
 use Rattle.script_run.specs.declared.runs.ClosedCase.{ClosedCase}

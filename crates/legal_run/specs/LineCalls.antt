@@ -1,11 +1,11 @@
 -- The calls that script lines stand for.
-use Rattle.std.specs.Prelude.{◌≡◌, ℕ, ◌+◌, ◌≤◌, ◌==◌, ◌&&◌, ◌⊎◌, Bool, List, [], ◌∷◌, ◌++◌, length, filter, Option, Some, None, if◌then◌else◌}
+use Rattle.std.specs.Prelude.{◌≡◌, ℕ, ◌+◌, ◌≤◌, ◌==◌, ◌⊎◌, List, [], ◌∷◌, ◌++◌, length, filter, Option, Some, None, if◌then◌else◌}
 use Rattle.case_core.specs.declared.events.Event.{Event}
 use Rattle.case_core.specs.declared.events.Event.TheVariants as event
 use Rattle.case_core.specs.declared.replies.Reply.{Reply}
 use Rattle.file_model.specs.declared.files.Act.{Act}
 use Rattle.file_model.specs.declared.files.Line.{Line}
-use Rattle.line_calls.specs.Calls.{call_of}
+use Rattle.line_calls.specs.Calls.{call_of, is_case}
 use Rattle.line_calls.specs.declared.calls.Call as line
 use Rattle.line_calls.specs.declared.calls.Call.TheVariants as call
 use Rattle.line_calls.specs.declared.calls.Told.TheVariants as tell
@@ -27,10 +27,6 @@ abbrev pub calls_of_kind : ℕ → List Call → List KindEntry
 calls_of_kind t [] = []
 calls_of_kind t (of_kind u e ∷ calls) = if u == t then e ∷ calls_of_kind t calls else calls_of_kind t calls
 calls_of_kind t (of_case c e ∷ calls) = calls_of_kind t calls
-
--- the same case: of one type, and at one place there
-abbrev pub is_case : CaseId → CaseId → Bool
-is_case c d = d.type_no == c.type_no && d.place == c.place
 
 -- the calls of one case, in order
 abbrev pub calls_of_case : CaseId → List Call → List CaseEntry
@@ -57,31 +53,33 @@ told_some a t e place [] = []
 told_some a t e place (None ∷ answers) = told_some a t e (place + 1) answers
 told_some a t e place (Some r ∷ answers) = told a (record { type_no = t; place = place }) e r ∷ told_some a t e (place + 1) answers
 
--- for an actor with these roles, where many says how many cases a type has
-module _ (many : ℕ → ℕ) (roles : List ℕ) (a : ℕ) where
-  -- entries that a call may have made, and those of a line
+-- entries that a call of an actor may have made, where many says how many cases a type has
+module _ (many : ℕ → ℕ) (a : ℕ) where
   abbrev pub AreOf : line.Call → List Call → Type 0
   AreOf (call.Kind t e) calls = (r : KindReply) × (calls ≡ of_kind t (entry a e r) ∷ [])
   AreOf (call.Case c e) calls = (r : Reply) × (calls ≡ told a c e r ∷ [])
   AreOf (call.Newest t (tell.Create c)) calls = (v : VersionModel) × (r : Reply) × (calls ≡ asked a t v ∷ told a c (event.Create v) r ∷ [])
   AreOf (call.Newest t tell.Migrate) calls = (v : VersionModel) × (rs : List Reply) × (length rs ≡ many t) × (calls ≡ asked a t v ∷ told_each a t (event.Migrate v) 0 rs)
 
-  abbrev pub AreCallsOf : Act → List Call → Type 0
-  AreCallsOf x calls = AreOf (call_of a roles x) calls
-
-  -- the calls of lines, one line after another
-  abbrev pub AreCallsOfLines : List Line → List Call → Type 0
-  AreCallsOfLines [] calls = calls ≡ []
-  AreCallsOfLines (l ∷ ls) calls = (first : List Call) × (rest : List Call) × (calls ≡ first ++ rest) × AreCallsOf l.act first × AreCallsOfLines ls rest
-
-  -- What a line that met a fault has done: nothing, or the first of its two calls; of a migration also the calls of some cases.
+  -- What it has done where it met a fault: nothing, or the first of its two calls; of a migration also the calls of some cases.
   abbrev pub ArePart : line.Call → List Call → Type 0
   ArePart (call.Newest t (tell.Create c)) calls = (calls ≡ []) ⊎ ((v : VersionModel) × (calls ≡ asked a t v ∷ []))
   ArePart (call.Newest t tell.Migrate) calls = (calls ≡ []) ⊎ ((v : VersionModel) × (answers : List (Option Reply)) × (length answers ≤ many t) × (calls ≡ asked a t v ∷ told_some a t (event.Migrate v) 0 answers))
   ArePart _ calls = calls ≡ []
 
+-- for an actor with these roles
+module _ (many : ℕ → ℕ) (roles : List ℕ) (a : ℕ) where
+  -- the calls of a line, and what a line has done that met a fault
+  abbrev pub AreCallsOf : Act → List Call → Type 0
+  AreCallsOf x calls = AreOf many a (call_of a roles x) calls
+
   abbrev pub ArePartOf : Act → List Call → Type 0
-  ArePartOf x calls = ArePart (call_of a roles x) calls
+  ArePartOf x calls = ArePart many a (call_of a roles x) calls
+
+  -- the calls of lines, one line after another
+  abbrev pub AreCallsOfLines : List Line → List Call → Type 0
+  AreCallsOfLines [] calls = calls ≡ []
+  AreCallsOfLines (l ∷ ls) calls = (first : List Call) × (rest : List Call) × (calls ≡ first ++ rest) × AreCallsOf l.act first × AreCallsOfLines ls rest
 
   -- the calls of lines up to one that met a fault
   abbrev pub AreBegun : List Line → List Call → Type 0

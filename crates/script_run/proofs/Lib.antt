@@ -1,4 +1,3 @@
 pub mod Aging
 pub mod Each
-pub mod Places
 pub mod NoInstalls

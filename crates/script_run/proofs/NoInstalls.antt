@@ -1,26 +1,22 @@
 -- Lines that do not install leave what the types answered as it is.
-use Rattle.std.proofs.Common.{◌≡◌, ℕ, false, List, [], ◌∷◌, fold, refl, ap, ◌∙◌}
+use Rattle.std.proofs.Common.{◌≡◌, ℕ, false, List, [], ◌∷◌, fold, Option, Some, None, refl, ap, ◌∙◌}
 use Rattle.std.specs.List.{list_any}
-use Rattle.std.proofs.lemmas.Bool.{both_ways, or_parts}
-use Rattle.file_model.specs.declared.files.Act.{Act}
-use Rattle.file_model.specs.declared.files.Act.TheVariants as act
+use Rattle.std.specs.Option.{is_some}
+use Rattle.std.proofs.lemmas.Bool.{or_parts}
 use Rattle.file_model.specs.declared.files.Line.{Line}
-use Rattle.script_run.specs.Verdicts.{Checking, installs, judged_act, judged_phase, some_install}
+use Rattle.line_calls.specs.Calls.{installed}
+use Rattle.script_run.specs.Verdicts.{Checking, installs, judged_install, judged_phase, some_install}
+use Rattle.wsm_ops.specs.declared.operations.Op.{Op}
 
-idle-act : (at : ℕ) (a : Act) (s : Checking) → installs a ≡ false → judged_act at a s ≡ s
-idle-act at (act.Create c) s h = refl
-idle-act at (act.Start c n) s h = refl
-idle-act at (act.Withdraw c n) s h = refl
-idle-act at (act.End c n w k) s h = refl
-idle-act at (act.Change c ops) s h = refl
-idle-act at (act.Install t ops) s h = absurd (both_ways _ h refl)
-idle-act at (act.Migrate t) s h = refl
+idle : (at : ℕ) (o : Option (ℕ × List Op)) (s : Checking) → is_some o ≡ false → judged_install at o s ≡ s
+idle at None s h = refl
+idle at (Some i) s h = absurd (cc (h))
 
 idle-phase : (lines : List Line) (s : Checking) → some_install lines ≡ false → judged_phase s lines ≡ s
 idle-phase [] s h = refl
 idle-phase (l ∷ ls) s h =
     let parts = or_parts (installs l.act) (some_install ls) h in
-    ap (λ x. judged_phase x ls) (idle-act l.at l.act s parts.0) ∙ idle-phase ls s parts.1
+    ap (λ x. judged_phase x ls) (idle l.at (installed l.act) s parts.0) ∙ idle-phase ls s parts.1
 
 pub idle-phases : (phases : List (List Line)) (s : Checking) → list_any some_install phases ≡ false → fold judged_phase s phases ≡ s
 idle-phases [] s h = refl

@@ -1,15 +1,14 @@
 -- The calls of script lines.
-use Rattle.std.specs.Prelude.{ℕ, ◌-◌, ◌==◌, List, [], ◌∷◌, ◌++◌, slice_get, slice_set, position, Option, Some, None, if◌then◌else◌}
+use Rattle.std.specs.Prelude.{ℕ, ◌==◌, List, [], ◌∷◌, ◌++◌, slice_get, slice_set, Option, Some, None, if◌then◌else◌}
 use Rattle.case_core.specs.Machine.{next_case}
 use Rattle.case_core.specs.declared.events.Event.{Event}
 use Rattle.case_core.specs.declared.events.Event.TheVariants as event
-use Rattle.file_model.specs.CaseCounts.{has_id}
 use Rattle.file_model.specs.declared.files.Act.{Act}
-use Rattle.file_model.specs.declared.files.ActorDecl.{ActorDecl}
 use Rattle.file_model.specs.declared.files.CaseDecl.{CaseDecl}
 use Rattle.file_model.specs.declared.files.File.{File}
 use Rattle.file_model.specs.declared.files.Line.{Line}
 use Rattle.line_calls.specs.Calls.{call_of}
+use Rattle.line_calls.specs.Files.{place_of, roles_of}
 use Rattle.line_calls.specs.declared.calls.Call.{Call}
 use Rattle.line_calls.specs.declared.calls.Call.TheVariants as call
 use Rattle.line_calls.specs.declared.calls.Told.{Told}
@@ -47,18 +46,6 @@ changed_at f i xs = put_back f i xs (slice_get xs i)
 abbrev pub changed_where : {X : Type 0} → (X → X) → Option ℕ → List X → List X
 changed_where f None xs = xs
 changed_where f (Some i) xs = changed_at f i xs
-
--- where a case was declared
-abbrev pub place_of : File → CaseId → Option ℕ
-place_of f c = position (has_id c) f.cases
-
--- the roles of the actor with a number, from 1
-abbrev pub roles_in : Option ActorDecl → List ℕ
-roles_in None = []
-roles_in (Some a) = a.roles
-
-abbrev pub roles_of : File → ℕ → List ℕ
-roles_of f a = roles_in (slice_get f.actors (a - 1))
 
 -- one call of a type, of a case, and of each case of a type
 abbrev pub on_kind : ℕ → ℕ → KindEvent → Run → Run

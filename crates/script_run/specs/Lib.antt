@@ -2,7 +2,6 @@ pub mod Calls
 pub mod Entries
 pub mod Oldest
 pub mod Parts
-pub mod Places
 pub mod Serial
 pub mod Verdicts
 pub mod CaseEnds

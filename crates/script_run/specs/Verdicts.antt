@@ -1,6 +1,7 @@
 -- What the types answer to the lines that install, in file order. No other line changes a type.
 use Rattle.std.specs.Prelude.{ℕ, ◌+◌, Bool, true, false, List, [], ◌∷◌, ◌++◌, fold, slice_get, slice_set, Option, Some, None}
 use Rattle.std.specs.List.{list_any}
+use Rattle.std.specs.Option.{is_some}
 use Rattle.file_model.specs.declared.files.Act.{Act}
 use Rattle.file_model.specs.declared.files.File.{File}
 use Rattle.file_model.specs.declared.files.Line.{Line}
@@ -57,10 +58,6 @@ abbrev pub verdicts : File → List Verdict
 verdicts f = (fold judged_phase (record { kinds = defined_from 0 f.types; verdicts = [] }) f.phases).verdicts
 
 -- whether an act installs, and whether a line of a phase does
-abbrev pub is_some : {X : Type 0} → Option X → Bool
-is_some None = false
-is_some (Some x) = true
-
 abbrev pub installs : Act → Bool
 installs x = is_some (installed x)
 

@@ -7,8 +7,8 @@ ghost use Rattle.script_run.specs.Parts.{run_of};
 ghost use Rattle.type_core.specs.Machine.{next_kind, weight as kind_weight};
 
 use crate::runs::{CaseEntry, ClosedCase, ClosedCases, ClosedKind, ClosedKinds, KindEntry, Run};
-use crate::scripts::Script;
 use case_core::Event;
+use line_calls::Script;
 use std::alloc::Global;
 use turn_cell::Machine;
 use type_core::{KindEvent, KindReply};

@@ -7,7 +7,6 @@ mod call_counts;
 mod calls;
 mod checking;
 mod runs;
-mod scripts;
 mod serial;
 
 pub use call_counts::CallCounts;

@@ -13,10 +13,9 @@ ghost use Rattle.wsm_schema.specs.Flat.{cards_of};
 use crate::call_counts::CallCounts;
 use crate::calls::{Working, call_kind};
 use crate::runs::{CaseJournal, ClosedCase, ClosedKind, KindJournal, Run};
-use crate::scripts::Script;
 use case_core::{Case, Event};
 use file_model::{CaseDecl, File, Line, TypeDecl};
-use line_calls::{Call, Told, call_of};
+use line_calls::{Call, Script, Told, call_of, roles_of};
 use std::alloc::Global;
 use type_core::{Kind, KindEvent};
 use wsm_lists::NoMemory;
@@ -131,7 +130,7 @@ impl Working {
         ensures age { OnOk result (oldest self.new.cases.items ≤ oldest self.old.cases.items + line_effort line.now) }
     {
         let caller = line.actor;
-        let call = call_of(alloc, caller, script.roles_of(caller), &line.act)?;
+        let call = call_of(alloc, caller, roles_of(script.file, caller), &line.act)?;
         self.make(alloc, script, caller, call)
     }
 

@@ -81,7 +81,7 @@ act-payable : (f : File) (a : ℕ) (r : Run) (x : Act) → All (act_calls f a r 
 act-payable f a r (act.Create c) = ((refl, tt), create-payable a c (newest c.type_no r))
 act-payable f a r (act.Start c n) = ((refl, tt), tt)
 act-payable f a r (act.Withdraw c n) = ((refl, tt), tt)
-act-payable f a r (act.End c n writes choice) = ((refl, tt), tt)
+act-payable f a r (act.End c n choice writes) = ((refl, tt), tt)
 act-payable f a r (act.Change c ops) = ((refl, tt), tt)
 act-payable f a r (act.Install t ops) = ((refl, tt), tt)
 act-payable f a r (act.Migrate t) = ((refl, tt), migrate-payable a t f.cases (newest t r))

@@ -10,7 +10,8 @@ use Rattle.line_calls.specs.Calls.{call_of}
 use Rattle.line_calls.specs.declared.calls.Call.{Call}
 use Rattle.line_calls.specs.declared.calls.Call.TheVariants as call
 use Rattle.line_calls.specs.declared.calls.Told.TheVariants as tell
-use Rattle.script_run.specs.Calls.{answered_version, call_kind, called, changed_at, created, migrated, newest, newest_in, on_kind, put_back, roles_of}
+use Rattle.script_run.specs.Calls.{answered_version, call_kind, called, changed_at, created, migrated, newest, newest_in, on_kind, put_back}
+use Rattle.line_calls.specs.Files.{roles_of}
 use Rattle.script_run.specs.Serial.{kinds_from, opening}
 use Rattle.script_run.specs.Verdicts.{stepped}
 use Rattle.script_run.specs.declared.runs.ClosedKind.{ClosedKind}

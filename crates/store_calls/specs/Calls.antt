@@ -9,7 +9,8 @@ use Rattle.line_calls.specs.Calls.{call_of}
 use Rattle.line_calls.specs.declared.calls.Call.{Call}
 use Rattle.line_calls.specs.declared.calls.Call.TheVariants as call
 use Rattle.line_calls.specs.declared.calls.Told.TheVariants as told
-use Rattle.script_run.specs.Calls.{newest, roles_of, worked}
+use Rattle.script_run.specs.Calls.{newest, worked}
+use Rattle.line_calls.specs.Files.{roles_of}
 use Rattle.script_run.specs.Serial.{opening, program}
 use Rattle.script_run.specs.declared.runs.Run.{Run}
 use Rattle.store_form.specs.Payload.{Bytes, payload}

@@ -9,7 +9,8 @@ use Rattle.line_calls.specs.Calls.{call_of}
 use Rattle.line_calls.specs.declared.calls.Call.{Call}
 use Rattle.line_calls.specs.declared.calls.Call.TheVariants as call
 use Rattle.line_calls.specs.declared.calls.Told.TheVariants as told
-use Rattle.script_run.specs.Calls.{changed_at, roles_of}
+use Rattle.script_run.specs.Calls.{changed_at}
+use Rattle.line_calls.specs.Files.{roles_of}
 use Rattle.script_run.specs.Serial.{program}
 use Rattle.script_run.specs.Verdicts.{stepped}
 use Rattle.store_calls.specs.Calls.{by, stored_kind}

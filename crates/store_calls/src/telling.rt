@@ -3,7 +3,7 @@ ghost use Rattle.std.specs.Prelude.{◌≡◌, ◌*◌, ◌≤◌, true, fold, l
 ghost use Rattle.std.specs.List.{AllByRecursion, list_all};
 ghost use Rattle.file_facts.specs.Facts.{IsWorkable};
 ghost use Rattle.file_model.specs.Sizes.{IsBounded, is_small, line_effort, phase_effort};
-ghost use Rattle.script_run.specs.Calls.{roles_of};
+ghost use Rattle.line_calls.specs.Files.{roles_of};
 ghost use Rattle.line_calls.specs.Calls.{call_weight};
 ghost use Rattle.store_calls.specs.Calls.{IsPayable, calls, stored_kind};
 ghost use Rattle.type_core.specs.Machine.{weight as kind_weight};

@@ -20,7 +20,7 @@ use Rattle.file_model.specs.declared.files.File.{File}
 use Rattle.file_model.specs.declared.files.Line.{Line}
 use Rattle.file_model.specs.declared.files.TypeDecl.{TypeDecl}
 use Rattle.script_run.proofs.Each.{each-called, each-passed}
-use Rattle.script_run.proofs.Places.{position-from_0}
+use Rattle.line_calls.proofs.Places.{position-from_0}
 use Rattle.script_run.specs.Calls.{acted, call_case, call_kind, changed_at, changed_where, created, each_of, migrated, newest, on_case, on_kind, worked}
 use Rattle.script_run.specs.Serial.{defined, kinds_from, opening, phase_worked, program, serial, uncalled}
 use Rattle.script_run.specs.declared.runs.ClosedCase.{ClosedCase}
@@ -240,7 +240,7 @@ module _ (f : File) (workable : IsWorkable f) where
       (λ v is. found-when-asked a c.type_no v.number run ∙ found-by-number run c.type_no v counted is) (on-kind a c.type_no kind_event.Newest run held same)
   acts a (act.Start c n) run held known counted same = on-case a c _ run held known same
   acts a (act.Withdraw c n) run held known counted same = on-case a c _ run held known same
-  acts a (act.End c n writes choice) run held known counted same = on-case a c _ run held known same
+  acts a (act.End c n choice writes) run held known counted same = on-case a c _ run held known same
   acts a (act.Change c ops) run held known counted same = on-case a c _ run held known.0 same
   acts a (act.Install t ops) run held known counted same = on-kind a t (kind_event.Install ops) run held same
   acts a (act.Migrate t) run held known counted same =
@@ -259,7 +259,7 @@ module _ (f : File) (workable : IsWorkable f) where
   counted a (act.Create c) run all = created-counted a c (newest c.type_no run) (on_kind a c.type_no kind_event.Newest run) (counted-changed a c.type_no kind_event.Newest run.kinds all)
   counted a (act.Start c n) run all = all
   counted a (act.Withdraw c n) run all = all
-  counted a (act.End c n writes choice) run all = all
+  counted a (act.End c n choice writes) run all = all
   counted a (act.Change c ops) run all = all
   counted a (act.Install t ops) run all = counted-changed a t (kind_event.Install ops) run.kinds all
   counted a (act.Migrate t) run all = migrated-counted a t (newest t run) (on_kind a t kind_event.Newest run) (counted-changed a t kind_event.Newest run.kinds all)

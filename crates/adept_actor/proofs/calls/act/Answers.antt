@@ -57,7 +57,7 @@ returns-in_err-end-in-End-clause-worked g c =
     let v = desk_view c.args.desk.now in
     let w = desk_view c.end.new.desk in
     let f = c.in_err-end-in-End.field-0.0 in
-    acts-fault c.args.roles.now (act.End c.in-End.id c.in-End.node c.in-End.writes c.in-End.choice) c.args.act.now v w f c.from_residual-in_err-end-in-End.result c.in-End.is c.from_residual-in_err-end-in-End.ensures.1
+    acts-fault c.args.roles.now (act.End c.in-End.id c.in-End.node c.in-End.choice c.in-End.writes) c.args.act.now v w f c.from_residual-in_err-end-in-End.result c.in-End.is c.from_residual-in_err-end-in-End.ensures.1
     (end-acts c.args.roles.now v w c.requires.desk.desk c.in-End.id c.in-End.node c.in-End.writes c.in-End.choice (Err f) c.in_err-end-in-End.ensures.called)
 
 pub returns-in_ok-end-in-End-clause-worked : goal.returns-in_ok-end-in-End-clause-worked

@@ -1,6 +1,6 @@
 use Rattle.std.proofs.Common.{◌≡◌, ◌+◌, ◌-◌, cond, get_or, Some, ap, sym, ◌∙◌, arith}
 use Rattle.file_model.specs.CaseCounts.{has_id}
-use Rattle.script_run.proofs.Places.{position-from_0, position_from-step}
+use Rattle.line_calls.proofs.Places.{position-from_0, position_from-step}
 use Rattle.case_audit.proofs.declared.places_of.Goals as goal
 
 pub loop-place-preserved : goal.loop-place-preserved

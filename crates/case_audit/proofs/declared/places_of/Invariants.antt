@@ -2,7 +2,7 @@ use Rattle.std.proofs.Common.{◌≡◌, drop}
 use Rattle.std.specs.List.{position_from}
 use Rattle.std.specs.Map.{lookup}
 use Rattle.file_model.specs.CaseCounts.{has_id}
-use Rattle.script_run.specs.Places.{is_key}
+use Rattle.line_calls.specs.Places.{is_key}
 use Rattle.wsm_sound.specs.declared.versions.CaseId.{CaseId}
 use Rattle.case_audit.proofs.declared.places_of.Given as goal
 

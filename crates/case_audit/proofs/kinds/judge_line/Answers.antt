@@ -64,7 +64,7 @@ judge_call-requires c =
     let call = c.in-Some-next.call in
     let queue = turn-is queues a c.next.result call c.next.ensures.next c.in-Some-next.is in
     let modest = front-row IsModest queues a (asked_of call) (behind_front (queue_of queues a)) c.requires.modest queue in
-    let light = kind-light call.line.now.act c.in-Some-2.event modest.1 (sym c.in_ok-event_of.ensures ∙ c.in-Some-2.is) in
+    let light = kind-light call.line.now c.in-Some-2.event modest (sym c.in_ok-event_of.ensures ∙ c.in-Some-2.is) in
     omega (arith, light)
 
 pub returns-in-Some-2-clause-judged : goal.returns-in-Some-2-clause-judged

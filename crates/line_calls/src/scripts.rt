@@ -1,7 +1,7 @@
 // A file with what its lines are worked by.
 ghost use Rattle.std.specs.Prelude.{◌≡◌, IfOk};
-ghost use Rattle.script_run.specs.Calls.{place_of, roles_of};
-ghost use Rattle.script_run.specs.Places.{Indexes};
+ghost use Rattle.line_calls.specs.Files.{place_of, roles_of};
+ghost use Rattle.line_calls.specs.Places.{Indexes};
 
 use file_model::{CaseDecl, File};
 use std::alloc::Global;
@@ -34,17 +34,6 @@ impl<'a> Script<'a> {
     {
         self.places.get(&(id.type_no, id.place)).copied()
     }
-
-    /// The roles of the actor with a number, from 1.
-    pub fn roles_of(&self, actor: u32) -> &[u32]
-        ensures { result.now ≡ roles_of self.now.file.now actor }
-    {
-        let index = (actor as usize).saturating_sub(1);
-        match self.file.actors.get(index) {
-            None => &[],
-            Some(decl) => decl.roles.as_slice(),
-        }
-    }
 }
 
 // The places of cases, from the last to the first.
@@ -57,4 +46,15 @@ fn places_of(alloc: Global, decls: &[CaseDecl]) -> Result<HashMap<(u32, u32), us
         let _ = places.insert((id.type_no, id.place), place)?;
     }
     Ok(places)
+}
+
+/// The roles of the actor with a number, from 1.
+pub fn roles_of(file: &File, actor: u32) -> &[u32]
+    ensures { result.now ≡ roles_of file.now actor }
+{
+    let index = (actor as usize).saturating_sub(1);
+    match file.actors.get(index) {
+        None => &[],
+        Some(decl) => decl.roles.as_slice(),
+    }
 }

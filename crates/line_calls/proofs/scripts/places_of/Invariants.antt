@@ -1,9 +1,9 @@
 use Rattle.std.proofs.Common.{◌≡◌, drop}
 use Rattle.std.specs.List.{position_from}
 use Rattle.std.specs.Map.{lookup}
-use Rattle.script_run.specs.Places.{is_key}
+use Rattle.line_calls.specs.Places.{is_key}
 use Rattle.wsm_sound.specs.declared.versions.CaseId.{CaseId}
-use Rattle.script_run.proofs.scripts.places_of.Given as goal
+use Rattle.line_calls.proofs.scripts.places_of.Given as goal
 use Rattle.file_model.specs.CaseCounts.{has_id}
 
 abbrev pub invariant-loop-place : goal.invariant-loop-place
