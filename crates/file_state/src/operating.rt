@@ -23,7 +23,10 @@ fn line_of_group(group: Group) -> Line
 {
     let act = match group.target {
         Target::Case(id) => Act::Change { id, ops: group.ops },
-        Target::Type(type_no) => Act::Install { type_no, ops: group.ops },
+        Target::Type(type_no) => Act::Install {
+            type_no,
+            ops: group.ops,
+        },
     };
     Line {
         at: group.at,
