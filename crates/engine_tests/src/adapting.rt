@@ -1,29 +1,56 @@
 // What becomes of the marks of a trail on a changed schema.
-ghost use Rattle.std.specs.Prelude.{◌≡◌, ◌+◌, ◌<◌, ◌^◌, OnOk};
+ghost use Rattle.std.specs.Prelude.{◌≡◌, ◌+◌, ◌<◌, ◌≤◌, ◌^◌, length, OnOk};
+ghost use Rattle.wsm_adapt.specs.Adapted.{marks_to_read};
+ghost use Rattle.wsm_adapt.specs.Region.{IsNet};
 
 use crate::schemas::row_of;
 use std::alloc::Global;
+use std::marker::Brand;
+use std::sync::ledger::{Blank, Ledger};
 use std::test::Fail;
 use wsm_adapt::{Adapted, adapt};
-use wsm_schema::{Block, Branch, Branches, Entry, Items, NoMemory, ReadValues, Schema, Writes};
-use wsm_settle::{Mark, MarkReads, Marks, TimedMarks, timed};
+use wsm_lists::Steps;
+use wsm_schema::{
+    Block, Branch, Branches, Entry, Flat, Items, NoMemory, Nodes, Rank, ReadValues, Schema, Writes,
+};
+use wsm_settle::{CountedMarks, Mark, MarkReads, Marks, TimedMarks, timed};
 use wsm_sound::{Checked, check};
 use wsm_touch::touched;
-use wsm_trail::Trail;
+use wsm_trail::{CountedTrail, Trail, TrailReads};
 
-// Marks that are read and not counted.
+// Marks, with a number of their reads.
 #[derive(Drop)]
-struct Reader<'a> {
+struct MarkReader<'a> {
     marks: &'a Marks,
+    reads: u32,
 }
 
-impl<'a> MarkReads for Reader<'a> {
+impl<'a> MarkReads for MarkReader<'a> {
     ghost kept = { λ r. r.marks.now.rows };
 
-    ghost reads = { λ r. 0 };
+    ghost reads = { λ r. r.reads };
 
     fn get(&mut self, node: u32) -> Option<Mark> {
+        self.reads = self.reads.saturating_add(1);
         self.marks.get(node).copied()
+    }
+}
+
+// A trail, with a number of its reads.
+#[derive(Drop)]
+struct TrailReader<'a> {
+    trail: &'a Trail,
+    reads: u32,
+}
+
+impl<'a> TrailReads for TrailReader<'a> {
+    ghost kept = { λ r. r.trail.now.trail };
+
+    ghost reads = { λ r. r.reads };
+
+    fn entry(&mut self, position: u32) -> Option<&Entry> {
+        self.reads = self.reads.saturating_add(1);
+        self.trail.entry(position)
     }
 }
 
@@ -98,7 +125,7 @@ fn begun(alloc: Global) -> Result<Trail, NoMemory> {
 }
 
 // What becomes of the marks of a trail that replays on its own schema.
-fn adapted(alloc: Global, old: &Checked, new: &Checked, trail: &mut Trail) -> Option<Adapted> {
+fn adapted(alloc: Global, old: &Checked, new: &Checked, trail: &Trail) -> Option<Adapted> {
     let marks = marks_of(alloc, old, trail)?;
     moved(alloc, old, new, &marks, trail).ok()
 }
@@ -115,17 +142,28 @@ fn moved(
     old: &Checked,
     new: &Checked,
     marks: &Marks,
-    trail: &mut Trail,
+    trail: &Trail,
+) -> Result<Adapted, NoMemory> {
+    let mut marks = MarkReader { marks, reads: 0 };
+    let mut trail = TrailReader { trail, reads: 0 };
+    moved_by(alloc, old, new, &mut marks, &mut trail)
+}
+
+fn moved_by<M: MarkReads, T: TrailReads>(
+    alloc: Global,
+    old: &Checked,
+    new: &Checked,
+    marks: &mut M,
+    trail: &mut T,
 ) -> Result<Adapted, NoMemory> {
     let nodes = touched(alloc, old.flat(), new.flat())?;
-    let mut reader = Reader { marks };
     adapt(
         alloc,
         old.flat(),
         new.flat(),
         new.rank(),
         &nodes,
-        &mut reader,
+        marks,
         trail,
     )
 }
@@ -146,8 +184,8 @@ fn exchanged_in(alloc: Global, old: &Checked) -> Option<u32> {
 }
 
 fn blocked_at(alloc: Global, old: &Checked, new: &Checked) -> Option<u32> {
-    let mut trail = worked(alloc).ok()?;
-    position(adapted(alloc, old, new, &mut trail)?)
+    let trail = worked(alloc).ok()?;
+    position(adapted(alloc, old, new, &trail)?)
 }
 
 fn position(adapted: Adapted) -> Option<u32> {
@@ -175,8 +213,8 @@ fn inserted_in(alloc: Global, old: &Checked) -> Option<[Option<Option<Mark>>; 2]
 }
 
 fn changes(alloc: Global, old: &Checked, new: &Checked) -> Option<[Option<Option<Mark>>; 2]> {
-    let mut trail = begun(alloc).ok()?;
-    let adapted = adapted(alloc, old, new, &mut trail)?;
+    let trail = begun(alloc).ok()?;
+    let adapted = adapted(alloc, old, new, &trail)?;
     Some([change_of(&adapted, 3), change_of(&adapted, 4)])
 }
 
@@ -199,5 +237,109 @@ const READY: Mark = Mark {
 #[test]
 fn a_node_that_is_inserted_before_a_ready_one(rt: HostRuntime) -> Result<(), Fail> {
     assert!(rt; inserted(rt.alloc()) == Some([Some(None), Some(Some(READY))]));
+    Ok(())
+}
+
+// How many marks and how many entries are read for that.
+fn reads(alloc: Global, old: &Checked, new: &Checked, trail: &Trail) -> Option<[u32; 2]> {
+    let marks = marks_of(alloc, old, trail)?;
+    let mut marks = MarkReader {
+        marks: &marks,
+        reads: 0,
+    };
+    let mut trail = TrailReader { trail, reads: 0 };
+    let _ = moved_by(alloc, old, new, &mut marks, &mut trail).ok()?;
+    Some([marks.reads, trail.reads])
+}
+
+fn reads_of_inserted(alloc: Global) -> Option<[u32; 2]> {
+    let old = sound(alloc, row_of(alloc, &[2, 3]))?;
+    let new = sound(alloc, row_of(alloc, &[2, 4, 3]))?;
+    let trail = begun(alloc).ok()?;
+    reads(alloc, &old, &new, &trail)
+}
+
+// The schemas differ in 2, 4 and 3, from which the finish 1 is reached: a mark for each of these four and one for the edge from
+// the start into 2, and an entry for each of the three.
+#[test]
+fn no_more_is_read_than_is_touched(rt: HostRuntime) -> Result<(), Fail> {
+    let [marks, entries] = reads_of_inserted(rt.alloc()).ok_or("reads")?;
+    assert!(rt; 0 < marks && marks <= 5);
+    assert!(rt; 0 < entries && entries <= 3);
+    Ok(())
+}
+
+// The same over readers of which each read is a step: the steps are no more than the bounds.
+fn within<L: Ledger, K: Ledger>(
+    alloc: Global,
+    old: &Flat,
+    new: &Flat,
+    rank: &Rank,
+    touched: &Nodes,
+    marks: &mut CountedMarks<'_, L>,
+    trail: &mut CountedTrail<'_, K>,
+) -> Result<Adapted, NoMemory>
+    requires net { IsNet new.now rank.now }
+    requires no_marks { marks.old.steps.now ≡ 0 }
+    requires no_entries { trail.old.steps.now ≡ 0 }
+    ensures marks { marks.new.steps.now ≤ marks_to_read new.now rank.now touched.now }
+    ensures entries { trail.new.steps.now ≤ length touched.now }
+{
+    adapt(alloc, old, new, rank, touched, marks, trail)
+}
+
+fn counted<L: Ledger, K: Ledger>(
+    alloc: Global,
+    old: &Checked,
+    new: &Checked,
+    trail: &Trail,
+    marks_blank: Blank,
+    trail_blank: Blank,
+) -> Option<Adapted>
+    requires marks_name { marks_blank.name ≡ L.name }
+    requires marks_parts { marks_blank.parts ≡ L.parts }
+    requires marks_some { 0 < marks_blank.parts }
+    requires trail_name { trail_blank.name ≡ K.name }
+    requires trail_parts { trail_blank.parts ≡ K.parts }
+    requires trail_some { 0 < trail_blank.parts }
+{
+    let mut marks_steps = Steps::<L>::open(marks_blank);
+    let mut trail_steps = Steps::<K>::open(trail_blank);
+    let nodes = touched(alloc, old.flat(), new.flat()).ok()?;
+    let kept = marks_of(alloc, old, trail)?;
+    let mut marks = CountedMarks {
+        marks: &kept,
+        steps: &mut marks_steps,
+    };
+    let mut trail = CountedTrail {
+        trail,
+        steps: &mut trail_steps,
+    };
+    within(
+        alloc,
+        old.flat(),
+        new.flat(),
+        new.rank(),
+        &nodes,
+        &mut marks,
+        &mut trail,
+    )
+    .ok()
+}
+
+fn counted_in(alloc: Global, old: &Checked, new: &Checked) -> Option<Adapted> {
+    let trail = worked(alloc).ok()?;
+    counted::<Brand, Brand>(alloc, old, new, &trail, Blank::new(1), Blank::new(1))
+}
+
+fn counted_position(alloc: Global) -> Option<u32> {
+    let old = sound(alloc, chosen(alloc, 5, 7))?;
+    let new = sound(alloc, chosen(alloc, 7, 5))?;
+    position(counted_in(alloc, &old, &new)?)
+}
+
+#[test]
+fn counted_readers_give_the_same(rt: HostRuntime) -> Result<(), Fail> {
+    assert!(rt; counted_position(rt.alloc()) == Some(5));
     Ok(())
 }

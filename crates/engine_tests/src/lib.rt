@@ -1,9 +1,14 @@
-//! Tests of trails, replays, marks on another schema, what an end writes and kept work items: what no clause says of them. No test holds a schema or a
-//! trail, which makes its proof dear: functions without a clause do, and answer what is compared.
+//! Tests of trails, replays, marks on another schema, what an end writes, kept work items, schemas and changes that are refused, and
+//! cases: what no clause says of them. No test holds a schema or a trail, which makes its proof dear: functions without a clause do,
+//! and answer what is compared.
 #![tactic(auto)]
 
 #[cfg(test)]
 mod adapting;
+#[cfg(test)]
+mod cases;
+#[cfg(test)]
+mod refusals;
 #[cfg(test)]
 mod replays;
 #[cfg(test)]

@@ -87,6 +87,45 @@ fn a_start_and_then_an_end(rt: HostRuntime) -> Result<(), Fail> {
     Ok(())
 }
 
+// Where the trail fails.
+fn failure_of(alloc: Global, checked: &Checked, trail: &Trail) -> Result<Option<u32>, NoMemory> {
+    match timed(alloc, checked.flat(), checked.rank(), trail)? {
+        TimedMarks::Whole(_) => Ok(None),
+        TimedMarks::Fails { position } => Ok(Some(position)),
+    }
+}
+
+// Node 2 was started and ended, and then 3 was started.
+fn behind_the_first(alloc: Global) -> Result<Trail, NoMemory> {
+    let mut trail = ended(alloc)?;
+    trail.reserve(1)?;
+    if trail.next() == 3 {
+        trail.push(Entry::Start {
+            node: 3,
+            user: 7,
+            reads: ReadValues::new(alloc),
+        });
+    }
+    Ok(trail)
+}
+
+fn failure_in(alloc: Global, checked: &Checked) -> Result<Option<u32>, NoMemory> {
+    failure_of(alloc, checked, &behind_the_first(alloc)?)
+}
+
+// Where that fails in a row of these nodes.
+fn failure(alloc: Global, nodes: &[u32]) -> Option<Option<u32>> {
+    let checked = check(alloc, row_of(alloc, nodes).ok()?).ok()?;
+    failure_in(alloc, &checked).ok()
+}
+
+#[test]
+fn a_node_before_one_that_was_started(rt: HostRuntime) -> Result<(), Fail> {
+    assert!(rt; failure(rt.alloc(), &[2, 3]) == Some(None));
+    assert!(rt; failure(rt.alloc(), &[2, 4, 3]) == Some(Some(3)));
+    Ok(())
+}
+
 // The mark of a node, where the trail replays whole.
 fn mark_behind(
     alloc: Global,
