@@ -57,8 +57,11 @@ def spelled(form, count):
         made = tokens[:-1] + place.split() if place else list(tokens)
         if made[-1].endswith(".."):
             kind = made.pop()[:-2]
-            made += [kind] * max(1 if kind == "ROLE" else 0, count - len(made))
-        yield made
+            least, most = 1 if kind == "ROLE" else 0, count - len(made)
+            # So many as there are words, and one less, where a word may be too many.
+            yield from (made + [kind] * max(least, times) for times in (most, most - 1))
+        else:
+            yield made
 
 
 def differ(word, token):
@@ -66,7 +69,8 @@ def differ(word, token):
     if is_kind(token):
         if re.match(LOOKS.get(token, r"[A-Za-z_][\w.-]*$"), word, re.A):
             return 0.1 if word in KEYWORDS else 0
-        return 0.8
+        # A value that was written with blanks is several words.
+        return 0.6 if token == "PAIR" else 0.8
     if word == token:
         return 0
     return 0.6 if word.lower() == token or difflib.SequenceMatcher(None, word, token).ratio() >= 0.6 else 1
@@ -83,16 +87,22 @@ def aligned(words, tokens):
         if i:
             cost, steps = best[i - 1, j]
             ways.append((cost + (1.2 if words[i - 1] in KEYWORDS else 1.1), steps + [(i - 1, None)]))
+        if j:
+            cost, steps = best[i, j - 1]
+            ways.append((cost + 1, steps + [(None, tokens[j - 1])]))
         if i and j:
             cost, steps = best[i - 1, j - 1]
             weight = 1.6 if j - 1 == first else 1
             ways.append((cost + weight * differ(words[i - 1], tokens[j - 1]), steps + [(i - 1, tokens[j - 1])]))
-        if j:
-            cost, steps = best[i, j - 1]
-            ways.append((cost + 1, steps + [(None, tokens[j - 1])]))
         if ways:
             best[i, j] = min(ways, key=lambda way: way[0])
     return best[len(words), len(tokens)]
+
+
+def oddness(words, steps):
+    """In a line that has no right form: how odd it is that words of the format would be names, less for those in their place."""
+    there = [(words[place], token) for place, token in steps if place is not None and token is not None]
+    return 0.95 * sum(is_kind(token) and word in KEYWORDS for word, token in there) - 0.25 * sum(word == token for word, token in there)
 
 
 def nearest(words, place, most=4):
@@ -103,7 +113,7 @@ def nearest(words, place, most=4):
             # Of a long line the beginning is aligned; the words behind it are taken as they come.
             cost, steps = aligned(words[:LONG], tokens[:LONG])
             behind = [(at, tokens[at] if at < len(tokens) else None) for at in range(LONG, len(words))]
-            found.append((cost, form, steps + behind))
+            found.append((cost + oddness(words, steps) if cost >= 0.5 else cost, form, steps + behind))
     return sorted(found, key=lambda one: one[0])[:most]
 
 
