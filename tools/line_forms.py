@@ -105,16 +105,24 @@ def oddness(words, steps):
     return 0.95 * sum(is_kind(token) and word in KEYWORDS for word, token in there) - 0.25 * sum(word == token for word, token in there)
 
 
-def nearest(words, place, most=4):
-    """The forms at a place that differ least from the words, each with the difference, its text and the steps."""
-    found = []
+def compared(words, place):
+    """The forms at a place, each with its difference from the words and the steps."""
     for form in FORMS[place]:
         for tokens in spelled(form, len(words)):
             # Of a long line the beginning is aligned; the words behind it are taken as they come.
             cost, steps = aligned(words[:LONG], tokens[:LONG])
-            behind = [(at, tokens[at] if at < len(tokens) else None) for at in range(LONG, len(words))]
-            found.append((cost + oddness(words, steps) if cost >= 0.5 else cost, form, steps + behind))
+            yield cost, form, steps + [(at, tokens[at] if at < len(tokens) else None) for at in range(LONG, len(words))]
+
+
+def nearest(words, place, most=4):
+    """The forms at a place that a line without a right form was meant to have, the likeliest first, each with its steps."""
+    found = [(cost + oddness(words, steps), form, steps) for cost, form, steps in compared(words, place)]
     return sorted(found, key=lambda one: one[0])[:most]
+
+
+def difference(words, place):
+    """The least difference from the forms at a place; below 0.5 the line has one."""
+    return min(cost for cost, _, _ in compared(words, place))
 
 
 def kind_of(token, word):
@@ -127,12 +135,12 @@ def kind_of(token, word):
 
 def has_form(words, place):
     """Whether the words look like a line of that place."""
-    return bool(words) and nearest(words, place, 1)[0][0] < 0.5
+    return bool(words) and difference(words, place) < 0.5
 
 
 def belongs(words, place, here):
     """Whether a line that stands at one place looks like one of another: by its form, or by its first word alone."""
-    begins = not beginning(words[0], here) and beginning(words[0], place) and nearest(words, here, 1)[0][0] >= 1
+    begins = not beginning(words[0], here) and beginning(words[0], place) and difference(words, here) >= 1
     return has_form(words, place) or bool(begins)
 
 
