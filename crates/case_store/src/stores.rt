@@ -222,6 +222,7 @@ fn frame(
     requires shallow { is_shallow event.now ≡ true }
     requires plain { HasNoVersion event.now }
     requires gate { gate < 2 ^ 30 }
+    requires limit { limit ≤ 2 ^ 30 }
     ensures framed { IfOk result (λ framed. IsPayloadOf framed caller event.now × (gate + (6 + length framed) ≤ limit)) }
     ensures fits { OnOk result (Passes limit gate caller event.now → ⊥) }
     ensures full { IsErrOf result StoreFault.Full → Passes limit gate caller event.now }

@@ -17,6 +17,7 @@ use store_form::{Recorded, has_short_lists, payload};
 fn frame(alloc: Global, call: &Recorded, gate: u64, limit: u64) -> Result<Framed, KeepFault>
     requires payable { IsPayable call.now }
     requires gate { gate < 2 ^ 30 }
+    requires limit { limit ≤ 2 ^ 30 }
     ensures framed { IfOk result (λ framed. (payload_of call.now ≡ framed) × (gate + (6 + length framed) ≤ limit)) }
     ensures fits { OnOk result (Passes limit gate call.now → ⊥) }
     ensures full { IsErrOf result KeepFault.Full → Passes limit gate call.now }
