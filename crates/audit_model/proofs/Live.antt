@@ -1,5 +1,5 @@
 -- The reader of a report goes on wherever it stands.
-use Rattle.std.proofs.Common.{◌≡◌, ℕ, ◌+◌, Bool, true, false, List, [], ◌∷◌, ◌++◌, filter, length, map, Option, Some, slice_get, refl, ap, if◌then◌else◌}
+use Rattle.std.proofs.Common.{◌≡◌, ℕ, ◌+◌, Bool, true, false, List, [], ◌∷◌, ◌++◌, filter, length, map, Option, Some, slice_get, refl, ap, if◌then◌else◌, sym, subst}
 use Rattle.std.specs.Prelude.{codes, option_map}
 use Rattle.case_core.specs.CaseModel.{CaseModel, not_created}
 use Rattle.case_core.specs.Machine.{case_after, case_reply}
