@@ -1,5 +1,5 @@
 // How a crew works.
-ghost use Rattle.std.specs.Prelude.{◌≡◌, ◌<◌, length, is_some, true, false, IfErr, OnErr, OnOk, slice_index_or};
+ghost use Rattle.std.specs.Prelude.{◌≡◌, ◌<◌, length, is_some, true, false, IfErr, OnErr, OnOk, slice_index_or, ◌≤◌, ◌/◌};
 ghost use Rattle.std.specs.List.{list_any};
 ghost use Rattle.std.specs.Thread.{IsSync};
 ghost use Rattle.adept_server.specs.Desks.{desk_view};
