@@ -1,5 +1,5 @@
 -- How a command ends follows from how its file was got and how that was worked.
-use Rattle.std.proofs.Common.{◌≡◌, ℕ, ◌≤◌, ◌⊎◌, inl, inr, List, length, Option, Some, None, Ok, IsTrue, IfSome, IfNone, sym, ◌∙◌, refl, arith}
+use Rattle.std.proofs.Common.{◌≡◌, ℕ, ◌≤◌, ◌⊎◌, inl, inr, List, length, Option, Some, None, Ok, IsTrue, IfSome, sym, ◌∙◌, refl, arith}
 use Rattle.std.proofs.lemmas.Bool.{le-ltb}
 use Rattle.adept_top.specs.Commands.{load_size, input}
 use Rattle.adept_top.specs.Endings.{OfFile, IsInputOf, EndsUnworked, Ends}

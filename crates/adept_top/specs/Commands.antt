@@ -1,5 +1,5 @@
 -- The commands: their words, the run that each leaves of a file, and what it writes.
-use Rattle.std.specs.Prelude.{ℕ, ◌≡◌, ◌≤◌, Bool, ◌&&◌, nat_lt, nat_le, List, [], ◌∷◌, Option, Some, None, option_map, if◌then◌else◌, codes, bytes_eq}
+use Rattle.std.specs.Prelude.{ℕ, ◌≡◌, Bool, ◌&&◌, nat_lt, nat_le, List, [], ◌∷◌, Option, Some, None, option_map, if◌then◌else◌, codes, bytes_eq}
 use Rattle.adept_load.specs.Load.{load_text}
 use Rattle.adept_top.specs.declared.words.Command.{Command}
 use Rattle.adept_top.specs.declared.words.Command.TheVariants as command
