@@ -8,22 +8,9 @@ import itertools
 import os
 import subprocess
 import tempfile
+from keeps import SEQUENCE as FILE
 
 SECONDS = 300
-FILE = b"""adept 1
-type t
-act A
-act B
-end
-actor ann
-case c t
-phase
-ann create c
-ann start c A
-ann end c A
-ann start c B
-ann end c B
-"""
 REPORT = b"""adept report 1
 type t
 1 - define -> defined
