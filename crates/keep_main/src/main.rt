@@ -10,7 +10,6 @@ use file_model::Refused;
 use standard_streams::hold_streams;
 use std::process::ExitCode;
 use std::{io, str};
-use store_disk::FileDisk;
 use store_keep::KeepFault;
 use store_path::{Store, open, word};
 
@@ -36,16 +35,10 @@ fn work(rt: &HostRuntime, store: &mut Store) -> Result<(), Unkept> {
     let mut disk = open(rt, store)?;
     match keep_file(rt.alloc(), &file, &mut StdSink::new(rt.stdout()), &mut disk) {
         Ok(()) => Ok(()),
-        Err(fault) => Err(unkept(fault, &disk, store)),
-    }
-}
-
-// Why the calls were not kept. A disk that finds no memory for what it is to hold fails too.
-fn unkept(fault: KeepFault, disk: &FileDisk, store: &mut Store) -> Unkept {
-    store.reason = disk.reason();
-    match fault {
-        KeepFault::Disk if disk.lacks_memory() => Unkept::NoMemory,
-        fault => Unkept::from(fault),
+        Err(fault) => {
+            store.reason = disk.reason();
+            Err(Unkept::from(fault))
+        }
     }
 }
 

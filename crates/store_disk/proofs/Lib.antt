@@ -3,7 +3,7 @@ mod ExamplesDisks
 mod ExamplesImages
 pub mod Framing
 mod Gates
-mod Groups
+pub mod Groups
 mod Histories
 pub mod Moments
 mod Noted

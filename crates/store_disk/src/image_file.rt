@@ -3,6 +3,7 @@ ghost use Rattle.std.specs.Prelude.{◌≤◌, ◌↔◌, ◌≡◌, IsTrue, len
 
 use crate::file::OpenFault;
 use crate::frames::{Frame, frame_in};
+use crate::group::MAX_GROUP;
 use crate::opening::MAX_IMAGE;
 use adept_io::Failed;
 use std::alloc::Global;
@@ -81,27 +82,31 @@ fn image_len(file: &File) -> Result<u64, OpenFault> {
     Ok(len.saturating_sub(MARK_LEN))
 }
 
-// The place of the last gate that is open and has its record; 0 where there is none.
-fn last_gate(image: &[u8]) -> usize {
-    let mut last = 0;
-    let mut rest = image;
-    for _ in 0..image.len() {
+// The records at the front of bytes, up to a gate that stands no further behind than that.
+fn records(bytes: &[u8], limit: usize) -> &[u8]
+    ensures { length result.now ≤ length bytes.now }
+{
+    let mut rest = bytes;
+    for _ in 0..bytes.len() {
         let Frame::Record(len) = frame_in(rest) else {
             break;
         };
-        last = image.len().saturating_sub(rest.len());
-        rest = &rest[5 + len..];
+        let behind = &rest[5 + len..];
+        if bytes.len().saturating_sub(behind.len()) > limit {
+            break;
+        }
+        rest = behind;
     }
-    last
+    &bytes[..bytes.len().saturating_sub(rest.len())]
 }
 
-// Writes the mark, or the rest of it, and the last open gate over themselves, and syncs them. An earlier run may have ended
-// at a sync that failed: then reads may give what it wrote last, and the medium may lack it.
+// Writes the mark, or the rest of it, and the records of the last group over themselves, and syncs them. An earlier run may
+// have ended at a sync that failed: then reads may give what it wrote last, and the medium may lack it. Where the last
+// group begins is not told, but the records behind its first have at most so many bytes.
 fn write_again(file: &File, image: &[u8]) -> io::Result<()> {
-    let gate = last_gate(image);
-    if gate < image.len() {
-        file.write_all_at(&image[gate..gate + 1], MARK_LEN.saturating_add(gate as u64))?;
-    }
+    let all = records(image, image.len());
+    let from = records(all, all.len().saturating_sub(MAX_GROUP as usize)).len();
+    file.write_all_at(&all[from..], MARK_LEN.saturating_add(from as u64))?;
     put_mark(file)
 }
 

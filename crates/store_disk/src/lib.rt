@@ -22,7 +22,7 @@ pub use disks::Disk;
 pub use file::{FileDisk, OpenFault};
 pub use framed::Framed;
 pub use frames::{Frame, frame_in};
-pub use group::Group;
+pub use group::{Group, MAX_GROUP};
 pub use image_file::put_mark;
 pub use memory::MemoryDisk;
 pub use opening::{MAX_IMAGE, open_image, settle};

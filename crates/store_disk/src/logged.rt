@@ -1,35 +1,32 @@
-// Bytes in memory whose history is there for proofs alone: it takes no memory.
-ghost use Rattle.std.specs.Prelude.{◌≡◌, ◌+◌, ◌≤◌, [], ◌∷◌, length, OnOk};
-ghost use Rattle.store_disk.specs.History.{content, wrote, synced};
-ghost use Rattle.store_disk.specs.Entries.{LoggedHistory};
+// The bytes of a file with their history, which is there for proofs alone: it takes no memory.
+ghost use Rattle.std.specs.Prelude.{◌≡◌, [], ◌∷◌, map};
+ghost use Rattle.store_disk.specs.History.{wrote, synced};
+ghost use Rattle.store_disk.specs.Entries.{IsHeld};
 
-use crate::history::{Note, overwrite};
-use adept_io::NoMemory;
+use crate::history::Note;
 use http_server::Log;
 use std::marker::Model;
 
-// Bytes, with what they were behind each change.
+// Bytes that are held until something is written over them, and what was done to them.
 #[derive(Drop)]
 pub(crate) struct LoggedBytes {
-    bytes: Vec<u8>,
+    bytes: Option<Vec<u8>>,
     began: Log<Vec<u8>, Note>,
-    changes: Log<Vec<u8>, Note>,
+    changes: Log<Log<u8, ()>, Note>,
 }
 
 impl Model for LoggedBytes {
-    ghost use Rattle.std.specs.Prelude.{◌≡◌, ◌-◌, vec_len, vec_capacity};
-    ghost use Rattle.store_disk.specs.History.{content};
-    ghost use Rattle.store_disk.specs.Entries.{LoggedHistory, first_of, past_of};
+    ghost use Rattle.std.specs.Prelude.{map};
+    ghost use Rattle.store_disk.specs.Entries.{IsHeld, LoggedHistory, first_of, past_of};
 
     ghost Value = { LoggedHistory };
 
     ghost view = { λ a. record {
       first = first_of (λ v. v.items) a.began.items;
-      past = past_of (λ v. v.items) a.changes.items;
-      room = vec_capacity a.bytes - vec_len a.bytes;
+      past = past_of (λ v. map (λ e. e.0) v.items) a.changes.items;
     } };
 
-    ghost invariant = { λ a. a.bytes.items ≡ content (first_of (λ v. v.items) a.began.items) (past_of (λ v. v.items) a.changes.items) };
+    ghost invariant = { λ a. IsHeld (λ v. v.items) a.bytes (first_of (λ v. v.items) a.began.items) (past_of (λ v. map (λ e. e.0) v.items) a.changes.items) };
 }
 
 impl LoggedBytes {
@@ -41,42 +38,46 @@ impl LoggedBytes {
         LoggedBytes {
             began: Log::new().and(&bytes, &Note::Synced),
             changes: Log::new(),
-            bytes,
+            bytes: Some(bytes),
         }
     }
 
-    // Makes room for so many bytes more.
-    pub(crate) fn reserve(&mut self, bytes: usize) -> Result<(), NoMemory>
-        ensures first { self.new.first ≡ self.old.first }
-        ensures past { self.new.past ≡ self.old.past }
-        ensures room { OnOk result (bytes ≤ self.new.room) }
+    // The bytes, where nothing was written yet.
+    pub(crate) fn as_slice(&self) -> Option<&[u8]>
+        ensures { IsHeld (λ bytes. bytes.now) result self.now.first self.now.past }
     {
-        self.bytes.try_reserve(bytes)
+        match &self.bytes {
+            Some(bytes) => Some(bytes.as_slice()),
+            None => None,
+        }
     }
 
-    pub(crate) fn as_slice(&self) -> &[u8]
-        ensures { result.now ≡ content self.now.first self.now.past }
-    {
-        &self.bytes
-    }
-
-    // Writes over what is there, and past the end. Takes no memory.
+    // Lets go of the bytes, which others are written over.
     pub(crate) fn write(&mut self, at: u64, bytes: &[u8])
-        requires within { at ≤ length (content self.old.first self.old.past) }
-        requires room { length bytes.now ≤ self.old.room }
         ensures first { self.new.first ≡ self.old.first }
         ensures past { self.new.past ≡ wrote at bytes.now ∷ self.old.past }
     {
-        overwrite(&mut self.bytes, at as usize, bytes);
+        self.bytes = None;
         let len = bytes.len();
-        self.changes = self.changes.and(&self.bytes, &Note::Wrote { at, len });
+        self.changes = self.changes.and(&noted(bytes), &Note::Wrote { at, len });
     }
 
-    // Notes a sync. Takes no memory.
+    // Notes a sync.
     pub(crate) fn sync(&mut self)
         ensures first { self.new.first ≡ self.old.first }
         ensures past { self.new.past ≡ synced ∷ self.old.past }
     {
-        self.changes = self.changes.and(&self.bytes, &Note::Synced);
+        self.changes = self.changes.and(&Log::new(), &Note::Synced);
     }
+}
+
+// The bytes as proofs see them. It does nothing.
+fn noted(bytes: &[u8]) -> Log<u8, ()>
+    ensures { map (λ e. e.0) result.items ≡ bytes.now }
+{
+    let mut noted = Log::new();
+    for byte in bytes {
+        noted = noted.and(byte, &());
+    }
+    noted
 }
