@@ -52,7 +52,7 @@ each-full after reply e [] [] (w ∷ ws) k is = absurd k
 each-full after reply e [] (a ∷ answers) ws k is = absurd k
 each-full after reply e (v ∷ vs) [] ws k is = absurd k
 each-full after reply e (v ∷ vs) (a ∷ answers) [] k is = absurd k
-each-full after reply e (v ∷ vs) (Ok r ∷ answers) (w ∷ ws) k is = let r = each-full after reply e vs answers ws k.1 is in (suc r.0, r.1, r.2, r.3)
+each-full after reply e (v ∷ vs) (Ok r ∷ answers) (w ∷ ws) k is = let r = each-full after reply e vs answers ws k.2 is in (suc r.0, r.1, r.2, r.3)
 each-full after reply e (v ∷ vs) (Err f ∷ answers) (w ∷ ws) k is = (zero, w, refl, k.0.full (ap Err (cc (is))))
 
 cases-full : (e : Event) (t : ℕ) (answers : List (Result Reply CallFault)) (v w : DeskView) → CallsCases e t answers v w → first_fault answers ≡ Some fault.Full → SeesFull w

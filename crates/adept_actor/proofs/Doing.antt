@@ -79,7 +79,7 @@ module _ {M E R W S : Type 0} (after : S → E → S) (reply : S → E → R) (e
       let is_p : v ≡ p = cc (there) in
       let is_q : w ≡ q = cc (there_then) in
       answered-done p q a n (numbered zero p there) (subst (λ x. IsAnswered after reply e p a x) is_q (subst (λ x. IsAnswered after reply e x a w) is_p k.0))
-  each-done (v ∷ vs) (a ∷ answers) (w ∷ ws) n numbered k (suc j) p q there there_then = each-done vs answers ws n (λ i x at. numbered (suc i) x at) k.1 j p q there there_then
+  each-done (v ∷ vs) (a ∷ answers) (w ∷ ws) n numbered k (suc j) p q there there_then = each-done vs answers ws n (λ i x at. numbered (suc i) x at) k.2 j p q there there_then
 
   pub each-length : (vs : List (PassView M E R W S)) (answers : List (Result R CallFault)) (ws : List (PassView M E R W S)) → CallEach after reply e vs answers ws → (length ws ≡ length vs) × (length answers ≡ length vs)
   each-length [] [] [] k = (refl, refl)
@@ -87,4 +87,4 @@ module _ {M E R W S : Type 0} (after : S → E → S) (reply : S → E → R) (e
   each-length [] (a ∷ answers) ws k = absurd k
   each-length (v ∷ vs) [] ws k = absurd k
   each-length (v ∷ vs) (a ∷ answers) [] k = absurd k
-  each-length (v ∷ vs) (a ∷ answers) (w ∷ ws) k = let r = each-length vs answers ws k.1 in (ap suc r.0, ap suc r.1)
+  each-length (v ∷ vs) (a ∷ answers) (w ∷ ws) k = let r = each-length vs answers ws k.2 in (ap suc r.0, ap suc r.1)

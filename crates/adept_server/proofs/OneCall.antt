@@ -58,7 +58,7 @@ module _ {M E R W S : Type 0} (after : S → E → S) (reply : S → E → R) (e
   each_behind (p ∷ ps) [] qs k j q is = absurd k
   each_behind (p ∷ ps) (a ∷ answers) [] k j q is = absurd k
   each_behind (p ∷ ps) (a ∷ answers) (r ∷ qs) k zero q is = (p, a, refl, (let same : r ≡ q = cc (is) in subst (IsAnswered after reply event p a) same k.0))
-  each_behind (p ∷ ps) (a ∷ answers) (r ∷ qs) k (suc j) q is = each_behind ps answers qs k.1 j q is
+  each_behind (p ∷ ps) (a ∷ answers) (r ∷ qs) k (suc j) q is = each_behind ps answers qs k.2 j q is
 
   -- what a batch of calls leaves of its passes
   pub each_called : {g : _} (ps : List (Pass M E R W S g)) (answers : List (Result R CallFault)) (qs : List (Pass M E R W S g)) → AreCalled after reply event ps answers qs → CallEach after reply event (map view_of ps) answers (map view_of qs)
@@ -80,6 +80,7 @@ module _ {M E R W S : Type 0} (after : S → E → S) (reply : S → E → R) (e
       full = k.0.full;
       memory = λ is. inr (k.0.memory is);
     },
+    k.0.memory,
     each_called ps answers qs k.2,
   )
 

@@ -45,4 +45,4 @@ each-even after reply event [] [] (q ∷ qs) k = absurd k
 each-even after reply event [] (a ∷ answers) qs k = absurd k
 each-even after reply event (p ∷ ps) [] qs k = absurd k
 each-even after reply event (p ∷ ps) (a ∷ answers) [] k = absurd k
-each-even after reply event (p ∷ ps) (a ∷ answers) (q ∷ qs) k = ap suc (each-even after reply event ps answers qs k.1)
+each-even after reply event (p ∷ ps) (a ∷ answers) (q ∷ qs) k = ap suc (each-even after reply event ps answers qs k.2)

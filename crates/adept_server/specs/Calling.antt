@@ -45,10 +45,11 @@ module _ {M E R W S : Type 0} (after : S → E → S) (reply : S → E → R) wh
     pub called : IsAnswered event before answer behind
     pub others : ws ≡ slice_set vs index behind
 
-  -- each pass of a list makes one call with that event, with the answer at its place
+  -- Each pass of a list makes one call with that event, with the answer at its place. Each cell was asked, so want of memory is told
+  -- where the journal has room, and nowhere else.
   abbrev pub CallEach : E → List (PassView M E R W S) → List (Result R CallFault) → List (PassView M E R W S) → Type 0
   CallEach event [] [] [] = Unit {0}
-  CallEach event (v ∷ vs) (a ∷ answers) (w ∷ ws) = IsAnswered event v a w × CallEach event vs answers ws
+  CallEach event (v ∷ vs) (a ∷ answers) (w ∷ ws) = IsAnswered event v a w × (a ≡ Err fault.NoMemory → length w.seen < MAX_ENTRIES) × CallEach event vs answers ws
   CallEach event _ _ _ = ⊥
 
 -- a reply after which the desk knows that the type has a version
