@@ -237,10 +237,27 @@ def is_damaged(keep):
 
 def words(keep):
     """One word is wanted, text or not; else nothing is read."""
-    for words in [], [keep.path(), keep.path()], [keep.path(), b"\xff"]:
+    for words in [], [keep.path(), keep.path()], [keep.path(), b"\xff"], [b"\xff", b""]:
         done = subprocess.run([*keep.command, *words], input=SEQUENCE, timeout=SECONDS, stdout=subprocess.PIPE, stderr=subprocess.PIPE)
         wants((done.returncode, done.stdout, done.stderr), (2, b"", b"usage: keep STORE\n"))
     wants(os.path.exists(keep.path()), False)
+
+
+def no_text(keep):
+    """A path that is no UTF-8 opens nothing, behind what befalls the file; a folder of such a name is one like others."""
+    no_path = b"keep: cannot open the store: its path is no UTF-8, or too long\n"
+    for path in b"\xff", os.fsencode(keep.folder) + b"/caf\xe9", b"a" * 4097:
+        wants(keep.run(SEQUENCE, path), (11, b"", no_path))
+        wants(keep.run(SEQUENCE[:-1], path), (1, b"", b"keep: line %d: unended\n" % SEQUENCE.count(b"\n")))
+    os.symlink(b"caf\xe9", keep.path())
+    keep.ends(11, "cannot open the store: " + keep.path())
+    wants(keep.names(), ["store"])
+    folder = os.path.join(os.fsencode(keep.folder), b"caf\xe9")
+    os.mkdir(folder)
+    for _ in range(2):
+        done = subprocess.run([*keep.command, "store"], input=SEQUENCE, timeout=SECONDS, capture_output=True, cwd=folder)
+        wants((done.returncode, done.stdout, done.stderr), keep.done(SEQUENCE))
+        wants(os.listdir(folder), [b"store"])
 
 
 def refused_file(keep):
@@ -482,7 +499,7 @@ def no_report(keep):
     wants(keep.read(), image(payloads_of(STORED[0][1])))
 
 
-CHECKS = [is_stored, goes_on, grows, names_are_not_stored, is_damaged, words, refused_file, no_store, no_report, other_files, beginnings, is_made, links,
+CHECKS = [is_stored, goes_on, grows, names_are_not_stored, is_damaged, words, no_text, refused_file, no_store, no_report, other_files, beginnings, is_made, links,
           is_too_long, is_too_long_a_file, little_memory, older, folder_without_reading]
 # These have strace stop a run, or fail one of its calls.
 TRACED = [stops_while_made, fails_while_made, fails, interrupted, syncs_its_folder]

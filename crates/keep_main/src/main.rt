@@ -11,10 +11,10 @@ use standard_streams::hold_streams;
 use std::process::ExitCode;
 use std::{io, str};
 use store_keep::KeepFault;
-use store_path::{Store, open, word};
+use store_path::{Store, open, path};
 
 fn main(rt: HostRuntime) -> ExitCode {
-    let mut store = Store::unnamed(rt.alloc());
+    let mut store = Store::default();
     match work(&rt, &mut store) {
         Ok(()) => ExitCode::SUCCESS,
         Err(why) => {
@@ -30,7 +30,7 @@ fn work(rt: &HostRuntime, store: &mut Store) -> Result<(), Unkept> {
     if hold_streams(rt).is_err() {
         return Err(Unkept::Unread);
     }
-    store.path = word(rt)?;
+    store.path = path(rt)?;
     let file = read_process(rt.alloc(), &mut StdSource::new(rt.stdin()))?;
     let mut disk = open(rt, store)?;
     match keep_file(rt.alloc(), &file, &mut StdSink::new(rt.stdout()), &mut disk) {

@@ -4,31 +4,28 @@ ghost use Rattle.store_disk.specs.Disk.{Only};
 ghost use Rattle.store_disk.specs.History.{content, MayLeave};
 
 use case_keep::Unkept;
-use std::alloc::Global;
-use std::env;
-use std::io::{self, ErrorKind};
+use std::env::{Env, FillError};
+use std::{io, str};
 use store_disk::{FileDisk, OpenFault};
 use store_file::open_disk;
 
-/// The path of the store, and the system's number for why it failed, where it did and there is one.
-#[derive(Drop)]
+// The system opens no path that is longer.
+const LONGEST_PATH: usize = 4096;
+
+/// The path of the store, unless no file can be opened by it, and the system's number for why it failed, where it did and
+/// there is one.
+#[derive(Default, Drop)]
 pub struct Store {
-    pub path: String,
+    pub path: Option<String>,
     pub reason: Option<i32>,
 }
 
 impl Store {
-    /// A store before its path is known.
-    pub fn unnamed(alloc: Global) -> Store {
-        Store {
-            path: String::new(alloc),
-            reason: None,
-        }
-    }
-
     /// Says on standard error what befell the store, with its path, and why where the system said so.
     pub fn tell(&self, rt: &HostRuntime, what: &str) -> io::Result<()> {
-        let path = self.path.as_str();
+        let Some(path) = &self.path else {
+            return eprintln!(rt; "keep: {what}: its path is no UTF-8, or too long");
+        };
         match self.reason {
             None => eprintln!(rt; "keep: {what}: {path}"),
             Some(number) => {
@@ -39,30 +36,31 @@ impl Store {
     }
 }
 
-/// The one word behind the program's name.
-pub fn word(rt: &HostRuntime) -> Result<String, Unkept> {
-    match words(rt) {
-        Ok(mut words) if words.len() == 1 => words.pop().ok_or(Unkept::Words),
-        Ok(_) => Err(Unkept::Words),
-        Err(error) if error.kind() == ErrorKind::OutOfMemory => Err(Unkept::NoMemory),
-        Err(_) => Err(Unkept::Words),
+/// The path that is the one word behind the program's name, or none where it is too long or no UTF-8.
+pub fn path(rt: &HostRuntime) -> Result<Option<String>, Unkept> {
+    let mut word = [0; LONGEST_PATH];
+    let length = match (rt.arg(1, &mut word), rt.arg(2, &mut [])) {
+        (Ok(length), Err(FillError::NotPresent)) => length,
+        (Err(FillError::TooLong), Err(FillError::NotPresent)) => return Ok(None),
+        _ => return Err(Unkept::Words),
+    };
+    let Ok(path) = str::from_utf8(&word[..length]) else {
+        return Ok(None);
+    };
+    match String::from_str(rt.alloc(), path) {
+        Ok(path) => Ok(Some(path)),
+        Err(_) => Err(Unkept::NoMemory),
     }
-}
-
-// The words behind the program's name.
-fn words(rt: &HostRuntime) -> io::Result<Vec<String>> {
-    let mut words = Vec::new(rt.alloc());
-    for word in env::args(rt)?.skip(1) {
-        words.push(word)?;
-    }
-    Ok(words)
 }
 
 /// The disk over the store's file.
 pub fn open(rt: &HostRuntime, store: &mut Store) -> Result<FileDisk, Unkept>
     ensures { IfOk result (λ disk. Only (content disk.first disk.past) (MayLeave disk.first disk.past)) }
 {
-    match open_disk(rt, store.path.as_str()) {
+    let Some(path) = &store.path else {
+        return Err(Unkept::NoStore);
+    };
+    match open_disk(rt, path.as_str()) {
         Ok(disk) => Ok(disk),
         Err(fault) => {
             if let OpenFault::Failed(reason) = fault {

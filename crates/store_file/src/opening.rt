@@ -4,8 +4,8 @@ ghost use Rattle.store_disk.specs.Disk.{IsSettled};
 ghost use Rattle.store_disk.specs.History.{content, MayLeave};
 
 use crate::making::{make, there};
-use crate::paths::folder_of;
-use std::fs::{self, File};
+use crate::paths::{end_of_links, folder_of};
+use std::fs::File;
 use std::io::{self, ErrorKind};
 use store_disk::{FileDisk, OpenFault};
 
@@ -35,6 +35,6 @@ fn named_file(rt: &HostRuntime, path: &str) -> io::Result<File> {
 
 // Syncs the folder in which the file stands that a path names, behind all links.
 fn sync_folder(rt: &HostRuntime, path: &str) -> io::Result<()> {
-    let found = fs::canonicalize(rt, path)?;
-    File::open(rt, folder_of(found.as_str()))?.sync_all()
+    let name = end_of_links(rt, path)?;
+    File::open(rt, folder_of(name.as_str()))?.sync_all()
 }

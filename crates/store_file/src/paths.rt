@@ -14,14 +14,15 @@ pub(crate) fn folder_of(path: &str) -> &str {
     }
 }
 
-// The name behind all links, which may be the name of no file.
+// The name behind all links, which may be the name of no file. A link that leads to a name which is no UTF-8 is an error.
 pub(crate) fn end_of_links(rt: &HostRuntime, path: &str) -> io::Result<String> {
     let mut name = String::from_str(rt.alloc(), path)?;
     for _ in 0..LINKS {
         match fs::read_link(rt, name.as_str()) {
             Ok(text) => name = linked(rt, name.as_str(), text.as_str())?,
-            Err(error) if error.kind() == ErrorKind::OutOfMemory => return Err(error),
-            Err(_) => break,
+            // (what is no link, or is not there)
+            Err(error) if matches!(error.kind(), ErrorKind::InvalidInput | ErrorKind::NotFound) => break,
+            Err(error) => return Err(error),
         }
     }
     Ok(name)
