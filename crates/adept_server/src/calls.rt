@@ -42,8 +42,8 @@ pub(crate) fn answered_version(reply: KindReply) -> Version
 }
 
 impl Server {
-    // One call of a type, whose answer may tell the desk of a version.
-    fn call_kind<R: Wait, G: Gate>(
+    /// One call of a type: where it answers Defined, Installed or Is, the type is defined for the desk behind it.
+    pub fn call_kind<R: Wait, G: Gate>(
         &self,
         rt: &R,
         alloc: Global,
@@ -77,8 +77,8 @@ impl Server {
         answer
     }
 
-    // One call of a case.
-    fn call_case<R: Wait, G: Gate>(
+    /// One call of a case.
+    pub fn call_case<R: Wait, G: Gate>(
         &self,
         rt: &R,
         alloc: Global,
