@@ -1,0 +1,42 @@
+-- Lines of one byte more.
+use Rattle.std.proofs.Common.{◌≡◌, ◌==◌, ℕ, ◌≤◌, Bool, true, false, if◌then◌else◌, List, [], ◌∷◌, ◌++◌, length, refl, ap, ◌∙◌, arith}
+use Rattle.file_words.specs.Lines.{Bytes, CutLines, lines_of, onto_lines, put_first}
+
+onto-feed : (x : ℕ) (is : Bool) (lines : List Bytes) (left : Bytes)
+    → (if is then record { ended = [] ∷ (lines ++ left ∷ []); left = [] } else put_first x (lines ++ left ∷ []) [])
+    ≡ (let made : CutLines = if is then record { ended = [] ∷ lines; left = left } else put_first x lines left in record { ended = made.ended ++ made.left ∷ []; left = [] })
+onto-feed x true lines left = refl
+onto-feed x false [] left = refl
+onto-feed x false (l ∷ lines) left = refl
+
+-- behind a line feed a line more has ended
+pub lines-feed : (bs : Bytes) → lines_of (bs ++ 10 ∷ []) ≡ record { ended = (lines_of bs).ended ++ (lines_of bs).left ∷ []; left = [] }
+lines-feed [] = refl
+lines-feed (x ∷ bs) = ap (onto_lines x) (lines-feed bs) ∙ onto-feed x (x == 10) (lines_of bs).ended (lines_of bs).left
+
+onto-byte : (x : ℕ) (is : Bool) (lines : List Bytes) (left : Bytes) (b : ℕ)
+    → (if is then record { ended = [] ∷ lines; left = left ++ b ∷ [] } else put_first x lines (left ++ b ∷ []))
+    ≡ (let made : CutLines = if is then record { ended = [] ∷ lines; left = left } else put_first x lines left in record { ended = made.ended; left = made.left ++ b ∷ [] })
+onto-byte x true lines left b = refl
+onto-byte x false [] left b = refl
+onto-byte x false (l ∷ lines) left b = refl
+
+first-byte : (b : ℕ) (is : Bool) → is ≡ false → (if is then record { ended = [] ∷ []; left = [] } else put_first b [] []) ≡ record { ended = []; left = b ∷ [] }
+first-byte b true is = absurd cc
+first-byte b false is = refl
+
+-- behind another byte the last line has one more
+pub lines-byte : (bs : Bytes) (b : ℕ) → (b == 10) ≡ false → lines_of (bs ++ b ∷ []) ≡ record { ended = (lines_of bs).ended; left = (lines_of bs).left ++ b ∷ [] }
+lines-byte [] b other = first-byte b (b == 10) other
+lines-byte (x ∷ bs) b other = ap (onto_lines x) (lines-byte bs b other) ∙ onto-byte x (x == 10) (lines_of bs).ended (lines_of bs).left b
+
+-- a line has no more lines than bytes
+pub lines-few : (bs : Bytes) → length (lines_of bs).ended ≤ length bs
+lines-few [] = omega arith
+lines-few (b ∷ bs) = chosen (b == 10) (lines_of bs).ended (lines_of bs).left (lines-few bs)
+  where
+    chosen : (is : Bool) (lines : List Bytes) (left : Bytes) → length lines ≤ length bs
+        → length (let made : CutLines = if is then record { ended = [] ∷ lines; left = left } else put_first b lines left in made.ended) ≤ length (b ∷ bs)
+    chosen true lines left few = omega (arith, few)
+    chosen false [] left few = omega arith
+    chosen false (l ∷ lines) left few = omega (arith, few)

@@ -1,0 +1,36 @@
+-- A line as it is cut into words, byte by byte.
+use Rattle.std.specs.Prelude.{ℕ, List, [], ◌∷◌, ◌++◌, filter, if◌then◌else◌}
+use Rattle.file_words.specs.Lines.{Bytes}
+use Rattle.file_words.specs.Words.{behind, cuts, is_word}
+use Rattle.file_words.specs.declared.words.Quote.{Quote}
+use Rattle.file_words.specs.declared.words.Quote.TheVariants as quotes
+use Rattle.talk_items.specs.declared.words.Stand.{Stand}
+use Rattle.talk_items.specs.declared.words.Stand.TheVariants as stands
+
+abbrev pub quoted : Stand → Quote
+quoted stands.Outside = quotes.Outside
+quoted stands.Inside = quotes.Inside
+quoted stands.Escaped = quotes.Escaped
+
+-- the words that have ended, what the one that goes on has, and where the next byte stands
+pub record Cut : Type 0 where
+  pub words : List Bytes
+  pub word : Bytes
+  pub quote : Quote
+
+-- the words with the one that goes on, where it has a byte
+abbrev pub with_last : Cut → List Bytes
+with_last c = c.words ++ filter is_word (c.word ∷ [])
+
+abbrev pub cut_more : Cut → ℕ → Cut
+cut_more c b =
+    if cuts c.quote b
+    then record { words = with_last c; word = []; quote = behind c.quote b }
+    else record { words = c.words; word = c.word ++ b ∷ []; quote = behind c.quote b }
+
+abbrev pub cut_from : Cut → Bytes → Cut
+cut_from c [] = c
+cut_from c (b ∷ bs) = cut_from (cut_more c b) bs
+
+abbrev pub cut : Bytes → Cut
+cut line = cut_from (record { words = []; word = []; quote = quotes.Outside }) line

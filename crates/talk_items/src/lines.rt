@@ -1,0 +1,60 @@
+// A line that is read byte by byte.
+ghost use Rattle.std.specs.Prelude.{◌≡◌, ◌∷◌, ◌++◌, [], take};
+ghost use Rattle.talk_items.specs.Items.{words};
+
+use crate::keywords::Keyword;
+use crate::limits::WORDS;
+use crate::words::Words;
+use arrayvec::ArrayVec;
+use std::marker::Model;
+
+// The bytes of a line so far. A carriage return at its end is no part of its words, unless more bytes come.
+#[derive(Drop)]
+pub(crate) struct Line {
+    words: Words,
+    returned: bool,
+}
+
+impl Model for Line {
+    ghost use Rattle.std.specs.Prelude.{◌≡◌, ◌∷◌, ◌++◌, [], ℕ, List, false, if◌then◌else◌};
+    ghost use Rattle.file_words.specs.Lines.{without_return};
+
+    ghost Value = { List ℕ };
+
+    ghost view = { λ a. if a.returned then a.words ++ 13 ∷ [] else a.words };
+
+    ghost invariant = { λ a. a.returned ≡ false → without_return a.words ≡ a.words };
+}
+
+impl Line {
+    // A line without bytes.
+    pub(crate) fn new() -> Line
+        ensures { result ≡ [] }
+    {
+        Line {
+            words: Words::new(),
+            returned: false,
+        }
+    }
+
+    // One byte more.
+    pub(crate) fn push(&mut self, byte: u8)
+        ensures { self.new ≡ self.old ++ byte ∷ [] }
+    {
+        if self.returned {
+            self.words.push(b'\r');
+        }
+        self.returned = byte == b'\r';
+        if !self.returned {
+            self.words.push(byte);
+        }
+    }
+
+    // What the first words of the line are.
+    pub(crate) fn into_first(self) -> ArrayVec<Keyword, WORDS>
+        ensures { result.items ≡ take 4 (words self) }
+    {
+        let Line { words, returned: _ } = self;
+        words.into_first()
+    }
+}

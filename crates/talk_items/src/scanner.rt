@@ -1,0 +1,127 @@
+// Where an item ends that is read byte by byte.
+ghost use Rattle.std.specs.Prelude.{◌≡◌, ◌<◌, ◌≤◌, ◌∷◌, ◌++◌, ◌↔◌, [], length, take, IsTrue};
+ghost use Rattle.talk_items.specs.Items.{counted, ends, item_end, kind, taken};
+ghost use Rattle.talk_items.specs.Scans.{counted_with, first_with};
+
+use crate::items::{ItemKind, Place, ends_line, is_skipped, kind_of, place_behind};
+use crate::keywords::Keyword;
+use crate::limits::MAX_ITEM;
+use crate::lines::Line;
+use http_server::Log;
+use std::marker::Model;
+use std::mem::replace;
+
+// What an item is, with one line more.
+fn first_with(first: Option<ItemKind>, words: &[Keyword]) -> Option<ItemKind>
+    ensures { result ≡ first_with first words.now }
+{
+    if first.is_some() || is_skipped(words) {
+        first
+    } else {
+        Some(kind_of(words))
+    }
+}
+
+// How many lines say something, with one more that ends behind so many bytes.
+fn counted_with(counted: usize, len: usize, words: &[Keyword]) -> usize
+    requires { counted ≤ MAX_ITEM }
+    ensures { result ≡ counted_with counted len words.now }
+{
+    if len > MAX_ITEM || is_skipped(words) {
+        counted
+    } else {
+        counted + 1
+    }
+}
+
+/// The bytes with which an item has begun. It keeps none of them: it knows what the lines so far tell.
+#[derive(Drop)]
+pub struct Scanner {
+    place: Place,
+    first: Option<ItemKind>,
+    counted: usize,
+    len: usize,
+    line: Line,
+    bytes: Log<u8, u8>,
+}
+
+impl Model for Scanner {
+    ghost use Rattle.std.specs.Prelude.{ℕ, List, map};
+    ghost use Rattle.talk_items.specs.Scans.{IsScan};
+
+    ghost Value = { List ℕ };
+
+    ghost view = { λ a. map (λ p. p.0) a.bytes.items };
+
+    ghost invariant = { λ a. IsScan (map (λ p. p.0) a.bytes.items) a.place a.first a.counted a.len a.line };
+}
+
+impl Scanner {
+    /// No bytes: an item is to begin.
+    pub fn new() -> Scanner
+        ensures { result ≡ [] }
+    {
+        Scanner {
+            place: Place::Front,
+            first: None,
+            counted: 0,
+            len: 0,
+            line: Line::new(),
+            bytes: Log::new(),
+        }
+    }
+
+    /// Takes bytes of the item, up to its end, and answers how many, or None where it goes on behind all.
+    pub fn scan(&mut self, bytes: &[u8]) -> Option<usize>
+        ensures end { result ≡ item_end self.old bytes.now }
+        ensures bytes { self.new ≡ self.old ++ taken result bytes.now }
+    {
+        for i in 0..bytes.len() {
+            if self.push(bytes[i]) {
+                return Some(i + 1);
+            }
+        }
+        None
+    }
+
+    /// What the item is, by its first line that says something.
+    pub fn kind(&self) -> ItemKind
+        ensures { result ≡ kind self.now }
+    {
+        self.first.unwrap_or(ItemKind::Unit)
+    }
+
+    /// How many lines of the item say something and end within as many bytes as an item may have.
+    pub fn counted(&self) -> usize
+        ensures { result ≡ counted self.now }
+    {
+        self.counted
+    }
+
+    /// Whether the item has more bytes than it may have.
+    pub fn is_too_long(&self) -> bool
+        ensures { IsTrue result ↔ (MAX_ITEM < length self.now) }
+    {
+        self.len > MAX_ITEM
+    }
+
+    // Takes one byte, and answers whether the item ends with it.
+    fn push(&mut self, byte: u8) -> bool
+        ensures ends { result ≡ ends self.old byte }
+        ensures byte { self.new ≡ self.old ++ byte ∷ [] }
+    {
+        self.bytes = self.bytes.and(&byte, &byte);
+        self.len = MAX_ITEM.min(self.len) + 1;
+        if byte != b'\n' {
+            self.line.push(byte);
+            return false;
+        }
+        let first_words = replace(&mut self.line, Line::new()).into_first();
+        let words = first_words.as_slice();
+        let is_end = ends_line(self.place, words);
+        self.place = place_behind(self.place, words);
+        self.first = first_with(self.first, words);
+        self.counted = counted_with(self.counted, self.len, words);
+        is_end
+    }
+}

@@ -1,0 +1,124 @@
+// The first words of a line that is read byte by byte.
+ghost use Rattle.std.specs.Prelude.{◌≡◌, ◌∷◌, ◌++◌, [], ℕ, List, filter, map, take};
+ghost use Rattle.file_words.specs.Words.{behind, cuts, is_word, words_of};
+ghost use Rattle.talk_items.specs.Cuts.{Cut, cut_more, quoted};
+ghost use Rattle.talk_items.specs.Keywords.{keyword};
+
+use crate::keywords::{Keyword, keyword_of};
+use crate::limits::{LETTERS, WORDS};
+use arrayvec::ArrayVec;
+use http_server::Log;
+use std::marker::Model;
+
+// Where a byte of a line stands: outside a quoted text, inside one, or there behind a backslash.
+#[derive(Clone, Copy, Debug, PartialEq, Eq)]
+pub(crate) enum Stand {
+    Outside,
+    Inside,
+    Escaped,
+}
+
+// Where the byte behind one stands.
+fn behind(stand: Stand, byte: u8) -> Stand
+    ensures { quoted result ≡ behind (quoted stand) byte }
+{
+    match (stand, byte) {
+        (Stand::Outside, b'"') => Stand::Inside,
+        (Stand::Outside, _) => Stand::Outside,
+        (Stand::Inside, b'\\') => Stand::Escaped,
+        (Stand::Inside, b'"') => Stand::Outside,
+        (Stand::Inside | Stand::Escaped, _) => Stand::Inside,
+    }
+}
+
+// Whether a byte ends a word.
+fn cuts(stand: Stand, byte: u8) -> bool
+    ensures { result ≡ cuts (quoted stand) byte }
+{
+    stand == Stand::Outside && matches!(byte, b' ' | b'\t')
+}
+
+// One word more, where there is room.
+fn add(words: &mut ArrayVec<Keyword, WORDS>, word: &[u8])
+    ensures { (ws : List (List ℕ)) (w : List ℕ) → words.old.items ≡ take 4 (map keyword ws) → word.now ≡ take 8 w → words.new.items ≡ take 4 (map keyword (ws ++ filter is_word (w ∷ []))) }
+{
+    if word.is_empty() {
+        return;
+    }
+    let _ = words.try_push(keyword_of(word));
+}
+
+// One byte more of a line, of which the words so far and the one that goes on are kept.
+fn put(
+    words: &mut ArrayVec<Keyword, WORDS>,
+    word: &mut ArrayVec<u8, LETTERS>,
+    stand: Stand,
+    byte: u8,
+)
+    ensures { (c : Cut) → words.old.items ≡ take 4 (map keyword c.words) → word.old.items ≡ take 8 c.word → quoted stand ≡ c.quote → (words.new.items ≡ take 4 (map keyword (cut_more c byte).words)) × (word.new.items ≡ take 8 (cut_more c byte).word) }
+{
+    if cuts(stand, byte) {
+        add(words, word.as_slice());
+        word.clear();
+        return;
+    }
+    let _ = word.try_push(byte);
+}
+
+// The words of a line so far: what the first of them are.
+#[derive(Drop)]
+pub(crate) struct Words {
+    words: ArrayVec<Keyword, WORDS>,
+    word: ArrayVec<u8, LETTERS>,
+    stand: Stand,
+    bytes: Log<u8, u8>,
+}
+
+impl Model for Words {
+    ghost use Rattle.std.specs.Prelude.{◌≡◌, ℕ, List, map, take};
+    ghost use Rattle.talk_items.specs.Cuts.{cut, quoted};
+    ghost use Rattle.talk_items.specs.Keywords.{keyword};
+
+    ghost Value = { List ℕ };
+
+    ghost view = { λ a. map (λ p. p.0) a.bytes.items };
+
+    ghost invariant = { λ a. let c = cut (map (λ p. p.0) a.bytes.items) in (a.words.items ≡ take 4 (map keyword c.words)) × (a.word.items ≡ take 8 c.word) × (quoted a.stand ≡ c.quote) };
+}
+
+impl Words {
+    // A line without bytes.
+    pub(crate) fn new() -> Words
+        ensures { result ≡ [] }
+    {
+        Words {
+            words: ArrayVec::new(),
+            word: ArrayVec::new(),
+            stand: Stand::Outside,
+            bytes: Log::new(),
+        }
+    }
+
+    // One byte more.
+    pub(crate) fn push(&mut self, byte: u8)
+        ensures { self.new ≡ self.old ++ byte ∷ [] }
+    {
+        put(&mut self.words, &mut self.word, self.stand, byte);
+        self.stand = behind(self.stand, byte);
+        self.bytes = self.bytes.and(&byte, &byte);
+    }
+
+    // What the first words of the line are.
+    pub(crate) fn into_first(self) -> ArrayVec<Keyword, WORDS>
+        ensures { result.items ≡ take 4 (map keyword (words_of self)) }
+    {
+        let Words {
+            mut words,
+            word,
+            stand: _,
+            bytes: _,
+        } = self;
+        add(&mut words, word.as_slice());
+        words
+    }
+}
