@@ -51,7 +51,7 @@ what_if_of_a_group = refl
 what_if_of_a_question : item_end [] (codes "? if ? move ann t\nend\n") ≡ Some 18
 what_if_of_a_question = refl
 
-what_if_of_a_comment : item_end [] (codes "? if # change c\nend\n") ≡ Some 16
+what_if_of_a_comment : item_end [] (codes "? if # change c\nend\n") ≡ Some 20
 what_if_of_a_comment = refl
 
 what_if_of_a_declaration : item_end [] (codes "? if case change c\nend\n") ≡ Some 19

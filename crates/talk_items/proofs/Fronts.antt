@@ -27,7 +27,6 @@ unit-any w v xs ys = begins-any v xs ys
 
 what-if-any : (w v : Keyword) (xs ys : List Keyword) → what_if_opens (w ∷ v ∷ xs) ≡ what_if_opens (w ∷ v ∷ ys)
 what-if-any keywords.Question v xs ys = refl
-what-if-any keywords.Comment v xs ys = refl
 what-if-any w v xs ys = unit-any w v xs ys
 
 question-any : (w v u : Keyword) (xs ys : List Keyword) → question_opens (w ∷ v ∷ u ∷ xs) ≡ question_opens (w ∷ v ∷ u ∷ ys)

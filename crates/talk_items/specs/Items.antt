@@ -40,10 +40,9 @@ unit_opens (keywords.Type ∷ ws) = true
 unit_opens (keywords.Declaration ∷ ws) = false
 unit_opens (w ∷ ws) = begins_with_change ws
 
--- whether the words behind `? if` do: they are a line of their own
+-- whether the words behind `? if` do: they are a line of their own, and begin no comment
 abbrev pub what_if_opens : List Keyword → Bool
 what_if_opens (keywords.Question ∷ ws) = false
-what_if_opens (keywords.Comment ∷ ws) = false
 what_if_opens ws = unit_opens ws
 
 -- whether the words behind `?` do

@@ -60,7 +60,7 @@ fn what_if_opens(words: &[Keyword]) -> bool
     ensures { result ≡ what_if_opens words.now }
 {
     match words {
-        [Keyword::Question | Keyword::Comment, ..] => false,
+        [Keyword::Question, ..] => false,
         _ => unit_opens(words),
     }
 }
