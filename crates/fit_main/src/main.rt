@@ -2,29 +2,26 @@
 #![tactic(auto)]
 
 use adept_io::{StdSink, StdSource};
-use log_fit::fit_input;
+use log_fit::{Unfit, fit_input};
 use standard_streams::hold_streams;
 use std::env;
 use std::io::{self, ErrorKind};
 use std::process::ExitCode;
 
 fn main(rt: HostRuntime) -> ExitCode {
-    match hold_streams(&rt) {
-        Ok(()) => ExitCode::from(work(&rt)),
-        Err(_) => ExitCode::from(3),
+    match work(&rt) {
+        Ok(()) => ExitCode::SUCCESS,
+        Err(why) => ExitCode::from(why.status()),
     }
 }
 
-// The status of what the words ask for, over standard input and output.
-fn work(rt: &HostRuntime) -> u8 {
-    match words(rt) {
-        Ok(words) => {
-            let mut source = StdSource::new(rt.stdin());
-            let mut sink = StdSink::new(rt.stdout());
-            fit_input(rt.alloc(), &words, &mut source, &mut sink)
-        }
-        Err(error) => status_of(&error),
-    }
+// What the words ask for, over standard input and output.
+fn work(rt: &HostRuntime) -> Result<(), Unfit> {
+    hold_streams(rt).map_err(|_| Unfit::Unread)?;
+    let words = words(rt).map_err(|error| unfit(&error))?;
+    let mut source = StdSource::new(rt.stdin());
+    let mut sink = StdSink::new(rt.stdout());
+    fit_input(rt.alloc(), &words, &mut source, &mut sink)
 }
 
 // The words behind the program's name.
@@ -36,11 +33,11 @@ fn words(rt: &HostRuntime) -> io::Result<Vec<String>> {
     Ok(words)
 }
 
-// The status where the words cannot be read: words that are no text name no type.
-fn status_of(error: &io::Error) -> u8 {
+// Why the words cannot be read: words that are no text name no type.
+fn unfit(error: &io::Error) -> Unfit {
     if error.kind() == ErrorKind::OutOfMemory {
-        5
+        Unfit::NoMemory
     } else {
-        2
+        Unfit::Words
     }
 }

@@ -1,4 +1,4 @@
--- What an input comes to: the bytes of a table, or the status that stands in its place.
+-- What an input comes to: the bytes of a table, or why there is none.
 use Rattle.std.specs.Prelude.{ℕ, Bool, ◌||◌, nat_lt, List, length, Option, Some, None, Result, Ok, Err, if◌then◌else◌}
 use Rattle.file_limits.specs.declared.TheConstants.{MAX_FILE_BYTES}
 use Rattle.file_model.specs.Reading.{file}
@@ -11,39 +11,36 @@ use Rattle.log_fit.specs.Parts.{parts_of}
 use Rattle.log_fit.specs.Table.{table}
 use Rattle.log_fit.specs.Versions.{version_of}
 use Rattle.log_fit.specs.declared.fits.CaseFit.{CaseFit}
+use Rattle.log_fit.specs.declared.unfit.Unfit.{Unfit}
+use Rattle.log_fit.specs.declared.unfit.Unfit.TheVariants as unfit
 use Rattle.wsm_sound.specs.VersionModel.{VersionModel}
 
 -- the most bytes of an input
 abbrev pub most_input : ℕ
 most_input = 33554432
 
--- 9: a wrong record, or no log
-abbrev pub table_of : File → Result (List CaseFit) ℕ → Result Bytes ℕ
+-- a wrong record, or no log
+abbrev pub table_of : File → Result (List CaseFit) ℕ → Result Bytes Unfit
 table_of f (Ok fits) = Ok (table f fits)
-table_of f (Err at) = Err 9
+table_of f (Err at) = Err unfit.NoLog
 
-abbrev pub with_log : File → VersionModel → Option Bytes → Result Bytes ℕ
-with_log f v None = Err 9
+abbrev pub with_log : File → VersionModel → Option Bytes → Result Bytes Unfit
+with_log f v None = Err unfit.NoLog
 with_log f v (Some log) = table_of f (fit v f log)
 
--- 8: no such version
-abbrev pub with_version : File → Option VersionModel → Option Bytes → Result Bytes ℕ
-with_version f None log = Err 8
+-- no such version
+abbrev pub with_version : File → Option VersionModel → Option Bytes → Result Bytes Unfit
+with_version f None log = Err unfit.NoVersion
 with_version f (Some v) log = with_log f v log
 
--- 1: no process file
-abbrev pub with_file : Question → Option Bytes → Result File Refused → Result Bytes ℕ
-with_file q log (Err r) = Err 1
+-- no process file
+abbrev pub with_file : Question → Option Bytes → Result File Refused → Result Bytes Unfit
+with_file q log (Err r) = Err unfit.Refused
 with_file q log (Ok f) = with_version f (version_of f q.name q.number) log
 
--- 6: too many bytes
+-- too many bytes
 abbrev pub is_too_long : Bytes → Bool
 is_too_long input = nat_lt most_input (length input) || nat_lt MAX_FILE_BYTES (length (parts_of input).file)
 
-abbrev pub answer : Question → Bytes → Result Bytes ℕ
-answer q input = if is_too_long input then Err 6 else with_file q (parts_of input).log (file (parts_of input).file)
-
--- the status of an input where nothing fails and there is memory
-abbrev pub status_in : Result Bytes ℕ → ℕ
-status_in (Ok bytes) = 0
-status_in (Err status) = status
+abbrev pub answer : Question → Bytes → Result Bytes Unfit
+answer q input = if is_too_long input then Err unfit.TooLong else with_file q (parts_of input).log (file (parts_of input).file)

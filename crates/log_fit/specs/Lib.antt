@@ -10,3 +10,4 @@ pub mod Shown
 pub mod Table
 pub mod Answer
 pub mod Endings
+pub mod Statuses

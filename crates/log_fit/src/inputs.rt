@@ -1,21 +1,22 @@
 // A fit from the bytes of an input to those of a table.
-ghost use Rattle.std.specs.Prelude.{◌≡◌, ◌≤◌, length, map, string_bytes, Ok, None, IfOk, IfErr, IfSome, OnOk, option_map};
-ghost use Rattle.std.specs.Io.KnownBytes.{IsAtEnd};
-ghost use Rattle.adept_io.specs.Read.{ConsumesUpTo};
+ghost use Rattle.std.specs.Prelude.{◌≡◌, ◌≤◌, length, map, string_bytes, Ok, Err, None, IfSome, option_map};
 ghost use Rattle.file_model.specs.Sizes.{HasNumbers, IsBounded};
 ghost use Rattle.log_fit.specs.Answer.{answer, most_input, with_file, with_log};
 ghost use Rattle.log_fit.specs.Asked.{asked};
-ghost use Rattle.log_fit.specs.Endings.{EndsUnread, FitEnds, IsAnswered, of_file};
+ghost use Rattle.log_fit.specs.Endings.{FitEnds, IsAnswered};
 ghost use Rattle.log_fit.specs.Shown.{shown_question};
+ghost use Rattle.log_fit.specs.Statuses.{of_file};
 ghost use Rattle.log_fit.specs.Table.{table};
+ghost use Rattle.log_fit.specs.declared.unfit.Unfit.TheVariants as unfit;
 
 use crate::asking::Asked;
 use crate::fits::{FitRefusal, Fits};
 use crate::fitting::fit;
 use crate::parts::parts_of;
+use crate::unfit::Unfit;
 use crate::versions::version_of;
 use crate::writing::write_fits;
-use adept_io::{Bytes, ReadRefusal, Sink, Source, read_to_limit};
+use adept_io::{ReadRefusal, Sink, Source, read_to_limit};
 use file_limits::MAX_FILE_BYTES;
 use file_model::{File, FileRefusal};
 use process_text::read_file;
@@ -26,19 +27,18 @@ use wsm_sound::Version;
 const MOST_INPUT: usize = 33_554_432;
 
 /// Reads an input, which is a process file, a line `log` and a log, and writes how far each case of the log goes on a version
-/// of the file. The words are the name of a type and the number of the version; other words are status 2, and then nothing
-/// is read or written.
+/// of the file. The words are the name of a type and the number of the version; with other words nothing is read or written.
 pub fn fit_input<S: Source, K: Sink>(
     alloc: Global,
     words: &[String],
     source: &mut S,
     sink: &mut K,
-) -> u8
-    ensures usage { asked (map string_bytes words.now) ≡ None → (result ≡ 2) × (source.new ≡ source.old) × (sink.new ≡ sink.old) }
+) -> Result<(), Unfit>
+    ensures usage { asked (map string_bytes words.now) ≡ None → (result ≡ Err unfit.Words) × (source.new ≡ source.old) × (sink.new ≡ sink.old) }
     ensures ends { IfSome (asked (map string_bytes words.now)) (λ q. FitEnds S.left S.faults K.written K.faults q source.old source.new sink.old sink.new result) }
 {
     match Asked::of(words) {
-        None => 2,
+        None => Err(Unfit::Words),
         Some(asked) => fit_asked(alloc, asked, source, sink),
     }
 }
@@ -48,54 +48,44 @@ fn fit_asked<S: Source, K: Sink>(
     asked: Asked<'_>,
     source: &mut S,
     sink: &mut K,
-) -> u8
+) -> Result<(), Unfit>
     ensures { FitEnds S.left S.faults K.written K.faults (shown_question asked.entry) source.old source.new sink.old sink.new result }
 {
-    match read_input(alloc, source) {
-        Ok(input) => fit_bytes(alloc, asked, input.as_slice(), sink),
-        Err(status) => status,
-    }
-}
-
-// Reads the source to its end.
-fn read_input<S: Source>(alloc: Global, source: &mut S) -> Result<Bytes, u8>
-    ensures bytes { IfOk result (λ bytes. IfSome (S.left source.old) (λ b. b ≡ bytes)) }
-    ensures within { IfOk result (λ bytes. length bytes ≤ most_input) }
-    ensures end { OnOk result (IsAtEnd (S.left source.new)) }
-    ensures taken { OnOk result (ConsumesUpTo (S.left source.old) (S.left source.new) most_input) }
-    ensures steady { OnOk result (S.faults source.new ≡ S.faults source.old) }
-    ensures err { IfErr result (λ status. EndsUnread S.left S.faults source.old source.new status) }
-{
     match read_to_limit(alloc, source, MOST_INPUT) {
-        Ok(bytes) => Ok(bytes),
-        Err(ReadRefusal::Failed) => Err(3),
-        Err(ReadRefusal::NoMemory) => Err(5),
-        Err(ReadRefusal::TooLong) => Err(6),
+        Ok(input) => fit_bytes(alloc, asked, input.as_slice(), sink),
+        Err(ReadRefusal::Failed) => Err(Unfit::Unread),
+        Err(ReadRefusal::NoMemory) => Err(Unfit::NoMemory),
+        Err(ReadRefusal::TooLong) => Err(Unfit::TooLong),
     }
 }
 
-// The status of a process file that is refused.
-fn of_file(refusal: &FileRefusal) -> u8
+// Why there is no table of a process file that is refused.
+fn of_file(refusal: &FileRefusal) -> Unfit
     ensures { result ≡ of_file refusal.now }
 {
     match refusal {
-        FileRefusal::Refused(_) => 1,
-        FileRefusal::NoMemory => 5,
+        FileRefusal::Refused(_) => Unfit::Refused,
+        FileRefusal::NoMemory => Unfit::NoMemory,
     }
 }
 
 // Writes what the bytes of an input come to.
-fn fit_bytes<K: Sink>(alloc: Global, asked: Asked<'_>, input: &[u8], sink: &mut K) -> u8
+fn fit_bytes<K: Sink>(
+    alloc: Global,
+    asked: Asked<'_>,
+    input: &[u8],
+    sink: &mut K,
+) -> Result<(), Unfit>
     requires { length input.now ≤ most_input }
     ensures { IsAnswered K.written K.faults (answer (shown_question asked.entry) input.now) sink.old sink.new result }
 {
     let parts = parts_of(input);
     if parts.file.len() > MAX_FILE_BYTES {
-        return 6;
+        return Err(Unfit::TooLong);
     }
     match read_file(alloc, parts.file) {
         Ok(file) => fit_file(alloc, asked, &file, parts.log, sink),
-        Err(refusal) => of_file(&refusal),
+        Err(refusal) => Err(of_file(&refusal)),
     }
 }
 
@@ -106,7 +96,7 @@ fn fit_file<K: Sink>(
     file: &File,
     log: Option<&[u8]>,
     sink: &mut K,
-) -> u8
+) -> Result<(), Unfit>
     requires bounded { IsBounded file.now }
     requires numbers { HasNumbers file.now }
     requires log { IfSome log (λ l. length l.now ≤ most_input) }
@@ -114,8 +104,8 @@ fn fit_file<K: Sink>(
 {
     match version_of(alloc, file, asked.name, asked.number) {
         Ok(Some(version)) => fit_version(alloc, file, &version, log, sink),
-        Ok(None) => 8,
-        Err(_) => 5,
+        Ok(None) => Err(Unfit::NoVersion),
+        Err(_) => Err(Unfit::NoMemory),
     }
 }
 
@@ -126,27 +116,27 @@ fn fit_version<K: Sink>(
     version: &Version,
     log: Option<&[u8]>,
     sink: &mut K,
-) -> u8
+) -> Result<(), Unfit>
     requires numbers { HasNumbers file.now }
     requires log { IfSome log (λ l. length l.now ≤ most_input) }
     ensures { IsAnswered K.written K.faults (with_log file.now version.now (option_map (λ l. l.now) log.entry)) sink.old sink.new result }
 {
     let Some(log) = log else {
-        return 9;
+        return Err(Unfit::NoLog);
     };
     match fit(alloc, version, file, log) {
         Ok(fits) => put_table(file, &fits, sink),
-        Err(FitRefusal::Bad { .. }) => 9,
-        Err(FitRefusal::NoMemory) => 5,
+        Err(FitRefusal::Bad { .. }) => Err(Unfit::NoLog),
+        Err(FitRefusal::NoMemory) => Err(Unfit::NoMemory),
     }
 }
 
 // Writes the table of a log.
-fn put_table<K: Sink>(file: &File, fits: &Fits, sink: &mut K) -> u8
+fn put_table<K: Sink>(file: &File, fits: &Fits, sink: &mut K) -> Result<(), Unfit>
     ensures { IsAnswered K.written K.faults (Ok (table file.now fits.now)) sink.old sink.new result }
 {
     match write_fits(file, fits, sink) {
-        Ok(()) => 0,
-        Err(_) => 4,
+        Ok(()) => Ok(()),
+        Err(_) => Err(Unfit::Unwritten),
     }
 }

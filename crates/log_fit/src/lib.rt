@@ -13,9 +13,11 @@ mod parts;
 mod progress;
 mod tables;
 mod taking;
+mod unfit;
 mod versions;
 mod writing;
 
 pub use fits::{CaseFit, FitRefusal, Fits};
 pub use fitting::fit;
 pub use inputs::fit_input;
+pub use unfit::Unfit;

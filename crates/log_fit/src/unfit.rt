@@ -1,0 +1,42 @@
+// Why no table of fits is written.
+ghost use Rattle.std.specs.Prelude.{◌≡◌};
+ghost use Rattle.log_fit.specs.Statuses.{status_of};
+
+/// Why the table of an input is not written.
+#[derive(Clone, Copy, Debug, PartialEq, Eq)]
+pub enum Unfit {
+    /// The process file is refused.
+    Refused,
+    /// The words are not the name of a type and the number of a version.
+    Words,
+    /// A read failed.
+    Unread,
+    /// A write failed.
+    Unwritten,
+    /// There was not enough memory.
+    NoMemory,
+    /// The input, or the file in it, is too long.
+    TooLong,
+    /// The file has no such type, or the type no such version.
+    NoVersion,
+    /// There is no log, or it has a wrong record.
+    NoLog,
+}
+
+impl Unfit {
+    /// The status with which the program ends.
+    pub fn status(self) -> u8
+        ensures { result ≡ status_of self }
+    {
+        match self {
+            Unfit::Refused => 1,
+            Unfit::Words => 2,
+            Unfit::Unread => 3,
+            Unfit::Unwritten => 4,
+            Unfit::NoMemory => 5,
+            Unfit::TooLong => 6,
+            Unfit::NoVersion => 8,
+            Unfit::NoLog => 9,
+        }
+    }
+}
