@@ -17,8 +17,13 @@ fn main(rt: HostRuntime) -> ExitCode {
 
 // What the words ask for, over standard input and output.
 fn work(rt: &HostRuntime) -> Result<(), Unfit> {
-    hold_streams(rt).map_err(|_| Unfit::Unread)?;
-    let words = words(rt).map_err(|error| unfit(&error))?;
+    if hold_streams(rt).is_err() {
+        return Err(Unfit::Unread);
+    }
+    let words = match words(rt) {
+        Ok(words) => words,
+        Err(error) => return Err(unfit(&error)),
+    };
     let mut source = StdSource::new(rt.stdin());
     let mut sink = StdSink::new(rt.stdout());
     fit_input(rt.alloc(), &words, &mut source, &mut sink)
