@@ -110,7 +110,7 @@ pub(crate) fn store_calls_of<D: Disk>(
     ensures never_falls { D.faults disk.old ≤ D.faults disk.new }
 {
     let told = calls(alloc, file)?;
-    keep(alloc, &told, limit, disk)
+    keep(alloc, &told.calls, &told.ends, limit, disk)
 }
 
 // Works the lines of a file in order, and writes the report.

@@ -1,2 +1,1 @@
 pub mod Payable
-pub mod Tellings

@@ -4,24 +4,30 @@ use Rattle.std.specs.Prelude.{nat_le, nat_lt, option_map, if◌then◌else◌}
 use Rattle.std.specs.List.{AllByRecursion}
 use Rattle.std.specs.Option.{option_or}
 use Rattle.std.proofs.lemmas.Bool.Decides.{nat_tests}
+use Rattle.case_core.specs.declared.events.Event.{Event}
+use Rattle.case_core.specs.declared.events.Event.TheVariants as event
 use Rattle.file_facts.specs.Facts.{IsSound, IsWorkable}
-use Rattle.file_model.specs.declared.files.Act.{Act}
-use Rattle.file_model.specs.declared.files.Act.TheVariants as act
 use Rattle.file_model.specs.declared.files.CaseDecl.{CaseDecl}
 use Rattle.file_model.specs.declared.files.File.{File}
 use Rattle.file_model.specs.declared.files.Line.{Line}
 use Rattle.file_model.specs.declared.files.TypeDecl.{TypeDecl}
-use Rattle.script_run.specs.Calls.{newest}
-use Rattle.script_run.specs.Serial.{opening}
-use Rattle.script_run.specs.declared.runs.Run.{Run}
-use Rattle.store_calls.specs.Calls.{act_calls, by, calls, create_calls, definitions, IsPayable, line_called, migrate_calls, migrations, phase_called, Worked}
+use Rattle.line_calls.proofs.Facts.{plain-call}
+use Rattle.line_calls.specs.Calls.{call_of}
+use Rattle.line_calls.specs.Files.{roles_of}
+use Rattle.line_calls.specs.Known.{IsPlain, brings_version, is_install}
+use Rattle.line_calls.specs.declared.calls.Call.{Call}
+use Rattle.line_calls.specs.declared.calls.Call.TheVariants as call
+use Rattle.line_calls.specs.declared.calls.Told.TheVariants as told
+use Rattle.store_calls.specs.Calls.{IsPayable, Told, by, calls, create_calls, definitions, migrate_calls, migrations, newest_number, records, stored_kind, told_line, told_phase, told_types}
 use Rattle.store_form.specs.declared.stored.Recorded.{Recorded}
 use Rattle.store_form.specs.declared.stored.Stored.TheVariants as stored
+use Rattle.type_core.specs.KindModel.{KindModel}
+use Rattle.type_core.specs.declared.events.KindEvent.{KindEvent}
+use Rattle.type_core.specs.declared.events.KindEvent.TheVariants as kind_event
 use Rattle.wsm_lists.specs.Rows.{AllRows}
 use Rattle.wsm_schema.specs.SchemaModel.{SchemaModel}
 use Rattle.wsm_schema.specs.Sound.{block_fault, data_fault, over_limit, parts_depth, when}
 use Rattle.wsm_sound.specs.Faults.{fault_of}
-use Rattle.wsm_sound.specs.VersionModel.{VersionModel}
 use Rattle.wsm_sound.specs.declared.faults.Fault.TheVariants as fault
 use Rattle.wsm_sound.specs.declared.versions.CaseId.{CaseId}
 
@@ -61,9 +67,9 @@ definitions-payable : (t : ℕ) (ds : List TypeDecl) → AllRows IsSound ds → 
 definitions-payable t [] sound = tt
 definitions-payable t (d ∷ ds) sound = ((sound-shallow d.schema sound.0, tt), definitions-payable (t + 1) ds sound.1)
 
-create-payable : (a : ℕ) (c : CaseId) (o : Option VersionModel) → All (create_calls a c o)
+create-payable : (a : ℕ) (c : CaseId) (o : Option ℕ) → All (create_calls a c o)
 create-payable a c None = tt
-create-payable a c (Some v) = ((refl, tt), tt)
+create-payable a c (Some number) = ((refl, tt), tt)
 
 one-more : (b : Bool) (r : Recorded) (rs : List Recorded) → IsPayable r → All rs → All (if b then r ∷ rs else rs)
 one-more true r rs one all = (one, all)
@@ -73,26 +79,39 @@ migrations-payable : (a t n : ℕ) (ds : List CaseDecl) → All (migrations a t 
 migrations-payable a t n [] = tt
 migrations-payable a t n (d ∷ ds) = one-more (d.id.type_no == t) (by a (stored.Migrate d.id n)) (migrations a t n ds) (refl, tt) (migrations-payable a t n ds)
 
-migrate-payable : (a t : ℕ) (ds : List CaseDecl) (o : Option VersionModel) → All (migrate_calls a t ds o)
+migrate-payable : (a t : ℕ) (ds : List CaseDecl) (o : Option ℕ) → All (migrate_calls a t ds o)
 migrate-payable a t ds None = tt
-migrate-payable a t ds (Some v) = migrations-payable a t v.number ds
+migrate-payable a t ds (Some number) = migrations-payable a t number ds
 
-act-payable : (f : File) (a : ℕ) (r : Run) (x : Act) → All (act_calls f a r x)
-act-payable f a r (act.Create c) = ((refl, tt), create-payable a c (newest c.type_no r))
-act-payable f a r (act.Start c n) = ((refl, tt), tt)
-act-payable f a r (act.Withdraw c n) = ((refl, tt), tt)
-act-payable f a r (act.End c n choice writes) = ((refl, tt), tt)
-act-payable f a r (act.Change c ops) = ((refl, tt), tt)
-act-payable f a r (act.Install t ops) = ((refl, tt), tt)
-act-payable f a r (act.Migrate t) = ((refl, tt), migrate-payable a t f.cases (newest t r))
+kind-payable : (a t : ℕ) (e : KindEvent) → is_install e ≡ true → IsPayable (by a (stored_kind t e))
+kind-payable a t (kind_event.Define schema) plain = absurd (cc (plain))
+kind-payable a t (kind_event.Install ops) plain = (refl, tt)
+kind-payable a t kind_event.Newest plain = absurd (cc (plain))
 
-lines-payable : (f : File) (lines : List Line) (w : Worked) → All w.calls → All (phase_called f w lines).calls
-lines-payable f [] w all = all
-lines-payable f (l ∷ ls) w all = lines-payable f ls (line_called f w l) (all-append w.calls (act_calls f l.actor w.run l.act) all (act-payable f l.actor w.run l.act))
+case-payable : (a : ℕ) (c : CaseId) (e : Event) → brings_version e ≡ false → IsPayable (by a (stored.Case c e))
+case-payable a c (event.Create version) plain = absurd (cc (plain))
+case-payable a c (event.Migrate version) plain = absurd (cc (plain))
+case-payable a c (event.Start n user roles) plain = (refl, tt)
+case-payable a c (event.End n user choice writes) plain = (refl, tt)
+case-payable a c (event.Withdraw n user) plain = (refl, tt)
+case-payable a c (event.Change ops) plain = (refl, tt)
 
-phases-payable : (f : File) (phases : List (List Line)) (w : Worked) → All w.calls → All (fold (phase_called f) w phases).calls
-phases-payable f [] w all = all
-phases-payable f (p ∷ ps) w all = phases-payable f ps (phase_called f w p) (lines-payable f p w all)
+call-payable : (ds : List CaseDecl) (a : ℕ) (kinds : List KindModel) (k : Call) → IsPlain k → All (records ds a kinds k)
+call-payable ds a kinds (call.Kind t e) plain = (kind-payable a t e plain, tt)
+call-payable ds a kinds (call.Case c e) plain = (case-payable a c e plain, tt)
+call-payable ds a kinds (call.Newest t (told.Create c)) plain = ((refl, tt), create-payable a c (newest_number t kinds))
+call-payable ds a kinds (call.Newest t told.Migrate) plain = ((refl, tt), migrate-payable a t ds (newest_number t kinds))
+
+lines-payable : (f : File) (lines : List Line) (s : Told) → All s.calls → All (told_phase f s lines).calls
+lines-payable f [] s all = all
+lines-payable f (l ∷ ls) s all =
+    let a = l.actor in
+    let k = call_of a (roles_of f a) l.act in
+    lines-payable f ls (told_line f s l) (all-append s.calls (records f.cases a s.kinds k) all (call-payable f.cases a s.kinds k (plain-call a (roles_of f a) l.act)))
+
+phases-payable : (f : File) (phases : List (List Line)) (s : Told) → All s.calls → All (fold (told_phase f) s phases).calls
+phases-payable f [] s all = all
+phases-payable f (p ∷ ps) s all = phases-payable f ps (told_phase f s p) (lines-payable f p s all)
 
 pub payable_calls : (f : File) → IsWorkable f → AllByRecursion IsPayable (calls f)
-payable_calls f workable = phases-payable f f.phases (record { run = opening f; calls = definitions 0 f.types }) (definitions-payable 0 f.types workable.sound)
+payable_calls f workable = phases-payable f f.phases (told_types f.types) (definitions-payable 0 f.types workable.sound)

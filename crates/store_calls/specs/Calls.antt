@@ -1,26 +1,27 @@
--- The calls of a file's serial run, one after another, as a store keeps them.
-use Rattle.std.specs.Prelude.{◌≡◌, ℕ, ◌+◌, ◌==◌, true, List, [], ◌∷◌, ◌++◌, fold, map, Option, Some, None, if◌then◌else◌}
-use Rattle.file_model.specs.declared.files.Act.{Act}
+-- The calls that the lines of a file make, one after another, as a store keeps them. Which versions the types have decides which
+-- calls they are, and no case does.
+use Rattle.std.specs.Prelude.{◌≡◌, ℕ, ◌+◌, ◌==◌, true, List, [], ◌∷◌, ◌++◌, fold, length, map, slice_get, Option, Some, None, option_map, if◌then◌else◌}
 use Rattle.file_model.specs.declared.files.CaseDecl.{CaseDecl}
 use Rattle.file_model.specs.declared.files.File.{File}
 use Rattle.file_model.specs.declared.files.Line.{Line}
 use Rattle.file_model.specs.declared.files.TypeDecl.{TypeDecl}
 use Rattle.line_calls.specs.Calls.{call_of}
+use Rattle.line_calls.specs.Files.{roles_of}
 use Rattle.line_calls.specs.declared.calls.Call.{Call}
 use Rattle.line_calls.specs.declared.calls.Call.TheVariants as call
 use Rattle.line_calls.specs.declared.calls.Told.TheVariants as told
-use Rattle.script_run.specs.Calls.{newest, worked}
-use Rattle.line_calls.specs.Files.{roles_of}
-use Rattle.script_run.specs.Serial.{opening, program}
-use Rattle.script_run.specs.declared.runs.Run.{Run}
+use Rattle.script_run.specs.Calls.{changed_at}
+use Rattle.script_run.specs.Serial.{program}
+use Rattle.script_run.specs.Verdicts.{defined_from, stepped}
 use Rattle.store_form.specs.Payload.{Bytes, payload}
 use Rattle.store_form.specs.Stored.{HasNoVersion, is_shallow}
 use Rattle.store_form.specs.declared.stored.Recorded.{Recorded}
 use Rattle.store_form.specs.declared.stored.Stored.{Stored}
 use Rattle.store_form.specs.declared.stored.Stored.TheVariants as stored
+use Rattle.type_core.specs.KindModel.{KindModel}
+use Rattle.type_core.specs.Machine.{newest_of}
 use Rattle.type_core.specs.declared.events.KindEvent.{KindEvent}
 use Rattle.type_core.specs.declared.events.KindEvent.TheVariants as kind_event
-use Rattle.wsm_sound.specs.VersionModel.{VersionModel}
 use Rattle.wsm_sound.specs.declared.versions.CaseId.{CaseId}
 
 abbrev pub by : ℕ → Stored → Recorded
@@ -31,19 +32,27 @@ abbrev pub definitions : ℕ → List TypeDecl → List Recorded
 definitions t [] = []
 definitions t (d ∷ ds) = by program (stored.Define t d.schema) ∷ definitions (t + 1) ds
 
+-- the number of a type's newest version
+abbrev pub number_in : Option KindModel → Option ℕ
+number_in None = None
+number_in (Some k) = option_map (λ v. v.number) (newest_of k.versions)
+
+abbrev pub newest_number : ℕ → List KindModel → Option ℕ
+newest_number t kinds = number_in (slice_get kinds t)
+
 -- calls with the version that their type has just answered; there are none where it answered none
-abbrev pub create_calls : ℕ → CaseId → Option VersionModel → List Recorded
+abbrev pub create_calls : ℕ → CaseId → Option ℕ → List Recorded
 create_calls a c None = []
-create_calls a c (Some v) = by a (stored.Create c v.number) ∷ []
+create_calls a c (Some number) = by a (stored.Create c number) ∷ []
 
 -- one of each case of a type, in order of declaration
 abbrev pub migrations : ℕ → ℕ → ℕ → List CaseDecl → List Recorded
 migrations a t number [] = []
 migrations a t number (d ∷ ds) = if d.id.type_no == t then by a (stored.Migrate d.id number) ∷ migrations a t number ds else migrations a t number ds
 
-abbrev pub migrate_calls : ℕ → ℕ → List CaseDecl → Option VersionModel → List Recorded
+abbrev pub migrate_calls : ℕ → ℕ → List CaseDecl → Option ℕ → List Recorded
 migrate_calls a t ds None = []
-migrate_calls a t ds (Some v) = migrations a t v.number ds
+migrate_calls a t ds (Some number) = migrations a t number ds
 
 -- a type's event as it is stored
 abbrev pub stored_kind : ℕ → KindEvent → Stored
@@ -51,33 +60,48 @@ stored_kind t (kind_event.Define schema) = stored.Define t schema
 stored_kind t (kind_event.Install ops) = stored.Install t ops
 stored_kind t kind_event.Newest = stored.Newest t
 
--- the calls of an act, by the run before it
-abbrev pub records : File → ℕ → Run → Call → List Recorded
-records f a r (call.Kind t e) = by a (stored_kind t e) ∷ []
-records f a r (call.Case c e) = by a (stored.Case c e) ∷ []
-records f a r (call.Newest t (told.Create c)) = by a (stored.Newest t) ∷ create_calls a c (newest t r)
-records f a r (call.Newest t told.Migrate) = by a (stored.Newest t) ∷ migrate_calls a t f.cases (newest t r)
+-- the calls of a line's call, by the types before it, and the types behind it
+abbrev pub records : List CaseDecl → ℕ → List KindModel → Call → List Recorded
+records ds a kinds (call.Kind t e) = by a (stored_kind t e) ∷ []
+records ds a kinds (call.Case c e) = by a (stored.Case c e) ∷ []
+records ds a kinds (call.Newest t (told.Create c)) = by a (stored.Newest t) ∷ create_calls a c (newest_number t kinds)
+records ds a kinds (call.Newest t told.Migrate) = by a (stored.Newest t) ∷ migrate_calls a t ds (newest_number t kinds)
 
-abbrev pub act_calls : File → ℕ → Run → Act → List Recorded
-act_calls f a r x = records f a r (call_of a (roles_of f a) x)
+abbrev pub kinds_behind : Call → List KindModel → List KindModel
+kinds_behind (call.Kind t e) kinds = changed_at (stepped e) t kinds
+kinds_behind (call.Case c e) kinds = kinds
+kinds_behind (call.Newest t w) kinds = kinds
 
--- a run, and the calls that made it
-pub record Worked : Type 0 where
-  pub run : Run
+-- the types, and the calls so far
+pub record Told : Type 0 where
+  pub kinds : List KindModel
   pub calls : List Recorded
 
-abbrev pub line_called : File → Worked → Line → Worked
-line_called f w l = record { run = worked f w.run l; calls = w.calls ++ act_calls f l.actor w.run l.act }
+abbrev pub told_call : List CaseDecl → ℕ → Call → Told → Told
+told_call ds a k s = record { kinds = kinds_behind k s.kinds; calls = s.calls ++ records ds a s.kinds k }
 
-abbrev pub phase_called : File → Worked → List Line → Worked
-phase_called f w lines = fold (line_called f) w lines
+abbrev pub told_line : File → Told → Line → Told
+told_line f s l = told_call f.cases l.actor (call_of l.actor (roles_of f l.actor) l.act) s
 
--- the serial run of a file, and its calls
-abbrev pub worked_file : File → Worked
-worked_file f = fold (phase_called f) (record { run = opening f; calls = definitions 0 f.types }) f.phases
+abbrev pub told_phase : File → Told → List Line → Told
+told_phase f s lines = fold (told_line f) s lines
+
+abbrev pub told_types : List TypeDecl → Told
+told_types ds = record { kinds = defined_from 0 ds; calls = definitions 0 ds }
+
+abbrev pub told_file : File → Told
+told_file f = fold (told_phase f) (told_types f.types) f.phases
 
 abbrev pub calls : File → List Recorded
-calls f = (worked_file f).calls
+calls f = (told_file f).calls
+
+-- how many calls there are behind each phase
+abbrev pub ends_from : File → Told → List (List Line) → List ℕ
+ends_from f s [] = []
+ends_from f s (p ∷ ps) = length (told_phase f s p).calls ∷ ends_from f (told_phase f s p) ps
+
+abbrev pub phase_ends : File → List ℕ
+phase_ends f = ends_from f (told_types f.types) f.phases
 
 -- as they are stored
 abbrev pub payload_of : Recorded → Bytes

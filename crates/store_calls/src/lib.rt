@@ -3,4 +3,4 @@
 
 mod telling;
 
-pub use telling::calls;
+pub use telling::{FileCalls, calls};

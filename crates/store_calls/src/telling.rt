@@ -1,29 +1,35 @@
 // The calls of a file, line by line. What versions the types have decides which calls a line makes, and no case does.
-ghost use Rattle.std.specs.Prelude.{◌≡◌, ◌*◌, ◌≤◌, true, fold, length, IfOk, OnOk};
+ghost use Rattle.std.specs.Prelude.{◌≡◌, ◌∷◌, ◌++◌, ◌≤◌, [], true, length, IfOk, OnOk};
 ghost use Rattle.std.specs.List.{AllByRecursion, list_all};
 ghost use Rattle.file_facts.specs.Facts.{IsWorkable};
 ghost use Rattle.file_model.specs.Sizes.{IsBounded, is_small, line_effort, phase_effort};
-ghost use Rattle.line_calls.specs.Files.{roles_of};
 ghost use Rattle.line_calls.specs.Calls.{call_weight};
-ghost use Rattle.store_calls.specs.Calls.{IsPayable, calls, stored_kind};
+ghost use Rattle.script_run.specs.Serial.{program};
+ghost use Rattle.script_run.specs.Verdicts.{defined_kind};
+ghost use Rattle.store_calls.specs.Calls.{IsPayable, calls, create_calls, by, migrate_calls, migrations, newest_number, phase_ends, stored_kind, told_call, told_line, told_phase, told_types};
+ghost use Rattle.store_calls.specs.Told.{told_of, with_call, with_calls};
 ghost use Rattle.type_core.specs.Machine.{weight as kind_weight};
-ghost use Rattle.store_calls.specs.Told.{newest_number, nothing_told, told_call, told_create, told_defined, told_file, told_kind, told_line, told_migrate, told_migration, told_of, told_phase, told_types, with_call};
-ghost use Rattle.script_run.specs.Verdicts.{stepped};
-ghost use Rattle.type_core.specs.KindModel.{not_defined};
 ghost use Rattle.wsm_schema.specs.Flat.{cards_of};
 
 use file_model::{CaseDecl, File, Line, TypeDecl};
-use line_calls::{Call, Told, call_of};
+use line_calls::{Call, Told, call_of, roles_of};
+use script_run::defined_kind;
 use std::alloc::Global;
 use store_form::{Recorded, Stored};
 use turn_cell::Machine;
 use type_core::{Kind, KindEvent};
 use wsm_lists::NoMemory;
-use wsm_schema::Schema;
 use wsm_sound::CaseId;
 
 /// The number of the program itself.
 const PROGRAM: u32 = 0;
+
+/// The calls of a file, and how many of them there are behind each phase.
+#[derive(Drop)]
+pub struct FileCalls {
+    pub calls: Vec<Recorded>,
+    pub ends: Vec<usize>,
+}
 
 /// The calls so far, and the types behind them.
 #[derive(Drop)]
@@ -33,27 +39,23 @@ pub struct Telling {
 }
 
 /// The calls of all lines in file order, behind the definition of each type.
-pub fn calls(alloc: Global, file: &File) -> Result<Vec<Recorded>, NoMemory>
+pub fn calls(alloc: Global, file: &File) -> Result<FileCalls, NoMemory>
     requires bounded { IsBounded file.now }
     requires workable { IsWorkable file.now }
-    ensures calls { IfOk result (λ told. told.items ≡ calls file.now) }
-    ensures payable { IfOk result (λ told. AllByRecursion IsPayable told.items) }
-{
-    let telling = told(alloc, file)?;
-    Ok(telling.calls)
-}
-
-// The calls of all lines, and the types behind them.
-fn told(alloc: Global, file: &File) -> Result<Telling, NoMemory>
-    requires bounded { IsBounded file.now }
-    requires few { length file.now.types ≤ 64 }
-    ensures { IfOk result (λ told. told_of told ≡ told_file file.now) }
+    ensures calls { IfOk result (λ told. told.calls.items ≡ calls file.now) }
+    ensures ends { IfOk result (λ told. told.ends.items ≡ phase_ends file.now) }
+    ensures payable { IfOk result (λ told. AllByRecursion IsPayable told.calls.items) }
 {
     let mut telling = Telling::opening(alloc, file.types.as_slice())?;
+    let mut ends = Vec::new(alloc);
     for lines in file.phases.as_slice() {
         telling.tell_phase(alloc, file, lines.as_slice())?;
+        ends.push(telling.calls.len())?;
     }
-    Ok(telling)
+    Ok(FileCalls {
+        calls: telling.calls,
+        ends,
+    })
 }
 
 impl Telling {
@@ -61,7 +63,7 @@ impl Telling {
     fn opening(alloc: Global, types: &[TypeDecl]) -> Result<Telling, NoMemory>
         requires few { length types.now ≤ 64 }
         requires small { list_all is_small types.now ≡ true }
-        ensures { IfOk result (λ new. told_of new ≡ told_types 0 types.now nothing_told) }
+        ensures { IfOk result (λ new. told_of new ≡ told_types types.now) }
     {
         let mut telling = Telling {
             kinds: Vec::new(alloc),
@@ -76,9 +78,10 @@ impl Telling {
     // A type and its definition.
     fn define(&mut self, alloc: Global, type_no: u32, decl: &TypeDecl) -> Result<(), NoMemory>
         requires { length (cards_of decl.now.schema) ≤ 1024 }
-        ensures { OnOk result (told_of self.new ≡ told_defined type_no decl.now (told_of self.old)) }
+        ensures kinds { OnOk result (self.new.kinds.items ≡ self.old.kinds.items ++ defined_kind type_no decl.now ∷ []) }
+        ensures calls { OnOk result (self.new.calls.items ≡ self.old.calls.items ++ by program (Stored.Define type_no decl.now.schema) ∷ []) }
     {
-        self.kinds.push(defined(alloc, type_no, &decl.schema)?)?;
+        self.kinds.push(defined_kind(alloc, type_no, decl)?)?;
         self.note(PROGRAM, Stored::Define(type_no, decl.schema.copy(alloc)?))
     }
 
@@ -120,7 +123,7 @@ impl Telling {
         call: Call,
     ) -> Result<(), NoMemory>
         requires { call_weight call ≤ 4000000000 }
-        ensures { OnOk result (told_of self.new ≡ told_call file.now caller call (told_of self.old)) }
+        ensures { OnOk result (told_of self.new ≡ told_call file.now.cases caller call (told_of self.old)) }
     {
         match call {
             Call::Kind { type_no, event } => self.tell_kind(alloc, caller, type_no, event),
@@ -141,7 +144,7 @@ impl Telling {
         event: KindEvent,
     ) -> Result<(), NoMemory>
         requires { kind_weight event ≤ 4000000000 }
-        ensures { OnOk result (told_of self.new ≡ told_kind caller type_no event (told_of self.old)) }
+        ensures { OnOk result (told_of self.new ≡ told_call [] caller (Call.Kind type_no event) (told_of self.old)) }
     {
         if let Some(kind) = self.kinds.get_mut(type_no as usize) {
             let _ = kind.step(alloc, &event)?;
@@ -151,7 +154,7 @@ impl Telling {
 
     // The type is asked for its newest version, and the case is created on it.
     fn create(&mut self, caller: u32, type_no: u32, id: CaseId) -> Result<(), NoMemory>
-        ensures { OnOk result (told_of self.new ≡ told_create caller type_no id (told_of self.old)) }
+        ensures { OnOk result (told_of self.new ≡ with_calls (by caller (Stored.Newest type_no) ∷ create_calls caller id (newest_number type_no self.old.kinds.items)) (told_of self.old)) }
     {
         let newest = self.newest_number(type_no);
         self.note(caller, Stored::Newest(type_no))?;
@@ -163,7 +166,7 @@ impl Telling {
 
     // The type is asked for its newest version, and each of its cases is to move to it.
     fn migrate(&mut self, caller: u32, type_no: u32, cases: &[CaseDecl]) -> Result<(), NoMemory>
-        ensures { OnOk result (told_of self.new ≡ told_migrate caller type_no cases.now (told_of self.old)) }
+        ensures { OnOk result (told_of self.new ≡ with_calls (by caller (Stored.Newest type_no) ∷ migrate_calls caller type_no cases.now (newest_number type_no self.old.kinds.items)) (told_of self.old)) }
     {
         let newest = self.newest_number(type_no);
         self.note(caller, Stored::Newest(type_no))?;
@@ -181,7 +184,7 @@ impl Telling {
         number: u32,
         cases: &[CaseDecl],
     ) -> Result<(), NoMemory>
-        ensures { OnOk result (told_of self.new ≡ fold (told_migration caller type_no number) (told_of self.old) cases.now) }
+        ensures { OnOk result (told_of self.new ≡ with_calls (migrations caller type_no number cases.now) (told_of self.old)) }
     {
         for decl in cases {
             if decl.id.type_no == type_no {
@@ -200,16 +203,6 @@ impl Telling {
     }
 }
 
-// A type behind its definition.
-fn defined(alloc: Global, type_no: u32, schema: &Schema) -> Result<Kind, NoMemory>
-    requires { length (cards_of schema.now) ≤ 1024 }
-    ensures { IfOk result (λ kind. kind ≡ stepped (KindEvent.Define schema.now) (not_defined type_no)) }
-{
-    let mut kind = Kind::new(alloc, type_no);
-    let _ = kind.step(alloc, &KindEvent::Define(schema.copy(alloc)?))?;
-    Ok(kind)
-}
-
 // An event of a type as it is stored.
 fn stored_kind(type_no: u32, event: KindEvent) -> Stored
     ensures { result ≡ stored_kind type_no event }
@@ -218,16 +211,5 @@ fn stored_kind(type_no: u32, event: KindEvent) -> Stored
         KindEvent::Define(schema) => Stored::Define(type_no, schema),
         KindEvent::Install(ops) => Stored::Install(type_no, ops),
         KindEvent::Newest => Stored::Newest(type_no),
-    }
-}
-
-// The roles of the actor with a number, from 1.
-fn roles_of(file: &File, actor: u32) -> &[u32]
-    ensures { result.now ≡ roles_of file.now actor }
-{
-    let index = (actor as usize).saturating_sub(1);
-    match file.actors.get(index) {
-        None => &[],
-        Some(decl) => decl.roles.as_slice(),
     }
 }

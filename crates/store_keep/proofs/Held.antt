@@ -1,17 +1,13 @@
 -- Which payloads images hold.
-use Rattle.std.proofs.Common.{◌≡◌, ℕ, ◌+◌, List, [], ◌∷◌, ◌++◌, length, refl, sym, ap, subst, ◌∙◌, append_assoc}
+use Rattle.std.proofs.Common.{◌≡◌, ℕ, List, [], ◌∷◌, ◌++◌, refl, sym, ap, subst, ◌∙◌, append_assoc}
 use Rattle.std.proofs.lemmas.List.{append-nil}
-use Rattle.store_disk.specs.Image.{frames, frames_of, HasList}
+use Rattle.store_disk.specs.Image.{frames, payloads_in, HasList}
 use Rattle.store_disk.specs.Opening.{with_gate}
 use Rattle.store_disk.specs.Rest.{IsAtRest}
 use Rattle.store_disk.proofs.Framing.{frames_at}
+use Rattle.store_disk.proofs.Groups.{in-frames}
 use Rattle.store_form.specs.Payload.{Bytes}
-use Rattle.store_keep.specs.Keeping.{Begins, held, HoldsBeginning, IsBegun, payloads_in}
-
--- a list is held by its frames
-in-frames : (place : ℕ) (ps : List Bytes) → payloads_in (frames_of place ps) ≡ ps
-in-frames place [] = refl
-in-frames place (p ∷ ps) = ap (λ qs. p ∷ qs) (in-frames (place + (5 + length p)) ps)
+use Rattle.store_keep.specs.Keeping.{Begins, held, HoldsBeginning, IsBegun}
 
 pub held-list : (ps : List Bytes) (image : List ℕ) → HasList ps image → held image ≡ ps
 held-list ps image list = ap payloads_in list ∙ in-frames 0 ps
@@ -29,8 +25,8 @@ beginning all least ps image list begins more = record {
 pub begins-self : (ps : List Bytes) → Begins ps ps
 begins-self ps = ([], append-nil ps)
 
-pub begins-more : (least ps : List Bytes) (p : Bytes) → Begins least ps → Begins least (ps ++ p ∷ [])
-begins-more least ps p (rest, is) = (rest ++ p ∷ [], sym (append_assoc least rest (p ∷ [])) ∙ ap (λ qs. qs ++ p ∷ []) is)
+pub begins-more : (least ps qs : List Bytes) → Begins least ps → Begins least (ps ++ qs)
+begins-more least ps qs (rest, is) = (rest ++ qs, sym (append_assoc least rest qs) ∙ ap (λ all. all ++ qs) is)
 
 module _ {D : Type 0} (content : D → List ℕ) (may_leave : D → List ℕ → Type 0) where
   -- at rest a disk, and each image of it, holds its list

@@ -2,14 +2,14 @@
 use Rattle.std.proofs.Common.{◌≡◌, ℕ, zero, suc, ◌+◌, ◌<◌, ◌≤◌, ◌^◌, true, false, List, [], ◌∷◌, ◌++◌, length, map, take, drop, Option, Some, None, refl, sym, ap, subst, ◌∙◌, append_assoc, arith, length-append}
 use Rattle.std.specs.Prelude.{bytes_eq, if◌then◌else◌, slice_get}
 use Rattle.std.specs.List.{AllByRecursion}
-use Rattle.std.proofs.lemmas.List.{append-nil, length-drop, length-take-le, map_push}
+use Rattle.std.proofs.lemmas.List.{length-drop, length-take-le, map_push}
 use Rattle.std.proofs.lemmas.Slice.Eq.{bytes_eq-Decides}
 use Rattle.store_calls.specs.Calls.{payload_of}
 use Rattle.store_disk.specs.Image.{all_framed, closed, frame, frames, frames_from, framed}
 use Rattle.store_disk.specs.Opening.{IsFrame, with_gate}
 use Rattle.store_disk.specs.Rest.{EndsAt}
 use Rattle.store_disk.specs.declared.frames.Frame.TheVariants as front
-use Rattle.store_disk.proofs.Framing.{all_short, closes, one_framed}
+use Rattle.store_disk.proofs.Framing.{all_short, closes, framed-more, one_framed}
 use Rattle.store_form.specs.Payload.{Bytes}
 use Rattle.store_form.specs.declared.stored.Recorded.{Recorded}
 use Rattle.store_keep.specs.Finding.{finds, is_call}
@@ -45,11 +45,6 @@ get-within [] zero x is = absurd cc
 get-within [] (suc i) x is = absurd cc
 get-within (y ∷ ys) zero x is = omega arith
 get-within (y ∷ ys) (suc i) x is = omega (arith, get-within ys i x is)
-
--- the bytes of one record more
-framed-more : (ps : List Bytes) (p : Bytes) → all_framed (ps ++ p ∷ []) ≡ all_framed ps ++ framed p
-framed-more [] p = append-nil (framed p)
-framed-more (q ∷ ps) p = ap (λ l. framed q ++ l) (framed-more ps p) ∙ sym (append_assoc (framed q) (all_framed ps) (framed p))
 
 -- bytes of an image that was looked at as a disk with a gate are framed from their front
 frames-whole : (image : List ℕ) → with_gate image ≡ image → frames_from 0 0 image ≡ frames image

@@ -4,7 +4,7 @@ use Rattle.std.specs.Prelude.{IfErr, IsErrOf, Result, Ok, Err}
 use Rattle.std.proofs.lemmas.List.{length-map, length-take-le}
 use Rattle.store_calls.specs.Calls.{payload_of}
 use Rattle.store_disk.specs.Disk.{IsSettled, LeavesOnly, Only}
-use Rattle.store_disk.specs.Image.{all_framed, frames, HasList}
+use Rattle.store_disk.specs.Image.{all_framed, frames, HasList, payloads_in}
 use Rattle.store_disk.specs.Opening.{HoldsAsBefore, with_gate}
 use Rattle.store_disk.specs.Rest.{EndsAt, IsAtRest}
 use Rattle.store_disk.proofs.Framing.{frames_at}
@@ -12,7 +12,7 @@ use Rattle.store_disk.proofs.Moments.{and_then, weaker}
 use Rattle.store_form.specs.Payload.{Bytes}
 use Rattle.store_form.specs.declared.stored.Recorded.{Recorded}
 use Rattle.store_keep.specs.Finding.{finds}
-use Rattle.store_keep.specs.Keeping.{held, HoldsBeginning, IsBegun, IsLeft, IsStored, payloads_in}
+use Rattle.store_keep.specs.Keeping.{held, HoldsBeginning, IsBegun, IsLeft, IsStored}
 use Rattle.store_keep.specs.Refusals.{IsAddFault, Overflows, Tells}
 use Rattle.store_keep.specs.declared.faults.KeepFault.{KeepFault}
 use Rattle.store_keep.specs.declared.faults.KeepFault.TheVariants as fault

@@ -1,14 +1,9 @@
 -- Which payloads an image holds, and how they stand to those of all calls.
-use Rattle.std.specs.Prelude.{◌≡◌, ℕ, List, [], ◌∷◌, ◌++◌}
+use Rattle.std.specs.Prelude.{◌≡◌, ℕ, List, ◌++◌}
 use Rattle.store_disk.specs.Disk.{LeavesOnly}
-use Rattle.store_disk.specs.Image.{Frames, closed, damaged, frame, frames, HasList}
+use Rattle.store_disk.specs.Image.{frames, payloads_in, HasList}
 use Rattle.store_disk.specs.Rest.{IsAtRest}
 use Rattle.store_form.specs.Payload.{Bytes}
-
-abbrev pub payloads_in : Frames → List Bytes
-payloads_in (closed place) = []
-payloads_in (damaged place) = []
-payloads_in (frame place p others) = p ∷ payloads_in others
 
 -- the payloads of the records of an image
 abbrev pub held : List ℕ → List Bytes

@@ -1,3 +1,4 @@
 pub mod Finding
+pub mod Grouping
 pub mod Keeping
 pub mod Refusals

@@ -15,11 +15,12 @@ use std::alloc::Global;
 use store_disk::{Disk, open_image};
 use store_form::Recorded;
 
-/// Stores those of the calls that a disk does not hold yet, in an image of at most so many bytes. It may hold a beginning of
-/// them; any other disk is refused, and left as it is.
+/// Stores those of the calls that a disk does not hold yet, in an image of at most so many bytes: those up to each of the ends,
+/// which ascend, in groups of their own. It may hold a beginning of the calls; any other disk is refused, and left as it is.
 pub fn keep<D: Disk>(
     alloc: Global,
     calls: &[Recorded],
+    ends: &[usize],
     limit: u64,
     disk: &mut D,
 ) -> Result<(), KeepFault>
@@ -41,8 +42,10 @@ pub fn keep<D: Disk>(
     ensures never_falls { D.faults disk.old ≤ D.faults disk.new }
 {
     let image = open_image(alloc, disk)?;
-    match find(alloc, calls, &image)? {
-        Found::Beginning { count, gate } => add_all(alloc, &calls[count..], gate, limit, disk),
+    let found = find(alloc, calls, &image)?;
+    drop(image);
+    match found {
+        Found::Beginning { count, gate } => add_all(alloc, calls, count, ends, gate, limit, disk),
         Found::Differs(number) => Err(KeepFault::Differs(number)),
         Found::Damaged(place) => Err(KeepFault::Damaged(place)),
     }

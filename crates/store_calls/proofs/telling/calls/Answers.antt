@@ -1,14 +1,15 @@
-use Rattle.std.proofs.Common.{◌≡◌, ◌∙◌, ap, subst, sym}
+use Rattle.std.proofs.Common.{◌≡◌, ◌∙◌, ap, fold, subst, sym}
 use Rattle.std.specs.List.{AllByRecursion}
-use Rattle.store_calls.specs.Calls.{IsPayable, calls}
+use Rattle.std.proofs.lemmas.List.{at_drop_all}
+use Rattle.store_calls.specs.Calls.{IsPayable, told_file, told_phase}
+use Rattle.store_calls.specs.Told.{told_of}
 use Rattle.store_calls.proofs.Payable.{payable_calls}
-use Rattle.store_calls.proofs.Tellings.{told_calls}
 use Rattle.store_calls.proofs.telling.calls.Goals as goal
-
-pub returns-clause-calls : goal.returns-clause-calls
-returns-clause-calls c = ap (λ s. s.calls) c.in_ok-telling.ensures ∙ told_calls c.args.file.now
 
 pub returns-clause-payable : goal.returns-clause-payable
 returns-clause-payable c =
-    let same : c.in_ok-telling.telling.calls.items ≡ calls c.args.file.now = ap (λ s. s.calls) c.in_ok-telling.ensures ∙ told_calls c.args.file.now in
-    subst (AllByRecursion IsPayable) (sym same) (payable_calls c.args.file.now c.requires.workable)
+    let l = c.loop-lines in
+    let f = c.args.file.now in
+    let same : told_of l.telling ≡ told_file f =
+    sym (at_drop_all (fold (told_phase f) (told_of l.telling)) c.as_slice-lines-items.result.now l.lines-index c.loop-lines-test.false) ∙ l.invariant.told in
+    subst (AllByRecursion IsPayable) (sym (ap (λ s. s.calls) same)) (payable_calls f c.requires.workable)

@@ -1,69 +1,101 @@
-use Rattle.std.proofs.Common.{◌≡◌, ◌+◌, ◌∷◌, ◌++◌, ◌∙◌, drop, map, ap, subst, sym, refl, arith}
-use Rattle.std.specs.List.{AllByRecursion}
-use Rattle.std.proofs.lemmas.List.{drop_more}
-use Rattle.store_calls.specs.Calls.{IsPayable, payload_of}
+use Rattle.std.proofs.Common.{◌≡◌, ◌+◌, ◌-◌, ◌++◌, ◌∙◌, Err, ap, arith, drop, length, map, refl, subst, sym, take}
+use Rattle.std.proofs.lemmas.List.{length-map, length-take-le}
+use Rattle.std.proofs.lemmas.Result.{err_from_is_err_and}
+use Rattle.store_calls.specs.Calls.{payload_of}
+use Rattle.store_disk.specs.Disk.{LeavesOnly}
+use Rattle.store_disk.specs.Image.{all_framed}
+use Rattle.store_disk.specs.Rest.{HasNoneOrAll, IsAtRest}
 use Rattle.store_keep.specs.Keeping.{held}
 use Rattle.store_keep.specs.Refusals.{Overflows}
-use Rattle.store_keep.proofs.Additions.{Progress, moments, nothing-yet, one-more, over-behind, over-here, stays}
+use Rattle.store_keep.specs.declared.faults.KeepFault.TheVariants as fault
+use Rattle.store_keep.proofs.Additions.{Progress, behind, group-more, moments, nothing-yet, over-behind, over-first, over-here, split-group, split-phase, stays}
 use Rattle.store_keep.proofs.Held.{begins-self, rest-again}
 use Rattle.store_keep.proofs.adding.add_all.Goals as goal
 
-pub loop-call-init : goal.loop-call-init
-loop-call-init g c =
+pub loop-stored-init : goal.loop-stored-init
+loop-stored-init g c =
     let k = g.D.Disk in
     let disk = c.args.disk.now in
     let least = held (k.content disk) in
+    let left = drop c.args.stored c.args.calls.now in
     record {
-      progress = nothing-yet k.content k.may_leave k.moment k.left_since disk c.args.calls.now c.args.gate c.requires.rest;
+      progress = nothing-yet k.content k.may_leave k.moment k.left_since disk left c.args.gate c.requires.rest;
       short = c.requires.short;
       within = λ le. le;
-      payable = c.requires.payable;
       moments =
-          stays k.content k.may_leave k.moment k.left_since g.met.D.Disk.only_now disk least (least ++ map payload_of c.args.calls.now) least c.args.gate c.requires.rest
-          (map payload_of c.args.calls.now, refl) (begins-self least);
+          stays k.content k.may_leave k.moment k.left_since g.met.D.Disk.only_now disk least (least ++ map payload_of left) least c.args.gate c.requires.rest
+          (map payload_of left, refl) (begins-self least);
       over = λ o. o;
       fits = λ o. o;
       steady = refl;
     }
 
-pub add-requires-clause-rest : goal.add-requires-clause-rest
-add-requires-clause-rest g c =
+pub returns-in_err-group-clause-full : goal.returns-in_err-group-clause-full
+returns-in_err-group-clause-full g c =
+    let l = c.loop-stored in
+    let left = drop l.stored c.args.calls.now in
+    let n = c.next_end-end.result.0 - l.stored in
+    let told = err_from_is_err_and c.from_residual.result c.from_residual.ensures.1 in
+    λ full.
+    let same : c.in_err-group.field-0.0 ≡ fault.Full = cc (full, told.1, told.2) in
+    l.invariant.over (subst (Overflows c.args.limit l.gate) (sym (split-phase n left)) (over-first c.args.limit l.gate (take n left) (drop n left) (c.in_err-group.ensures.full (ap Err same))))
+
+pub append_group-requires : goal.append_group-requires
+append_group-requires g c κs within =
     let k = g.D.Disk in
-    let l = c.loop-call in
-    rest-again k.content k.may_leave l.disk l.invariant.progress.ps l.gate l.invariant.progress.rest
+    let l = c.loop-stored in
+    let first = c.in_ok-group.ensures.first in
+    let phase = take (c.next_end-end.result.0 - l.stored) (drop l.stored c.args.calls.now) in
+    let many : length c.in_ok-group.group ≡ c.in_ok-group.count =
+    ap length first.are ∙ length-map (take c.in_ok-group.count phase) payload_of ∙ length-take-le c.in_ok-group.count phase first.within in
+    (search, (rest-again k.content k.may_leave l.disk l.invariant.progress.ps l.gate l.invariant.progress.rest, (omega (arith, many, first.some), omega (arith, l.invariant.short))))
 
 pub returns-in_err-gate-clause-any_moment : goal.returns-in_err-gate-clause-any_moment
 returns-in_err-gate-clause-any_moment g c =
     let k = g.D.Disk in
-    let l = c.loop-call in
+    let l = c.loop-stored in
     let calls = c.args.calls.now in
-    let r = c.call-item.result in
-    let rs = drop (l.call-index + 1) calls in
+    let count = c.in_ok-group.count in
+    let first = c.in_ok-group.ensures.first in
+    let n = c.next_end-end.result.0 - l.stored in
     let least = held (k.content c.args.disk.now) in
-    let all = least ++ map payload_of calls in
-    let split : drop l.call-index calls ≡ r ∷ rs = drop_more calls l.call-index r c.loop-call-test.true ∙ ap (λ x. x ∷ rs) (sym c.call-item.is) in
-    let so_far : Progress k.content k.may_leave least all (r ∷ rs) l.disk l.gate = subst (λ left. Progress k.content k.may_leave least all left l.disk l.gate) split l.invariant.progress in
-    moments k.content k.may_leave k.moment k.left_since least all r rs l.disk l.gate so_far c.args.disk.now c.add.new.disk l.invariant.moments c.add.ensures.any_moment
+    let all = least ++ map payload_of (drop c.args.stored calls) in
+    let group = take count (take n (drop l.stored calls)) in
+    let rest = drop (l.stored + count) calls in
+    let so_far : Progress k.content k.may_leave least all (group ++ rest) l.disk l.gate =
+    subst (λ left. Progress k.content k.may_leave least all left l.disk l.gate) (split-group count n l.stored calls first.within) l.invariant.progress in
+    moments k.content k.may_leave k.moment k.left_since least all group rest l.disk l.gate so_far c.args.disk.now c.append_group.new.disk l.invariant.moments
+    (subst (λ ps. LeavesOnly k.moment k.left_since l.disk c.append_group.new.disk (HasNoneOrAll (held (k.content l.disk)) ps)) first.are c.append_group.ensures.any_moment)
 
-pub loop-call-preserved : goal.loop-call-preserved
-loop-call-preserved g c =
+pub loop-stored-preserved : goal.loop-stored-preserved
+loop-stored-preserved g c =
     let k = g.D.Disk in
-    let l = c.loop-call in
+    let l = c.loop-stored in
     let calls = c.args.calls.now in
-    let r = c.call-item.result in
-    let rs = drop (l.call-index + 1) calls in
+    let limit = c.args.limit in
+    let count = c.in_ok-group.count in
+    let first = c.in_ok-group.ensures.first in
+    let n = c.next_end-end.result.0 - l.stored in
     let least = held (k.content c.args.disk.now) in
-    let all = least ++ map payload_of calls in
-    let split : drop l.call-index calls ≡ r ∷ rs = drop_more calls l.call-index r c.loop-call-test.true ∙ ap (λ x. x ∷ rs) (sym c.call-item.is) in
-    let so_far : Progress k.content k.may_leave least all (r ∷ rs) l.disk l.gate = subst (λ left. Progress k.content k.may_leave least all left l.disk l.gate) split l.invariant.progress in
+    let all = least ++ map payload_of (drop c.args.stored calls) in
+    let group = take count (take n (drop l.stored calls)) in
+    let rest = drop (l.stored + count) calls in
+    let new = c.append_group.new.disk in
+    let next = c.in_ok-gate.gate in
     let added = c.in_ok-gate.ensures in
+    let split = split-group count n l.stored calls first.within in
+    let so_far : Progress k.content k.may_leave least all (group ++ rest) l.disk l.gate = subst (λ left. Progress k.content k.may_leave least all left l.disk l.gate) split l.invariant.progress in
+    let at : next ≡ behind l.gate group = added.next ∙ ap (λ ps. l.gate + length (all_framed ps)) first.are in
     record {
-      progress = one-more k.content k.may_leave k.moment k.left_since least all r rs l.disk l.gate so_far c.add.new.disk c.in_ok-gate.gate added.acknowledged;
-      short = added.short;
-      within = λ le. added.within (l.invariant.within le);
-      payable = (subst (AllByRecursion IsPayable) split l.invariant.payable).1;
-      moments = moments k.content k.may_leave k.moment k.left_since least all r rs l.disk l.gate so_far c.args.disk.now c.add.new.disk l.invariant.moments c.add.ensures.any_moment;
-      over = λ o. l.invariant.over (subst (Overflows c.args.limit l.gate) (sym split) (over-here c.args.limit l.gate c.in_ok-gate.gate r rs added.next o));
-      fits = λ o. over-behind c.args.limit l.gate c.in_ok-gate.gate r rs added.next added.fits (subst (Overflows c.args.limit l.gate) split (l.invariant.fits o));
+      progress =
+          group-more k.content k.may_leave k.moment k.left_since least all group rest l.disk l.gate so_far new next
+          (subst (λ ps. IsAtRest k.content k.may_leave new (held (k.content l.disk) ++ ps) next) first.are added.acknowledged);
+      short = omega (arith, added.next, first.short);
+      within = λ le. omega (arith, added.size, l.invariant.within le, first.short);
+      moments =
+          moments k.content k.may_leave k.moment k.left_since least all group rest l.disk l.gate so_far c.args.disk.now new l.invariant.moments
+          (subst (λ ps. LeavesOnly k.moment k.left_since l.disk new (HasNoneOrAll (held (k.content l.disk)) ps)) first.are c.append_group.ensures.any_moment);
+      over = λ o. l.invariant.over (subst (Overflows limit l.gate) (sym split) (over-here limit l.gate group rest (subst (λ g. Overflows limit g rest) at o)));
+      fits = λ o. subst (λ g. Overflows limit g rest) (sym at) (over-behind limit l.gate group rest first.fits (subst (Overflows limit l.gate) split (l.invariant.fits o)));
       steady = added.no_fault ∙ l.invariant.steady;
     }

@@ -1,11 +1,7 @@
-use Rattle.std.proofs.Common.{◌++◌, ◌∙◌, ap, arith, drop, length, map, subst, sym}
-use Rattle.std.proofs.lemmas.List.{take_rest}
+use Rattle.std.proofs.Common.{◌∙◌, ap, arith, length, subst, sym}
 use Rattle.std.proofs.lemmas.Result.{on_ok_weaker}
-use Rattle.store_calls.specs.Calls.{payload_of}
-use Rattle.store_disk.specs.Disk.{IsSettled, LeavesOnly}
+use Rattle.store_disk.specs.Disk.{IsSettled}
 use Rattle.store_keep.specs.Finding.{HoldsFound}
-use Rattle.store_keep.specs.Keeping.{held, HoldsBeginning, IsStored}
-use Rattle.store_keep.specs.Refusals.{Overflows}
 use Rattle.store_keep.specs.declared.finding.Found.TheVariants as found
 use Rattle.store_keep.proofs.Opened.{add-tells, all-moments, all-stored, is-begun, overflow-told, rest-mid, told-overflows}
 use Rattle.store_keep.proofs.keeping.keep.Goals as goal
@@ -17,7 +13,7 @@ add_all-requires-clause-rest g c =
     let mid = c.open_image.new.disk in
     let shown = c.deref.ensures.value in
     let settled : IsSettled k.content k.may_leave mid image = subst (IsSettled k.content k.may_leave mid) (sym shown) c.in_ok-image.ensures.settled in
-    let here : HoldsFound c.args.calls.now image (found.Beginning c.in-Beginning.count c.in-Beginning.gate) = subst (HoldsFound c.args.calls.now image) c.in-Beginning.is c.in_ok-count.ensures.holds in
+    let here : HoldsFound c.args.calls.now image (found.Beginning c.in-Beginning.count c.in-Beginning.gate) = subst (HoldsFound c.args.calls.now image) c.in-Beginning.is c.in_ok-found.ensures.holds in
     rest-mid k.content k.may_leave k.moment k.left_since c.args.disk.now mid image settled (shown ∙ c.in_ok-image.ensures.bytes) c.args.calls.now c.in-Beginning.count c.in-Beginning.gate here.0 here.1
 
 pub returns-in-Beginning-clause-all : goal.returns-in-Beginning-clause-all
@@ -29,11 +25,9 @@ returns-in-Beginning-clause-all g c =
     let calls = c.args.calls.now in
     let count = c.in-Beginning.count in
     let settled : IsSettled k.content k.may_leave mid image = subst (IsSettled k.content k.may_leave mid) (sym shown) c.in_ok-image.ensures.settled in
-    let here : HoldsFound calls image (found.Beginning count c.in-Beginning.gate) = subst (HoldsFound calls image) c.in-Beginning.is c.in_ok-count.ensures.holds in
+    let here : HoldsFound calls image (found.Beginning count c.in-Beginning.gate) = subst (HoldsFound calls image) c.in-Beginning.is c.in_ok-found.ensures.holds in
     on_ok_weaker c.add_all.result
-    (λ stored.
-    all-stored k.content k.may_leave k.moment k.left_since c.args.disk.now mid image settled (shown ∙ c.in_ok-image.ensures.bytes) calls count c.in-Beginning.gate here.0 here.1 c.add_all.new.disk
-    (subst (λ rest. IsStored k.content k.may_leave c.add_all.new.disk (held (k.content mid) ++ map payload_of rest)) (take_rest calls count) stored))
+    (all-stored k.content k.may_leave k.moment k.left_since c.args.disk.now mid image settled (shown ∙ c.in_ok-image.ensures.bytes) calls count c.in-Beginning.gate here.0 here.1 c.add_all.new.disk)
     c.add_all.ensures.all
 
 pub returns-in-Beginning-clause-begun : goal.returns-in-Beginning-clause-begun
@@ -44,7 +38,7 @@ returns-in-Beginning-clause-begun g c =
     let shown = c.deref.ensures.value in
     let calls = c.args.calls.now in
     let settled : IsSettled k.content k.may_leave mid image = subst (IsSettled k.content k.may_leave mid) (sym shown) c.in_ok-image.ensures.settled in
-    let here : HoldsFound calls image (found.Beginning c.in-Beginning.count c.in-Beginning.gate) = subst (HoldsFound calls image) c.in-Beginning.is c.in_ok-count.ensures.holds in
+    let here : HoldsFound calls image (found.Beginning c.in-Beginning.count c.in-Beginning.gate) = subst (HoldsFound calls image) c.in-Beginning.is c.in_ok-found.ensures.holds in
     on_ok_weaker c.add_all.result
     (λ stored.
     is-begun k.content k.may_leave k.moment k.left_since c.args.disk.now mid image settled (shown ∙ c.in_ok-image.ensures.bytes) calls c.in-Beginning.count c.in-Beginning.gate here.0 here.1)
@@ -61,12 +55,10 @@ returns-in-Beginning-clause-any_moment g c =
     let calls = c.args.calls.now in
     let count = c.in-Beginning.count in
     let settled : IsSettled k.content k.may_leave mid image = subst (IsSettled k.content k.may_leave mid) (sym shown) c.in_ok-image.ensures.settled in
-    let here : HoldsFound calls image (found.Beginning count c.in-Beginning.gate) = subst (HoldsFound calls image) c.in-Beginning.is c.in_ok-count.ensures.holds in
-    let adding : LeavesOnly k.moment k.left_since mid new (HoldsBeginning (held (k.content mid) ++ map payload_of (drop count calls)) (held (k.content mid))) =
-    subst (λ rest. LeavesOnly k.moment k.left_since mid new (HoldsBeginning (held (k.content mid) ++ map payload_of rest) (held (k.content mid)))) (take_rest calls count) c.add_all.ensures.any_moment in
+    let here : HoldsFound calls image (found.Beginning count c.in-Beginning.gate) = subst (HoldsFound calls image) c.in-Beginning.is c.in_ok-found.ensures.holds in
     λ begun.
     all-moments k.content k.may_leave k.moment k.left_since old mid image settled (shown ∙ c.in_ok-image.ensures.bytes) calls count c.in-Beginning.gate here.0 here.1 new c.requires.settled
-    c.open_image.ensures.any_moment begun adding
+    c.open_image.ensures.any_moment begun c.add_all.ensures.any_moment
 
 pub returns-in-Beginning-clause-refused : goal.returns-in-Beginning-clause-refused
 returns-in-Beginning-clause-refused g c =
@@ -77,11 +69,11 @@ returns-in-Beginning-clause-refused g c =
     let calls = c.args.calls.now in
     let count = c.in-Beginning.count in
     let settled : IsSettled k.content k.may_leave mid image = subst (IsSettled k.content k.may_leave mid) (sym shown) c.in_ok-image.ensures.settled in
-    let here : HoldsFound calls image (found.Beginning count c.in-Beginning.gate) = subst (HoldsFound calls image) c.in-Beginning.is c.in_ok-count.ensures.holds in
+    let here : HoldsFound calls image (found.Beginning count c.in-Beginning.gate) = subst (HoldsFound calls image) c.in-Beginning.is c.in_ok-found.ensures.holds in
     add-tells c.args.limit calls (k.content c.args.disk.now) c.add_all.result c.add_all.ensures.others
     (λ full.
     overflow-told k.content k.may_leave k.moment k.left_since c.args.disk.now mid image settled (shown ∙ c.in_ok-image.ensures.bytes) calls count c.in-Beginning.gate here.0 here.1 c.args.limit
-    (subst (Overflows c.args.limit c.in-Beginning.gate) (take_rest calls count) (c.add_all.ensures.full full)))
+    (c.add_all.ensures.full full))
 
 pub returns-in-Beginning-clause-fits : goal.returns-in-Beginning-clause-fits
 returns-in-Beginning-clause-fits g c =
@@ -92,12 +84,10 @@ returns-in-Beginning-clause-fits g c =
     let calls = c.args.calls.now in
     let count = c.in-Beginning.count in
     let settled : IsSettled k.content k.may_leave mid image = subst (IsSettled k.content k.may_leave mid) (sym shown) c.in_ok-image.ensures.settled in
-    let here : HoldsFound calls image (found.Beginning count c.in-Beginning.gate) = subst (HoldsFound calls image) c.in-Beginning.is c.in_ok-count.ensures.holds in
+    let here : HoldsFound calls image (found.Beginning count c.in-Beginning.gate) = subst (HoldsFound calls image) c.in-Beginning.is c.in_ok-found.ensures.holds in
     on_ok_weaker c.add_all.result
     (λ fits full.
-    fits
-    (subst (Overflows c.args.limit c.in-Beginning.gate) (sym (take_rest calls count))
-    (told-overflows k.content k.may_leave k.moment k.left_since c.args.disk.now mid image settled (shown ∙ c.in_ok-image.ensures.bytes) calls count c.in-Beginning.gate here.0 here.1 c.args.limit full)))
+    fits (told-overflows k.content k.may_leave k.moment k.left_since c.args.disk.now mid image settled (shown ∙ c.in_ok-image.ensures.bytes) calls count c.in-Beginning.gate here.0 here.1 c.args.limit full))
     c.add_all.ensures.fits
 
 pub returns-in-Beginning-clause-within : goal.returns-in-Beginning-clause-within

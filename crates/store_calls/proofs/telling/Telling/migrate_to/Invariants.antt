@@ -1,8 +1,9 @@
-use Rattle.std.proofs.Common.{◌≡◌, drop, fold}
-use Rattle.store_calls.specs.Told.{told_migration, told_of}
+use Rattle.std.proofs.Common.{◌≡◌, ◌++◌, drop}
+use Rattle.store_calls.specs.Calls.{migrations}
 use Rattle.store_calls.proofs.telling.Telling.migrate_to.Given as goal
 
 abbrev pub invariant-loop-decl : goal.invariant-loop-decl
-invariant-loop-decl l =
-    fold (told_migration l.caller l.type_no l.number) (told_of l.self) (drop l.decl-index l.cases)
-    ≡ fold (told_migration l.caller l.type_no l.number) (told_of l.initial.self) l.cases
+invariant-loop-decl l = record {
+  kinds : l.self.kinds.items ≡ l.initial.self.kinds.items;
+  calls : l.self.calls.items ++ migrations l.caller l.type_no l.number (drop l.decl-index l.cases) ≡ l.initial.self.calls.items ++ migrations l.caller l.type_no l.number l.cases;
+}
