@@ -34,9 +34,9 @@ items A@0
 summary cases=1 finished=0 entries=1 migrated=0 blocked=0 overlap=0
 ";
 
-// The store opens with five calls. Each of the three records, two syncs and two writes, is there before the next, and the
-// store is opened again with three.
-const DISK_CALLS: u64 = 20;
+// The store opens with five calls. The three records are one group, two writes and two syncs, and the store is opened again
+// with three.
+const DISK_CALLS: u64 = 12;
 
 // Which call of each device fails, from 1; with 0 none does.
 #[derive(Clone, Copy)]
