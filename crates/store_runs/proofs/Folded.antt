@@ -11,26 +11,33 @@ use Rattle.case_core.specs.declared.events.Event.TheVariants as event
 use Rattle.case_store.specs.Folding.{called, case_at, folded, fresh, fresh_cases, fresh_kinds, on_version, place_of, starts_of, version_of, version_of_kind}
 use Rattle.case_store.specs.Folding.{on_case as on_stored}
 use Rattle.file_facts.proofs.Cases.{ids-distinct}
-use Rattle.file_facts.specs.Facts.{IsDeclared, IsKnown, IsKnownAct, IsWorkable}
+use Rattle.file_facts.specs.Facts.{IsDeclared, IsKnown, IsWorkable}
 use Rattle.file_model.specs.CaseCounts.{has_id}
-use Rattle.file_model.specs.declared.files.Act.{Act}
-use Rattle.file_model.specs.declared.files.Act.TheVariants as act
 use Rattle.file_model.specs.declared.files.CaseDecl.{CaseDecl}
 use Rattle.file_model.specs.declared.files.File.{File}
 use Rattle.file_model.specs.declared.files.Line.{Line}
 use Rattle.file_model.specs.declared.files.TypeDecl.{TypeDecl}
 use Rattle.script_run.proofs.Each.{each-called, each-passed}
+use Rattle.line_calls.proofs.Facts.{known-call}
 use Rattle.line_calls.proofs.Places.{position-from_0}
-use Rattle.script_run.specs.Calls.{acted, call_case, call_kind, changed_at, changed_where, created, each_of, migrated, newest, on_case, on_kind, worked}
+use Rattle.line_calls.specs.Calls.{call_of}
+use Rattle.line_calls.specs.Files.{roles_of}
+use Rattle.line_calls.specs.Known.{IsKnownCall}
+use Rattle.line_calls.specs.declared.calls.Call.{Call}
+use Rattle.line_calls.specs.declared.calls.Call.TheVariants as call
+use Rattle.line_calls.specs.declared.calls.Told.TheVariants as told
+use Rattle.script_run.specs.Calls.{call_case, call_kind, called as run_called, changed_at, changed_where, created, each_of, migrated, newest, on_case, on_kind, worked}
 use Rattle.script_run.specs.Serial.{defined, kinds_from, opening, phase_worked, program, serial, uncalled}
 use Rattle.script_run.specs.declared.runs.ClosedCase.{ClosedCase}
 use Rattle.script_run.specs.declared.runs.ClosedKind.{ClosedKind}
 use Rattle.script_run.specs.declared.runs.Run.{Run}
-use Rattle.store_calls.specs.Calls.{act_calls, by, create_calls, definitions, line_called, migrate_calls, migrations, phase_called, Worked}
+use Rattle.store_calls.specs.Calls.{Told, by, create_calls, definitions, kinds_behind, migrate_calls, migrations, records, stored_kind, told_line, told_phase, told_types}
 use Rattle.store_form.specs.declared.stored.Recorded.{Recorded}
 use Rattle.store_form.specs.declared.stored.Stored.TheVariants as stored
 use Rattle.store_runs.proofs.Changes.{changed-seam, get-changed, get-other}
 use Rattle.store_runs.proofs.CountedPlaces.{counts-size, declared-place, fresh-at, place-number, same-place}
+use Rattle.script_run.specs.Verdicts.{defined_from, defined_kind}
+use Rattle.store_runs.proofs.Machines.{kinds-changed, kinds-same, machines, newest-is, number}
 use Rattle.store_runs.proofs.Numbers.{AllCounted, counted-call, counted-changed, found-by-number, found-when-asked, none-counted}
 use Rattle.store_runs.specs.Stored.{case_counts, IsSameRun, stored_run}
 use Rattle.type_core.specs.KindModel.{not_defined}
@@ -171,7 +178,7 @@ module _ (f : File) (workable : IsWorkable f) where
 
   -- a case that is created on the version that was answered
   creates : (a : ℕ) (c : CaseId) (o : Option VersionModel) (run held : Run) → IsDeclared c f.cases → ((v : VersionModel) → o ≡ Some v → version_of run c.type_no v.number ≡ Some v) → Same run held
-      → Same (created f a c o run) (all held (create_calls a c o))
+      → Same (created f a c o run) (all held (create_calls a c (number o)))
   creates a c None run held declared has same = same
   creates a c (Some v) run held declared has same =
       subst (λ o. Same (on_case f a c (event.Create v) run) (on_version starts a c event.Create o held)) (sym (has-version run held c.type_no v same (has v refl)))
@@ -229,23 +236,28 @@ module _ (f : File) (workable : IsWorkable f) where
         (λ is. subst (λ b. Done (all held (more d ds b))) (sym is) (moves ds (i + 1) held next.1 (one-stays i d held next.0 (unlike d.id.type_no t is) same)))
 
   migrates : (a t : ℕ) (o : Option VersionModel) (run held : Run) → ((v : VersionModel) → o ≡ Some v → version_of run t v.number ≡ Some v) → Same run held
-      → Same (migrated f a t o run) (all held (migrate_calls a t f.cases o))
+      → Same (migrated f a t o run) (all held (migrate_calls a t f.cases (number o)))
   migrates a t None run held has same = same
   migrates a t (Some v) run held has same = moves a t v run.kinds (has v refl) run.cases f.cases 0 held refl same
 
   -- ---- a line, a phase, the file
-  acts : (a : ℕ) (x : Act) (run held : Run) → IsKnownAct (length f.types) f.cases x → AllCounted run.kinds → Same run held → Same (acted f a x run) (all held (act_calls f a run x))
-  acts a (act.Create c) run held known counted same =
-      creates a c (newest c.type_no run) (on_kind a c.type_no kind_event.Newest run) (on_kind a c.type_no kind_event.Newest held) known
-      (λ v is. found-when-asked a c.type_no v.number run ∙ found-by-number run c.type_no v counted is) (on-kind a c.type_no kind_event.Newest run held same)
-  acts a (act.Start c n) run held known counted same = on-case a c _ run held known same
-  acts a (act.Withdraw c n) run held known counted same = on-case a c _ run held known same
-  acts a (act.End c n choice writes) run held known counted same = on-case a c _ run held known same
-  acts a (act.Change c ops) run held known counted same = on-case a c _ run held known.0 same
-  acts a (act.Install t ops) run held known counted same = on-kind a t (kind_event.Install ops) run held same
-  acts a (act.Migrate t) run held known counted same =
-      migrates a t (newest t run) (on_kind a t kind_event.Newest run) (on_kind a t kind_event.Newest held)
-      (λ v is. found-when-asked a t v.number run ∙ found-by-number run t v counted is) (on-kind a t kind_event.Newest run held same)
+  kind-stored : (a t : ℕ) (e : KindEvent) (held : Run) → called starts held (by a (stored_kind t e)) ≡ on_kind a t e held
+  kind-stored a t (kind_event.Define schema) held = refl
+  kind-stored a t (kind_event.Install ops) held = refl
+  kind-stored a t kind_event.Newest held = refl
+
+  makes : (a : ℕ) (k : Call) (run held : Run) → IsKnownCall (length f.types) f.cases k → AllCounted run.kinds → Same run held → Same (run_called f a k run) (all held (records f.cases a (machines run.kinds) k))
+  makes a (call.Kind t e) run held known counted same = subst (Same (on_kind a t e run)) (sym (kind-stored a t e held)) (on-kind a t e run held same)
+  makes a (call.Case c e) run held known counted same = on-case a c e run held known same
+  makes a (call.Newest t (told.Create c)) run held (own, known) counted same =
+      subst (λ n. Same (run_called f a (call.Newest n (told.Create c)) run) (all held (records f.cases a (machines run.kinds) (call.Newest n (told.Create c))))) (sym own)
+      (subst (λ o. Same (run_called f a (call.Newest c.type_no (told.Create c)) run) (all (on_kind a c.type_no kind_event.Newest held) (create_calls a c o))) (sym (newest-is c.type_no run))
+      (creates a c (newest c.type_no run) (on_kind a c.type_no kind_event.Newest run) (on_kind a c.type_no kind_event.Newest held) known
+      (λ v is. found-when-asked a c.type_no v.number run ∙ found-by-number run c.type_no v counted is) (on-kind a c.type_no kind_event.Newest run held same)))
+  makes a (call.Newest t told.Migrate) run held known counted same =
+      subst (λ o. Same (run_called f a (call.Newest t told.Migrate) run) (all (on_kind a t kind_event.Newest held) (migrate_calls a t f.cases o))) (sym (newest-is t run))
+      (migrates a t (newest t run) (on_kind a t kind_event.Newest run) (on_kind a t kind_event.Newest held)
+      (λ v is. found-when-asked a t v.number run ∙ found-by-number run t v counted is) (on-kind a t kind_event.Newest run held same))
 
   created-counted : (a : ℕ) (c : CaseId) (o : Option VersionModel) (run : Run) → AllCounted run.kinds → AllCounted (created f a c o run).kinds
   created-counted a c None run all = all
@@ -255,36 +267,55 @@ module _ (f : File) (workable : IsWorkable f) where
   migrated-counted a t None run all = all
   migrated-counted a t (Some v) run all = all
 
-  counted : (a : ℕ) (x : Act) (run : Run) → AllCounted run.kinds → AllCounted (acted f a x run).kinds
-  counted a (act.Create c) run all = created-counted a c (newest c.type_no run) (on_kind a c.type_no kind_event.Newest run) (counted-changed a c.type_no kind_event.Newest run.kinds all)
-  counted a (act.Start c n) run all = all
-  counted a (act.Withdraw c n) run all = all
-  counted a (act.End c n choice writes) run all = all
-  counted a (act.Change c ops) run all = all
-  counted a (act.Install t ops) run all = counted-changed a t (kind_event.Install ops) run.kinds all
-  counted a (act.Migrate t) run all = migrated-counted a t (newest t run) (on_kind a t kind_event.Newest run) (counted-changed a t kind_event.Newest run.kinds all)
+  counted : (a : ℕ) (k : Call) (run : Run) → AllCounted run.kinds → AllCounted (run_called f a k run).kinds
+  counted a (call.Kind t e) run all = counted-changed a t e run.kinds all
+  counted a (call.Case c e) run all = all
+  counted a (call.Newest t (told.Create c)) run all = created-counted a c (newest t run) (on_kind a t kind_event.Newest run) (counted-changed a t kind_event.Newest run.kinds all)
+  counted a (call.Newest t told.Migrate) run all = migrated-counted a t (newest t run) (on_kind a t kind_event.Newest run) (counted-changed a t kind_event.Newest run.kinds all)
 
-  record IsMade (w : Worked) : Type 0 where
-    same : Same w.run (folded (case_counts f) w.calls)
-    counts : AllCounted w.run.kinds
+  -- the types that the calls are told by are those of the run
+  kinds-told : (a : ℕ) (k : Call) (run : Run) → kinds_behind k (machines run.kinds) ≡ machines (run_called f a k run).kinds
+  kinds-told a (call.Kind t e) run = sym (kinds-changed a t e run.kinds)
+  kinds-told a (call.Case c e) run = refl
+  kinds-told a (call.Newest t (told.Create c)) run = by_answer (newest t run)
+    where
+      by_answer : (o : Option VersionModel) → machines run.kinds ≡ machines (created f a c o (on_kind a t kind_event.Newest run)).kinds
+      by_answer None = sym (kinds-same a t run)
+      by_answer (Some v) = sym (kinds-same a t run)
+  kinds-told a (call.Newest t told.Migrate) run = by_answer (newest t run)
+    where
+      by_answer : (o : Option VersionModel) → machines run.kinds ≡ machines (migrated f a t o (on_kind a t kind_event.Newest run)).kinds
+      by_answer None = sym (kinds-same a t run)
+      by_answer (Some v) = sym (kinds-same a t run)
+
+  record IsMade (run : Run) (s : Told) : Type 0 where
+    same : Same run (folded (case_counts f) s.calls)
+    counts : AllCounted run.kinds
+    kinds : s.kinds ≡ machines run.kinds
 
   abbrev Known : Line → Type 0
   Known l = IsKnown (length f.types) (length f.actors) f.cases l
 
-  line-made : (l : Line) (w : Worked) → Known l → IsMade w → IsMade (line_called f w l)
-  line-made l w known made = record {
-    same = subst (Same (worked f w.run l)) (sym (fold-append (called starts) (fresh (case_counts f)) w.calls (act_calls f l.actor w.run l.act)))
-        (acts l.actor l.act w.run (folded (case_counts f) w.calls) known.act made.counts made.same);
-    counts = counted l.actor l.act w.run made.counts;
-  }
+  line-made : (l : Line) (run : Run) (s : Told) → Known l → IsMade run s → IsMade (worked f run l) (told_line f s l)
+  line-made l run s known made =
+      let a = l.actor in
+      let k = call_of a (roles_of f a) l.act in
+      let held = folded (case_counts f) s.calls in
+      let all_made = subst (λ ks. Same (worked f run l) (all held (records f.cases a ks k))) (sym made.kinds)
+      (makes a k run held (known-call a (roles_of f a) (length f.types) f.cases l.act known.act) made.counts made.same) in
+      record {
+        same = subst (Same (worked f run l)) (sym (fold-append (called starts) (fresh (case_counts f)) s.calls (records f.cases a s.kinds k))) all_made;
+        counts = counted a k run made.counts;
+        kinds = ap (kinds_behind k) made.kinds ∙ kinds-told a k run;
+      }
 
-  lines-made : (lines : List Line) (w : Worked) → AllRows Known lines → IsMade w → IsMade (phase_called f w lines)
-  lines-made [] w known made = made
-  lines-made (l ∷ ls) w known made = lines-made ls (line_called f w l) known.1 (line-made l w known.0 made)
+  lines-made : (lines : List Line) (run : Run) (s : Told) → AllRows Known lines → IsMade run s → IsMade (phase_worked f run lines) (told_phase f s lines)
+  lines-made [] run s known made = made
+  lines-made (l ∷ ls) run s known made = lines-made ls (worked f run l) (told_line f s l) known.1 (line-made l run s known.0 made)
 
-  phases-made : (phases : List (List Line)) (w : Worked) → AllRows (AllRows Known) phases → IsMade w → IsMade (fold (phase_called f) w phases)
-  phases-made [] w known made = made
-  phases-made (p ∷ ps) w known made = phases-made ps (phase_called f w p) known.1 (lines-made p w known.0 made)
+  phases-made : (phases : List (List Line)) (run : Run) (s : Told) → AllRows (AllRows Known) phases → IsMade run s → IsMade (fold (phase_worked f) run phases) (fold (told_phase f) s phases)
+  phases-made [] run s known made = made
+  phases-made (p ∷ ps) run s known made = phases-made ps (phase_worked f run p) (told_phase f s p) known.1 (lines-made p run s known.0 made)
 
   -- ---- the types are defined
   defines : (done : List ClosedKind) (t : ℕ) (ds : List TypeDecl) (ns : List ℕ) (cases : List ClosedCase) → length done ≡ t → length ns ≡ length ds
@@ -303,29 +334,24 @@ module _ (f : File) (workable : IsWorkable f) where
   defined-counted t [] = tt
   defined-counted t (d ∷ ds) = (counted-call program (kind_event.Define d.schema) (record { machine = not_defined t; journal = [] }) (none-counted (not_defined t) refl), defined-counted (t + 1) ds)
 
-  opens : IsMade (record { run = opening f; calls = definitions 0 f.types })
+  types-same : (t : ℕ) (ds : List TypeDecl) → defined_from t ds ≡ machines (kinds_from t ds)
+  types-same t [] = refl
+  types-same t (d ∷ ds) = ap (λ ks. defined_kind t d ∷ ks) (types-same (t + 1) ds)
+
+  opens : IsMade (opening f) (told_types f.types)
   opens =
       let is = defines [] 0 f.types (case_counts f) (fresh_cases 0 (case_counts f)) refl (counts-size 0 f.types f.cases) in
       record {
         same = subst (Same (opening f)) (sym is)
             (record { kinds = refl; cases = λ k d at. fresh-at f workable d.id (declared-at k d at) ∙ sym (slice_get-map uncalled f.cases k ∙ ap (option_map uncalled) at) });
         counts = defined-counted 0 f.types;
+        kinds = types-same 0 f.types;
       }
-
-  -- ---- the run of all lines is the serial run
-  lines-run : (lines : List Line) (w : Worked) → (phase_called f w lines).run ≡ phase_worked f w.run lines
-  lines-run [] w = refl
-  lines-run (l ∷ ls) w = lines-run ls (line_called f w l)
-
-  phases-run : (phases : List (List Line)) (w : Worked) → (fold (phase_called f) w phases).run ≡ fold (phase_worked f) w.run phases
-  phases-run [] w = refl
-  phases-run (p ∷ ps) w = phases-run ps (phase_called f w p) ∙ ap (λ r. fold (phase_worked f) r ps) (lines-run p w)
 
   -- so a store that holds the calls of a file has the types and the cases of its serial run, journals and all
   pub stored-serial : IsSameRun starts f.cases (serial f) (stored_run f)
   stored-serial =
-      let made = phases-made f.phases (record { run = opening f; calls = definitions 0 f.types }) workable.known opens in
-      let same : Same (serial f) (stored_run f) = subst (λ r. Same r (stored_run f)) (phases-run f.phases (record { run = opening f; calls = definitions 0 f.types })) made.same in
+      let same = (phases-made f.phases (opening f) (told_types f.types) workable.known opens).same in
       record {
         kinds = same.kinds;
         cases = λ k d at. ap (case_at (stored_run f)) (declared-place f workable d.id (declared-at k d at)) ∙ same.cases k d at;

@@ -2,3 +2,4 @@ mod Changes
 mod CountedPlaces
 pub mod Folded
 mod Numbers
+pub mod Machines

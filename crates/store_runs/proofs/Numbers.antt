@@ -107,7 +107,7 @@ found-by-number r t v all is = go (slice_get r.kinds t) refl is
         at-number k.machine.versions v (counted-at r.kinds t k all at v has) has
 
 -- a type that is asked for its newest version stays as it is
-asked : (k : KindModel) (o : Option VersionModel) → (event_on k o kind_event.Newest).0 ≡ k
+pub asked : (k : KindModel) (o : Option VersionModel) → (event_on k o kind_event.Newest).0 ≡ k
 asked k None = refl
 asked k (Some v) = refl
 

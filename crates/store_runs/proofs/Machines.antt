@@ -1,0 +1,59 @@
+-- The types of a run without their journals.
+use Rattle.std.proofs.Common.{◌≡◌, ℕ, zero, suc, List, [], ◌∷◌, Option, Some, None, refl, sym, ap, ◌∙◌}
+use Rattle.std.specs.Prelude.{option_map, slice_get}
+use Rattle.script_run.specs.Calls.{answered_version, call_kind, changed_at, newest, newest_in, on_kind}
+use Rattle.script_run.specs.Verdicts.{stepped}
+use Rattle.script_run.specs.declared.runs.ClosedKind.{ClosedKind}
+use Rattle.script_run.specs.declared.runs.Run.{Run}
+use Rattle.store_calls.specs.Calls.{newest_number, number_in}
+use Rattle.store_runs.proofs.Changes.{changed-later}
+use Rattle.store_runs.proofs.Numbers.{asked}
+use Rattle.type_core.specs.KindModel.{KindModel}
+use Rattle.type_core.specs.Machine.{event_on, newest_of}
+use Rattle.type_core.specs.declared.events.KindEvent.{KindEvent}
+use Rattle.type_core.specs.declared.events.KindEvent.TheVariants as kind_event
+use Rattle.wsm_sound.specs.VersionModel.{VersionModel}
+
+abbrev pub machines : List ClosedKind → List KindModel
+machines [] = []
+machines (k ∷ ks) = k.machine ∷ machines ks
+
+-- the number of the newest version is that of the version that a type answers
+abbrev pub number : Option VersionModel → Option ℕ
+number o = option_map (λ v. v.number) o
+
+get-machine : (ks : List ClosedKind) (t : ℕ) → slice_get (machines ks) t ≡ option_map (λ k. k.machine) (slice_get ks t)
+get-machine [] zero = refl
+get-machine [] (suc t) = refl
+get-machine (k ∷ ks) zero = refl
+get-machine (k ∷ ks) (suc t) = get-machine ks t
+
+answered : (k : KindModel) (o : Option VersionModel) → number o ≡ number (answered_version (event_on k o kind_event.Newest).1)
+answered k None = refl
+answered k (Some v) = refl
+
+number-of : (o : Option ClosedKind) → number_in (option_map (λ k. k.machine) o) ≡ number (newest_in o)
+number-of None = refl
+number-of (Some k) = answered k.machine (newest_of k.machine.versions)
+
+pub newest-is : (t : ℕ) (r : Run) → newest_number t (machines r.kinds) ≡ number (newest t r)
+newest-is t r = ap number_in (get-machine r.kinds t) ∙ number-of (slice_get r.kinds t)
+
+-- a type is changed at its place
+pub kinds-changed : (a t : ℕ) (e : KindEvent) (ks : List ClosedKind) → machines (changed_at (call_kind a e) t ks) ≡ changed_at (stepped e) t (machines ks)
+kinds-changed a zero e [] = refl
+kinds-changed a (suc t) e [] = refl
+kinds-changed a zero e (k ∷ ks) = refl
+kinds-changed a (suc t) e (k ∷ ks) =
+    ap machines (changed-later (call_kind a e) t k ks) ∙ ap (λ ms. k.machine ∷ ms) (kinds-changed a t e ks)
+    ∙ sym (changed-later (stepped e) t k.machine (machines ks))
+
+-- and not by the question for its newest version
+kinds-asked : (t : ℕ) (ks : List KindModel) → changed_at (stepped kind_event.Newest) t ks ≡ ks
+kinds-asked zero [] = refl
+kinds-asked (suc t) [] = refl
+kinds-asked zero (k ∷ ks) = ap (λ m. m ∷ ks) (asked k (newest_of k.versions))
+kinds-asked (suc t) (k ∷ ks) = changed-later (stepped kind_event.Newest) t k ks ∙ ap (λ ms. k ∷ ms) (kinds-asked t ks)
+
+pub kinds-same : (a t : ℕ) (r : Run) → machines (on_kind a t kind_event.Newest r).kinds ≡ machines r.kinds
+kinds-same a t r = kinds-changed a t kind_event.Newest r.kinds ∙ kinds-asked t (machines r.kinds)
