@@ -21,7 +21,8 @@ pub(crate) fn end_of_links(rt: &HostRuntime, path: &str) -> io::Result<String> {
         match fs::read_link(rt, name.as_str()) {
             Ok(text) => name = linked(rt, name.as_str(), text.as_str())?,
             // (what is no link, or is not there)
-            Err(error) if matches!(error.kind(), ErrorKind::InvalidInput | ErrorKind::NotFound) => break,
+            Err(error) if matches!(error.kind(), ErrorKind::InvalidInput | ErrorKind::NotFound) =>
+                break,
             Err(error) => return Err(error),
         }
     }
