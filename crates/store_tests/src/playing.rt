@@ -34,9 +34,9 @@ items A@0
 summary cases=1 finished=0 entries=1 migrated=0 blocked=0 overlap=0
 ";
 
-// The store opens with five calls. The three records are one group, two writes and two syncs, and the store is opened again
-// with three.
-const DISK_CALLS: u64 = 12;
+// The store, which is begun, opens with four calls. The three records are one group, two writes and two syncs, and the store is
+// opened again with three.
+const DISK_CALLS: u64 = 11;
 
 // Which call of each device fails, from 1; with 0 none does.
 #[derive(Clone, Copy)]
