@@ -3,7 +3,7 @@
 #![tactic(auto)]
 
 use adept_io::{StdSink, StdSource};
-use case_audit::audit_input;
+use case_audit::{audit_input, end_status};
 use standard_streams::hold_streams;
 use std::process::ExitCode;
 
@@ -13,5 +13,5 @@ fn main(rt: HostRuntime) -> ExitCode {
     }
     let mut source = StdSource::new(rt.stdin());
     let mut sink = StdSink::new(rt.stdout());
-    ExitCode::from(audit_input(&rt, rt.alloc(), &mut source, &mut sink))
+    ExitCode::from(end_status(audit_input(&rt, rt.alloc(), &mut source, &mut sink)))
 }

@@ -71,7 +71,7 @@ filter-rows P Q p h (x ∷ xs) (one, all) = by (p x) refl (filter-rows P Q p h x
     by true is more = (h x one is, more)
     by false is more = more
 
-filter-phases : {X : Type 0} (P Q : X → Type 0) (p : X → Bool) → ((x : X) → P x → p x ≡ true → Q x) → (xss : List (List X)) → AllRows (AllRows P) xss → AllRows (AllRows Q) (map (λ xs. filter p xs) xss)
+pub filter-phases : {X : Type 0} (P Q : X → Type 0) (p : X → Bool) → ((x : X) → P x → p x ≡ true → Q x) → (xss : List (List X)) → AllRows (AllRows P) xss → AllRows (AllRows Q) (map (λ xs. filter p xs) xss)
 filter-phases P Q p h xss all = rows-map (AllRows Q) (λ xs. filter p xs) xss (all-rows-map (AllRows P) (λ xs. AllRows Q (filter p xs)) (λ xs some. filter-rows P Q p h xs some) xss all)
 
 module _ (f : File) (workable : IsWorkable f) (auditable : IsAuditable f) where

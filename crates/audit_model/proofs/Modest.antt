@@ -1,11 +1,13 @@
 -- Lines that ask little: what their events weigh, and how old a case is behind them.
-use Rattle.std.proofs.Common.{◌≡◌, ℕ, zero, suc, ◌+◌, ◌<◌, ◌≤◌, ◌==◌, Bool, true, false, List, [], ◌∷◌, ◌++◌, length, length-append, map, Option, Some, None, refl, sym, ap, ◌∙◌, subst, arith, if◌then◌else◌}
+use Rattle.std.proofs.Common.{◌≡◌, ℕ, zero, suc, ◌+◌, ◌<◌, ◌≤◌, ◌==◌, Bool, true, false, List, [], ◌∷◌, ◌++◌, length, length-append, map, Some, refl, sym, ap, ◌∙◌, subst, arith, if◌then◌else◌}
 use Rattle.std.proofs.lemmas.List.Sums.{sum_by-cons}
 use Rattle.std.specs.Prelude.{filter, slice_set}
 use Rattle.audit_facts.specs.Facts.{IsAuditable, WritesOneLine}
 use Rattle.audit_model.specs.Asked.{Asked, Telling, asked_lines, asked_phases, asks, case_event_of, kind_event_of, left_to_tell, told_at, version_for}
 use Rattle.audit_model.specs.Owed.{calls_kind, owed_kind}
 use Rattle.audit_model.proofs.KeptValues.{case-kept}
+use Rattle.audit_model.proofs.KindCalls.{rows-filter}
+use Rattle.audit_model.proofs.Live.{filter-phases}
 use Rattle.audit_model.specs.Kept.{KeptCase, WritesValues}
 use Rattle.case_core.proofs.AgesOfSteps.{age-next_case}
 use Rattle.case_core.specs.Ages.{weight}
@@ -28,7 +30,7 @@ use Rattle.script_run.specs.declared.runs.ClosedCase.{ClosedCase}
 use Rattle.type_core.specs.Machine.{weight as kind_weight}
 use Rattle.type_core.specs.declared.events.KindEvent.{KindEvent}
 use Rattle.wsm_lists.specs.Rows.{AllRows}
-use Rattle.audit_model.specs.Cases.{IsSteady}
+use Rattle.audit_model.specs.Journaled.{IsSteady}
 use Rattle.audit_model.specs.Lines.{IsModest, IsModestLine, actor_of, line_of}
 
 -- ---- the queues of actors
@@ -53,33 +55,21 @@ module _ {L : Type 0} (P : L → Type 0) where
   pub front-row : (queues : List (List L)) (a : ℕ) (l : L) (ls : List L) → AllRows (AllRows P) queues → queue_of queues a ≡ l ∷ ls → P l
   front-row queues a l ls all is = (subst (AllRows P) is (queue-rows queues a all)).0
 
-  filter-rows : (p : L → Bool) (ls : List L) → AllRows P ls → AllRows P (filter p ls)
-  filter-rows p [] all = tt
-  filter-rows p (l ∷ ls) (one, all) = by (p l) (filter-rows p ls all)
-    where
-      by : (test : Bool) → AllRows P (filter p ls) → AllRows P (if test then l ∷ filter p ls else filter p ls)
-      by true more = (one, more)
-      by false more = more
-
   from-queues : (queues : List (List L)) → ((a : ℕ) → a < length queues → AllRows P (queue_of queues a)) → AllRows (AllRows P) queues
   from-queues [] each = tt
   from-queues (q ∷ qs) each = (each 0 (omega arith), from-queues qs (λ a low. each (suc a) (omega (arith, low))))
 
   pub turns-rows : (actor_of : L → ℕ) (actors : ℕ) (queues : List (List L)) (phase : List L) → AreTurns actor_of actors queues phase → AllRows P phase → AllRows (AllRows P) queues
   turns-rows actor_of actors queues phase (many, same) all =
-      from-queues queues (λ a low. subst (AllRows P) (sym (same a (omega (arith, many, low)))) (filter-rows (λ l. actor_of l == a) phase all))
+      from-queues queues (λ a low. subst (AllRows P) (sym (same a (omega (arith, many, low)))) (rows-filter P (λ l. actor_of l == a) phase all))
 
   filled-rows : (phases : List (List L)) → AllRows (AllRows P) phases → AllRows (AllRows P) (filled phases)
   filled-rows [] all = tt
   filled-rows ([] ∷ phases) (one, all) = filled-rows phases all
   filled-rows ((l ∷ ls) ∷ phases) (one, all) = (one, filled-rows phases all)
 
-  each-filtered : (p : L → Bool) (phases : List (List L)) → AllRows (AllRows P) phases → AllRows (AllRows P) (map (λ lines. filter p lines) phases)
-  each-filtered p [] all = tt
-  each-filtered p (lines ∷ phases) (one, all) = (filter-rows p lines one, each-filtered p phases all)
-
   pub called-rows : (p : L → Bool) (phases : List (List L)) → AllRows (AllRows P) phases → AllRows (AllRows P) (filled (map (λ lines. filter p lines) phases))
-  called-rows p phases all = filled-rows (map (λ lines. filter p lines) phases) (each-filtered p phases all)
+  called-rows p phases all = filled-rows (map (λ lines. filter p lines) phases) (filter-phases P P p (λ l one kept. one) phases all)
 
 -- ---- what events weigh
 pub kind-light : (l : Line) (e : KindEvent) → IsModestLine l → kind_event_of l ≡ Some e → kind_weight e ≤ 768

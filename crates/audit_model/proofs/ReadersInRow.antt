@@ -14,8 +14,7 @@ use Rattle.line_readers.specs.Readers.{Reader, and_then, done, mapped}
 use Rattle.script_run.specs.declared.runs.ClosedCase.{ClosedCase}
 use Rattle.script_run.specs.declared.runs.ClosedKind.{ClosedKind}
 use Rattle.text_follower.specs.Followed.{Followed}
-use Rattle.audit_model.specs.Cases.{InCases}
-use Rattle.audit_model.specs.Kinds.{InKinds}
+use Rattle.audit_model.specs.Journaled.{InCases, InKinds}
 
 -- ---- a reader of one in front of a reader of others
 module _ {A : Type 0} where

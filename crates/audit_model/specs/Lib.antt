@@ -6,5 +6,4 @@ pub mod ReportReader
 pub mod Kept
 pub mod Lines
 pub mod Judging
-pub mod Kinds
-pub mod Cases
+pub mod Journaled

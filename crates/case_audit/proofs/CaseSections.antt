@@ -1,5 +1,5 @@
 -- The cases of a report, joined in their order.
-use Rattle.std.proofs.Common.{◌≡◌, ℕ, zero, suc, ◌+◌, ◌<◌, ◌≤◌, List, [], ◌∷◌, ◌++◌, length, length-append, get_or, slice_get, Option, Some, None, Result, Ok, Err, IfOk, OnOk, refl, sym, ap, ◌∙◌, subst, arith}
+use Rattle.std.proofs.Common.{◌≡◌, ℕ, zero, suc, ◌+◌, ◌<◌, List, [], ◌∷◌, ◌++◌, length, length-append, get_or, slice_get, Option, Some, None, Result, Ok, Err, IfOk, OnOk, refl, sym, ap, ◌∙◌, subst, arith}
 use Rattle.std.proofs.lemmas.Option.{same_Some, slice_get-get_or}
 use Rattle.std.specs.List.{AllZip, range_with_len}
 use Rattle.audit_model.specs.Asked.{Asked, owed_case}
@@ -9,7 +9,7 @@ use Rattle.case_audit.specs.Owing.{calls_decl, numbers, owed_of}
 use Rattle.case_audit.specs.Sharing.{given}
 use Rattle.case_audit.specs.declared.owed.Owed.{Owed}
 use Rattle.audit_model.proofs.ReadersInRow.{case-on, case-stops}
-use Rattle.audit_model.specs.Cases.{InCases}
+use Rattle.audit_model.specs.Journaled.{InCases}
 use Rattle.case_audit.specs.Sections.{AreModest, AreSections, HasScript, IsCaseAt, IsModestOwed, IsSection}
 use Rattle.case_audit.specs.declared.sections.Section.{Section}
 use Rattle.file_model.specs.declared.files.CaseDecl.{CaseDecl}

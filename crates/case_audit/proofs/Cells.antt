@@ -1,24 +1,23 @@
 -- Types by their numbers and cases by their declarations: which of them a line calls.
-use Rattle.std.proofs.Common.{◌≡◌, ℕ, suc, ◌+◌, ◌<◌, ◌≤◌, ◌==◌, ◌&&◌, eq-eqb, eqb-true, Bool, true, false, List, [], ◌∷◌, ◌++◌, length, map, slice_get, Option, Some, None, refl, sym, ap, ◌∙◌, subst, arith, if◌then◌else◌}
+use Rattle.std.proofs.Common.{◌≡◌, ℕ, ◌+◌, ◌≤◌, ◌==◌, ◌&&◌, eq-eqb, eqb-true, Bool, true, false, List, [], ◌∷◌, ◌++◌, length, map, Some, None, refl, sym, ap, ◌∙◌, arith, if◌then◌else◌}
 use Rattle.std.proofs.lemmas.List.{length-map}
 use Rattle.std.proofs.lemmas.List.FromFn.{length-range_with_len}
 use Rattle.std.specs.Prelude.{fold}
-use Rattle.std.specs.List.{position_from, range_with_len}
+use Rattle.std.specs.List.{range_with_len}
 use Rattle.audit_model.specs.Asked.{Asked}
-use Rattle.audit_model.specs.Owed.{calls_case, calls_kind}
 use Rattle.file_facts.proofs.Cases.{ids-distinct}
 use Rattle.file_facts.specs.Facts.{ArePlaced}
 use Rattle.file_model.specs.CaseCounts.{has_id}
-use Rattle.file_model.specs.declared.files.Act.{Act}
-use Rattle.file_model.specs.declared.files.Act.TheVariants as act
 use Rattle.file_model.specs.declared.files.CaseDecl.{CaseDecl}
-use Rattle.line_calls.specs.Calls.{is_case}
+use Rattle.line_calls.specs.Calls.{case_among, cells_of, each_among, has_case, has_kind, is_case, kind_among}
+use Rattle.line_calls.specs.declared.calls.Cells.{Cells}
+use Rattle.line_calls.specs.declared.calls.Cells.TheVariants as cells
 use Rattle.line_followers.specs.Numbered.{with_line}
 use Rattle.line_calls.proofs.Places.{position-from_0}
-use Rattle.script_run.specs.Calls.{changed_at, changed_where}
+use Rattle.script_run.specs.Calls.{changed_where}
 use Rattle.wsm_sound.specs.declared.versions.CaseId.{CaseId}
 use Rattle.case_audit.proofs.Sharing.{phase-put, put-at, put-map, put-none, put-one, put-same}
-use Rattle.case_audit.specs.Owing.{called_case, called_kind, calls_decl, calls_number, case_put, declared_at, is_of_type, kind_put, moved_type}
+use Rattle.case_audit.specs.Owing.{called_case, calls_decl, calls_number, case_put, declared_at, is_of_type, kind_put, moved_type}
 use Rattle.case_audit.specs.Sharing.{given, put_line, put_where}
 
 -- ---- types
@@ -29,16 +28,13 @@ none-kind : (f : Numbered → Numbered) (l : Asked) (ts : List ℕ) (xs : List N
 none-kind f l ts xs none = sym (put-none (λ t. calls_number t l) f ts xs (λ i t is. none t))
 
 kind-put-line : (n p : ℕ) (xs : List Numbered) (l : Asked) → length xs ≤ n → kind_put p xs l ≡ put_line calls_number (range_with_len 0 n) p xs l
-kind-put-line n p xs l few = by l.0.act refl
+kind-put-line n p xs l few = by (cells_of l.0.act)
   where
-    by : (x : Act) → l.0.act ≡ x → changed_where (with_line p l) (called_kind x) xs ≡ put_where (λ t. calls_kind t x) (with_line p l) (range_with_len 0 n) xs
-    by (act.Create c) is = put-at (with_line p l) n c.type_no xs few
-    by (act.Install t ops) is = put-at (with_line p l) n t xs few
-    by (act.Migrate t) is = put-at (with_line p l) n t xs few
-    by (act.Start c node) is = sym (put-none (λ t. false) (with_line p l) (range_with_len 0 n) xs (λ i t at. refl))
-    by (act.Withdraw c node) is = sym (put-none (λ t. false) (with_line p l) (range_with_len 0 n) xs (λ i t at. refl))
-    by (act.End c node choice writes) is = sym (put-none (λ t. false) (with_line p l) (range_with_len 0 n) xs (λ i t at. refl))
-    by (act.Change c ops) is = sym (put-none (λ t. false) (with_line p l) (range_with_len 0 n) xs (λ i t at. refl))
+    by : (x : Cells) → changed_where (with_line p l) (kind_among x) xs ≡ put_where (λ t. has_kind t x) (with_line p l) (range_with_len 0 n) xs
+    by (cells.Kind t) = put-at (with_line p l) n t xs few
+    by (cells.Case c) = sym (put-none (λ t. false) (with_line p l) (range_with_len 0 n) xs (λ i t at. refl))
+    by (cells.KindAndCase t c) = put-at (with_line p l) n t xs few
+    by (cells.KindAndEach t) = put-at (with_line p l) n t xs few
 
 kind-lines : (n p : ℕ) (lines : List Asked) (g : ℕ → Numbered) → fold (kind_put p) (map g (range_with_len 0 n)) lines ≡ fold (put_line calls_number (range_with_len 0 n) p) (map g (range_with_len 0 n)) lines
 kind-lines n p [] g = refl
@@ -99,38 +95,28 @@ case-called cases c f xs placed =
 
 -- the lines that call one case, those that call each of a type, and those that call none
 pub one-called : (cases : List CaseDecl) (p : ℕ) (xs : List Numbered) (l : Asked) (c : CaseId) → ArePlaced cases → called_case l.0.act ≡ Some c → changed_where (with_line p l) (declared_at cases c) xs ≡ case_put cases p xs l
-one-called cases p xs l c placed is = by l.0.act refl (case-called cases c (with_line p l) xs placed) is
+one-called cases p xs l c placed is = by (cells_of l.0.act) is
   where
-    by : (x : Act) → l.0.act ≡ x → changed_where (with_line p l) (declared_at cases c) xs ≡ put_where (λ d. is_case d.id c) (with_line p l) cases xs → called_case x ≡ Some c
-        → changed_where (with_line p l) (declared_at cases c) xs ≡ put_where (λ d. calls_case d.id x) (with_line p l) cases xs
-    by (act.Create d) at called is = let same : d ≡ c = cc is in called ∙ ap (λ e. put_where (λ d. is_case d.id e) (with_line p l) cases xs) (sym same)
-    by (act.Start d n) at called is = let same : d ≡ c = cc is in called ∙ ap (λ e. put_where (λ d. is_case d.id e) (with_line p l) cases xs) (sym same)
-    by (act.Withdraw d n) at called is = let same : d ≡ c = cc is in called ∙ ap (λ e. put_where (λ d. is_case d.id e) (with_line p l) cases xs) (sym same)
-    by (act.End d n choice writes) at called is = let same : d ≡ c = cc is in called ∙ ap (λ e. put_where (λ d. is_case d.id e) (with_line p l) cases xs) (sym same)
-    by (act.Change d ops) at called is = let same : d ≡ c = cc is in called ∙ ap (λ e. put_where (λ d. is_case d.id e) (with_line p l) cases xs) (sym same)
-    by (act.Install t ops) at called is = absurd (cc (is))
-    by (act.Migrate t) at called is = absurd (cc (is))
+    by : (x : Cells) → case_among x ≡ Some c → changed_where (with_line p l) (declared_at cases c) xs ≡ put_where (λ d. has_case d.id x) (with_line p l) cases xs
+    by (cells.Kind t) is = absurd (cc (is))
+    by (cells.Case d) is = let same : d ≡ c = cc is in case-called cases c (with_line p l) xs placed ∙ ap (λ e. put_where (λ d. is_case d.id e) (with_line p l) cases xs) (sym same)
+    by (cells.KindAndCase t d) is = let same : d ≡ c = cc is in case-called cases c (with_line p l) xs placed ∙ ap (λ e. put_where (λ d. is_case d.id e) (with_line p l) cases xs) (sym same)
+    by (cells.KindAndEach t) is = absurd (cc (is))
 
 pub none-called : (cases : List CaseDecl) (p : ℕ) (xs : List Numbered) (l : Asked) → called_case l.0.act ≡ None → moved_type l.0.act ≡ None → xs ≡ case_put cases p xs l
-none-called cases p xs l none still = by l.0.act none still
+none-called cases p xs l none still = by (cells_of l.0.act) none still
   where
-    by : (x : Act) → called_case x ≡ None → moved_type x ≡ None → xs ≡ put_where (λ d. calls_case d.id x) (with_line p l) cases xs
-    by (act.Create d) none still = absurd (cc (none))
-    by (act.Start d n) none still = absurd (cc (none))
-    by (act.Withdraw d n) none still = absurd (cc (none))
-    by (act.End d n choice writes) none still = absurd (cc (none))
-    by (act.Change d ops) none still = absurd (cc (none))
-    by (act.Install t ops) none still = sym (put-none (λ (d : CaseDecl). false) (with_line p l) cases xs (λ i d is. refl))
-    by (act.Migrate t) none still = absurd (cc (still))
+    by : (x : Cells) → case_among x ≡ None → each_among x ≡ None → xs ≡ put_where (λ d. has_case d.id x) (with_line p l) cases xs
+    by (cells.Kind t) none still = sym (put-none (λ (d : CaseDecl). false) (with_line p l) cases xs (λ i d is. refl))
+    by (cells.Case d) none still = absurd (cc (none))
+    by (cells.KindAndCase t d) none still = absurd (cc (none))
+    by (cells.KindAndEach t) none still = absurd (cc (still))
 
 pub type-called : (cases : List CaseDecl) (p : ℕ) (xs : List Numbered) (l : Asked) (t : ℕ) → moved_type l.0.act ≡ Some t → put_where (is_of_type t) (with_line p l) cases xs ≡ case_put cases p xs l
-type-called cases p xs l t is = by l.0.act is
+type-called cases p xs l t is = by (cells_of l.0.act) is
   where
-    by : (x : Act) → moved_type x ≡ Some t → put_where (is_of_type t) (with_line p l) cases xs ≡ put_where (λ d. calls_case d.id x) (with_line p l) cases xs
-    by (act.Migrate u) is = let same : u ≡ t = cc is in put-same (is_of_type t) (λ d. u == d.id.type_no) (with_line p l) cases xs (λ d. other-way d.id.type_no t ∙ ap (λ v. v == d.id.type_no) (sym same))
-    by (act.Create d) is = absurd (cc (is))
-    by (act.Start d n) is = absurd (cc (is))
-    by (act.Withdraw d n) is = absurd (cc (is))
-    by (act.End d n choice writes) is = absurd (cc (is))
-    by (act.Change d ops) is = absurd (cc (is))
-    by (act.Install u ops) is = absurd (cc (is))
+    by : (x : Cells) → each_among x ≡ Some t → put_where (is_of_type t) (with_line p l) cases xs ≡ put_where (λ d. has_case d.id x) (with_line p l) cases xs
+    by (cells.Kind u) is = absurd (cc (is))
+    by (cells.Case d) is = absurd (cc (is))
+    by (cells.KindAndCase u d) is = absurd (cc (is))
+    by (cells.KindAndEach u) is = let same : u ≡ t = cc is in put-same (is_of_type t) (λ d. u == d.id.type_no) (with_line p l) cases xs (λ d. other-way d.id.type_no t ∙ ap (λ v. v == d.id.type_no) (sym same))

@@ -1,32 +1,31 @@
 -- What is known where a line was judged: whose turn it is, and how a call went.
-use Rattle.std.proofs.Common.{◌≡◌, ℕ, ◌+◌, ◌≤◌, List, [], ◌∷◌, length, Option, Some, None, Result, Ok, Err, IfOk, OnOk, refl, sym, ap, ◌∙◌, subst, arith}
+use Rattle.std.proofs.Common.{◌≡◌, ℕ, List, [], ◌∷◌, Option, Some, None, Result, Ok, Err, IfOk, OnOk, refl, sym, ap, ◌∙◌}
+use Rattle.std.proofs.lemmas.Option.{same_Some}
 use Rattle.std.specs.Prelude.{option_map}
+use Rattle.audit_model.proofs.Modest.{front-row}
 use Rattle.audit_model.specs.Asked.{Asked}
-use Rattle.case_audit.specs.Asking.{asked_of}
-use Rattle.case_audit.specs.declared.asked.AskedLine.{AskedLine}
+use Rattle.audit_model.specs.Journaled.{next_of}
+use Rattle.audit_model.specs.Lines.{IsModest}
 use Rattle.audit_model.specs.Printed.{caller_in}
 use Rattle.file_model.specs.declared.files.File.{File}
 use Rattle.file_words.specs.Lines.{Bytes}
-use Rattle.line_followers.specs.Turns.{behind_front, front_of, queue_of}
+use Rattle.line_followers.specs.Turns.{front_of, queue_of}
+use Rattle.wsm_lists.specs.Rows.{AllRows}
 
--- the caller that the rest of a report shows
-pub shows-in : (f : File) (o : Option ℕ) (place k : ℕ) (rest text : Bytes) → o ≡ caller_in f place rest → place ≡ k → rest ≡ text → o ≡ caller_in f k text
-shows-in f o place k rest text is at there = is ∙ (ap (λ n. caller_in f n rest) at ∙ ap (caller_in f k) there)
+-- the call that the rest of a report shows
+pub shows-in : (f : File) (queues : List (List Asked)) (o : Option (ℕ × Asked)) (place k : ℕ) (rest text : Bytes) → o ≡ next_of queues (caller_in f place rest) → place ≡ k → rest ≡ text → next_of queues (caller_in f k text) ≡ o
+shows-in f queues o place k rest text is at there = sym (is ∙ (ap (λ n. next_of queues (caller_in f n rest)) at ∙ ap (λ bs. next_of queues (caller_in f k bs)) there))
 
--- the next line of an actor, or none
-pub turn-is : (queues : List (List Asked)) (a : ℕ) (o : Option AskedLine) (c : AskedLine) → option_map asked_of o ≡ front_of (queue_of queues a) → o ≡ Some c → queue_of queues a ≡ asked_of c ∷ behind_front (queue_of queues a)
-turn-is queues a o c next is = by (queue_of queues a) (sym next ∙ ap (option_map asked_of) is)
+-- and that one is modest
+pub shown-modest : (queues : List (List Asked)) (o : Option ℕ) (a : ℕ) (l : Asked) → next_of queues o ≡ Some (a, l) → AllRows (AllRows IsModest) queues → IsModest l
+shown-modest queues None a l is all = absurd (cc (is))
+shown-modest queues (Some b) a l is all = by (queue_of queues b) refl is
   where
-    by : (queue : List Asked) → front_of queue ≡ Some (asked_of c) → queue ≡ asked_of c ∷ behind_front queue
-    by [] none = absurd (cc (none))
-    by (x ∷ xs) some = let same : x ≡ asked_of c = cc (some) in ap (λ y. y ∷ xs) same
-
-pub turn-none : (queues : List (List Asked)) (a : ℕ) (o : Option AskedLine) → option_map asked_of o ≡ front_of (queue_of queues a) → o ≡ None → queue_of queues a ≡ []
-turn-none queues a o next is = by (queue_of queues a) (sym next ∙ ap (option_map asked_of) is)
-  where
-    by : (queue : List Asked) → front_of queue ≡ None → queue ≡ []
-    by [] none = refl
-    by (x ∷ xs) some = absurd (cc (some))
+    by : (queue : List Asked) → queue_of queues b ≡ queue → option_map {U = ℕ × Asked} (λ x. (b, x)) (front_of queue) ≡ Some (a, l) → IsModest l
+    by [] at none = absurd (cc (none))
+    by (x ∷ xs) at some =
+        let first : x ≡ l = ap (λ (p : ℕ × Asked). p.1) (same_Some (b, x) (a, l) some) in
+        front-row IsModest queues b l xs all (at ∙ ap (λ y. y ∷ xs) first)
 
 -- what holds of each good outcome
 pub on-good : {X E : Type 0} {M J : Type 0} {L Q : X → Type 0} (r : Result X E) → ((x : X) → M → J → L x → Q x) → OnOk r M → OnOk r J → IfOk r L → IfOk r Q

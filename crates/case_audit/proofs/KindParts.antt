@@ -1,13 +1,13 @@
 -- A type's part of a report: its line and its definition, then its journal.
-use Rattle.std.proofs.Common.{◌≡◌, ℕ, ◌+◌, true, false, List, ◌++◌, length, Some, None, refl, subst}
+use Rattle.std.proofs.Common.{◌≡◌, ℕ, ◌+◌, true, false, List, ◌++◌, Some, None, refl, subst}
 use Rattle.audit_model.proofs.Texts.{EndsLine, ends-behind, kind-line}
 use Rattle.audit_model.specs.Owed.{owed_kind}
 use Rattle.audit_model.specs.Printed.{kind_shown}
 use Rattle.audit_model.specs.ReportReader.{defined_line, kind_journal, kind_reader}
 use Rattle.audit_model.proofs.Fronts.{given-then, given-wrong}
-use Rattle.audit_model.proofs.KindPhases.{kind-stopped, kind-whole}
+use Rattle.audit_model.proofs.Readable.{kind-stopped, kind-whole}
 use Rattle.audit_model.specs.Judging.{FollowedBy}
-use Rattle.audit_model.specs.Kinds.{GrowsTo, StopsAt}
+use Rattle.audit_model.specs.Journaled.{GrowsTo, StopsAt, kinds}
 use Rattle.file_model.specs.declared.files.File.{File}
 use Rattle.file_model.specs.declared.files.Line.{Line}
 use Rattle.file_model.specs.declared.files.TypeDecl.{TypeDecl}
@@ -39,13 +39,13 @@ module _ (f : File) (t : ℕ) (d : TypeDecl) where
       given-wrong (front_of (defined t d)) (defined t d) (kind_journal f t) old new front-ends (subst (λ j. FollowedBy (front_of j) old new false) is front)
 
   pub journal-wrong : (k : ClosedKind) (old mid new : Followed) (owed : List (List Line)) → k ≡ defined t d → FollowedBy (front_of k) old mid true → owed ≡ filled (owed_kind f t)
-      → StopsAt f k mid new (λ later. owed ++ later) → Follows (kind_reader f t d) old new None
+      → StopsAt (kinds f) k mid new (λ later. owed ++ later) → Follows (kind_reader f t d) old new None
   journal-wrong k old mid new owed is front same stop =
       given-then (front_of (defined t d)) (defined t d) (kind_journal f t) old mid new None front-ends (subst (λ j. FollowedBy (front_of j) old mid true) is front)
-      (kind-stopped f t (defined t d) mid new owed refl same (subst (λ j. StopsAt f j mid new (λ later. owed ++ later)) is stop))
+      (kind-stopped f t (defined t d) mid new owed refl same (subst (λ j. StopsAt (kinds f) j mid new (λ later. owed ++ later)) is stop))
 
   pub kind-right : (k to : ClosedKind) (old mid new : Followed) (owed : List (List Line)) → k ≡ defined t d → FollowedBy (front_of k) old mid true → owed ≡ filled (owed_kind f t)
-      → GrowsTo f k mid to new (λ later. owed ++ later) (λ later. later) → Follows (kind_reader f t d) old new (Some to)
+      → GrowsTo (kinds f) k mid to new (λ later. owed ++ later) (λ later. later) → Follows (kind_reader f t d) old new (Some to)
   kind-right k to old mid new owed is front same grown =
       given-then (front_of (defined t d)) (defined t d) (kind_journal f t) old mid new (Some to) front-ends (subst (λ j. FollowedBy (front_of j) old mid true) is front)
-      (kind-whole f t (defined t d) to mid new owed refl same (subst (λ j. GrowsTo f j mid to new (λ later. owed ++ later) (λ later. later)) is grown))
+      (kind-whole f t (defined t d) to mid new owed refl same (subst (λ j. GrowsTo (kinds f) j mid to new (λ later. owed ++ later) (λ later. later)) is grown))

@@ -1,19 +1,19 @@
 -- What is owed to the types of a file, by their numbers.
-use Rattle.std.proofs.Common.{◌≡◌, ℕ, zero, suc, ◌+◌, ◌<◌, ◌≤◌, false, true, List, [], ◌∷◌, length, map, get_or, slice_get, Some, inl, inr, refl, sym, ap, ◌∙◌, subst, arith}
+use Rattle.std.proofs.Common.{◌≡◌, ℕ, zero, suc, ◌+◌, ◌<◌, ◌≤◌, false, true, List, [], ◌∷◌, length, map, get_or, slice_get, Some, inl, inr, sym, ap, ◌∙◌, subst, arith}
 use Rattle.std.proofs.lemmas.Bool.{cases_Bool, leb-true}
 use Rattle.std.proofs.lemmas.List.FromFn.{length-range_with_len}
 use Rattle.std.specs.List.{list_all, range_with_len}
 use Rattle.std.specs.Prelude.{filter}
 use Rattle.audit_facts.specs.Facts.{IsAuditable}
-use Rattle.audit_model.specs.Asked.{Asked, Telling, asked_phases}
+use Rattle.audit_model.specs.Asked.{Telling, asked_phases}
 use Rattle.audit_model.specs.Owed.{owed_kind}
 use Rattle.case_audit.proofs.OwedOf.{owed-filled, owed-many}
 use Rattle.case_audit.specs.Owing.{calls_number, numbers, owed_of}
 use Rattle.case_audit.specs.Sharing.{given}
 use Rattle.case_audit.specs.declared.owed.Owed.{Owed}
 use Rattle.audit_model.proofs.Modest.{called-rows, file-modest, kind-owed}
-use Rattle.audit_model.specs.Kinds.{owed_lines}
-use Rattle.audit_model.specs.Lines.{IsModest, line_of}
+use Rattle.audit_model.specs.Journaled.{owed_lines}
+use Rattle.audit_model.specs.Lines.{IsModest}
 use Rattle.file_facts.specs.Facts.{IsWorkable}
 use Rattle.file_model.specs.Sizes.{is_small}
 use Rattle.file_model.specs.declared.files.File.{File}

@@ -14,6 +14,9 @@ use Rattle.wsm_sound.specs.VersionModel.{VersionModel}
 abbrev pub asked_of : AskedLine → Asked
 asked_of c = (c.line.now, option_map (λ v. v.now) c.version)
 
+abbrev pub shown_of : ℕ × AskedLine → ℕ × Asked
+shown_of p = (p.0, asked_of p.1)
+
 abbrev pub asked_in : List AskedLine → List Asked
 asked_in calls = map asked_of calls
 

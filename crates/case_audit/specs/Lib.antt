@@ -7,3 +7,4 @@ pub mod Verdicts
 pub mod Parts
 pub mod Sections
 pub mod Endings
+pub mod Statuses

@@ -1,5 +1,5 @@
 -- What is owed to types and to cases, as the code keeps it.
-use Rattle.std.specs.Prelude.{ℕ, Bool, ◌==◌, List, map, Option, Some, None}
+use Rattle.std.specs.Prelude.{ℕ, Bool, ◌==◌, List, map, Option}
 use Rattle.audit_model.specs.Asked.{Asked}
 use Rattle.audit_model.specs.Owed.{calls_case, calls_kind}
 use Rattle.case_audit.specs.Asking.{asked_of}
@@ -9,9 +9,7 @@ use Rattle.case_audit.specs.declared.owed.PhaseCalls.{PhaseCalls}
 use Rattle.file_model.specs.CaseCounts.{has_id}
 use Rattle.file_model.specs.declared.files.Act.{Act}
 use Rattle.file_model.specs.declared.files.CaseDecl.{CaseDecl}
-use Rattle.line_calls.specs.Calls.{cells_of}
-use Rattle.line_calls.specs.declared.calls.Cells.{Cells}
-use Rattle.line_calls.specs.declared.calls.Cells.TheVariants as cells
+use Rattle.line_calls.specs.Calls.{case_among, cells_of, each_among, kind_among}
 use Rattle.line_followers.specs.Numbered.{with_line}
 use Rattle.script_run.specs.Calls.{changed_where}
 use Rattle.std.specs.Prelude.{position}
@@ -37,12 +35,6 @@ abbrev pub calls_number : ℕ → Asked → Bool
 calls_number t l = calls_kind t l.0.act
 
 -- the type that a line calls
-abbrev pub kind_among : Cells → Option ℕ
-kind_among (cells.Kind t) = Some t
-kind_among (cells.Case c) = None
-kind_among (cells.KindAndCase t c) = Some t
-kind_among (cells.KindAndEach t) = Some t
-
 abbrev pub called_kind : Act → Option ℕ
 called_kind x = kind_among (cells_of x)
 
@@ -51,16 +43,6 @@ kind_put p owed l = changed_where (with_line p l) (called_kind l.0.act) owed
 
 -- ---- cases by their declarations
 -- the one case that a line calls, and the type of which it calls each case
-abbrev pub case_among : Cells → Option CaseId
-case_among (cells.Kind t) = None
-case_among (cells.Case c) = Some c
-case_among (cells.KindAndCase t c) = Some c
-case_among (cells.KindAndEach t) = None
-
-abbrev pub each_among : Cells → Option ℕ
-each_among (cells.KindAndEach t) = Some t
-each_among _ = None
-
 abbrev pub called_case : Act → Option CaseId
 called_case x = case_among (cells_of x)
 

@@ -30,11 +30,7 @@ wrong_line (verdict.Wrong line) = Some line
 abbrev pub IsVerdict : File → Bytes → Verdict → Type 0
 IsVerdict f report v = IsFirstWrong (IsReport f) report (wrong_line v)
 
--- what is written of it, and the status that goes with it
+-- what is written of it
 abbrev pub verdict_text : Verdict → Bytes
 verdict_text verdict.Legal = codes "legal\n"
 verdict_text (verdict.Wrong line) = codes "wrong line " ++ (decimal line ++ codes "\n")
-
-abbrev pub verdict_status : Verdict → ℕ
-verdict_status verdict.Legal = 0
-verdict_status (verdict.Wrong line) = 7

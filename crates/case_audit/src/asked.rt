@@ -1,13 +1,13 @@
 // The script's lines with the versions that their actors were told.
 ghost use Rattle.std.specs.Prelude.{◌≡◌, IfOk, OnOk};
-ghost use Rattle.audit_model.specs.Asked.{asked_phases, asks};
+ghost use Rattle.audit_model.specs.Asked.{asked_phases};
 ghost use Rattle.audit_model.specs.ReportReader.{telling};
 ghost use Rattle.case_audit.specs.Asking.{asked_by, asked_in, left_by, script_of, told_versions};
 ghost use Rattle.file_facts.specs.Facts.{IsWorkable};
 
 use crate::told::Told;
-use file_model::{Act, File, Line};
-use line_calls::{Cells, cells_of};
+use file_model::{File, Line};
+use line_calls::cells_of;
 use script_run::ClosedKind;
 use std::alloc::Global;
 use wsm_lists::NoMemory;
@@ -47,18 +47,8 @@ fn asked_lines<'a>(
 {
     let mut asked = Vec::new(alloc);
     for line in lines {
-        let version = told.next(line.actor, type_asked(&line.act));
+        let version = told.next(line.actor, cells_of(&line.act).asked());
         asked.push(AskedLine { line, version })?;
     }
     Ok(asked)
-}
-
-// The type that a line asks for its newest version.
-fn type_asked(act: &Act) -> Option<u32>
-    ensures { result ≡ asks act.now }
-{
-    match cells_of(act) {
-        Cells::KindAndCase(type_no, _) | Cells::KindAndEach(type_no) => Some(type_no),
-        Cells::Kind(_) | Cells::Case(_) => None,
-    }
 }

@@ -1,8 +1,8 @@
 // A case of a report.
-ghost use Rattle.std.specs.Prelude.{◌≡◌, ◌≤◌, ◌<◌, ◌+◌, ◌++◌, ◌∷◌, [], List, length, map, IfOk, OnOk};
+ghost use Rattle.std.specs.Prelude.{◌≡◌, ◌≤◌, ◌<◌, ◌+◌, ◌++◌, ◌∷◌, [], List, length, IfOk, OnOk};
 ghost use Rattle.audit_facts.specs.Facts.{IsAuditable};
 ghost use Rattle.audit_model.specs.Asked.{Asked, case_event_of, owed_case};
-ghost use Rattle.audit_model.specs.Cases.{IsSteady, LineJudged, PhaseJudged};
+ghost use Rattle.audit_model.specs.Journaled.{IsSteady, LineJudged, PhaseJudged, cases};
 ghost use Rattle.audit_model.specs.Judging.{FollowedBy};
 ghost use Rattle.audit_model.specs.Lines.{IsModest, actor_of};
 ghost use Rattle.audit_model.specs.ReportReader.{case_journal, case_reader};
@@ -19,25 +19,21 @@ ghost use Rattle.line_readers.specs.Owed.{how_many};
 ghost use Rattle.report_text.specs.Ends.{end_text};
 ghost use Rattle.report_text.specs.Journals.{case_line};
 ghost use Rattle.report_text.specs.Report.{case_head};
-ghost use Rattle.line_calls.specs.Calls.{version_event};
-ghost use Rattle.line_calls.specs.Files.{roles_of};
 ghost use Rattle.turn_cell.specs.History.{entry};
 ghost use Rattle.wsm_lists.specs.Rows.{AllRows};
 
 use crate::asked::AskedLine;
-use crate::callers::caller_in;
 use crate::owed::Owed;
 use crate::turns::Turns;
 use case_core::{Case, Event};
 use file_model::{CaseDecl, File};
-use line_calls::{Call, Told, call_of};
+use line_calls::{Call, call_of, roles_of};
 use report_text::{put_case_head, put_case_line, put_end};
 use script_run::{CaseEntry, CaseJournal, ClosedCase};
 use std::alloc::{AllocError, Global};
 use text_follower::{Follower, GrowingSink};
 use turn_cell::Machine;
 use wsm_lists::NoMemory;
-use wsm_sound::Version;
 
 /// A case as its journal and its end tell it, from its line on. None where a line is wrong.
 pub fn judge_case(
@@ -135,7 +131,7 @@ fn judge_phase(
     requires modest { AllRows IsModest (asked_in calls.now) }
     requires steady { IsSteady case.old }
     requires few { length case.old.journal + length calls.now ≤ 60000 }
-    ensures judged { IfOk result (PhaseJudged file.now case.old report.old case.new report.new (asked_in calls.now)) }
+    ensures judged { IfOk result (PhaseJudged (cases file.now) case.old report.old case.new report.new (asked_in calls.now)) }
     ensures steady { OnOk result (IsSteady case.new) }
     ensures longer { OnOk result (length case.new.journal ≤ length case.old.journal + length calls.now) }
 {
@@ -162,16 +158,13 @@ fn judge_line(
     requires steady { IsSteady case.old }
     requires few { length case.old.journal < 60000 }
     ensures judged { (phase : List Asked) → 0 < length phase → AreTurns actor_of (length file.now.actors) (queues_of turns.old) phase
-        → IfOk result (LineJudged file.now case.old report.old case.new report.new (queues_of turns.new) phase) }
+        → IfOk result (LineJudged (cases file.now) case.old report.old case.new report.new (queues_of turns.new) phase) }
     ensures modest { AllRows (AllRows IsModest) (queues_of turns.new) }
     ensures steady { OnOk result (IsSteady case.new) }
     ensures longer { OnOk result (length case.new.journal ≤ length case.old.journal + 1) }
 {
     let place = next_place(case.journal.as_slice());
-    let Some(caller) = caller_in(file, place, report.rest()) else {
-        return Ok(false);
-    };
-    let Some(call) = turns.next(caller) else {
+    let Some((caller, call)) = turns.shown(file, place, report.rest()) else {
         return Ok(false);
     };
     match event_of(alloc, file, &call)? {
@@ -254,28 +247,7 @@ fn event_of(alloc: Global, file: &File, call: &AskedLine<'_>) -> Result<Option<E
         Call::Case { event, .. } => Ok(Some(event)),
         Call::Newest { then, .. } => match call.version {
             None => Ok(None),
-            Some(version) => Ok(Some(told_event(then, version.share()?))),
+            Some(version) => Ok(Some(then.event(version.share()?))),
         },
-    }
-}
-
-// The event that a version is told by.
-fn told_event(then: Told, version: Version) -> Event
-    ensures { result ≡ version_event then version }
-{
-    match then {
-        Told::Create(_) => Event::Create(version),
-        Told::Migrate => Event::Migrate(version),
-    }
-}
-
-// The roles of the actor with a number, from 1.
-fn roles_of(file: &File, actor: u32) -> &[u32]
-    ensures { result.now ≡ roles_of file.now actor }
-{
-    let index = (actor as usize).saturating_sub(1);
-    match file.actors.get(index) {
-        None => &[],
-        Some(decl) => decl.roles.as_slice(),
     }
 }

@@ -1,12 +1,14 @@
 // A process file with a report behind it, judged from bytes to bytes.
 ghost use Rattle.std.specs.Prelude.{◌≡◌, ◌≤◌, length, true};
 ghost use Rattle.adept_io.specs.Written.{Gives};
-ghost use Rattle.case_audit.specs.Endings.{EndsAudit, EndsJudged, EndsRead, EndsTold, of_file};
+ghost use Rattle.case_audit.specs.Endings.{EndsAudit, TellsBytes, TellsOne, TellsReport};
 ghost use Rattle.case_audit.specs.Parts.{most_bytes, most_in_report};
-ghost use Rattle.case_audit.specs.Verdicts.{IsRead, verdict_status, verdict_text};
+ghost use Rattle.case_audit.specs.Statuses.{of_file};
+ghost use Rattle.case_audit.specs.Verdicts.{IsRead, verdict_text};
 
 use crate::dividing::divided;
 use crate::reports::{Verdict, audit};
+use crate::unaudited::Unaudited;
 use adept_io::{ReadRefusal, Sink, Source, put, put_pieces, read_to_limit};
 use file_limits::MAX_FILE_BYTES;
 use file_model::{File, FileRefusal};
@@ -21,46 +23,50 @@ const MOST_REPORT: usize = 268435456;
 const MOST_BYTES: usize = MAX_FILE_BYTES + MOST_REPORT;
 
 /// Reads a process file with a report directly behind it, and writes `legal`, or `wrong line` and the number of the first
-/// line with which no legal run's report goes on. 0: the report is legal. 7: it is wrong. 1: the file is refused.
-/// 3: reading failed. 4: writing failed. 5: there was not enough memory. 6: the input is too long.
+/// line with which no legal run's report goes on.
 pub fn audit_input<R: Threads + Sync, S: Source, K: Sink>(
     rt: &R,
     alloc: Global,
     source: &mut S,
     sink: &mut K,
-) -> u8
+) -> Result<Verdict, Unaudited>
     ensures { EndsAudit S.left S.faults K.written K.faults source.old source.new sink.old sink.new result }
 {
     match read_to_limit(alloc, source, MOST_BYTES) {
         Ok(bytes) => audit_bytes(rt, alloc, bytes.as_slice(), sink),
-        Err(ReadRefusal::Failed) => 3,
-        Err(ReadRefusal::NoMemory) => 5,
-        Err(ReadRefusal::TooLong) => 6,
+        Err(ReadRefusal::Failed) => Err(Unaudited::Unread),
+        Err(ReadRefusal::NoMemory) => Err(Unaudited::NoMemory),
+        Err(ReadRefusal::TooLong) => Err(Unaudited::TooLong),
     }
 }
 
-// The status of a process file that is refused.
-fn of_file(refusal: &FileRefusal) -> u8
+// Why there is no verdict on a process file that is refused.
+fn of_file(refusal: &FileRefusal) -> Unaudited
     ensures { result ≡ of_file refusal.now }
 {
     match refusal {
-        FileRefusal::Refused(_) => 1,
-        FileRefusal::NoMemory => 5,
+        FileRefusal::Refused(_) => Unaudited::Refused,
+        FileRefusal::NoMemory => Unaudited::NoMemory,
     }
 }
 
 // Judges the report that stands behind the process file.
-fn audit_bytes<R: Threads + Sync, K: Sink>(rt: &R, alloc: Global, bytes: &[u8], sink: &mut K) -> u8
+fn audit_bytes<R: Threads + Sync, K: Sink>(
+    rt: &R,
+    alloc: Global,
+    bytes: &[u8],
+    sink: &mut K,
+) -> Result<Verdict, Unaudited>
     requires { length bytes.now ≤ most_bytes }
-    ensures { EndsRead K.written K.faults bytes.now sink.old sink.new result }
+    ensures { TellsBytes K.written K.faults bytes.now sink.old sink.new result }
 {
     let (file, report) = divided(bytes);
     if file.len() > MAX_FILE_BYTES || report.len() > MOST_REPORT {
-        return 6;
+        return Err(Unaudited::TooLong);
     }
     match read_workable(alloc, file) {
         Ok(file) => audit_file(rt, alloc, &file, report, sink),
-        Err(refusal) => of_file(&refusal),
+        Err(refusal) => Err(of_file(&refusal)),
     }
 }
 
@@ -70,34 +76,25 @@ fn audit_file<R: Threads + Sync, K: Sink>(
     file: &File,
     report: &[u8],
     sink: &mut K,
-) -> u8
+) -> Result<Verdict, Unaudited>
     requires file { IsRead file.now }
     requires length { length report.now ≤ most_in_report }
-    ensures { EndsJudged K.written K.faults file.now report.now sink.old sink.new result }
+    ensures { TellsReport K.written K.faults file.now report.now sink.old sink.new result }
 {
     match audit(rt, alloc, file, report) {
         Ok(verdict) => tell(verdict, sink),
-        Err(_) => 5,
+        Err(_) => Err(Unaudited::NoMemory),
     }
 }
 
 // Writes a verdict.
-fn tell<K: Sink>(verdict: Verdict, sink: &mut K) -> u8
-    ensures { EndsTold K.written K.faults verdict sink.old sink.new result }
+fn tell<K: Sink>(verdict: Verdict, sink: &mut K) -> Result<Verdict, Unaudited>
+    ensures { TellsOne K.written K.faults verdict sink.old sink.new result }
 {
     if put_verdict(sink, verdict) {
-        status_of(verdict)
+        Ok(verdict)
     } else {
-        4
-    }
-}
-
-fn status_of(verdict: Verdict) -> u8
-    ensures { result ≡ verdict_status verdict }
-{
-    match verdict {
-        Verdict::Legal => 0,
-        Verdict::Wrong { .. } => 7,
+        Err(Unaudited::Unwritten)
     }
 }
 

@@ -1,10 +1,10 @@
 // A type of a report.
-ghost use Rattle.std.specs.Prelude.{◌≡◌, ◌≤◌, ◌<◌, ◌+◌, ◌++◌, ◌∷◌, [], List, length, map, option_map, IfOk, OnOk, Some, true};
+ghost use Rattle.std.specs.Prelude.{◌≡◌, ◌≤◌, ◌<◌, ◌+◌, ◌++◌, ◌∷◌, [], List, length, IfOk, OnOk, Some, true};
 ghost use Rattle.adept_io.specs.Written.{Gives};
 ghost use Rattle.audit_facts.specs.Facts.{IsAuditable};
 ghost use Rattle.audit_model.specs.Asked.{Asked, kind_event_in};
 ghost use Rattle.audit_model.specs.Judging.{FollowedBy};
-ghost use Rattle.audit_model.specs.Kinds.{LineJudged, PhaseJudged, owed_lines};
+ghost use Rattle.audit_model.specs.Journaled.{LineJudged, PhaseJudged, owed_lines, kinds};
 ghost use Rattle.audit_model.specs.Lines.{IsModest, actor_of};
 ghost use Rattle.audit_model.specs.Owed.{owed_kind};
 ghost use Rattle.audit_model.specs.ReportReader.{defined_line, kind_reader};
@@ -24,7 +24,6 @@ ghost use Rattle.wsm_lists.specs.Rows.{AllRows};
 ghost use Rattle.wsm_schema.specs.Flat.{cards_of};
 
 use crate::asked::AskedLine;
-use crate::callers::caller_in;
 use crate::owed::Owed;
 use crate::turns::Turns;
 use file_model::{Act, File, TypeDecl};
@@ -129,7 +128,7 @@ fn judge_phase(
     requires workable { IsWorkable file.now }
     requires auditable { IsAuditable file.now }
     requires modest { AllRows IsModest (asked_in calls.now) }
-    ensures { IfOk result (PhaseJudged file.now kind.old report.old kind.new report.new (asked_in calls.now)) }
+    ensures { IfOk result (PhaseJudged (kinds file.now) kind.old report.old kind.new report.new (asked_in calls.now)) }
 {
     let mut turns = Turns::of(alloc, file.actors.len(), calls)?;
     for _judged in 0..calls.len() {
@@ -152,14 +151,11 @@ fn judge_line(
     requires auditable { IsAuditable file.now }
     requires modest { AllRows (AllRows IsModest) (queues_of turns.old) }
     ensures judged { (phase : List Asked) → 0 < length phase → AreTurns actor_of (length file.now.actors) (queues_of turns.old) phase
-        → IfOk result (LineJudged file.now kind.old report.old kind.new report.new (queues_of turns.new) phase) }
+        → IfOk result (LineJudged (kinds file.now) kind.old report.old kind.new report.new (queues_of turns.new) phase) }
     ensures modest { AllRows (AllRows IsModest) (queues_of turns.new) }
 {
     let place = next_place(kind.journal.as_slice());
-    let Some(caller) = caller_in(file, place, report.rest()) else {
-        return Ok(false);
-    };
-    let Some(call) = turns.next(caller) else {
+    let Some((caller, call)) = turns.shown(file, place, report.rest()) else {
         return Ok(false);
     };
     match event_of(alloc, &call.line.act)? {

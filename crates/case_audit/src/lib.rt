@@ -9,7 +9,6 @@ mod all_kinds;
 mod asked;
 mod callers;
 mod cases;
-mod declared;
 mod dividing;
 mod inputs;
 mod kinds;
@@ -19,7 +18,9 @@ mod sections;
 mod threads;
 mod told;
 mod turns;
+mod unaudited;
 
 pub use inputs::audit_input;
 pub use reports::{Verdict, audit};
+pub use unaudited::{Unaudited, end_status};
 pub use wsm_lists::NoMemory;

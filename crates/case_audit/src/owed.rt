@@ -2,19 +2,17 @@
 ghost use Rattle.std.specs.Prelude.{◌≡◌, ◌++◌, ◌∷◌, [], length, fold, replicate, IfOk, OnOk};
 ghost use Rattle.std.specs.List.{range_with_len};
 ghost use Rattle.case_audit.specs.Asking.{asked_in, asked_of, script_of};
-ghost use Rattle.case_audit.specs.Owing.{called_case, called_kind, calls_decl, calls_number, case_put, is_of_type, kind_put, moved_type, numbered_of, numbers};
+ghost use Rattle.case_audit.specs.Owing.{calls_decl, calls_number, case_put, is_of_type, kind_put, numbered_of, numbers};
 ghost use Rattle.case_audit.specs.Sharing.{given, put_where};
 ghost use Rattle.file_facts.specs.Facts.{ArePlaced};
 ghost use Rattle.line_followers.specs.Numbered.{with_line};
 ghost use Rattle.script_run.specs.Calls.{changed_at};
 
 use crate::asked::AskedLine;
-use crate::declared::Declared;
-use file_model::{Act, CaseDecl};
-use line_calls::{Cells, cells_of};
+use file_model::{CaseDecl, File};
+use line_calls::{Script, cells_of};
 use std::alloc::Global;
 use wsm_lists::NoMemory;
-use wsm_sound::CaseId;
 
 /// The lines of one phase that call one type or one case, in file order.
 #[derive(Drop)]
@@ -112,54 +110,42 @@ fn add_kind_lines<'a>(
     ensures { OnOk result (numbers owed.new.items ≡ fold (kind_put phase) (numbers owed.old.items) (asked_in lines.now)) }
 {
     for call in lines {
-        if let Some(type_no) = type_called(&call.line.act) {
+        if let Some(type_no) = cells_of(&call.line.act).kind() {
             add_at(alloc, owed, type_no as usize, phase, *call)?;
         }
     }
     Ok(())
 }
 
-// The type that a line calls.
-fn type_called(act: &Act) -> Option<u32>
-    ensures { result ≡ called_kind act.now }
-{
-    match cells_of(act) {
-        Cells::Kind(type_no) | Cells::KindAndCase(type_no, _) | Cells::KindAndEach(type_no) => Some(
-            type_no,
-        ),
-        Cells::Case(_) => None,
-    }
-}
-
-/// What is owed to each of these cases by the script's lines.
+/// What is owed to each of the file's cases by the script's lines.
 pub fn owed_cases<'a>(
     alloc: Global,
-    cases: &[CaseDecl],
+    file: &File,
     phases: &[Vec<AskedLine<'a>>],
 ) -> Result<Vec<Owed<'a>>, NoMemory>
-    requires { ArePlaced cases.now }
-    ensures { IfOk result (λ owed. numbers owed.items ≡ given calls_decl cases.now (script_of phases.now)) }
+    requires { ArePlaced file.now.cases }
+    ensures { IfOk result (λ owed. numbers owed.items ≡ given calls_decl file.now.cases (script_of phases.now)) }
 {
-    let declared = Declared::of(alloc, cases)?;
-    let mut owed = nothing_owed(alloc, cases.len())?;
+    let script = Script::of(alloc, file)?;
+    let mut owed = nothing_owed(alloc, file.cases.len())?;
     for (phase, lines) in phases.iter().enumerate() {
-        add_case_lines(alloc, &declared, &mut owed, phase, lines.as_slice())?;
+        add_case_lines(alloc, &script, &mut owed, phase, lines.as_slice())?;
     }
     Ok(owed)
 }
 
 fn add_case_lines<'a>(
     alloc: Global,
-    declared: &Declared<'_>,
+    script: &Script<'_>,
     owed: &mut Vec<Owed<'a>>,
     phase: usize,
     lines: &[AskedLine<'a>],
 ) -> Result<(), NoMemory>
-    requires { ArePlaced declared.now.cases.now }
-    ensures { OnOk result (numbers owed.new.items ≡ fold (case_put declared.now.cases.now phase) (numbers owed.old.items) (asked_in lines.now)) }
+    requires { ArePlaced script.now.file.now.cases }
+    ensures { OnOk result (numbers owed.new.items ≡ fold (case_put script.now.file.now.cases phase) (numbers owed.old.items) (asked_in lines.now)) }
 {
     for call in lines {
-        add_case_line(alloc, declared, owed, phase, *call)?;
+        add_case_line(alloc, script, owed, phase, *call)?;
     }
     Ok(())
 }
@@ -167,43 +153,25 @@ fn add_case_lines<'a>(
 // A line, for the case or for each of the cases that it calls.
 fn add_case_line<'a>(
     alloc: Global,
-    declared: &Declared<'_>,
+    script: &Script<'_>,
     owed: &mut Vec<Owed<'a>>,
     phase: usize,
     call: AskedLine<'a>,
 ) -> Result<(), NoMemory>
-    requires { ArePlaced declared.now.cases.now }
-    ensures { OnOk result (numbers owed.new.items ≡ case_put declared.now.cases.now phase (numbers owed.old.items) (asked_of call.entry)) }
+    requires { ArePlaced script.now.file.now.cases }
+    ensures { OnOk result (numbers owed.new.items ≡ case_put script.now.file.now.cases phase (numbers owed.old.items) (asked_of call.entry)) }
 {
-    if let Some(type_no) = type_moved(&call.line.act) {
-        return add_to_each(alloc, declared.cases, owed, type_no, phase, call);
+    let cells = cells_of(&call.line.act);
+    if let Some(type_no) = cells.each() {
+        let cases = script.file.cases.as_slice();
+        return add_to_each(alloc, cases, owed, type_no, phase, call);
     }
-    let Some(id) = case_called(&call.line.act) else {
+    let Some(id) = cells.case() else {
         return Ok(());
     };
-    match declared.place_of(id) {
+    match script.place_of(id) {
         None => Ok(()),
         Some(place) => add_at(alloc, owed, place, phase, call),
-    }
-}
-
-// The one case that a line calls.
-fn case_called(act: &Act) -> Option<CaseId>
-    ensures { result ≡ called_case act.now }
-{
-    match cells_of(act) {
-        Cells::Case(id) | Cells::KindAndCase(_, id) => Some(id),
-        Cells::Kind(_) | Cells::KindAndEach(_) => None,
-    }
-}
-
-// The type of which a line calls each case.
-fn type_moved(act: &Act) -> Option<u32>
-    ensures { result ≡ moved_type act.now }
-{
-    match cells_of(act) {
-        Cells::KindAndEach(type_no) => Some(type_no),
-        Cells::Kind(_) | Cells::Case(_) | Cells::KindAndCase(_, _) => None,
     }
 }
 

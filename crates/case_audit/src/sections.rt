@@ -50,7 +50,7 @@ pub fn judge_cases<R: Threads + Sync>(
     requires few { how_many (script_of phases.now) ≤ 60000 }
     ensures { IfOk result (λ cases. Follows (cases_reader file.now (script_of phases.now) file.now.cases) report.old report.new (option_map (λ all. all.items) cases)) }
 {
-    let owed = owed_cases(alloc, file.cases.as_slice(), phases)?;
+    let owed = owed_cases(alloc, file, phases)?;
     let starts = guessed_starts(alloc, owed.as_slice(), report.text(), report.place())?;
     let sections = judge_sections(
         rt,

@@ -1,11 +1,17 @@
 // Whose turn it is: the calls that the actors have yet to make in one phase.
-ghost use Rattle.std.specs.Prelude.{◌≡◌, IfOk, OnOk};
+ghost use Rattle.std.specs.Prelude.{◌≡◌, ◌≤◌, length, IfOk, IfSome, OnOk};
 ghost use Rattle.std.specs.Option.{option_map};
-ghost use Rattle.case_audit.specs.Asking.{asked_in, asked_of};
+ghost use Rattle.audit_model.specs.Journaled.{next_of};
+ghost use Rattle.audit_model.specs.Lines.{IsModest};
+ghost use Rattle.audit_model.specs.Printed.{caller_in};
+ghost use Rattle.case_audit.specs.Asking.{asked_in, asked_of, shown_of};
 ghost use Rattle.case_audit.specs.Queues.{all_turns, no_queues, queues_of, with_turn};
 ghost use Rattle.line_followers.specs.Turns.{front_of, one_taken, queue_of};
+ghost use Rattle.wsm_lists.specs.Rows.{AllRows};
 
 use crate::asked::AskedLine;
+use crate::callers::caller_in;
+use file_model::File;
 use std::alloc::Global;
 use std::collections::VecDeque;
 use wsm_lists::NoMemory;
@@ -53,8 +59,20 @@ impl<'a> Turns<'a> {
         }
     }
 
-    /// The next line of an actor, which is taken away.
-    pub fn next(&mut self, actor: u32) -> Option<AskedLine<'a>>
+    /// Whose next line a text shows as the call with this number, and the line, which is taken away.
+    pub fn shown(&mut self, file: &File, place: u64, text: &[u8]) -> Option<(u32, AskedLine<'a>)>
+        requires { length file.now.actors ≤ 32 }
+        ensures next { option_map shown_of result ≡ next_of (queues_of self.old) (caller_in file.now place text.now) }
+        ensures others { IfSome result (λ p. queues_of self.new ≡ one_taken p.0 (queues_of self.old)) }
+        ensures modest { AllRows (AllRows IsModest) (queues_of self.old) → AllRows (AllRows IsModest) (queues_of self.new) }
+    {
+        let caller = caller_in(file, place, text)?;
+        let call = self.next(caller)?;
+        Some((caller, call))
+    }
+
+    // The next line of an actor, which is taken away.
+    fn next(&mut self, actor: u32) -> Option<AskedLine<'a>>
         ensures next { option_map asked_of result ≡ front_of (queue_of (queues_of self.old) actor) }
         ensures others { queues_of self.new ≡ one_taken actor (queues_of self.old) }
     {

@@ -1,7 +1,7 @@
-use Rattle.std.proofs.Common.{◌≡◌, ◌+◌, ◌<◌, [], length, get_or, None, Some, sym, ap, ◌∙◌, subst, arith}
+use Rattle.std.proofs.Common.{◌≡◌, ◌+◌, ◌<◌, [], length, get_or, sym, ap, subst, arith}
 use Rattle.audit_model.specs.ReportReader.{kind_reader, telling}
 use Rattle.audit_model.proofs.ReadersInRow.{kind-on, kind-stops, kinds-begun, kinds-read}
-use Rattle.audit_model.specs.Kinds.{InKinds}
+use Rattle.audit_model.specs.Journaled.{InKinds}
 use Rattle.case_audit.proofs.KindsOwed.{kind-modest, kind-owes, kinds-many, small-at}
 use Rattle.line_followers.specs.Follows.{Follows}
 use Rattle.case_audit.proofs.all_kinds.judge_each.Goals as goal

@@ -1,4 +1,4 @@
-use Rattle.audit_model.specs.Kinds.{InKinds}
+use Rattle.audit_model.specs.Journaled.{InKinds}
 use Rattle.case_audit.proofs.all_kinds.judge_each.Given as goal
 
 abbrev pub invariant-loop-index : goal.invariant-loop-index

@@ -1,11 +1,12 @@
-use Rattle.std.proofs.Common.{◌≡◌, ◌+◌, ◌<◌, ◌≤◌, ◌++◌, List, false, true, drop, length, get_or, sym, ap, ◌∙◌, subst, arith}
+use Rattle.std.proofs.Common.{◌≡◌, ◌+◌, ◌<◌, ◌++◌, List, false, true, length, get_or, sym, ap, ◌∙◌, subst, arith}
 use Rattle.case_audit.proofs.OwedPhases.{phase-end, phase-is, phase-low, phase-many, phase-row}
 use Rattle.audit_model.specs.Asked.{Asked}
 use Rattle.case_audit.specs.Asking.{asked_in}
 use Rattle.case_audit.specs.Owing.{calls_in, owed_of}
-use Rattle.audit_model.proofs.CasePhases.{case-stopped, case-whole, phase-on, phase-stops, phases-begun, phases-whole}
+use Rattle.audit_model.proofs.Phases.{phase-on, phase-stops, phases-begun, phases-whole}
+use Rattle.audit_model.proofs.Readable.{case-stopped, case-whole}
 use Rattle.audit_model.proofs.Modest.{steady-begun}
-use Rattle.audit_model.specs.Cases.{GrowsTo, InPhases, IsSteady, PhaseJudged, StopsAt}
+use Rattle.audit_model.specs.Journaled.{GrowsTo, InPhases, IsSteady, PhaseJudged, StopsAt, cases}
 use Rattle.audit_model.specs.Lines.{IsModest}
 use Rattle.case_core.specs.CaseModel.{CaseModel}
 use Rattle.case_core.specs.Instances.{CountedCase}
@@ -22,7 +23,7 @@ pub loop-phase-init : goal.loop-phase-init
 loop-phase-init c =
     let begun : made_of c.new.result.state c.new-2.result ≡ uncalled c.args.decl.now = ap (λ (k : CountedCase). made_of k.state c.new-2.result) c.new.ensures.case ∙ ap (made_of _) c.new-2.ensures in
     record {
-      judged = phases-begun c.args.file.now (made_of c.new.result.state c.new-2.result) c.args.report.now (owed_of c.args.owed.now);
+      judged = phases-begun (cases c.args.file.now) (made_of c.new.result.state c.new-2.result) c.args.report.now (owed_of c.args.owed.now);
       steady = subst IsSteady (sym begun) (steady-begun c.args.decl.now.id.type_no);
       few = omega (arith, ap length c.new-2.ensures, c.requires.few);
     }
@@ -53,15 +54,15 @@ returns-then-not-branch c = λ phases same.
     let p = c.phase-item.result in
     let low = subst (λ ps. n < length ps) c.as_slice-phase-items.ensures.value c.loop-phase-test.true in
     let is = subst (λ ps. p ≡ get_or ps n p) c.as_slice-phase-items.ensures.value c.phase-item.is in
-    let judged = subst (λ b. PhaseJudged f c.loop-phase.case c.loop-phase.report c.judge_phase.new.case c.judge_phase.new.report (calls_in p) b) c.if-not-branch.true
-    (subst (λ ls. PhaseJudged f c.loop-phase.case c.loop-phase.report c.judge_phase.new.case c.judge_phase.new.report (asked_in ls) c.in_ok-judge_phase.field-0) c.as_slice.ensures.value c.in_ok-judge_phase.ensures.judged) in
+    let judged = subst (λ b. PhaseJudged (cases f) c.loop-phase.case c.loop-phase.report c.judge_phase.new.case c.judge_phase.new.report (calls_in p) b) c.if-not-branch.true
+    (subst (λ ls. PhaseJudged (cases f) c.loop-phase.case c.loop-phase.report c.judge_phase.new.case c.judge_phase.new.report (asked_in ls) c.in_ok-judge_phase.field-0) c.as_slice.ensures.value c.in_ok-judge_phase.ensures.judged) in
     let d = c.args.decl.now in
     let from = made_of c.new.result.state c.new-2.result in
     let begun : from ≡ uncalled d = ap (λ (k : CountedCase). made_of k.state c.new-2.result) c.new.ensures.case ∙ ap (made_of _) c.new-2.ensures in
     let new = c.judge_phase.new.report in
     case-stopped f phases d c.args.report.now new (owed_of owed) same
-    (subst (λ (k : ClosedCase). StopsAt f k c.args.report.now new (λ (later : List (List Asked)). owed_of owed ++ later)) begun
-    (phase-stops f from c.loop-phase.case c.judge_phase.new.case c.args.report.now c.loop-phase.report new (owed_of owed) n (calls_in p) (phase-low owed n low) (phase-is owed n p low is) c.loop-phase.invariant.judged judged))
+    (subst (λ (k : ClosedCase). StopsAt (cases f) k c.args.report.now new (λ (later : List (List Asked)). owed_of owed ++ later)) begun
+    (phase-stops (cases f) (λ p ps. refl) from c.loop-phase.case c.judge_phase.new.case c.args.report.now c.loop-phase.report new (owed_of owed) n (calls_in p) (phase-low owed n low) (phase-is owed n p low is) c.loop-phase.invariant.judged judged))
 
 pub loop-phase-preserved : goal.loop-phase-preserved
 loop-phase-preserved c =
@@ -71,10 +72,10 @@ loop-phase-preserved c =
     let p = c.phase-item.result in
     let low = subst (λ ps. n < length ps) c.as_slice-phase-items.ensures.value c.loop-phase-test.true in
     let is = subst (λ ps. p ≡ get_or ps n p) c.as_slice-phase-items.ensures.value c.phase-item.is in
-    let judged = subst (λ b. PhaseJudged f c.loop-phase.case c.loop-phase.report c.judge_phase.new.case c.judge_phase.new.report (calls_in p) b) c.if-not-branch.false
-    (subst (λ ls. PhaseJudged f c.loop-phase.case c.loop-phase.report c.judge_phase.new.case c.judge_phase.new.report (asked_in ls) c.in_ok-judge_phase.field-0) c.as_slice.ensures.value c.in_ok-judge_phase.ensures.judged) in
+    let judged = subst (λ b. PhaseJudged (cases f) c.loop-phase.case c.loop-phase.report c.judge_phase.new.case c.judge_phase.new.report (calls_in p) b) c.if-not-branch.false
+    (subst (λ ls. PhaseJudged (cases f) c.loop-phase.case c.loop-phase.report c.judge_phase.new.case c.judge_phase.new.report (asked_in ls) c.in_ok-judge_phase.field-0) c.as_slice.ensures.value c.in_ok-judge_phase.ensures.judged) in
     record {
-      judged = phase-on f (made_of c.new.result.state c.new-2.result) c.loop-phase.case c.judge_phase.new.case c.args.report.now c.loop-phase.report c.judge_phase.new.report (owed_of owed) n (calls_in p) (phase-low owed n low) (phase-is owed n p low is) c.loop-phase.invariant.judged judged;
+      judged = phase-on (cases f) (λ p ps. refl) (made_of c.new.result.state c.new-2.result) c.loop-phase.case c.judge_phase.new.case c.args.report.now c.loop-phase.report c.judge_phase.new.report (owed_of owed) n (calls_in p) (phase-low owed n low) (phase-is owed n p low is) c.loop-phase.invariant.judged judged;
       steady = c.in_ok-judge_phase.ensures.steady;
       few = omega (arith, c.loop-phase.invariant.few, c.in_ok-judge_phase.ensures.longer, phase-many owed n p low is, ap length c.as_slice.ensures.value);
     }
@@ -88,5 +89,5 @@ returns c = λ phases same.
     let begun : from ≡ uncalled d = ap (λ (k : CountedCase). made_of k.state c.new-2.result) c.new.ensures.case ∙ ap (made_of _) c.new-2.ensures in
     let all = phase-end owed c.loop-phase.phase-index c.as_slice-phase-items.result.now c.as_slice-phase-items.ensures.value c.loop-phase-test.false c.loop-phase.auto.phase-index-end in
     case-whole f phases d c.loop-phase.case c.args.report.now c.loop-phase.report (owed_of owed) same
-    (subst (λ (k : ClosedCase). GrowsTo f k c.args.report.now c.loop-phase.case c.loop-phase.report (λ (later : List (List Asked)). owed_of owed ++ later) (λ (later : List (List Asked)). later)) begun
-    (phases-whole f from c.loop-phase.case c.args.report.now c.loop-phase.report (owed_of owed) (subst (λ n. InPhases f from c.args.report.now c.loop-phase.case c.loop-phase.report (owed_of owed) n) all c.loop-phase.invariant.judged)))
+    (subst (λ (k : ClosedCase). GrowsTo (cases f) k c.args.report.now c.loop-phase.case c.loop-phase.report (λ (later : List (List Asked)). owed_of owed ++ later) (λ (later : List (List Asked)). later)) begun
+    (phases-whole (cases f) refl from c.loop-phase.case c.args.report.now c.loop-phase.report (owed_of owed) (subst (λ n. InPhases (cases f) from c.args.report.now c.loop-phase.case c.loop-phase.report (owed_of owed) n) all c.loop-phase.invariant.judged)))

@@ -1,12 +1,12 @@
 use Rattle.std.proofs.Common.{◌+◌, ◌≤◌, drop, length}
 use Rattle.case_audit.specs.Owing.{owed_of}
-use Rattle.audit_model.specs.Cases.{InPhases, IsSteady}
+use Rattle.audit_model.specs.Journaled.{InPhases, IsSteady, cases}
 use Rattle.line_readers.specs.Owed.{how_many}
 use Rattle.case_audit.proofs.cases.judge_journal.Given as goal
 
 abbrev pub invariant-loop-phase : goal.invariant-loop-phase
 invariant-loop-phase l = record {
-  judged : InPhases l.file l.initial.case l.initial.report l.case l.report (owed_of l.owed) l.phase-index;
+  judged : InPhases (cases l.file) l.initial.case l.initial.report l.case l.report (owed_of l.owed) l.phase-index;
   steady : IsSteady l.case;
   few : length l.case.journal + how_many (drop l.phase-index (owed_of l.owed)) ≤ 60000;
 }

@@ -1,14 +1,14 @@
 use Rattle.std.proofs.Common.{◌+◌, ◌≤◌, length}
 use Rattle.case_audit.specs.Queues.{queues_of}
 use Rattle.case_audit.specs.Asking.{asked_in}
-use Rattle.audit_model.specs.Cases.{InPhase, IsSteady}
+use Rattle.audit_model.specs.Journaled.{InPhase, IsSteady, cases}
 use Rattle.audit_model.specs.Lines.{IsModest}
 use Rattle.wsm_lists.specs.Rows.{AllRows}
 use Rattle.case_audit.proofs.cases.judge_phase.Given as goal
 
 abbrev pub invariant-loop-judged : goal.invariant-loop-judged
 invariant-loop-judged l = record {
-  judged : InPhase l.file l.fn.case l.fn.report l.case l.report (queues_of l.turns) (asked_in l.calls) l._judged;
+  judged : InPhase (cases l.file) l.fn.case l.fn.report l.case l.report (queues_of l.turns) (asked_in l.calls) l._judged;
   modest : AllRows (AllRows IsModest) (queues_of l.turns);
   steady : IsSteady l.case;
   longer : length l.case.journal ≤ length l.fn.case.journal + l._judged;

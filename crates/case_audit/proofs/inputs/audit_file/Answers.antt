@@ -1,5 +1,9 @@
-use Rattle.case_audit.specs.Endings.EndsJudged.{judged}
+use Rattle.std.proofs.Common.{◌≡◌, sym, subst}
+use Rattle.case_audit.proofs.AuditEnds.{tells-on}
+use Rattle.case_audit.specs.Verdicts.{IsVerdict}
 use Rattle.case_audit.proofs.inputs.audit_file.Goals as goal
 
 pub returns-in-Ok : goal.returns-in-Ok
-returns-in-Ok g c = judged c.in-Ok.verdict c.in-Ok.ensures c.tell.ensures
+returns-in-Ok g c =
+    let right = IsVerdict c.args.file.now c.args.report.now in
+    tells-on g.K.Sink.written g.K.Sink.faults c.args.sink.now c.tell.new.sink (λ v. v ≡ c.in-Ok.verdict) right ⊥ ⊥ ⊥ ⊥ (λ v same. subst right (sym same) c.in-Ok.ensures) (λ none. none) (λ none. none) c.tell.result c.tell.ensures

@@ -1,12 +1,12 @@
-use Rattle.std.proofs.Common.{◌≡◌, ◌+◌, ◌<◌, ◌≤◌, false, true, length, get_or, sym, subst, arith}
+use Rattle.std.proofs.Common.{◌≡◌, ◌+◌, ◌<◌, false, true, length, get_or, sym, subst}
 use Rattle.case_audit.proofs.KindParts.{front-wrong, journal-wrong, kind-right}
 use Rattle.case_audit.proofs.OwedPhases.{phase-end, phase-is, phase-low, phase-row}
 use Rattle.audit_model.specs.ReportReader.{defined_line}
 use Rattle.case_audit.specs.Asking.{asked_in}
 use Rattle.case_audit.specs.Owing.{calls_in, owed_of}
-use Rattle.audit_model.proofs.KindPhases.{phase-on, phase-stops, phases-begun, phases-whole}
+use Rattle.audit_model.proofs.Phases.{phase-on, phase-stops, phases-begun, phases-whole}
 use Rattle.audit_model.specs.Judging.{FollowedBy}
-use Rattle.audit_model.specs.Kinds.{InPhases, PhaseJudged, owed_lines}
+use Rattle.audit_model.specs.Journaled.{InPhases, PhaseJudged, owed_lines, kinds}
 use Rattle.audit_model.specs.Lines.{IsModest}
 use Rattle.report_text.specs.Report.{type_head}
 use Rattle.std.proofs.Common.{◌++◌}
@@ -22,7 +22,7 @@ returns-then-not-branch c =
     front-wrong f c.args.number d kind c.args.report.now new c.in_ok-kind.ensures (subst (FollowedBy (type_head d ++ defined_line f kind) c.args.report.now new) c.if-not-branch.true c.in_ok-follow_front.ensures)
 
 pub loop-phase-init : goal.loop-phase-init
-loop-phase-init c = phases-begun c.args.file.now c.in_ok-kind.kind c.follow_front.new.report (owed_of c.args.owed.now)
+loop-phase-init c = phases-begun (kinds c.args.file.now) c.in_ok-kind.kind c.follow_front.new.report (owed_of c.args.owed.now)
 
 pub judge_phase-requires-clause-modest : goal.judge_phase-requires-clause-modest
 judge_phase-requires-clause-modest c =
@@ -41,15 +41,15 @@ returns-then-not-branch-2 c =
     let p = c.phase-item.result in
     let low = subst (λ ps. n < length ps) c.as_slice-phase-items.ensures.value c.loop-phase-test.true in
     let is = subst (λ ps. p ≡ get_or ps n p) c.as_slice-phase-items.ensures.value c.phase-item.is in
-    let judged = subst (λ b. PhaseJudged f c.loop-phase.kind c.loop-phase.report c.judge_phase.new.kind c.judge_phase.new.report (calls_in p) b) c.if-not-branch-2.true
-    (subst (λ ls. PhaseJudged f c.loop-phase.kind c.loop-phase.report c.judge_phase.new.kind c.judge_phase.new.report (asked_in ls) c.in_ok-judge_phase.field-0) c.as_slice.ensures.value c.in_ok-judge_phase.ensures) in
+    let judged = subst (λ b. PhaseJudged (kinds f) c.loop-phase.kind c.loop-phase.report c.judge_phase.new.kind c.judge_phase.new.report (calls_in p) b) c.if-not-branch-2.true
+    (subst (λ ls. PhaseJudged (kinds f) c.loop-phase.kind c.loop-phase.report c.judge_phase.new.kind c.judge_phase.new.report (asked_in ls) c.in_ok-judge_phase.field-0) c.as_slice.ensures.value c.in_ok-judge_phase.ensures) in
     let d = c.args.decl.now in
     let kind = c.in_ok-kind.kind in
     let mid = c.follow_front.new.report in
     let new = c.judge_phase.new.report in
     let front = subst (FollowedBy (type_head d ++ defined_line f kind) c.args.report.now mid) c.if-not-branch.false c.in_ok-follow_front.ensures in
     journal-wrong f c.args.number d kind c.args.report.now mid new (owed_lines (owed_of owed)) c.in_ok-kind.ensures front c.requires.owed
-    (phase-stops f kind c.loop-phase.kind c.judge_phase.new.kind mid c.loop-phase.report new (owed_of owed) n (calls_in p) (phase-low owed n low) (phase-is owed n p low is) c.loop-phase.invariant judged)
+    (phase-stops (kinds f) (λ p ps. refl) kind c.loop-phase.kind c.judge_phase.new.kind mid c.loop-phase.report new (owed_of owed) n (calls_in p) (phase-low owed n low) (phase-is owed n p low is) c.loop-phase.invariant judged)
 
 pub loop-phase-preserved : goal.loop-phase-preserved
 loop-phase-preserved c =
@@ -59,9 +59,9 @@ loop-phase-preserved c =
     let p = c.phase-item.result in
     let low = subst (λ ps. n < length ps) c.as_slice-phase-items.ensures.value c.loop-phase-test.true in
     let is = subst (λ ps. p ≡ get_or ps n p) c.as_slice-phase-items.ensures.value c.phase-item.is in
-    let judged = subst (λ b. PhaseJudged f c.loop-phase.kind c.loop-phase.report c.judge_phase.new.kind c.judge_phase.new.report (calls_in p) b) c.if-not-branch-2.false
-    (subst (λ ls. PhaseJudged f c.loop-phase.kind c.loop-phase.report c.judge_phase.new.kind c.judge_phase.new.report (asked_in ls) c.in_ok-judge_phase.field-0) c.as_slice.ensures.value c.in_ok-judge_phase.ensures) in
-    phase-on f c.in_ok-kind.kind c.loop-phase.kind c.judge_phase.new.kind c.follow_front.new.report c.loop-phase.report c.judge_phase.new.report (owed_of owed) n (calls_in p) (phase-low owed n low) (phase-is owed n p low is) c.loop-phase.invariant judged
+    let judged = subst (λ b. PhaseJudged (kinds f) c.loop-phase.kind c.loop-phase.report c.judge_phase.new.kind c.judge_phase.new.report (calls_in p) b) c.if-not-branch-2.false
+    (subst (λ ls. PhaseJudged (kinds f) c.loop-phase.kind c.loop-phase.report c.judge_phase.new.kind c.judge_phase.new.report (asked_in ls) c.in_ok-judge_phase.field-0) c.as_slice.ensures.value c.in_ok-judge_phase.ensures) in
+    phase-on (kinds f) (λ p ps. refl) c.in_ok-kind.kind c.loop-phase.kind c.judge_phase.new.kind c.follow_front.new.report c.loop-phase.report c.judge_phase.new.report (owed_of owed) n (calls_in p) (phase-low owed n low) (phase-is owed n p low is) c.loop-phase.invariant judged
 
 pub returns : goal.returns
 returns c =
@@ -73,4 +73,4 @@ returns c =
     let front = subst (FollowedBy (type_head d ++ defined_line f kind) c.args.report.now mid) c.if-not-branch.false c.in_ok-follow_front.ensures in
     let all = phase-end owed c.loop-phase.phase-index c.as_slice-phase-items.result.now c.as_slice-phase-items.ensures.value c.loop-phase-test.false c.loop-phase.auto.phase-index-end in
     kind-right f c.args.number d kind c.loop-phase.kind c.args.report.now mid c.loop-phase.report (owed_lines (owed_of owed)) c.in_ok-kind.ensures front c.requires.owed
-    (phases-whole f kind c.loop-phase.kind mid c.loop-phase.report (owed_of owed) (subst (λ n. InPhases f kind mid c.loop-phase.kind c.loop-phase.report (owed_of owed) n) all c.loop-phase.invariant))
+    (phases-whole (kinds f) refl kind c.loop-phase.kind mid c.loop-phase.report (owed_of owed) (subst (λ n. InPhases (kinds f) kind mid c.loop-phase.kind c.loop-phase.report (owed_of owed) n) all c.loop-phase.invariant))

@@ -1,10 +1,10 @@
-use Rattle.std.proofs.Common.{◌≡◌, ◌+◌, ◌<◌, ◌≤◌, length, sym, ap, ◌∙◌, subst, arith}
+use Rattle.std.proofs.Common.{◌≡◌, ◌<◌, length, sym, ap, ◌∙◌, subst, arith}
 use Rattle.case_audit.proofs.AllTurns.{all-turns}
 use Rattle.case_audit.specs.Queues.{all_turns, queues_of}
 use Rattle.case_audit.specs.Asking.{asked_in, asked_of}
-use Rattle.audit_model.proofs.KindPhases.{line-on, line-stops, phase-begun, phase-whole}
+use Rattle.audit_model.proofs.Phases.{line-on, line-stops, phase-begun, phase-whole}
 use Rattle.audit_model.proofs.Modest.{turns-rows}
-use Rattle.audit_model.specs.Kinds.{InPhase, LineJudged}
+use Rattle.audit_model.specs.Journaled.{InPhase, LineJudged, kinds}
 use Rattle.audit_model.specs.Lines.{IsModest, actor_of}
 use Rattle.line_followers.specs.Turns.{AreTurns}
 use Rattle.std.proofs.lemmas.List.{length-map}
@@ -16,7 +16,7 @@ loop-judged-init c =
     let phase = asked_in c.args.calls.now in
     let queues = queues_of c.in_ok-turns.turns in
     let turns = subst (λ qs. AreTurns actor_of (length f.actors) qs phase) (sym (c.in_ok-turns.ensures ∙ ap (λ n. all_turns n phase) c.len.ensures)) (all-turns (length f.actors) phase) in
-    record { judged = phase-begun f c.args.kind.now c.args.report.now queues phase turns; modest = turns-rows IsModest actor_of (length f.actors) queues phase turns c.requires.modest }
+    record { judged = phase-begun (kinds f) c.args.kind.now c.args.report.now queues phase turns; modest = turns-rows IsModest actor_of (length f.actors) queues phase turns c.requires.modest }
 
 pub judge_line-requires-clause-modest : goal.judge_line-requires-clause-modest
 judge_line-requires-clause-modest c = c.loop-judged.invariant.modest
@@ -32,8 +32,8 @@ returns-then-not-branch c =
     let to = c.judge_line.new.kind in
     let new = c.judge_line.new.report in
     let low : c.loop-judged._judged < length phase = omega (arith, c.loop-judged-test.true, length-map c.args.calls.now asked_of) in
-    line-stops f c.args.kind.now mid to c.args.report.now between new queues rest phase c.loop-judged._judged low c.loop-judged.invariant.judged
-    (λ owed some turns. subst (λ b. LineJudged f mid between to new rest owed b) c.if-not-branch.true (c.in_ok-judge_line.ensures.judged owed some turns))
+    line-stops (kinds f) c.args.kind.now mid to c.args.report.now between new queues rest phase c.loop-judged._judged low c.loop-judged.invariant.judged
+    (λ owed some turns. subst (λ b. LineJudged (kinds f) mid between to new rest owed b) c.if-not-branch.true (c.in_ok-judge_line.ensures.judged owed some turns))
 
 pub loop-judged-preserved : goal.loop-judged-preserved
 loop-judged-preserved c =
@@ -46,8 +46,8 @@ loop-judged-preserved c =
     let to = c.judge_line.new.kind in
     let new = c.judge_line.new.report in
     let low : c.loop-judged._judged < length phase = omega (arith, c.loop-judged-test.true, length-map c.args.calls.now asked_of) in
-    let judged = line-on f c.args.kind.now mid to c.args.report.now between new queues rest phase c.loop-judged._judged low c.loop-judged.invariant.judged
-    (λ owed some turns. subst (λ b. LineJudged f mid between to new rest owed b) c.if-not-branch.false (c.in_ok-judge_line.ensures.judged owed some turns)) in
+    let judged = line-on (kinds f) c.args.kind.now mid to c.args.report.now between new queues rest phase c.loop-judged._judged low c.loop-judged.invariant.judged
+    (λ owed some turns. subst (λ b. LineJudged (kinds f) mid between to new rest owed b) c.if-not-branch.false (c.in_ok-judge_line.ensures.judged owed some turns)) in
     record { judged = judged; modest = c.in_ok-judge_line.ensures.modest }
 
 pub returns : goal.returns
@@ -55,5 +55,5 @@ returns c =
     let f = c.args.file.now in
     let phase = asked_in c.args.calls.now in
     let all : c.loop-judged._judged ≡ length phase = omega (arith, c.loop-judged-test.false, c.loop-judged.auto._judged-end, length-map c.args.calls.now asked_of) in
-    phase-whole f c.args.kind.now c.loop-judged.kind c.args.report.now c.loop-judged.report (queues_of c.loop-judged.turns) phase
-    (subst (λ n. InPhase f c.args.kind.now c.args.report.now c.loop-judged.kind c.loop-judged.report (queues_of c.loop-judged.turns) phase n) all c.loop-judged.invariant.judged)
+    phase-whole (kinds f) refl c.args.kind.now c.loop-judged.kind c.args.report.now c.loop-judged.report (queues_of c.loop-judged.turns) phase
+    (subst (λ n. InPhase (kinds f) c.args.kind.now c.args.report.now c.loop-judged.kind c.loop-judged.report (queues_of c.loop-judged.turns) phase n) all c.loop-judged.invariant.judged)

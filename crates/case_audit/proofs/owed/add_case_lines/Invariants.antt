@@ -4,4 +4,4 @@ use Rattle.case_audit.specs.Owing.{case_put, numbers}
 use Rattle.case_audit.proofs.owed.add_case_lines.Given as goal
 
 abbrev pub invariant-loop-call : goal.invariant-loop-call
-invariant-loop-call l = fold (case_put l.declared.cases.now l.phase) (numbers l.owed.items) (asked_in (drop l.call-index l.lines)) ≡ fold (case_put l.declared.cases.now l.phase) (numbers l.fn.owed.items) (asked_in l.lines)
+invariant-loop-call l = fold (case_put l.script.file.now.cases l.phase) (numbers l.owed.items) (asked_in (drop l.call-index l.lines)) ≡ fold (case_put l.script.file.now.cases l.phase) (numbers l.fn.owed.items) (asked_in l.lines)

@@ -1,7 +1,6 @@
-use Rattle.std.proofs.Common.{◌≡◌, suc, ◌+◌, ◌<◌, [], ◌∷◌, ◌++◌, length, length-append, slice_get, Some, None, Ok, refl, sym, ap, ◌∙◌, subst, arith}
-use Rattle.std.specs.Vec.Iter.{into_iter_items}
+use Rattle.std.proofs.Common.{◌≡◌, suc, ◌+◌, ◌<◌, [], ◌∷◌, ◌++◌, length, length-append, slice_get, Some, Ok, refl, sym, ap, ◌∙◌, subst, arith}
 use Rattle.audit_model.proofs.ReadersInRow.{cases-begun, cases-read}
-use Rattle.audit_model.specs.Cases.{InCases}
+use Rattle.audit_model.specs.Journaled.{InCases}
 use Rattle.case_audit.proofs.CaseSections.{sections-on, sections-stop}
 use Rattle.case_audit.specs.Sections.{IsCaseAt, IsSection}
 use Rattle.case_audit.proofs.sections.join_sections.Goals as goal
