@@ -1,15 +1,15 @@
 -- What is known where a line was judged: whose turn it is, and how a call went.
-use Rattle.std.proofs.Common.{◌≡◌, ℕ, List, [], ◌∷◌, Option, Some, None, Result, Ok, Err, IfOk, OnOk, refl, sym, ap, ◌∙◌}
+use Rattle.std.proofs.Common.{◌≡◌, ℕ, List, [], ◌∷◌, Option, Some, None, Result, Ok, Err, IfOk, OnOk, refl, sym, ap, ◌∙◌, subst}
 use Rattle.std.proofs.lemmas.Option.{same_Some}
 use Rattle.std.specs.Prelude.{option_map}
-use Rattle.audit_model.proofs.Modest.{front-row}
+use Rattle.audit_model.proofs.Modest.{front-row, taken-rows}
 use Rattle.audit_model.specs.Asked.{Asked}
 use Rattle.audit_model.specs.Journaled.{next_of}
 use Rattle.audit_model.specs.Lines.{IsModest}
 use Rattle.audit_model.specs.Printed.{caller_in}
 use Rattle.file_model.specs.declared.files.File.{File}
 use Rattle.file_words.specs.Lines.{Bytes}
-use Rattle.line_followers.specs.Turns.{front_of, queue_of}
+use Rattle.line_followers.specs.Turns.{front_of, one_taken, queue_of}
 use Rattle.wsm_lists.specs.Rows.{AllRows}
 
 -- the call that the rest of a report shows
@@ -26,6 +26,10 @@ shown-modest queues (Some b) a l is all = by (queue_of queues b) refl is
     by (x ∷ xs) at some =
         let first : x ≡ l = ap (λ (p : ℕ × Asked). p.1) (same_Some (b, x) (a, l) some) in
         front-row IsModest queues b l xs all (at ∙ ap (λ y. y ∷ xs) first)
+
+-- queues of which one was taken from are modest still
+pub taken-modest : (queues new : List (List Asked)) (a : ℕ) → new ≡ one_taken a queues → AllRows (AllRows IsModest) queues → AllRows (AllRows IsModest) new
+taken-modest queues new a is all = subst (AllRows (AllRows IsModest)) (sym is) (taken-rows IsModest queues a all)
 
 -- what holds of each good outcome
 pub on-good : {X E : Type 0} {M J : Type 0} {L Q : X → Type 0} (r : Result X E) → ((x : X) → M → J → L x → Q x) → OnOk r M → OnOk r J → IfOk r L → IfOk r Q
