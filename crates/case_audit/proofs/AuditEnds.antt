@@ -1,12 +1,15 @@
 -- How an audit ends follows from how its bytes were got, and how they were judged.
 use Rattle.std.proofs.Common.{◌≡◌, ℕ, ◌+◌, ◌≤◌, true, false, ◌||◌, List, ◌++◌, append-nil, length, length-append, Option, Some, None, Result, Ok, Err, IfSome, refl, sym, ap, ◌∙◌, subst, arith}
 use Rattle.std.proofs.lemmas.Bool.{le-ltb, lt-ltb}
-use Rattle.std.specs.Io.KnownBytes.{Consumes, IsAtEnd}
+use Rattle.std.specs.Io.KnownBytes.{Appends, Consumes, IsAtEnd}
 use Rattle.std.specs.Prelude.{nat_lt}
+use Rattle.adept_io.specs.Counts.{Rose}
 use Rattle.adept_io.specs.Read.{ConsumesMany, ConsumesUpTo}
-use Rattle.case_audit.specs.Endings.{EndsAudit, IsRefused, IsVerdictOn, Tells, TellsBytes}
+use Rattle.adept_io.specs.Written.{AppendsPrefix}
+use Rattle.case_audit.specs.Endings.{EndsAudit, IsRefused, IsVerdictOn, Tells, TellsBytes, TellsOne}
 use Rattle.case_audit.specs.Parts.{file_part, is_too_long, most_bytes, most_in_file, most_in_report, report_part}
 use Rattle.case_audit.specs.Statuses.{of_file}
+use Rattle.case_audit.specs.Verdicts.{verdict_text}
 use Rattle.case_audit.specs.declared.reports.Verdict.{Verdict}
 use Rattle.case_audit.specs.declared.unaudited.Unaudited.{Unaudited}
 use Rattle.case_audit.specs.declared.unaudited.Unaudited.TheVariants as why
@@ -45,6 +48,13 @@ module _ {K : Type 0} (written : K → Option (List ℕ)) (faults : K → ℕ) (
   tells-on P Q A B C D right refused long (Err why.TooLong) (many, still) = (long many, still)
   tells-on P Q A B C D right refused long (Err why.NoMemory) still = still
   tells-on P Q A B C D right refused long (Err why.Unread) none = absurd none
+
+-- a verdict that was written, or not
+pub told : {K : Type 0} (written : K → Option (List ℕ)) (faults : K → ℕ) (v : Verdict) (old new : K) → Appends (written old) (written new) (verdict_text v) → TellsOne written faults v old new (Ok v)
+told written faults v old new wrote = (refl, wrote)
+
+pub untold : {K : Type 0} (written : K → Option (List ℕ)) (faults : K → ℕ) (v : Verdict) (old new : K) → AppendsPrefix (written old) (written new) (verdict_text v) → Rose (faults old) (faults new) → TellsOne written faults v old new (Err why.Unwritten)
+untold written faults v old new wrote rose = ((v, (refl, wrote)), rose)
 
 -- a file that is refused ends so, or by want of memory
 pub refused-how : {K : Type 0} (written : K → Option (List ℕ)) (faults : K → ℕ) (bytes : List ℕ) (how : FileRefusal) (sink : K) → is_too_long bytes ≡ false → TellsFile (file (file_part bytes)) how
