@@ -54,7 +54,7 @@ pub told : {K : Type 0} (written : K → Option (List ℕ)) (faults : K → ℕ)
 told written faults v old new wrote = (refl, wrote)
 
 pub untold : {K : Type 0} (written : K → Option (List ℕ)) (faults : K → ℕ) (v : Verdict) (old new : K) → AppendsPrefix (written old) (written new) (verdict_text v) → Rose (faults old) (faults new) → TellsOne written faults v old new (Err why.Unwritten)
-untold written faults v old new wrote rose = ((v, (refl, wrote)), rose)
+untold written faults v old new wrote rose = ((v, refl, wrote), rose)
 
 -- a file that is refused ends so, or by want of memory
 pub refused-how : {K : Type 0} (written : K → Option (List ℕ)) (faults : K → ℕ) (bytes : List ℕ) (how : FileRefusal) (sink : K) → is_too_long bytes ≡ false → TellsFile (file (file_part bytes)) how

@@ -1,4 +1,4 @@
-use Rattle.std.proofs.Common.{◌≡◌, ◌+◌, ◌<◌, ◌++◌, List, false, true, length, get_or, sym, ap, ◌∙◌, subst, arith}
+use Rattle.std.proofs.Common.{◌≡◌, ◌+◌, ◌<◌, ◌++◌, List, false, true, length, get_or, refl, sym, ap, ◌∙◌, subst, arith}
 use Rattle.case_audit.proofs.OwedPhases.{phase-end, phase-is, phase-low, phase-many, phase-row}
 use Rattle.audit_model.specs.Asked.{Asked}
 use Rattle.case_audit.specs.Asking.{asked_in}

@@ -1,4 +1,4 @@
-use Rattle.std.proofs.Common.{◌≡◌, ◌<◌, length, sym, ap, ◌∙◌, subst, arith}
+use Rattle.std.proofs.Common.{◌≡◌, ◌<◌, length, refl, sym, ap, ◌∙◌, subst, arith}
 use Rattle.case_audit.proofs.AllTurns.{all-turns}
 use Rattle.case_audit.specs.Queues.{all_turns, queues_of}
 use Rattle.case_audit.specs.Asking.{asked_in, asked_of}

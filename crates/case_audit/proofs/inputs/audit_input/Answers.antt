@@ -12,7 +12,7 @@ returns-in-Ok g c =
 pub returns-in-Err-Failed : goal.returns-in-Err-Failed
 returns-in-Err-Failed g c =
     let is = c.in-Err-Failed.is ∙ ap Err c.in-Err-Failed.field-0-is in
-    (c.read_to_limit.ensures.rose is, (c.read_to_limit.ensures.failed is, refl))
+    (c.read_to_limit.ensures.rose is, c.read_to_limit.ensures.failed is, refl)
 
 pub returns-in-Err-NoMemory : goal.returns-in-Err-NoMemory
 returns-in-Err-NoMemory g c =

@@ -1,4 +1,4 @@
-use Rattle.std.proofs.Common.{◌≡◌, ◌+◌, ◌<◌, false, true, length, get_or, sym, subst}
+use Rattle.std.proofs.Common.{◌≡◌, ◌+◌, ◌<◌, false, true, length, get_or, refl, sym, subst}
 use Rattle.case_audit.proofs.KindParts.{front-wrong, journal-wrong, kind-right}
 use Rattle.case_audit.proofs.OwedPhases.{phase-end, phase-is, phase-low, phase-row}
 use Rattle.audit_model.specs.ReportReader.{defined_line}
