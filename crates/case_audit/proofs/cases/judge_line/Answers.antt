@@ -58,7 +58,7 @@ returns-in-Some-2-clause-judged c = λ phase some turns.
     let next = shows ∙ ap (option_map shown_of) is in
     let event = sym c.in_ok-event_of.ensures ∙ c.in-Some-2.is in
     let writes = line-writes f (asked_of c.in-Some.call) c.in-Some-2.event (shown-modest queues _ c.in-Some.caller (asked_of c.in-Some.call) next c.requires.modest).0 event in
-    let others : queues_of c.shown.new.turns ≡ one_taken c.in-Some.caller queues = search rules in
+    let others : queues_of c.shown.new.self ≡ one_taken c.in-Some.caller queues = search rules in
     on-good c.judge_call.result (λ stands machine journal line. subst (λ qs. LineJudged (cases f) from c.args.report.now c.judge_call.new.case c.judge_call.new.report qs phase stands) (sym others)
     (line-judged (cases f) c.requires.auditable (cases-readable f c.requires.workable c.requires.auditable) from c.judge_call.new.case c.args.report.now c.judge_call.new.report queues phase c.in-Some.caller (asked_of c.in-Some.call) c.in-Some-2.event stands c.requires.steady.0 writes next turns event machine journal line))
     c.judge_call.ensures.machine c.judge_call.ensures.journal c.judge_call.ensures.line

@@ -54,7 +54,7 @@ returns-in-Some-2-clause-judged c = λ phase some turns.
     let is : c.shown.result ≡ Some (c.in-Some.caller, c.in-Some.call) = search rules in
     let next = shows ∙ ap (option_map shown_of) is in
     let event = sym c.in_ok-event_of.ensures ∙ c.in-Some-2.is in
-    let others : queues_of c.shown.new.turns ≡ one_taken c.in-Some.caller queues = search rules in
+    let others : queues_of c.shown.new.self ≡ one_taken c.in-Some.caller queues = search rules in
     on-good c.judge_call.result (λ stands machine journal line. subst (λ qs. LineJudged (kinds f) from c.args.report.now c.judge_call.new.kind c.judge_call.new.report qs phase stands) (sym others)
     (line-judged (kinds f) c.requires.auditable (kinds-readable f c.requires.workable c.requires.auditable) from c.judge_call.new.kind c.args.report.now c.judge_call.new.report queues phase c.in-Some.caller (asked_of c.in-Some.call) c.in-Some-2.event stands tt tt next turns event machine journal line))
     c.judge_call.ensures.machine c.judge_call.ensures.journal c.judge_call.ensures.line
