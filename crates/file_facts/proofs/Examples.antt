@@ -1,7 +1,7 @@
 -- Small files, computed from the definitions alone.
 use Rattle.std.specs.Prelude.{◌≡◌, ℕ, List, [], ◌∷◌, map, length, Result, Ok, Err, refl, codes}
 use Rattle.std.specs.Str.{is_utf8, chars}
-use Rattle.std.proofs.Common.{zero, suc, ◌<◌, true, false, arith}
+use Rattle.std.proofs.Common.{zero, suc, ◌<◌, ◌≤◌, true, false, arith}
 use Rattle.std.proofs.lemmas.Option.{same_Some}
 use Rattle.wsm_sound.specs.Faults.{fault_of}
 use Rattle.wsm_sound.specs.declared.versions.CaseId.{CaseId}
@@ -64,11 +64,14 @@ create-known = record { from_1 = omega arith; actor = omega arith; act = refl }
 pub create-unknown : IsKnown 2 1 three (line 1 (act.Create (id 1 1))) → ⊥
 create-unknown h = let wrong : false ≡ true = h.act in cc
 
-pub no-actor-0 : IsKnown 2 1 three (line 0 (act.Migrate 1)) → ⊥
+pub no-actor-0 : IsKnown 2 1 three (line 0 (act.Migrate 1 1)) → ⊥
 no-actor-0 h = omega (arith, h.from_1)
 
-pub no-second-actor : IsKnown 2 1 three (line 2 (act.Migrate 1)) → ⊥
+pub no-second-actor : IsKnown 2 1 three (line 2 (act.Migrate 1 1)) → ⊥
 no-second-actor h = omega (arith, h.actor)
 
-pub no-third-type : IsKnown 2 1 three (line 1 (act.Migrate 2)) → ⊥
-no-third-type h = let wrong : 2 < 2 = h.act in omega (arith, wrong)
+pub no-third-type : IsKnown 2 1 three (line 1 (act.Migrate 2 0)) → ⊥
+no-third-type h = let wrong : 2 < 2 = h.act.0 in omega (arith, wrong)
+
+pub no-more-than-there-are : IsKnown 2 1 three (line 1 (act.Migrate 1 2)) → ⊥
+no-more-than-there-are h = let wrong : 2 ≤ 1 = h.act.1 in omega (arith, wrong)

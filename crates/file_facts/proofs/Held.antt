@@ -4,7 +4,7 @@ use Rattle.std.specs.Prelude.{IfOk}
 use Rattle.std.specs.Option.{option_or}
 use Rattle.wsm_lists.specs.Rows.{AllRows}
 use Rattle.file_names.specs.declared.declared.DeclaredList.{DeclaredList}
-use Rattle.file_model.specs.Steps.{State, Step, unless, over}
+use Rattle.file_model.specs.Steps.{State, Step, open_lines, over, unless}
 use Rattle.file_model.specs.Scripting.{if_known}
 use Rattle.file_model.specs.Operating.{line_of_group}
 use Rattle.file_model.specs.declared.files.ActorDecl.{ActorDecl}
@@ -32,19 +32,10 @@ pub record AreDeclared (types : DeclaredList TypeDecl) (actors : DeclaredList Ac
 abbrev pub HasDeclared : Contents → Type 0
 HasDeclared c = AreDeclared c.types c.actors c.cases
 
--- before the first phase
-pub record IsBefore (types : DeclaredList TypeDecl) (actors : DeclaredList ActorDecl) (cases : DeclaredList CaseDecl) (phases : List (List Line)) (counted : ℕ) : Type 0 where
-  pub declared : AreDeclared types actors cases
-  pub within : counted ≤ 60000
-  pub no_phase : phases ≡ []
-
-abbrev pub Before : Contents → Type 0
-Before c = IsBefore c.types c.actors c.cases c.phases c.counts.lines
-
 abbrev pub KnownIn : Contents → Line → Type 0
 KnownIn c l = IsKnown (length c.types.items) (length c.actors.items) c.cases.items l
 
--- in a phase: the lines of earlier phases, those of the open one and as many as were begun are counted, and all are known
+-- the lines of earlier phases, those of the open one and as many as were begun are counted, and all are known
 pub record IsScript (types : DeclaredList TypeDecl) (actors : DeclaredList ActorDecl) (cases : DeclaredList CaseDecl) (phases : List (List Line)) (counted : ℕ) (lines : List Line) (begun : ℕ) : Type 0 where
   pub declared : AreDeclared types actors cases
   pub within : counted ≤ 60000
@@ -52,20 +43,19 @@ pub record IsScript (types : DeclaredList TypeDecl) (actors : DeclaredList Actor
   pub known_phases : AllRows (AllRows (IsKnown (length types.items) (length actors.items) cases.items)) phases
   pub known_lines : AllRows (IsKnown (length types.items) (length actors.items) cases.items) lines
 
-abbrev pub Script : Contents → List Line → ℕ → Type 0
-Script c lines begun = IsScript c.types c.actors c.cases c.phases c.counts.lines lines begun
+abbrev pub Script : Contents → ℕ → Type 0
+Script c begun = IsScript c.types c.actors c.cases c.phases c.counts.lines (open_lines c.current) begun
 
 -- a type that is open has room
 abbrev pub Typing : Contents → Type 0
-Typing c = Before c × (length c.types.items < 64)
+Typing c = Script c 0 × (length c.types.items < 64)
 
 -- an open group would be a known line if it ended here
 abbrev pub HeldIn : Section → Contents → Type 0
-HeldIn section.Head c = Before c
-HeldIn section.Outside c = Before c
+HeldIn (section.Head newest) c = Script c 0
+HeldIn section.Outside c = Script c 0
 HeldIn (section.InType d) c = Typing c
-HeldIn (section.InPhase lines) c = Script c lines 0
-HeldIn (section.InGroup lines g) c = Script c lines 1 × KnownIn c (line_of_group g)
+HeldIn (section.InGroup g) c = Script c 1 × KnownIn c (line_of_group g)
 
 abbrev pub HeldState : State → Type 0
 HeldState s = HeldIn s.place s.contents

@@ -1,31 +1,38 @@
 -- What holds behind declarations and lines of a type.
-use Rattle.std.proofs.Common.{◌≡◌, ◌≤◌, ◌<◌, ℕ, List, [], ◌∷◌, ◌++◌, length, take, refl, inl, inr, arith, Option, Some, None}
+use Rattle.std.proofs.Common.{◌≡◌, ◌≤◌, ◌<◌, ◌==◌, ℕ, cond, List, [], ◌∷◌, ◌++◌, length, take, refl, inl, inr, arith, Option, Some, None}
 use Rattle.std.proofs.Math.Seq.{take-append_seam}
 use Rattle.std.proofs.lemmas.Bool.{leb-false}
 use Rattle.std.proofs.lemmas.List.{length_push, take-append-le}
+use Rattle.std.proofs.lemmas.List.Sums.{sum_by_push}
 use Rattle.std.proofs.lemmas.Option.{slice_get_within}
 use Rattle.wsm_lists.specs.Rows.{AllRows}
 use Rattle.wsm_lists.proofs.Lists.{all-rows-map, rows-append}
 use Rattle.wsm_schema.specs.SchemaModel.{SchemaModel}
 use Rattle.wsm_sound.specs.Faults.{fault_of}
 use Rattle.wsm_sound.specs.declared.faults.Fault.{Fault}
+use Rattle.wsm_sound.specs.declared.versions.CaseId.{CaseId}
 use Rattle.file_words.specs.Lines.{Bytes}
 use Rattle.file_names.specs.Names.{place_of}
+use Rattle.file_names.specs.declared.declared.DeclaredList.{DeclaredList}
 use Rattle.file_forms.specs.Forms.{Declaration, a_type, an_actor, a_case, first_phase, TypeLine, activity, opens_and, opens_xor, opens_branch, opens_loop, closes_block, a_sync, an_element, a_read, a_write, type_end}
 use Rattle.file_drafts.specs.Drafts.{new_draft, whole}
 use Rattle.file_drafts.specs.declared.drafts.Draft.{Draft}
-use Rattle.file_model.specs.Steps.{at_place, with_node, with_element}
-use Rattle.file_model.specs.CaseCounts.{cases_of_type}
-use Rattle.file_model.specs.Declaring.{outside, with_type, with_actor, with_case, case_declared, declared}
+use Rattle.file_model.specs.Steps.{at_place, open_lines, outside, phases_with, with_node, with_element}
+use Rattle.file_model.specs.CaseCounts.{cases_of_type, has_id}
+use Rattle.file_model.specs.Declaring.{with_type, with_actor, with_case, with_roles, role_numbers, case_declared, declared, phase_begun}
 use Rattle.file_model.specs.Typing.{ended, typed}
+use Rattle.file_model.specs.declared.files.Act.{Act}
+use Rattle.file_model.specs.declared.files.Act.TheVariants as act
+use Rattle.file_model.specs.declared.files.ActorDecl.{ActorDecl}
 use Rattle.file_model.specs.declared.files.CaseDecl.{CaseDecl}
+use Rattle.file_model.specs.declared.files.Line.{Line}
 use Rattle.file_model.specs.declared.files.TypeDecl.{TypeDecl}
 use Rattle.file_model.specs.declared.refusals.FileLimit.TheVariants as limit
 use Rattle.file_model.specs.declared.states.Contents.{Contents}
 use Rattle.file_model.specs.declared.states.Section.TheVariants as section
-use Rattle.file_facts.specs.Facts.{IsSound, HasType, ArePlaced}
-use Rattle.file_facts.proofs.Held.{Before, Typing, Script, HasDeclared, HeldStep, unless-held, same-held, not_over, neither}
-use Rattle.file_facts.proofs.Lists.{at-push, length-noted, place_within}
+use Rattle.file_facts.specs.Facts.{IsSound, HasType, ArePlaced, IsDeclared, IsKnown, IsKnownAct}
+use Rattle.file_facts.proofs.Held.{AreDeclared, IsScript, Typing, Script, HasDeclared, HeldStep, unless-held, same-held, not_over, neither}
+use Rattle.file_facts.proofs.Lists.{any-more, at-push, length-noted, place_within}
 
 -- ---- one more declaration
 more_types : (n m : ℕ) → n ≤ m → (cases : List CaseDecl) → AllRows (HasType n) cases → AllRows (HasType m) cases
@@ -85,38 +92,111 @@ case-declared n t c there room h =
       placed = placed-push c.cases.items d refl h.placed;
     }
 
--- ---- declarations
-first-script : (c : Contents) → Before c → Script c [] 0
-first-script c h = record {
+-- ---- what was known stays known
+pub record AreAmong (cases more : List CaseDecl) : Type 0 where
+  pub declared : (c : CaseId) → IsDeclared c cases → IsDeclared c more
+  pub counted : (t : ℕ) → cases_of_type t cases ≤ cases_of_type t more
+
+same-cases : (cases : List CaseDecl) → AreAmong cases cases
+same-cases cases = record { declared = λ c h. h; counted = λ t. omega arith }
+
+one-case : (cases : List CaseDecl) (d : CaseDecl) → AreAmong cases (cases ++ d ∷ [])
+one-case cases d = record {
+  declared = λ c h. any-more (has_id c) cases d h;
+  counted = λ t. omega (arith, sum_by_push (λ (e : CaseDecl). cond (e.id.type_no == t) 1 0) cases d);
+}
+
+known-act : (n m : ℕ) (cases more : List CaseDecl) → n ≤ m → AreAmong cases more → (x : Act) → IsKnownAct n cases x → IsKnownAct m more x
+known-act n m cases more le among (act.Create c) h = among.declared c h
+known-act n m cases more le among (act.Start c node) h = among.declared c h
+known-act n m cases more le among (act.Withdraw c node) h = among.declared c h
+known-act n m cases more le among (act.End c node choice writes) h = among.declared c h
+known-act n m cases more le among (act.Change c ops) h = (among.declared c h.0, h.1)
+known-act n m cases more le among (act.Install t ops) h = (omega (arith, le, h.0), h.1)
+known-act n m cases more le among (act.Migrate t many) h = (omega (arith, le, h.0), omega (arith, among.counted t, h.1))
+
+known-line : (n m a b : ℕ) (cases more : List CaseDecl) → n ≤ m → a ≤ b → AreAmong cases more → (l : Line) → IsKnown n a cases l → IsKnown m b more l
+known-line n m a b cases more types actors among l h = record {
+  from_1 = h.from_1;
+  actor = omega (arith, actors, h.actor);
+  act = known-act n m cases more types among l.act h.act;
+}
+
+known-lines : (n m a b : ℕ) (cases more : List CaseDecl) → n ≤ m → a ≤ b → AreAmong cases more → (lines : List Line) → AllRows (IsKnown n a cases) lines → AllRows (IsKnown m b more) lines
+known-lines n m a b cases more types actors among lines h = all-rows-map (IsKnown n a cases) (IsKnown m b more) (known-line n m a b cases more types actors among) lines h
+
+wider : (types more_types : DeclaredList TypeDecl) (actors more_actors : DeclaredList ActorDecl) (cases more_cases : DeclaredList CaseDecl) (phases : List (List Line)) (counted : ℕ) (lines : List Line) (begun : ℕ) →
+    length types.items ≤ length more_types.items → length actors.items ≤ length more_actors.items → AreAmong cases.items more_cases.items → AreDeclared more_types more_actors more_cases →
+    IsScript types actors cases phases counted lines begun → IsScript more_types more_actors more_cases phases counted lines begun
+wider types more_types actors more_actors cases more_cases phases counted lines begun t a among declared h =
+    let known = known-lines (length types.items) (length more_types.items) (length actors.items) (length more_actors.items) cases.items more_cases.items t a among in
+    record {
+      declared = declared;
+      within = h.within;
+      all_counted = h.all_counted;
+      known_phases =
+          all-rows-map (AllRows (IsKnown (length types.items) (length actors.items) cases.items))
+          (AllRows (IsKnown (length more_types.items) (length more_actors.items) more_cases.items)) known phases h.known_phases;
+      known_lines = known lines h.known_lines;
+    }
+
+-- ---- the open phase ends
+pub phase-ended : (types : DeclaredList TypeDecl) (actors : DeclaredList ActorDecl) (cases : DeclaredList CaseDecl) (phases : List (List Line)) (counted : ℕ) (current : Option (List Line)) →
+    IsScript types actors cases phases counted (open_lines current) 0 → IsScript types actors cases (phases_with current phases) counted [] 0
+phase-ended types actors cases phases counted None h = h
+phase-ended types actors cases phases counted (Some lines) h = record {
   declared = h.declared;
   within = h.within;
-  all_counted = rw h.no_phase (omega arith);
-  known_phases = rw h.no_phase tt;
+  all_counted = let before = h.all_counted in omega (arith, before, sum_by_push (λ (ls : List Line). length ls) phases lines);
+  known_phases = rows-append _ phases (lines ∷ []) h.known_phases (h.known_lines, tt);
   known_lines = tt;
 }
 
-case_declared-held : (n : Bytes) (t : Option ℕ) (c : Contents) → ((i : ℕ) → t ≡ Some i → i < length c.types.items) → Before c → HeldStep (case_declared n t c)
+pub begun-held : (c : Contents) → Script c 0 → HeldStep (phase_begun c)
+begun-held c h = same-held _ c _ (phase-ended c.types c.actors c.cases c.phases c.counts.lines c.current h)
+
+-- ---- declarations
+type-script : (n : Bytes) (s : SchemaModel) (c : Contents) → fault_of s ≡ None → length c.types.items < 64 → Script c 0 → Script (with_type n s c) 0
+type-script n s c sound room h =
+    let after = with_type n s c in
+    wider c.types after.types c.actors c.actors c.cases c.cases c.phases c.counts.lines (open_lines c.current) 0 (omega (arith, length_push c.types.items (record { name = n; schema = s }))) (omega arith)
+    (same-cases c.cases.items) (type-declared n s c sound room h.declared) h
+
+actor-script : (n : Bytes) (roles : List ℕ) (c : Contents) → length c.actors.items < 32 → Script c 0 → Script (with_actor n roles c) 0
+actor-script n roles c room h =
+    let after = with_actor n roles c in
+    wider c.types c.types c.actors after.actors c.cases c.cases c.phases c.counts.lines (open_lines c.current) 0 (omega arith) (omega (arith, length_push c.actors.items (record { name = n; roles = roles })))
+    (same-cases c.cases.items) (actor-declared n roles c room h.declared) h
+
+case-script : (n : Bytes) (t : ℕ) (c : Contents) → t < length c.types.items → length c.cases.items < 4096 → Script c 0 → Script (with_case n t c) 0
+case-script n t c there room h =
+    let after = with_case n t c in
+    let d : CaseDecl = record { name = n; id = record { type_no = t; place = cases_of_type t c.cases.items } } in
+    wider c.types c.types c.actors c.actors c.cases after.cases c.phases c.counts.lines (open_lines c.current) 0 (omega arith) (omega arith)
+    (one-case c.cases.items d) (case-declared n t c there room h.declared) h
+
+case_declared-held : (n : Bytes) (t : Option ℕ) (c : Contents) → ((i : ℕ) → t ≡ Some i → i < length c.types.items) → Script c 0 → HeldStep (case_declared n t c)
 case_declared-held n None c there h = tt
 case_declared-held n (Some t) c there h =
     unless-held _ c (outside (with_case n t c)) (λ none.
     let below = leb-false 4096 (length c.cases.items) (not_over _ limit.Cases (neither _ _ none).1) in
-    record { declared = case-declared n t c (there t refl) below h.declared; within = h.within; no_phase = h.no_phase })
+    case-script n t c (there t refl) below h)
 
-pub declared-held : (d : Declaration) (c : Contents) → Before c → HeldStep (declared d c)
+pub declared-held : (d : Declaration) (c : Contents) → Script c 0 → HeldStep (declared d c)
 declared-held (a_type n) c h =
     unless-held _ c (at_place (section.InType (new_draft n)) c) (λ none. (h, leb-false 64 (length c.types.items) (not_over _ limit.Types (neither _ _ none).1)))
 declared-held (an_actor n roles) c h =
-    unless-held _ c (outside (with_actor n roles c)) (λ none.
+    unless-held _ c (outside (with_actor n (role_numbers c.roles roles) (with_roles roles c))) (λ none.
     let below = leb-false 32 (length c.actors.items) (not_over _ limit.Actors (neither _ _ (neither _ _ none).1).0) in
-    record { declared = actor-declared n roles c below h.declared; within = h.within; no_phase = h.no_phase })
+    actor-script n (role_numbers c.roles roles) (with_roles roles c) below h)
 declared-held (a_case n kind) c h =
     case_declared-held n (place_of c.types.names kind) c
     (λ i is. let within = place_within c.types.names kind i is in let names = h.declared.type_names in omega (arith, within, names)) h
-declared-held first_phase c h = first-script c h
+declared-held first_phase c h = begun-held c h
 
 -- ---- lines of a type
 ended-held : (n : Bytes) (s : SchemaModel) (f : Option Fault) (c : Contents) → fault_of s ≡ f → Typing c → HeldStep (ended n s f c)
-ended-held n s None c sound h = record { declared = type-declared n s c sound h.1 h.0.declared; within = h.0.within; no_phase = h.0.no_phase }
+ended-held n s None c sound h = type-script n s c sound h.1 h.0
 ended-held n s (Some f) c e h = tt
 
 pub typed-held : (l : TypeLine) (d : Draft) (c : Contents) → Typing c → HeldStep (typed l d c)

@@ -2,7 +2,6 @@
 use Rattle.std.proofs.Common.{◌≡◌, ◌≤◌, ◌<◌, ℕ, ◌+◌, true, false, List, [], ◌∷◌, ◌++◌, length, refl, arith, Option, Some, None}
 use Rattle.std.proofs.lemmas.Bool.{leb-false, eq-eqb, and_from}
 use Rattle.std.proofs.lemmas.List.{length_push}
-use Rattle.std.proofs.lemmas.List.Sums.{sum_by_push}
 use Rattle.std.proofs.lemmas.Option.{same_Some}
 use Rattle.std.specs.Prelude.{nat_le, slice_get, option_map}
 use Rattle.wsm_lists.proofs.Lists.{rows-append}
@@ -14,8 +13,8 @@ use Rattle.file_names.specs.Names.{place_of}
 use Rattle.file_forms.specs.PieceForms.{◌>>=◌}
 use Rattle.file_forms.specs.Forms.{Deed, to_create, to_start, to_withdraw, to_end, to_change, to_install, to_migrate, ScriptLine, next_phase, a_deed}
 use Rattle.file_forms.specs.Forms.{NamedGap, behind, at_head, OperationLine, insert, parallel, conditional, delete, move, sync, unsync, element, read, unread, write, unwrite, set_role, group_end}
-use Rattle.file_model.specs.Steps.{at_place, node_in, with_node, with_element}
-use Rattle.file_model.specs.Scripting.{case_in, actor_in, counted, line_of, with_line, with_group, changing, one_install, installing, migrating, with_elements, numbered, acted, with_phase, scripted}
+use Rattle.file_model.specs.Steps.{at_place, node_in, open_lines, with_node, with_element, with_script_line}
+use Rattle.file_model.specs.Scripting.{case_in, actor_in, counted, line_of, with_line, with_group, changing, one_install, installing, migrate_of, migrations_with, migrating, with_elements, numbered, acted, scripted}
 use Rattle.file_model.specs.Operating.{with_place, op_in, with_names, act_of, line_of_group, with_op, grouped, operated}
 use Rattle.file_model.specs.declared.files.Act.{Act}
 use Rattle.file_model.specs.declared.files.Act.TheVariants as act
@@ -28,7 +27,8 @@ use Rattle.file_model.specs.declared.states.Target.{Target}
 use Rattle.file_model.specs.declared.states.Target.TheVariants as target
 use Rattle.file_model.specs.declared.states.Section.TheVariants as section
 use Rattle.file_facts.specs.Facts.{IsDeclared, IsKnownAct}
-use Rattle.file_facts.proofs.Held.{Script, KnownIn, HeldState, HeldStep, unless-held, same-held, found-held, not_over, neither}
+use Rattle.file_facts.proofs.Held.{Script, KnownIn, HeldState, HeldStep, unless-held, found-held, not_over, neither}
+use Rattle.file_facts.proofs.HeldByDeclarations.{begun-held}
 use Rattle.file_facts.proofs.Lists.{any-at, place_within}
 use Rattle.file_model.specs.CaseCounts.{has_id}
 
@@ -47,8 +47,8 @@ found_case cases (Some i) id is = id_of cases i (slice_get cases i) id refl is
 case-known : (n : Bytes) (c : Contents) (id : CaseId) → case_in n c ≡ Some id → IsDeclared id c.cases.items
 case-known n c id is = found_case c.cases.items (place_of c.cases.names n) id is
 
-type-known : (n : Bytes) (lines : List Line) (begun : ℕ) (c : Contents) (t : ℕ) → place_of c.types.names n ≡ Some t → Script c lines begun → t < length c.types.items
-type-known n lines begun c t is h =
+type-known : (n : Bytes) (begun : ℕ) (c : Contents) (t : ℕ) → place_of c.types.names n ≡ Some t → Script c begun → t < length c.types.items
+type-known n begun c t is h =
     let within = place_within c.types.names n t is in
     let names = h.declared.type_names in
     omega (arith, within, names)
@@ -64,23 +64,23 @@ next_number (Some i) a m below is =
     let within = below i refl in
     (omega (arith, same), omega (arith, same, within))
 
-actor-known : (n : Bytes) (lines : List Line) (begun : ℕ) (c : Contents) (a : ℕ) → actor_in n c ≡ Some a → Script c lines begun → IsActor a c
-actor-known n lines begun c a is h =
+actor-known : (n : Bytes) (begun : ℕ) (c : Contents) (a : ℕ) → actor_in n c ≡ Some a → Script c begun → IsActor a c
+actor-known n begun c a is h =
     next_number (place_of c.actors.names n) a (length c.actors.items)
     (λ i at. let within = place_within c.actors.names n i at in let names = h.declared.actor_names in omega (arith, within, names)) is
 
--- ---- one line more, and one phase more
-line-added : (l : Line) (lines : List Line) (c : Contents) → KnownIn c l → nat_le 60000 c.counts.lines ≡ false → Script c lines 0 → Script (counted c) (lines ++ l ∷ []) 0
-line-added l lines c known below h = record {
+-- ---- one line more
+line-added : (l : Line) (c : Contents) → KnownIn c l → nat_le 60000 c.counts.lines ≡ false → Script c 0 → Script (with_script_line l (counted c)) 0
+line-added l c known below h = record {
   declared = h.declared;
   within = omega (arith, leb-false 60000 c.counts.lines below);
-  all_counted = let before = h.all_counted in omega (arith, before, length_push lines l);
+  all_counted = let before = h.all_counted in omega (arith, before, length_push (open_lines c.current) l);
   known_phases = h.known_phases;
-  known_lines = rows-append (KnownIn c) lines (l ∷ []) h.known_lines (known, tt);
+  known_lines = rows-append (KnownIn c) (open_lines c.current) (l ∷ []) h.known_lines (known, tt);
 }
 
-line-begun : (lines : List Line) (c : Contents) → nat_le 60000 c.counts.lines ≡ false → Script c lines 0 → Script (counted c) lines 1
-line-begun lines c below h = record {
+line-begun : (c : Contents) → nat_le 60000 c.counts.lines ≡ false → Script c 0 → Script (counted c) 1
+line-begun c below h = record {
   declared = h.declared;
   within = omega (arith, leb-false 60000 c.counts.lines below);
   all_counted = let before = h.all_counted in omega (arith, before);
@@ -88,29 +88,20 @@ line-begun lines c below h = record {
   known_lines = h.known_lines;
 }
 
-line-ended : (l : Line) (lines : List Line) (c : Contents) → KnownIn c l → Script c lines 1 → Script c (lines ++ l ∷ []) 0
-line-ended l lines c known h = record {
+line-ended : (l : Line) (c : Contents) → KnownIn c l → Script c 1 → Script (with_script_line l c) 0
+line-ended l c known h = record {
   declared = h.declared;
   within = h.within;
-  all_counted = let before = h.all_counted in omega (arith, before, length_push lines l);
+  all_counted = let before = h.all_counted in omega (arith, before, length_push (open_lines c.current) l);
   known_phases = h.known_phases;
-  known_lines = rows-append (KnownIn c) lines (l ∷ []) h.known_lines (known, tt);
-}
-
-phase-added : (lines : List Line) (c : Contents) → Script c lines 0 → Script (with_phase lines c) [] 0
-phase-added lines c h = record {
-  declared = h.declared;
-  within = h.within;
-  all_counted = let before = h.all_counted in omega (arith, before, sum_by_push (λ (ls : List Line). length ls) c.phases lines);
-  known_phases = rows-append _ c.phases (lines ∷ []) h.known_phases (h.known_lines, tt);
-  known_lines = tt;
+  known_lines = rows-append (KnownIn c) (open_lines c.current) (l ∷ []) h.known_lines (known, tt);
 }
 
 -- ---- lines of a phase
-with_line-held : (lines : List Line) (at actor : ℕ) (a : Act) (c : Contents) → IsActor actor c → IsKnownAct (length c.types.items) c.cases.items a → Script c lines 0 → HeldStep (with_line lines at actor a c)
-with_line-held lines at actor a c is known h =
+with_line-held : (at actor : ℕ) (a : Act) (c : Contents) → IsActor actor c → IsKnownAct (length c.types.items) c.cases.items a → Script c 0 → HeldStep (with_line at actor a c)
+with_line-held at actor a c is known h =
     unless-held _ c _ (λ none.
-    line-added (line_of at actor a c) lines c (record { from_1 = is.0; actor = is.1; act = known }) (not_over _ limit.Lines none) h)
+    line-added (line_of at actor a c) c (record { from_1 = is.0; actor = is.1; act = known }) (not_over _ limit.Lines none) h)
 
 abbrev TargetKnown : Target → Contents → Type 0
 TargetKnown (target.Case id) c = IsDeclared id c.cases.items
@@ -125,73 +116,74 @@ target-known : (t : Target) (ops : List Op) (c : Contents) → IsKnownAct (lengt
 target-known (target.Case id) ops c known = known.0
 target-known (target.«Type» t) ops c known = known.0
 
-with_group-held : (lines : List Line) (at actor : ℕ) (t : Target) (c : Contents) → IsActor actor c → TargetKnown t c → nat_le 60000 c.counts.lines ≡ false → Script c lines 0 → HeldState (with_group lines at actor t c)
-with_group-held lines at actor t c is known below h =
-    (line-begun lines c below h, record { from_1 = is.0; actor = is.1; act = act-known t [] c known (omega arith) })
+with_group-held : (at actor : ℕ) (t : Target) (c : Contents) → IsActor actor c → TargetKnown t c → nat_le 60000 c.counts.lines ≡ false → Script c 0 → HeldState (with_group at actor t c)
+with_group-held at actor t c is known below h =
+    (line-begun c below h, record { from_1 = is.0; actor = is.1; act = act-known t [] c known (omega arith) })
 
-changing-held : (lines : List Line) (at actor : ℕ) (id : CaseId) (c : Contents) → IsActor actor c → IsDeclared id c.cases.items → Script c lines 0 → HeldStep (changing lines at actor id c)
-changing-held lines at actor id c is known h =
-    unless-held _ c _ (λ none. with_group-held lines at actor (target.Case id) c is known (not_over _ limit.Lines none) h)
+changing-held : (at actor : ℕ) (id : CaseId) (c : Contents) → IsActor actor c → IsDeclared id c.cases.items → Script c 0 → HeldStep (changing at actor id c)
+changing-held at actor id c is known h =
+    unless-held _ c _ (λ none. with_group-held at actor (target.Case id) c is known (not_over _ limit.Lines none) h)
 
-installing-held : (lines : List Line) (at actor t : ℕ) (c : Contents) → IsActor actor c → t < length c.types.items → Script c lines 0 → HeldStep (installing lines at actor t c)
-installing-held lines at actor t c is known h =
-    unless-held _ c _ (λ none. with_group-held lines at actor (target.«Type» t) (one_install c) is known (not_over _ limit.Lines (neither _ _ none).0) h)
+installing-held : (at actor t : ℕ) (c : Contents) → IsActor actor c → t < length c.types.items → Script c 0 → HeldStep (installing at actor t c)
+installing-held at actor t c is known h =
+    unless-held _ c _ (λ none. with_group-held at actor (target.«Type» t) (one_install c) is known (not_over _ limit.Lines (neither _ _ none).0) h)
 
-migrating-held : (lines : List Line) (at actor t : ℕ) (c : Contents) → IsActor actor c → t < length c.types.items → Script c lines 0 → HeldStep (migrating lines at actor t c)
-migrating-held lines at actor t c is known h =
+migrating-held : (at actor t : ℕ) (c : Contents) → IsActor actor c → t < length c.types.items → Script c 0 → HeldStep (migrating at actor t c)
+migrating-held at actor t c is known h =
     unless-held _ c _ (λ none.
-    line-added (line_of at actor (act.Migrate t) c) lines c (record { from_1 = is.0; actor = is.1; act = known }) (not_over _ limit.Lines (neither _ _ none).0) h)
+    line-added (line_of at actor (migrate_of t c) c) (record c { counts = record c.counts { migrations = migrations_with t c } })
+    (record { from_1 = is.0; actor = is.1; act = (known, omega arith) }) (not_over _ limit.Lines (neither _ _ none).0) h)
 
-elements-held : (ws : List (Bytes × Value)) (actor : ℕ) (id : CaseId) (lines : List Line) (c : Contents) →
-    IsActor actor c → IsDeclared id c.cases.items → Script c lines 0 →
-    IsActor actor (with_elements ws c) × IsDeclared id (with_elements ws c).cases.items × Script (with_elements ws c) lines 0
-elements-held [] actor id lines c is known h = (is, known, h)
-elements-held (w ∷ ws) actor id lines c is known h = elements-held ws actor id lines (with_element w.0 c) is known h
+elements-held : (ws : List (Bytes × Value)) (actor : ℕ) (id : CaseId) (c : Contents) →
+    IsActor actor c → IsDeclared id c.cases.items → Script c 0 →
+    IsActor actor (with_elements ws c) × IsDeclared id (with_elements ws c).cases.items × Script (with_elements ws c) 0
+elements-held [] actor id c is known h = (is, known, h)
+elements-held (w ∷ ws) actor id c is known h = elements-held ws actor id (with_element w.0 c) is known h
 
-acted-held : (d : Deed) (actor : ℕ) (lines : List Line) (at : ℕ) (c : Contents) → IsActor actor c → Script c lines 0 → HeldStep (acted d actor lines at c)
-acted-held (to_create n) actor lines at c is h = found-held (case_in n c) _ c (λ id found. with_line-held lines at actor (act.Create id) c is (case-known n c id found) h)
-acted-held (to_start n node) actor lines at c is h =
-    found-held (case_in n c) _ c (λ id found. with_line-held lines at actor (act.Start id (node_in node c)) (with_node node c) is (case-known n c id found) h)
-acted-held (to_withdraw n node) actor lines at c is h =
-    found-held (case_in n c) _ c (λ id found. with_line-held lines at actor (act.Withdraw id (node_in node c)) (with_node node c) is (case-known n c id found) h)
-acted-held (to_end n node choice writes) actor lines at c is h =
+acted-held : (d : Deed) (actor at : ℕ) (c : Contents) → IsActor actor c → Script c 0 → HeldStep (acted d actor at c)
+acted-held (to_create n) actor at c is h = found-held (case_in n c) _ c (λ id found. with_line-held at actor (act.Create id) c is (case-known n c id found) h)
+acted-held (to_start n node) actor at c is h =
+    found-held (case_in n c) _ c (λ id found. with_line-held at actor (act.Start id (node_in node c)) (with_node node c) is (case-known n c id found) h)
+acted-held (to_withdraw n node) actor at c is h =
+    found-held (case_in n c) _ c (λ id found. with_line-held at actor (act.Withdraw id (node_in node c)) (with_node node c) is (case-known n c id found) h)
+acted-held (to_end n node choice writes) actor at c is h =
     let c1 = with_node node c in
     found-held (case_in n c) _ c (λ id found.
-    let k = elements-held writes actor id lines c1 is (case-known n c id found) h in
-    with_line-held lines at actor (act.End id (node_in node c) choice (numbered writes c1)) (with_elements writes c1) k.0 k.1 k.2)
-acted-held (to_change n) actor lines at c is h = found-held (case_in n c) _ c (λ id found. changing-held lines at actor id c is (case-known n c id found) h)
-acted-held (to_install n) actor lines at c is h =
-    found-held (place_of c.types.names n) _ c (λ t found. installing-held lines at actor t c is (type-known n lines 0 c t found h) h)
-acted-held (to_migrate n) actor lines at c is h =
-    found-held (place_of c.types.names n) _ c (λ t found. migrating-held lines at actor t c is (type-known n lines 0 c t found h) h)
+    let k = elements-held writes actor id c1 is (case-known n c id found) h in
+    with_line-held at actor (act.End id (node_in node c) choice (numbered writes c1)) (with_elements writes c1) k.0 k.1 k.2)
+acted-held (to_change n) actor at c is h = found-held (case_in n c) _ c (λ id found. changing-held at actor id c is (case-known n c id found) h)
+acted-held (to_install n) actor at c is h =
+    found-held (place_of c.types.names n) _ c (λ t found. installing-held at actor t c is (type-known n 0 c t found h) h)
+acted-held (to_migrate n) actor at c is h =
+    found-held (place_of c.types.names n) _ c (λ t found. migrating-held at actor t c is (type-known n 0 c t found h) h)
 
-pub scripted-held : (l : ScriptLine) (lines : List Line) (at : ℕ) (c : Contents) → Script c lines 0 → HeldStep (scripted l lines at c)
-scripted-held next_phase lines at c h = same-held _ c _ (phase-added lines c h)
-scripted-held (a_deed a d) lines at c h = found-held (actor_in a c) _ c (λ actor found. acted-held d actor lines at c (actor-known a lines 0 c actor found h) h)
+pub scripted-held : (l : ScriptLine) (at : ℕ) (c : Contents) → Script c 0 → HeldStep (scripted l at c)
+scripted-held next_phase at c h = begun-held c h
+scripted-held (a_deed a d) at c h = found-held (actor_in a c) _ c (λ actor found. acted-held d actor at c (actor-known a 0 c actor found h) h)
 
 -- ---- lines of a group
-abbrev InGroup : List Line → Group → Contents → Type 0
-InGroup lines g c = Script c lines 1 × KnownIn c (line_of_group g)
+abbrev InGroup : Group → Contents → Type 0
+InGroup g c = Script c 1 × KnownIn c (line_of_group g)
 
-place-held : (p : NamedGap) (lines : List Line) (g : Group) (c : Contents) → InGroup lines g c → InGroup lines g (with_place p c)
-place-held (behind n) lines g c h = h
-place-held (at_head n code) lines g c h = h
+place-held : (p : NamedGap) (g : Group) (c : Contents) → InGroup g c → InGroup g (with_place p c)
+place-held (behind n) g c h = h
+place-held (at_head n code) g c h = h
 
-names-held : (l : OperationLine) (lines : List Line) (g : Group) (c : Contents) → InGroup lines g c → InGroup lines g (with_names l c)
-names-held (insert n r p) lines g c h = place-held p lines g (with_node n c) h
-names-held (parallel n r s j a b) lines g c h = h
-names-held (conditional n r s j p) lines g c h = place-held p lines g (with_node j (with_node s (with_node n c))) h
-names-held (delete n) lines g c h = h
-names-held (move n p) lines g c h = place-held p lines g (with_node n c) h
-names-held (sync a b) lines g c h = h
-names-held (unsync a b) lines g c h = h
-names-held (element e k) lines g c h = h
-names-held (read n e m) lines g c h = h
-names-held (unread n e) lines g c h = h
-names-held (write n e) lines g c h = h
-names-held (unwrite n e) lines g c h = h
-names-held (set_role n r) lines g c h = h
-names-held group_end lines g c h = h
+names-held : (l : OperationLine) (g : Group) (c : Contents) → InGroup g c → InGroup g (with_names l c)
+names-held (insert n r p) g c h = place-held p g (with_node n c) h
+names-held (parallel n r s j a b) g c h = h
+names-held (conditional n r s j p) g c h = place-held p g (with_node j (with_node s (with_node n c))) h
+names-held (delete n) g c h = h
+names-held (move n p) g c h = place-held p g (with_node n c) h
+names-held (sync a b) g c h = h
+names-held (unsync a b) g c h = h
+names-held (element e k) g c h = h
+names-held (read n e m) g c h = h
+names-held (unread n e) g c h = h
+names-held (write n e) g c h = h
+names-held (unwrite n e) g c h = h
+names-held (set_role n r) g c h = h
+names-held group_end g c h = h
 
 -- one operation more, while there are fewer than 256
 op-known : (o : Op) (g : Group) (c : Contents) → length g.ops < 256 → KnownIn c (line_of_group g) → KnownIn c (line_of_group (with_op o g))
@@ -201,10 +193,10 @@ op-known o g c few h = record {
   act = act-known g.target (g.ops ++ o ∷ []) c (target-known g.target g.ops c h.act) (omega (arith, few, length_push g.ops o));
 }
 
-grouped-held : (o : Option Op) (g : Group) (lines : List Line) (c : Contents) → InGroup lines g c → HeldStep (grouped o g lines c)
-grouped-held None g lines c h = line-ended (line_of_group g) lines c h.1 h.0
-grouped-held (Some o) g lines c h =
-    unless-held _ c (at_place (section.InGroup lines (with_op o g)) c) (λ none. (h.0, op-known o g c (leb-false 256 (length g.ops) (not_over _ limit.Ops none)) h.1))
+grouped-held : (o : Option Op) (g : Group) (c : Contents) → InGroup g c → HeldStep (grouped o g c)
+grouped-held None g c h = line-ended (line_of_group g) c h.1 h.0
+grouped-held (Some o) g c h =
+    unless-held _ c (at_place (section.InGroup (with_op o g)) c) (λ none. (h.0, op-known o g c (leb-false 256 (length g.ops) (not_over _ limit.Ops none)) h.1))
 
-pub operated-held : (l : OperationLine) (g : Group) (lines : List Line) (c : Contents) → Script c lines 1 → KnownIn c (line_of_group g) → HeldStep (operated l g lines c)
-operated-held l g lines c h known = grouped-held (op_in l c) g lines (with_names l c) (names-held l lines g c (h, known))
+pub operated-held : (l : OperationLine) (g : Group) (c : Contents) → Script c 1 → KnownIn c (line_of_group g) → HeldStep (operated l g c)
+operated-held l g c h known = grouped-held (op_in l c) g (with_names l c) (names-held l g c (h, known))

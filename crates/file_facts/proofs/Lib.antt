@@ -3,5 +3,6 @@ pub mod Held
 pub mod HeldByDeclarations
 pub mod HeldByScript
 pub mod Workable
+pub mod Migrates
 pub mod Cases
 pub mod Examples

@@ -2,7 +2,7 @@
 use Rattle.std.proofs.Common.{◌≡◌, ◌≤◌, ◌<◌, ℕ, zero, suc, ◌+◌, Bool, true, List, [], ◌∷◌, ◌++◌, length, refl, ap, inl, inr, arith, Some, ◌⊎◌}
 use Rattle.std.specs.Prelude.{slice_get, bytes_eq}
 use Rattle.std.specs.List.{list_any}
-use Rattle.std.proofs.lemmas.Bool.{cases_Bool, or_left, or_right}
+use Rattle.std.proofs.lemmas.Bool.{cases_Bool, or_cases, or_left, or_right}
 use Rattle.std.proofs.lemmas.List.{length_push}
 use Rattle.std.proofs.lemmas.Option.{same_Some, cond_some}
 use Rattle.file_words.specs.Lines.{Bytes}
@@ -25,6 +25,14 @@ pub any-at : {X : Type 0} (test : X → Bool) (xs : List X) (k : ℕ) (x : X) �
 any-at test [] k x h passes = absurd (cc)
 any-at test (y ∷ xs) zero x h passes = or_left (test y) (list_any test xs) (rw (same_Some y x h) passes)
 any-at test (y ∷ xs) (suc k) x h passes = or_right (test y) (list_any test xs) (any-at test xs k x h passes)
+
+pub any-more : {X : Type 0} (test : X → Bool) (xs : List X) (x : X) → list_any test xs ≡ true → list_any test (xs ++ x ∷ []) ≡ true
+any-more test [] x h = absurd (cc)
+any-more test (y ∷ xs) x h =
+    elim (or_cases (test y) (list_any test xs) h) [
+      | inl here ↦ or_left (test y) (list_any test (xs ++ x ∷ [])) here
+      | inr later ↦ or_right (test y) (list_any test (xs ++ x ∷ [])) (any-more test xs x later)
+    ]
 
 -- ---- names
 -- at most one name is noted

@@ -1,10 +1,8 @@
 -- What holds of each file that is read.
 use Rattle.std.proofs.Common.{◌≡◌, ℕ, ◌+◌, ◌==◌, Bool, true, false, List, [], ◌∷◌, ◌++◌, length, refl, subst, arith, Option, Some, None, Result, Ok, Err}
-use Rattle.std.proofs.lemmas.List.Sums.{sum_by_push}
 use Rattle.std.proofs.lemmas.Option.{slice_get_within}
-use Rattle.std.specs.Prelude.{IfOk, if◌then◌else◌}
+use Rattle.std.specs.Prelude.{IfOk, nat_le, if◌then◌else◌}
 use Rattle.std.specs.Str.{is_utf8}
-use Rattle.wsm_lists.proofs.Lists.{rows-append}
 use Rattle.file_words.specs.Lines.{Bytes, lines_of, without_return}
 use Rattle.file_words.specs.Words.{words_of, is_skipped}
 use Rattle.file_words.specs.Lengths.{first_long}
@@ -13,15 +11,14 @@ use Rattle.file_forms.specs.DeclarationForms.{header, declaration_line}
 use Rattle.file_forms.specs.TypeForms.{type_line}
 use Rattle.file_forms.specs.ScriptForms.{script_line}
 use Rattle.file_forms.specs.OperationForms.{operation_line}
-use Rattle.file_model.specs.Steps.{State, Step, opening, refuse}
-use Rattle.file_model.specs.Declaring.{declared, outside}
+use Rattle.file_model.specs.Steps.{State, Step, opening, outside, refuse}
+use Rattle.file_model.specs.Declaring.{declared}
 use Rattle.file_model.specs.Typing.{typed}
 use Rattle.file_model.specs.Scripting.{scripted}
 use Rattle.file_model.specs.Operating.{operated}
-use Rattle.file_model.specs.Reading.{in_format, unless_long, formed, fitting, unless_not_text, step_in, step_words, step, file_of, finished_in, finished, at_line, read_from, file}
+use Rattle.file_model.specs.Reading.{in_format, unless_long, formed, fitting, unless_not_text, declares, step_outside, step_in, step_words, step, file_of, finished_in, finished, at_line, read_from, file, file_up_to}
 use Rattle.file_model.specs.Sizes.{IsBounded}
 use Rattle.file_model.specs.declared.files.File.{File}
-use Rattle.file_model.specs.declared.files.Line.{Line}
 use Rattle.file_model.specs.declared.refusals.Refused.{Refused}
 use Rattle.file_model.specs.declared.refusals.Why.{Why}
 use Rattle.file_model.specs.declared.refusals.Why.TheVariants as why
@@ -30,8 +27,8 @@ use Rattle.file_model.specs.declared.states.Section.{Section}
 use Rattle.file_model.specs.declared.states.Section.TheVariants as section
 use Rattle.file_model.proofs.Bounds.{file-bounded}
 use Rattle.file_facts.specs.Facts.{IsWorkable}
-use Rattle.file_facts.proofs.Held.{Before, Script, HeldIn, HeldState, HeldStep}
-use Rattle.file_facts.proofs.HeldByDeclarations.{declared-held, typed-held}
+use Rattle.file_facts.proofs.Held.{Script, HeldIn, HeldState, HeldStep}
+use Rattle.file_facts.proofs.HeldByDeclarations.{declared-held, phase-ended, typed-held}
 use Rattle.file_facts.proofs.HeldByScript.{scripted-held, operated-held}
 
 -- ---- a line
@@ -51,20 +48,22 @@ text-held : (test : Bool) (c : Contents) (s : Step) → HeldStep s → HeldStep 
 text-held true c s h = h
 text-held false c s h = tt
 
-format-held : (o : Option ℕ) (c : Contents) → HeldIn section.Head c → HeldStep (in_format o c)
-format-held None c h = tt
-format-held (Some n) c h = h
+format-held : (newest : ℕ) (o : Option ℕ) (c : Contents) → Script c 0 → HeldStep (in_format newest o c)
+format-held newest None c h = tt
+format-held newest (Some n) c h = if-held (nat_le n newest) _ _ h tt
+
+outside-held : (at : ℕ) (ws : List Bytes) (c : Contents) → Script c 0 → HeldStep (step_outside at ws c)
+outside-held at ws c h =
+    if-held (declares ws c) _ _ (formed-held (declaration_line c.format ws) ws (λ d. declared d c) c (λ d. declared-held d c h))
+    (formed-held (script_line c.format ws) ws (λ l. scripted l at c) c (λ l. scripted-held l at c h))
 
 step_in-held : (p : Section) (at : ℕ) (line : Bytes) (ws : List Bytes) (c : Contents) → HeldIn p c → HeldStep (step_in p at line ws c)
-step_in-held section.Head at line ws c h = format-held (header ws) c h
-step_in-held section.Outside at line ws c h =
-    text-held (is_utf8 line) c _ (formed-held (declaration_line ws) ws (λ d. declared d c) c (λ d. declared-held d c h))
+step_in-held (section.Head newest) at line ws c h = format-held newest (header ws) c h
+step_in-held section.Outside at line ws c h = text-held (is_utf8 line) c _ (outside-held at ws c h)
 step_in-held (section.InType d) at line ws c h =
-    text-held (is_utf8 line) c _ (formed-held (fitting d (type_line ws)) ws (λ l. typed l d c) c (λ l. typed-held l d c h))
-step_in-held (section.InPhase lines) at line ws c h =
-    text-held (is_utf8 line) c _ (formed-held (script_line c.format ws) ws (λ l. scripted l lines at c) c (λ l. scripted-held l lines at c h))
-step_in-held (section.InGroup lines g) at line ws c h =
-    text-held (is_utf8 line) c _ (formed-held (operation_line ws) ws (λ l. operated l g lines c) c (λ l. operated-held l g lines c h.0 h.1))
+    text-held (is_utf8 line) c _ (formed-held (fitting d (type_line c.format ws)) ws (λ l. typed l d c) c (λ l. typed-held l d c h))
+step_in-held (section.InGroup g) at line ws c h =
+    text-held (is_utf8 line) c _ (formed-held (operation_line c.format ws) ws (λ l. operated l g c) c (λ l. operated-held l g c h.0 h.1))
 
 step-held : (s : State) (at : ℕ) (line : Bytes) (ws : List Bytes) → HeldState s → HeldStep (step_words s at line ws)
 step-held s at line ws h = if-held (is_skipped ws) (Ok s) (step_in s.place at line ws s.contents) h (step_in-held s.place at line ws s.contents h)
@@ -74,38 +73,26 @@ step-held s at line ws h = if-held (is_skipped ws) (Ok s) (step_in s.place at li
 abbrev IsReady : File → Type 0
 IsReady f = IsBounded f → IsWorkable f
 
-without_phase : (c : Contents) → Before c → IsReady (file_of c c.phases)
-without_phase c h b = record {
-  types = h.declared.few_types;
-  actors = h.declared.few_actors;
-  cases = h.declared.few_cases;
-  lines = rw h.no_phase (omega arith);
-  small = b.small;
-  sound = h.declared.sound;
-  typed = h.declared.typed;
-  placed = h.declared.placed;
-  known = rw h.no_phase tt;
-}
-
-with_last_phase : (lines : List Line) (c : Contents) → Script c lines 0 → IsReady (file_of c (c.phases ++ lines ∷ []))
-with_last_phase lines c h b = record {
-  types = h.declared.few_types;
-  actors = h.declared.few_actors;
-  cases = h.declared.few_cases;
-  lines = let counted = h.all_counted in omega (arith, counted, h.within, sum_by_push (λ (ls : List Line). length ls) c.phases lines);
-  small = b.small;
-  sound = h.declared.sound;
-  typed = h.declared.typed;
-  placed = h.declared.placed;
-  known = rows-append _ c.phases (lines ∷ []) h.known_phases (h.known_lines, tt);
-}
+all-ready : (c : Contents) → Script c 0 → IsReady (file_of c)
+all-ready c h b =
+    let all = phase-ended c.types c.actors c.cases c.phases c.counts.lines c.current h in
+    record {
+      types = h.declared.few_types;
+      actors = h.declared.few_actors;
+      cases = h.declared.few_cases;
+      lines = let counted = all.all_counted in omega (arith, counted, all.within);
+      small = b.small;
+      sound = h.declared.sound;
+      typed = h.declared.typed;
+      placed = h.declared.placed;
+      known = all.known_phases;
+    }
 
 finished_in-ready : (p : Section) (c : Contents) → HeldIn p c → IfOk (finished_in p c) IsReady
-finished_in-ready section.Head c h = tt
-finished_in-ready section.Outside c h = without_phase c h
+finished_in-ready (section.Head newest) c h = tt
+finished_in-ready section.Outside c h = all-ready c h
 finished_in-ready (section.InType d) c h = tt
-finished_in-ready (section.InPhase lines) c h = with_last_phase lines c h
-finished_in-ready (section.InGroup lines g) c h = tt
+finished_in-ready (section.InGroup g) c h = tt
 
 ended-ready : (test : Bool) (s : State) → HeldState s → IfOk (if test then finished_in s.place s.contents else Err (why.Unended, s.contents)) IsReady
 ended-ready true s h = finished_in-ready s.place s.contents h
@@ -123,8 +110,8 @@ read_from-ready (Ok s) at left (l ∷ ls) h =
     let line = without_return l in
     read_from-ready (at_line at (step s at line)) (at + 1) left ls (at_line-holds HeldState at (step s at line) (step-held s at line (words_of line) h))
 
-opening-held : HeldState opening
-opening-held = record {
+opening-held : (newest : ℕ) → HeldState (opening newest)
+opening-held newest = record {
   declared = record {
     type_names = omega arith;
     actor_names = omega arith;
@@ -136,13 +123,18 @@ opening-held = record {
     placed = λ k d at. absurd (omega (arith, slice_get_within [] k d at));
   };
   within = omega arith;
-  no_phase = refl;
+  all_counted = omega arith;
+  known_phases = tt;
+  known_lines = tt;
 }
 
-file-ready : (bytes : Bytes) (f : File) → file bytes ≡ Ok f → IsReady f
-file-ready bytes f is =
-    subst (λ (o : Result File Refused). IfOk o IsReady) is (read_from-ready (Ok opening) 1 (lines_of bytes).left (lines_of bytes).ended opening-held)
+file-ready : (newest : ℕ) (bytes : Bytes) (f : File) → file_up_to newest bytes ≡ Ok f → IsReady f
+file-ready newest bytes f is =
+    subst (λ (o : Result File Refused). IfOk o IsReady) is (read_from-ready (Ok (opening newest)) 1 (lines_of bytes).left (lines_of bytes).ended (opening-held newest))
 
 -- the lines of a file that is read can be worked
+pub file_up_to-workable : (newest : ℕ) (bytes : Bytes) (f : File) → file_up_to newest bytes ≡ Ok f → IsWorkable f
+file_up_to-workable newest bytes f is = file-ready newest bytes f is (file-bounded newest bytes f is)
+
 pub file-workable : (bytes : Bytes) (f : File) → file bytes ≡ Ok f → IsWorkable f
-file-workable bytes f is = file-ready bytes f is (file-bounded bytes f is)
+file-workable bytes f is = file_up_to-workable 3 bytes f is

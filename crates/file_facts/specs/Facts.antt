@@ -1,5 +1,5 @@
 -- What holds of each file that is read, for those who work its lines.
-use Rattle.std.specs.Prelude.{ℕ, ◌≡◌, ◌≤◌, ◌<◌, true, List, length, take, slice_get, Some, None}
+use Rattle.std.specs.Prelude.{ℕ, ◌≡◌, ◌≤◌, ◌<◌, ◌==◌, true, false, List, length, take, slice_get, Some, None}
 use Rattle.std.specs.List.{list_all, list_any, sum_by}
 use Rattle.wsm_lists.specs.Rows.{AllRows}
 use Rattle.wsm_sound.specs.Faults.{fault_of}
@@ -32,7 +32,7 @@ ArePlaced cases = (k : ℕ) (d : CaseDecl) → slice_get cases k ≡ Some d → 
 abbrev pub IsDeclared : CaseId → List CaseDecl → Type 0
 IsDeclared c cases = list_any (has_id c) cases ≡ true
 
--- the case or the type of an act was declared, and its operations are not too many
+-- the case or the type of an act was declared, its operations are not too many, and so many cases to be moved are there
 abbrev pub IsKnownAct : ℕ → List CaseDecl → Act → Type 0
 IsKnownAct types cases (act.Create c) = IsDeclared c cases
 IsKnownAct types cases (act.Start c node) = IsDeclared c cases
@@ -40,7 +40,7 @@ IsKnownAct types cases (act.Withdraw c node) = IsDeclared c cases
 IsKnownAct types cases (act.End c node choice writes) = IsDeclared c cases
 IsKnownAct types cases (act.Change c ops) = IsDeclared c cases × (length ops ≤ MAX_OPS)
 IsKnownAct types cases (act.Install t ops) = (t < types) × (length ops ≤ MAX_OPS)
-IsKnownAct types cases (act.Migrate t) = t < types
+IsKnownAct types cases (act.Migrate t many) = (t < types) × (many ≤ cases_of_type t cases)
 
 -- a line of one of so many actors, on what was declared
 pub record IsKnown (types actors : ℕ) (cases : List CaseDecl) (l : Line) : Type 0 where
@@ -59,3 +59,15 @@ pub record IsWorkable (f : File) : Type 0 where
   pub typed : AllRows (HasType (length f.types)) f.cases
   pub placed : ArePlaced f.cases
   pub known : AllRows (AllRows (IsKnown (length f.types) (length f.actors) f.cases)) f.phases
+
+-- a migrate that calls all cases of its type
+abbrev pub MovesAll : List CaseDecl → Act → Type 0
+MovesAll cases (act.Migrate t many) = many ≡ cases_of_type t cases
+MovesAll cases _ = Unit {0}
+
+abbrev pub LinesMoveAll : List CaseDecl → List Line → Type 0
+LinesMoveAll cases lines = AllRows (λ (l : Line). MovesAll cases l.act) lines
+
+-- in a file of format 1 or 2 each migrate is one
+abbrev pub MigratesAll : File → Type 0
+MigratesAll f = (f.format == 3) ≡ false → AllRows (LinesMoveAll f.cases) f.phases

@@ -1,15 +1,16 @@
--- A line has no more writes than words.
+-- A line has no more writes than words, and a declaration no more roles.
 use Rattle.std.proofs.Common.{◌≤◌, ℕ, List, [], ◌∷◌, length, ◌==◌, ◌&&◌, Option, None, Some, arith}
-use Rattle.std.specs.Prelude.{IfSome, codes}
+use Rattle.std.specs.Prelude.{IfSome, nat_le, nat_lt, codes}
 use Rattle.wsm_lists.specs.declared.values.Value.{Value}
 use Rattle.file_words.specs.Lines.{Bytes}
 use Rattle.file_words.specs.Names.{name}
 use Rattle.file_words.specs.Numbers.{code}
 use Rattle.file_words.specs.Pairs.{pair}
 use Rattle.file_words.specs.Words.{is}
-use Rattle.file_forms.specs.Forms.{Deed, to_create, to_start, to_withdraw, to_end, to_change, to_install, to_migrate, ScriptLine, a_deed}
-use Rattle.file_forms.specs.NamesInForms.{writes_in_deed, writes_in}
-use Rattle.file_forms.specs.PieceForms.{◌>>=◌, name_ahead, one_name, two_names, two_names_ahead}
+use Rattle.file_forms.specs.DeclarationForms.{actor_ahead, actor_line, begins_reserved, declaration_line, plain_line, roles, roles_at_end, some_roles}
+use Rattle.file_forms.specs.Forms.{RoleWord, Declaration, a_type, an_actor, a_case, first_phase, Deed, to_create, to_start, to_withdraw, to_end, to_change, to_install, to_migrate, ScriptLine, a_deed}
+use Rattle.file_forms.specs.NamesInForms.{roles_in, writes_in_deed, writes_in}
+use Rattle.file_forms.specs.PieceForms.{◌>>=◌, name_ahead, nothing_more, one_name, role_word, two_names, two_names_ahead}
 use Rattle.file_forms.specs.ScriptForms.{choice_ahead, code_ahead, deed, deed_line, end_behind, end_deed, named_deed, pairs, plain_deed, script_line}
 use Rattle.file_forms.proofs.Options.{some-any, some-bound, some-either, some-mapped}
 
@@ -80,7 +81,7 @@ named_deed-few k n m =
 plain_deed-few : (format : ℕ) (k : Bytes) (ws : List Bytes) (m : ℕ) → IfSome (plain_deed format k ws) (FewInDeed m)
 plain_deed-few format k ws m =
     some-either (FewInDeed m) (is (codes "start") k) _ _ (some-mapped Any (FewInDeed m) (λ p. to_start p.0 p.1) (two_names ws) (any (two_names ws)) (λ p any. omega arith))
-    (some-either (FewInDeed m) (is (codes "withdraw") k && format == 2) _ _ (some-mapped Any (FewInDeed m) (λ p. to_withdraw p.0 p.1) (two_names ws) (any (two_names ws)) (λ p any. omega arith))
+    (some-either (FewInDeed m) (is (codes "withdraw") k && nat_le 2 format) _ _ (some-mapped Any (FewInDeed m) (λ p. to_withdraw p.0 p.1) (two_names ws) (any (two_names ws)) (λ p any. omega arith))
     (some-bound Any (FewInDeed m) (one_name ws) _ (any (one_name ws)) (λ n any. named_deed-few k n m)))
 
 deed-few : (format : ℕ) (ws : List Bytes) → IfSome (deed format ws) (FewInDeed (length ws))
@@ -101,3 +102,50 @@ script_line-few format (k ∷ ws) = some-either (FewIn (length (k ∷ ws))) (is 
     weaker : (o : Option ScriptLine) → IfSome o (FewIn (length ws)) → IfSome o (FewIn (length (k ∷ ws)))
     weaker None h = tt
     weaker (Some l) h = omega (arith, h)
+
+-- ---- roles
+abbrev FewRoles : ℕ → List RoleWord → Type 0
+FewRoles n rs = length rs ≤ n
+
+abbrev RolesIn : ℕ → Declaration → Type 0
+RolesIn n d = roles_in d ≤ n
+
+roles-few : (format : ℕ) (ws : List Bytes) → IfSome (roles format ws) (FewRoles (length ws))
+roles-few format [] = omega arith
+roles-few format (w ∷ ws) =
+    some-bound Any (FewRoles (length (w ∷ ws))) (role_word format w) _ (any (role_word format w)) (λ r any.
+    some-bound (FewRoles (length ws)) (FewRoles (length (w ∷ ws))) (roles format ws) _ (roles-few format ws) (λ rs few. omega (arith, few)))
+
+roles_end-few : (format : ℕ) (ws : List Bytes) → IfSome (roles_at_end format ws) (FewRoles (length ws))
+roles_end-few format [] = omega arith
+roles_end-few format (k ∷ ws) =
+    some-either (FewRoles (length (k ∷ ws))) (is (codes "roles") k) (some_roles format ws) _
+    (some-either (FewRoles (length (k ∷ ws))) (nat_lt 0 (length ws)) _ _ (weaker (roles format ws) (roles-few format ws)) tt) tt
+  where
+    weaker : (o : Option (List RoleWord)) → IfSome o (FewRoles (length ws)) → IfSome o (FewRoles (length (k ∷ ws)))
+    weaker None h = tt
+    weaker (Some rs) h = omega (arith, h)
+
+actor-few : (format : ℕ) (ws : List Bytes) → IfSome (actor_line format ws) (RolesIn (length ws))
+actor-few format ws =
+    some-bound (Behind (length ws)) (RolesIn (length ws)) (actor_ahead format ws) _
+    (some-either (Behind (length ws)) (format == 3 && begins_reserved ws) _ _ tt (name_ahead-fewer ws)) (λ a few.
+    some-bound (FewRoles (length a.1)) (RolesIn (length ws)) (roles_at_end format a.1) _ (roles_end-few format a.1) (λ rs fewer. omega (arith, few, fewer)))
+
+plain-few : (k : Bytes) (ws : List Bytes) (n : ℕ) → IfSome (plain_line k ws) (RolesIn n)
+plain-few k ws n =
+    some-either (RolesIn n) (is (codes "type") k) _ _ (some-mapped Any (RolesIn n) a_type (one_name ws) (any (one_name ws)) (λ x any. omega arith))
+    (some-either (RolesIn n) (is (codes "case") k) _ _ (some-mapped Any (RolesIn n) (λ p. a_case p.0 p.1) (two_names ws) (any (two_names ws)) (λ p any. omega arith))
+    (some-either (RolesIn n) (is (codes "phase") k) _ _ (none-more ws) tt))
+  where
+    none-more : (ws : List Bytes) → IfSome (nothing_more first_phase ws) (RolesIn n)
+    none-more [] = omega arith
+    none-more (w ∷ ws) = tt
+
+pub declaration-few : (format : ℕ) (ws : List Bytes) → IfSome (declaration_line format ws) (λ d. roles_in d ≤ length ws)
+declaration-few format [] = tt
+declaration-few format (k ∷ ws) = some-either (RolesIn (length (k ∷ ws))) (is (codes "actor") k) _ _ (weaker (actor_line format ws) (actor-few format ws)) (plain-few k ws (length (k ∷ ws)))
+  where
+    weaker : (o : Option Declaration) → IfSome o (RolesIn (length ws)) → IfSome o (RolesIn (length (k ∷ ws)))
+    weaker None h = tt
+    weaker (Some d) h = omega (arith, h)

@@ -3,22 +3,26 @@ use Rattle.std.specs.Prelude.{ℕ, List, length}
 use Rattle.wsm_lists.specs.Rows.{AllRows}
 use Rattle.wsm_lists.specs.declared.values.Value.{Value}
 use Rattle.file_words.specs.Lines.{Bytes}
-use Rattle.file_forms.specs.Forms.{Declaration, a_type, an_actor, a_case, first_phase, TypeLine, activity, opens_and, opens_xor, opens_branch, opens_loop, closes_block, a_sync, an_element, a_read, a_write, type_end}
+use Rattle.file_forms.specs.Forms.{RoleWord, by_number, by_name, Declaration, a_type, an_actor, a_case, first_phase, TypeLine, activity, opens_and, opens_xor, opens_branch, opens_loop, closes_block, a_sync, an_element, a_read, a_write, type_end}
 use Rattle.file_forms.specs.Forms.{Deed, to_create, to_start, to_withdraw, to_end, to_change, to_install, to_migrate, ScriptLine, next_phase, a_deed}
 use Rattle.file_forms.specs.Forms.{NamedGap, behind, at_head, OperationLine, insert, parallel, conditional, delete, move, sync, unsync, element, read, unread, write, unwrite, set_role, group_end}
 
+abbrev pub RoleHas : (Bytes → Type 0) → RoleWord → Type 0
+RoleHas P (by_number n) = Unit {0}
+RoleHas P (by_name n) = P n
+
 abbrev pub DeclarationHas : (Bytes → Type 0) → Declaration → Type 0
 DeclarationHas P (a_type name) = P name
-DeclarationHas P (an_actor name roles) = P name
+DeclarationHas P (an_actor name roles) = P name × AllRows (RoleHas P) roles
 DeclarationHas P (a_case name kind) = P name
 DeclarationHas P first_phase = Unit {0}
 
 abbrev pub TypeLineHas : (Bytes → Type 0) → TypeLine → Type 0
-TypeLineHas P (activity node role) = P node
+TypeLineHas P (activity node role) = P node × RoleHas P role
 TypeLineHas P (opens_and split join) = P split × P join
-TypeLineHas P (opens_xor split join role) = P split × P join
+TypeLineHas P (opens_xor split join role) = P split × P join × RoleHas P role
 TypeLineHas P (opens_branch code) = Unit {0}
-TypeLineHas P (opens_loop start end role) = P start × P end
+TypeLineHas P (opens_loop start end role) = P start × P end × RoleHas P role
 TypeLineHas P closes_block = Unit {0}
 TypeLineHas P (a_sync source target) = P source × P target
 TypeLineHas P (an_element name kind) = P name
@@ -42,9 +46,9 @@ GapHas P (behind node) = P node
 GapHas P (at_head split code) = P split
 
 abbrev pub OperationHas : (Bytes → Type 0) → OperationLine → Type 0
-OperationHas P (insert node role place) = P node × GapHas P place
-OperationHas P (parallel node role split join first last) = P node × P split × P join × P first × P last
-OperationHas P (conditional node role split join place) = P node × P split × P join × GapHas P place
+OperationHas P (insert node role place) = P node × RoleHas P role × GapHas P place
+OperationHas P (parallel node role split join first last) = P node × RoleHas P role × P split × P join × P first × P last
+OperationHas P (conditional node role split join place) = P node × RoleHas P role × P split × P join × GapHas P place
 OperationHas P (delete node) = P node
 OperationHas P (move node place) = P node × GapHas P place
 OperationHas P (sync source target) = P source × P target
@@ -54,8 +58,13 @@ OperationHas P (read node name mandatory) = P node × P name
 OperationHas P (unread node name) = P node × P name
 OperationHas P (write node name) = P node × P name
 OperationHas P (unwrite node name) = P node × P name
-OperationHas P (set_role node role) = P node
+OperationHas P (set_role node role) = P node × RoleHas P role
 OperationHas P group_end = Unit {0}
+
+-- how many roles a declaration has
+abbrev pub roles_in : Declaration → ℕ
+roles_in (an_actor name roles) = length roles
+roles_in _ = 0
 
 -- how many writes a line has
 abbrev pub writes_in_deed : Deed → ℕ

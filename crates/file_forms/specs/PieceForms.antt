@@ -1,11 +1,13 @@
 -- Pieces of lines that several forms share.
-use Rattle.std.specs.Prelude.{ℕ, Bool, true, false, List, [], ◌∷◌, Option, Some, None, option_map, if◌then◌else◌, codes}
+use Rattle.std.specs.Prelude.{ℕ, Bool, true, false, nat_lt, List, [], ◌∷◌, ◌==◌, Option, Some, None, option_map, if◌then◌else◌, codes}
 use Rattle.wsm_lists.specs.declared.values.ElementKind.{ElementKind}
 use Rattle.wsm_lists.specs.declared.values.ElementKind.TheVariants as kind
+use Rattle.file_limits.specs.declared.TheConstants.{FIRST_NAMED_ROLE}
 use Rattle.file_words.specs.Lines.{Bytes}
 use Rattle.file_words.specs.Words.{is}
 use Rattle.file_words.specs.Names.{name}
 use Rattle.file_words.specs.Numbers.{role}
+use Rattle.file_forms.specs.Forms.{RoleWord, by_number, by_name}
 
 infixl 10 ◌>>=◌
 abbrev pub ◌>>=◌ : {A B : Type 0} → Option A → (A → Option B) → Option B
@@ -41,21 +43,29 @@ two_names_ahead ws = do
   b ← name_ahead a.1
   Some (a.0, b.0, b.1)
 
--- nothing, which is role 0, or `role` and a role
-abbrev pub role_at_end : List Bytes → Option ℕ
-role_at_end [] = Some 0
-role_at_end (k ∷ ws) = if is (codes "role") k then only ws >>= role else None
+-- a role of a file of that format: in format 3 a number below the first one that a name has, or a name
+abbrev pub low_or_name : Option ℕ → Bytes → Option RoleWord
+low_or_name None w = option_map by_name (name w)
+low_or_name (Some n) w = if nat_lt n FIRST_NAMED_ROLE then Some (by_number n) else None
 
-abbrev pub name_and_role : List Bytes → Option (Bytes × ℕ)
-name_and_role ws = do
+abbrev pub role_word : ℕ → Bytes → Option RoleWord
+role_word format w = if format == 3 then low_or_name (role w) w else option_map by_number (role w)
+
+-- nothing, which is role 0, or `role` and a role
+abbrev pub role_at_end : ℕ → List Bytes → Option RoleWord
+role_at_end format [] = Some (by_number 0)
+role_at_end format (k ∷ ws) = if is (codes "role") k then only ws >>= role_word format else None
+
+abbrev pub name_and_role : ℕ → List Bytes → Option (Bytes × RoleWord)
+name_and_role format ws = do
   a ← name_ahead ws
-  r ← role_at_end a.1
+  r ← role_at_end format a.1
   Some (a.0, r)
 
-abbrev pub two_names_and_role : List Bytes → Option (Bytes × Bytes × ℕ)
-two_names_and_role ws = do
+abbrev pub two_names_and_role : ℕ → List Bytes → Option (Bytes × Bytes × RoleWord)
+two_names_and_role format ws = do
   a ← name_ahead ws
-  p ← name_and_role a.1
+  p ← name_and_role format a.1
   Some (a.0, p.0, p.1)
 
 abbrev pub element_kind : Bytes → Option ElementKind

@@ -1,5 +1,5 @@
 -- Lines of a phase.
-use Rattle.std.specs.Prelude.{ℕ, ◌&&◌, List, [], ◌∷◌, length, ◌==◌, Option, Some, None, option_map, if◌then◌else◌, codes}
+use Rattle.std.specs.Prelude.{ℕ, ◌&&◌, nat_le, List, [], ◌∷◌, length, ◌==◌, Option, Some, None, option_map, if◌then◌else◌, codes}
 use Rattle.wsm_lists.specs.declared.values.Value.{Value}
 use Rattle.file_words.specs.Lines.{Bytes}
 use Rattle.file_words.specs.Words.{is}
@@ -45,11 +45,11 @@ named_deed k n =
     else (if is (codes "migrate") k then Some (to_migrate n)
     else None)))
 
--- what an actor does, but for an end; a node is given back in format 2 alone
+-- what an actor does, but for an end; a node is given back from format 2 on
 abbrev pub plain_deed : ℕ → Bytes → List Bytes → Option Deed
 plain_deed format k ws =
     if is (codes "start") k then option_map (λ p. to_start p.0 p.1) (two_names ws)
-    else (if is (codes "withdraw") k && format == 2 then option_map (λ p. to_withdraw p.0 p.1) (two_names ws)
+    else (if is (codes "withdraw") k && nat_le 2 format then option_map (λ p. to_withdraw p.0 p.1) (two_names ws)
     else one_name ws >>= named_deed k)
 
 abbrev pub deed : ℕ → List Bytes → Option Deed
@@ -62,7 +62,7 @@ deed_line format a ws = do
   d ← deed format ws
   Some (a_deed actor d)
 
--- a line of a file of that format; an actor may be called `phase`
+-- a line of a file of that format; in formats 1 and 2 an actor may be called `phase`
 abbrev pub script_line : ℕ → List Bytes → Option ScriptLine
 script_line format [] = None
 script_line format (k ∷ ws) = if is (codes "phase") k && length ws == 0 then Some next_phase else deed_line format k ws

@@ -1,5 +1,5 @@
 -- Lines of a type.
-use Rattle.std.specs.Prelude.{List, [], ◌∷◌, Option, None, option_map, if◌then◌else◌, codes}
+use Rattle.std.specs.Prelude.{ℕ, List, [], ◌∷◌, Option, None, option_map, if◌then◌else◌, codes}
 use Rattle.std.specs.Option.{option_or}
 use Rattle.file_words.specs.Lines.{Bytes}
 use Rattle.file_words.specs.Words.{is}
@@ -8,12 +8,12 @@ use Rattle.file_forms.specs.Forms.{TypeLine, activity, opens_and, opens_xor, ope
 use Rattle.file_forms.specs.PieceForms.{◌>>=◌, nothing_more, only, two_names, name_and_role, two_names_and_role, element_and_kind, read_edge}
 
 -- lines that make the tree of blocks, of which the keyword is k
-abbrev pub tree_line : Bytes → List Bytes → Option TypeLine
-tree_line k ws =
-    if is (codes "act") k then option_map (λ p. activity p.0 p.1) (name_and_role ws)
+abbrev pub tree_line : ℕ → Bytes → List Bytes → Option TypeLine
+tree_line format k ws =
+    if is (codes "act") k then option_map (λ p. activity p.0 p.1) (name_and_role format ws)
     else (if is (codes "and") k then option_map (λ p. opens_and p.0 p.1) (two_names ws)
-    else (if is (codes "xor") k then option_map (λ p. opens_xor p.0 p.1 p.2) (two_names_and_role ws)
-    else (if is (codes "loop") k then option_map (λ p. opens_loop p.0 p.1 p.2) (two_names_and_role ws)
+    else (if is (codes "xor") k then option_map (λ p. opens_xor p.0 p.1 p.2) (two_names_and_role format ws)
+    else (if is (codes "loop") k then option_map (λ p. opens_loop p.0 p.1 p.2) (two_names_and_role format ws)
     else (if is (codes "branch") k then option_map opens_branch (only ws >>= code)
     else (if is (codes "done") k then nothing_more closes_block ws
     else None)))))
@@ -28,7 +28,7 @@ outer_line k ws =
     else (if is (codes "end") k then nothing_more type_end ws
     else None))))
 
--- no keyword is in both
-abbrev pub type_line : List Bytes → Option TypeLine
-type_line [] = None
-type_line (k ∷ ws) = option_or (tree_line k ws) (outer_line k ws)
+-- a line of a file of that format; no keyword is in both
+abbrev pub type_line : ℕ → List Bytes → Option TypeLine
+type_line format [] = None
+type_line format (k ∷ ws) = option_or (tree_line format k ws) (outer_line k ws)

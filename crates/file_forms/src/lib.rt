@@ -1,7 +1,7 @@
 //! The form of a line of a process file, from its words alone.
 //!
-//! There is one set of forms for each place where a line may stand: outside of types and phases, in a type, in a phase, and
-//! in a group of operations. Names and texts may have any length here.
+//! There is one set of forms each for declarations, lines of a type, lines of a phase and lines of a group of operations.
+//! Names and texts may have any length here.
 #![tactic(auto)]
 
 mod declarations;
@@ -10,7 +10,8 @@ mod pieces;
 mod script_lines;
 mod type_lines;
 
-pub use declarations::{Declaration, declaration_line, header};
+pub use declarations::{Declaration, RoleWords, begins_reserved, declaration_line, header};
 pub use operation_lines::{NamedGap, OperationLine, operation_line};
+pub use pieces::RoleWord;
 pub use script_lines::{Deed, ScriptLine, WriteWords, script_line};
 pub use type_lines::{TypeLine, type_line};

@@ -1,13 +1,14 @@
 // Lines of a group of operations.
 ghost use Rattle.std.specs.Prelude.{◌≡◌, option_map};
 ghost use Rattle.file_words.specs.Shown.{shown, shown_name};
-ghost use Rattle.file_forms.specs.OperationForms.{name_and_code, place, role_number_ahead, role_ahead, new_node, with_block, last_item, first_and_last, around_items, insert_line, parallel_line, conditional_line, move_line, role_line, tree_operation, edge_operation, edge_line, row_line, operation_line};
-ghost use Rattle.file_forms.specs.Shown.{shown_names, shown_with, shown_behind, shown_two_ahead, shown_new_node, shown_place, shown_operation};
+ghost use Rattle.file_forms.specs.OperationForms.{name_and_code, place, role_word_ahead, role_ahead, new_node, with_block, last_item, first_and_last, around_items, insert_line, parallel_line, conditional_line, move_line, role_line, tree_operation, edge_operation, edge_line, row_line, operation_line};
+ghost use Rattle.file_forms.specs.Shown.{shown_names, shown_with, shown_role_ahead, shown_two_ahead, shown_new_node, shown_place, shown_operation};
 
 use crate::pieces::{
-    element_and_kind, name_ahead, one_name, only, read_edge, two_names, two_names_ahead,
+    RoleWord, element_and_kind, name_ahead, one_name, only, read_edge, role_word, two_names,
+    two_names_ahead,
 };
-use file_words::{NameWord, code, role};
+use file_words::{NameWord, code};
 use wsm_lists::ElementKind;
 
 /// Where an operation puts a node.
@@ -24,13 +25,13 @@ pub enum NamedGap<'a> {
 pub enum OperationLine<'a> {
     Insert {
         node: NameWord<'a>,
-        role: u32,
+        role: RoleWord<'a>,
         place: NamedGap<'a>,
     },
     /// The last item is the first where it is not written.
     Parallel {
         node: NameWord<'a>,
-        role: u32,
+        role: RoleWord<'a>,
         split: NameWord<'a>,
         join: NameWord<'a>,
         first: NameWord<'a>,
@@ -38,7 +39,7 @@ pub enum OperationLine<'a> {
     },
     Conditional {
         node: NameWord<'a>,
-        role: u32,
+        role: RoleWord<'a>,
         split: NameWord<'a>,
         join: NameWord<'a>,
         place: NamedGap<'a>,
@@ -79,7 +80,7 @@ pub enum OperationLine<'a> {
     },
     Role {
         node: NameWord<'a>,
-        role: u32,
+        role: RoleWord<'a>,
     },
     GroupEnd,
 }
@@ -110,40 +111,46 @@ fn place_of<'a>(words: &[&'a [u8]]) -> Option<NamedGap<'a>>
     }
 }
 
-fn role_number_ahead<'a, 'b>(words: &'b [&'a [u8]]) -> Option<(u32, &'b [&'a [u8]])>
-    ensures { option_map shown_behind result ≡ role_number_ahead (shown words.now) }
+fn role_word_ahead<'a, 'b>(
+    format: u32,
+    words: &'b [&'a [u8]],
+) -> Option<(RoleWord<'a>, &'b [&'a [u8]])>
+    ensures { option_map shown_role_ahead result ≡ role_word_ahead format (shown words.now) }
 {
     match words {
         [] => None,
         [word, rest @ ..] => {
-            let number = role(*word)?;
-            Some((number, rest))
+            let role = role_word(format, *word)?;
+            Some((role, rest))
         }
     }
 }
 
 /// A role where one is written, and the words behind it.
-fn role_ahead<'a, 'b>(words: &'b [&'a [u8]]) -> Option<(u32, &'b [&'a [u8]])>
-    ensures { option_map shown_behind result ≡ role_ahead (shown words.now) }
+fn role_ahead<'a, 'b>(format: u32, words: &'b [&'a [u8]]) -> Option<(RoleWord<'a>, &'b [&'a [u8]])>
+    ensures { option_map shown_role_ahead result ≡ role_ahead format (shown words.now) }
 {
     match words {
-        [] => Some((0, words)),
+        [] => Some((RoleWord::Number(0), words)),
         [keyword, rest @ ..] => {
             if *keyword == b"role".as_slice() {
-                role_number_ahead(rest)
+                role_word_ahead(format, rest)
             } else {
-                Some((0, words))
+                Some((RoleWord::Number(0), words))
             }
         }
     }
 }
 
 /// A new node, its role, and the words behind them.
-fn new_node<'a, 'b>(words: &'b [&'a [u8]]) -> Option<(NameWord<'a>, u32, &'b [&'a [u8]])>
-    ensures { option_map shown_new_node result ≡ new_node (shown words.now) }
+fn new_node<'a, 'b>(
+    format: u32,
+    words: &'b [&'a [u8]],
+) -> Option<(NameWord<'a>, RoleWord<'a>, &'b [&'a [u8]])>
+    ensures { option_map shown_new_node result ≡ new_node format (shown words.now) }
 {
     let (node, rest) = name_ahead(words)?;
-    let (role, behind) = role_ahead(rest)?;
+    let (role, behind) = role_ahead(format, rest)?;
     Some((node, role, behind))
 }
 
@@ -197,18 +204,18 @@ fn around_items<'a>(words: &[&'a [u8]]) -> Option<(NameWord<'a>, NameWord<'a>)>
     }
 }
 
-fn insert_line<'a>(words: &[&'a [u8]]) -> Option<OperationLine<'a>>
-    ensures { option_map shown_operation result ≡ insert_line (shown words.now) }
+fn insert_line<'a>(format: u32, words: &[&'a [u8]]) -> Option<OperationLine<'a>>
+    ensures { option_map shown_operation result ≡ insert_line format (shown words.now) }
 {
-    let (node, role, rest) = new_node(words)?;
+    let (node, role, rest) = new_node(format, words)?;
     let place = place_of(rest)?;
     Some(OperationLine::Insert { node, role, place })
 }
 
-fn parallel_line<'a>(words: &[&'a [u8]]) -> Option<OperationLine<'a>>
-    ensures { option_map shown_operation result ≡ parallel_line (shown words.now) }
+fn parallel_line<'a>(format: u32, words: &[&'a [u8]]) -> Option<OperationLine<'a>>
+    ensures { option_map shown_operation result ≡ parallel_line format (shown words.now) }
 {
-    let (node, role, behind) = new_node(words)?;
+    let (node, role, behind) = new_node(format, words)?;
     let (split, join, rest) = with_block(behind)?;
     let (first, last) = around_items(rest)?;
     Some(OperationLine::Parallel {
@@ -221,10 +228,10 @@ fn parallel_line<'a>(words: &[&'a [u8]]) -> Option<OperationLine<'a>>
     })
 }
 
-fn conditional_line<'a>(words: &[&'a [u8]]) -> Option<OperationLine<'a>>
-    ensures { option_map shown_operation result ≡ conditional_line (shown words.now) }
+fn conditional_line<'a>(format: u32, words: &[&'a [u8]]) -> Option<OperationLine<'a>>
+    ensures { option_map shown_operation result ≡ conditional_line format (shown words.now) }
 {
-    let (node, role, behind) = new_node(words)?;
+    let (node, role, behind) = new_node(format, words)?;
     let (split, join, rest) = with_block(behind)?;
     let place = place_of(rest)?;
     Some(OperationLine::Conditional {
@@ -244,24 +251,24 @@ fn move_line<'a>(words: &[&'a [u8]]) -> Option<OperationLine<'a>>
     Some(OperationLine::Move { node, place })
 }
 
-fn role_line<'a>(words: &[&'a [u8]]) -> Option<OperationLine<'a>>
-    ensures { option_map shown_operation result ≡ role_line (shown words.now) }
+fn role_line<'a>(format: u32, words: &[&'a [u8]]) -> Option<OperationLine<'a>>
+    ensures { option_map shown_operation result ≡ role_line format (shown words.now) }
 {
     let (node, rest) = name_ahead(words)?;
-    let role = role(only(rest)?)?;
+    let role = role_word(format, only(rest)?)?;
     Some(OperationLine::Role { node, role })
 }
 
 /// An operation that changes the tree of blocks, or the end of the group.
-fn tree_operation<'a>(keyword: &[u8], words: &[&'a [u8]]) -> Option<OperationLine<'a>>
-    ensures { option_map shown_operation result ≡ tree_operation keyword.now (shown words.now) }
+fn tree_operation<'a>(format: u32, keyword: &[u8], words: &[&'a [u8]]) -> Option<OperationLine<'a>>
+    ensures { option_map shown_operation result ≡ tree_operation format keyword.now (shown words.now) }
 {
     if keyword == b"insert".as_slice() {
-        insert_line(words)
+        insert_line(format, words)
     } else if keyword == b"parallel".as_slice() {
-        parallel_line(words)
+        parallel_line(format, words)
     } else if keyword == b"conditional".as_slice() {
-        conditional_line(words)
+        conditional_line(format, words)
     } else if keyword == b"delete".as_slice() {
         Some(OperationLine::Delete(one_name(words)?))
     } else if keyword == b"move".as_slice() {
@@ -319,8 +326,8 @@ fn edge_line<'a>(keyword: &[u8], words: &[&'a [u8]]) -> Option<OperationLine<'a>
 }
 
 /// An operation on an element, a read or a role.
-fn row_line<'a>(keyword: &[u8], words: &[&'a [u8]]) -> Option<OperationLine<'a>>
-    ensures { option_map shown_operation result ≡ row_line keyword.now (shown words.now) }
+fn row_line<'a>(format: u32, keyword: &[u8], words: &[&'a [u8]]) -> Option<OperationLine<'a>>
+    ensures { option_map shown_operation result ≡ row_line format keyword.now (shown words.now) }
 {
     if keyword == b"element".as_slice() {
         let (element, kind) = element_and_kind(words)?;
@@ -333,23 +340,23 @@ fn row_line<'a>(keyword: &[u8], words: &[&'a [u8]]) -> Option<OperationLine<'a>>
             mandatory,
         })
     } else if keyword == b"role".as_slice() {
-        role_line(words)
+        role_line(format, words)
     } else {
         None
     }
 }
 
-/// The form of a line of a group of operations.
-pub fn operation_line<'a>(words: &[&'a [u8]]) -> Option<OperationLine<'a>>
-    ensures { option_map shown_operation result ≡ operation_line (shown words.now) }
+/// The form of a line of a group of operations, in a file of that format.
+pub fn operation_line<'a>(format: u32, words: &[&'a [u8]]) -> Option<OperationLine<'a>>
+    ensures { option_map shown_operation result ≡ operation_line format (shown words.now) }
 {
     match words {
         [] => None,
-        [keyword, rest @ ..] => match tree_operation(*keyword, rest) {
+        [keyword, rest @ ..] => match tree_operation(format, *keyword, rest) {
             Some(line) => Some(line),
             None => match edge_line(*keyword, rest) {
                 Some(line) => Some(line),
-                None => row_line(*keyword, rest),
+                None => row_line(format, *keyword, rest),
             },
         },
     }

@@ -1,11 +1,20 @@
 // Pieces of lines that several forms share.
 ghost use Rattle.std.specs.Prelude.{◌≡◌, option_map};
 ghost use Rattle.file_words.specs.Shown.{shown, shown_name};
-ghost use Rattle.file_forms.specs.PieceForms.{only, one_name, two_names, name_ahead, two_names_ahead, role_at_end, name_and_role, two_names_and_role, element_kind, element_and_kind, is_mandatory, element_read, read_edge};
-ghost use Rattle.file_forms.specs.Shown.{shown_word, shown_names, shown_with, shown_two_with, shown_ahead, shown_two_ahead};
+ghost use Rattle.file_forms.specs.PieceForms.{only, one_name, two_names, name_ahead, two_names_ahead, low_or_name, role_word, role_at_end, name_and_role, two_names_and_role, element_kind, element_and_kind, is_mandatory, element_read, read_edge};
+ghost use Rattle.file_forms.specs.Shown.{shown_word, shown_names, shown_with, shown_two_with, shown_ahead, shown_two_ahead, shown_role, shown_name_role, shown_names_role};
 
+use file_limits::FIRST_NAMED_ROLE;
 use file_words::{NameWord, role};
 use wsm_lists::ElementKind;
+
+/// A role as it is written.
+#[derive(Clone, Copy)]
+pub enum RoleWord<'a> {
+    Number(u32),
+    /// In format 3 alone.
+    Name(NameWord<'a>),
+}
 
 /// The one word of a list.
 pub fn only<'a>(words: &[&'a [u8]]) -> Option<&'a [u8]>
@@ -58,36 +67,66 @@ pub fn two_names_ahead<'a, 'b>(
     Some((first, second, rest))
 }
 
-fn role_at_end(words: &[&[u8]]) -> Option<u32>
-    ensures { result ≡ role_at_end (shown words.now) }
+// A number below the first one that a name has, or a name.
+fn low_or_name<'a>(number: Option<u32>, word: &'a [u8]) -> Option<RoleWord<'a>>
+    ensures { option_map shown_role result ≡ low_or_name number word.now }
+{
+    match number {
+        None => Some(RoleWord::Name(NameWord::of(word)?)),
+        Some(number) => {
+            if number < FIRST_NAMED_ROLE {
+                Some(RoleWord::Number(number))
+            } else {
+                None
+            }
+        }
+    }
+}
+
+/// The role of a word that is one, in a file of that format.
+pub fn role_word<'a>(format: u32, word: &'a [u8]) -> Option<RoleWord<'a>>
+    ensures { option_map shown_role result ≡ role_word format word.now }
+{
+    if format == 3 {
+        low_or_name(role(word), word)
+    } else {
+        Some(RoleWord::Number(role(word)?))
+    }
+}
+
+fn role_at_end<'a>(format: u32, words: &[&'a [u8]]) -> Option<RoleWord<'a>>
+    ensures { option_map shown_role result ≡ role_at_end format (shown words.now) }
 {
     match words {
-        [] => Some(0),
+        [] => Some(RoleWord::Number(0)),
         [keyword, rest @ ..] => {
             if *keyword != b"role".as_slice() {
                 return None;
             }
             let word = only(rest)?;
-            role(word)
+            role_word(format, word)
         }
     }
 }
 
 /// A name, and a role where one is written.
-pub fn name_and_role<'a>(words: &[&'a [u8]]) -> Option<(NameWord<'a>, u32)>
-    ensures { option_map shown_with result ≡ name_and_role (shown words.now) }
+pub fn name_and_role<'a>(format: u32, words: &[&'a [u8]]) -> Option<(NameWord<'a>, RoleWord<'a>)>
+    ensures { option_map shown_name_role result ≡ name_and_role format (shown words.now) }
 {
     let (name, rest) = name_ahead(words)?;
-    let role = role_at_end(rest)?;
+    let role = role_at_end(format, rest)?;
     Some((name, role))
 }
 
 /// Two names, and a role where one is written.
-pub fn two_names_and_role<'a>(words: &[&'a [u8]]) -> Option<(NameWord<'a>, NameWord<'a>, u32)>
-    ensures { option_map shown_two_with result ≡ two_names_and_role (shown words.now) }
+pub fn two_names_and_role<'a>(
+    format: u32,
+    words: &[&'a [u8]],
+) -> Option<(NameWord<'a>, NameWord<'a>, RoleWord<'a>)>
+    ensures { option_map shown_names_role result ≡ two_names_and_role format (shown words.now) }
 {
     let (first, rest) = name_ahead(words)?;
-    let (second, role) = name_and_role(rest)?;
+    let (second, role) = name_and_role(format, rest)?;
     Some((first, second, role))
 }
 

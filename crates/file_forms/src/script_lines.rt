@@ -36,7 +36,7 @@ pub enum Deed<'a> {
     Migrate(NameWord<'a>),
 }
 
-/// A line of a phase.
+/// A script line, or the line that begins the next phase.
 #[derive(Drop)]
 pub enum ScriptLine<'a> {
     /// The next phase begins.
@@ -134,14 +134,14 @@ fn named_deed<'a>(keyword: &[u8], name: NameWord<'a>) -> Option<Deed<'a>>
     }
 }
 
-/// What an actor does, but for an end. A node is given back in format 2 alone.
+/// What an actor does, but for an end. A node is given back from format 2 on.
 fn plain_deed<'a>(format: u32, keyword: &[u8], words: &[&'a [u8]]) -> Option<Deed<'a>>
     ensures { option_map shown_deed result ≡ plain_deed format keyword.now (shown words.now) }
 {
     if keyword == b"start".as_slice() {
         let (case, node) = two_names(words)?;
         Some(Deed::Start { case, node })
-    } else if keyword == b"withdraw".as_slice() && format == 2 {
+    } else if keyword == b"withdraw".as_slice() && format >= 2 {
         let (case, node) = two_names(words)?;
         Some(Deed::Withdraw { case, node })
     } else {
@@ -181,7 +181,7 @@ fn deed_line<'a>(
     }
 }
 
-/// The form of a line of a phase, in a file of that format. An actor may be called `phase`.
+/// The form of a line of a phase, in a file of that format. In formats 1 and 2 an actor may be called `phase`.
 pub fn script_line<'a>(
     alloc: Global,
     format: u32,

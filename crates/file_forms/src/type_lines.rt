@@ -5,7 +5,7 @@ ghost use Rattle.file_forms.specs.TypeForms.{tree_line, outer_line, type_line};
 ghost use Rattle.file_forms.specs.Shown.{shown_type_line};
 
 use crate::pieces::{
-    element_and_kind, name_and_role, only, read_edge, two_names, two_names_and_role,
+    RoleWord, element_and_kind, name_and_role, only, read_edge, two_names, two_names_and_role,
 };
 use file_words::{NameWord, code};
 use wsm_lists::ElementKind;
@@ -15,7 +15,7 @@ use wsm_lists::ElementKind;
 pub enum TypeLine<'a> {
     Activity {
         node: NameWord<'a>,
-        role: u32,
+        role: RoleWord<'a>,
     },
     And {
         split: NameWord<'a>,
@@ -24,14 +24,14 @@ pub enum TypeLine<'a> {
     Xor {
         split: NameWord<'a>,
         join: NameWord<'a>,
-        role: u32,
+        role: RoleWord<'a>,
     },
     /// The next branch of the innermost open block.
     Branch(u16),
     Loop {
         start: NameWord<'a>,
         end: NameWord<'a>,
-        role: u32,
+        role: RoleWord<'a>,
     },
     /// The end of the innermost open block.
     Done,
@@ -56,20 +56,20 @@ pub enum TypeLine<'a> {
 }
 
 /// A line that makes the tree of blocks.
-fn tree_line<'a>(keyword: &[u8], words: &[&'a [u8]]) -> Option<TypeLine<'a>>
-    ensures { option_map shown_type_line result ≡ tree_line keyword.now (shown words.now) }
+fn tree_line<'a>(format: u32, keyword: &[u8], words: &[&'a [u8]]) -> Option<TypeLine<'a>>
+    ensures { option_map shown_type_line result ≡ tree_line format keyword.now (shown words.now) }
 {
     if keyword == b"act".as_slice() {
-        let (node, role) = name_and_role(words)?;
+        let (node, role) = name_and_role(format, words)?;
         Some(TypeLine::Activity { node, role })
     } else if keyword == b"and".as_slice() {
         let (split, join) = two_names(words)?;
         Some(TypeLine::And { split, join })
     } else if keyword == b"xor".as_slice() {
-        let (split, join, role) = two_names_and_role(words)?;
+        let (split, join, role) = two_names_and_role(format, words)?;
         Some(TypeLine::Xor { split, join, role })
     } else if keyword == b"loop".as_slice() {
-        let (start, end, role) = two_names_and_role(words)?;
+        let (start, end, role) = two_names_and_role(format, words)?;
         Some(TypeLine::Loop { start, end, role })
     } else if keyword == b"branch".as_slice() {
         Some(TypeLine::Branch(code(only(words)?)?))
@@ -107,13 +107,13 @@ fn outer_line<'a>(keyword: &[u8], words: &[&'a [u8]]) -> Option<TypeLine<'a>>
     }
 }
 
-/// The form of a line of a type, whether or not such a line may stand where it does.
-pub fn type_line<'a>(words: &[&'a [u8]]) -> Option<TypeLine<'a>>
-    ensures { option_map shown_type_line result ≡ type_line (shown words.now) }
+/// The form of a line of a type, in a file of that format, whether or not such a line may stand where it does.
+pub fn type_line<'a>(format: u32, words: &[&'a [u8]]) -> Option<TypeLine<'a>>
+    ensures { option_map shown_type_line result ≡ type_line format (shown words.now) }
 {
     match words {
         [] => None,
-        [keyword, rest @ ..] => match tree_line(*keyword, rest) {
+        [keyword, rest @ ..] => match tree_line(format, *keyword, rest) {
             Some(line) => Some(line),
             None => outer_line(*keyword, rest),
         },

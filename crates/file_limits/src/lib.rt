@@ -6,6 +6,15 @@
 /// How many bytes a process file may have.
 pub const MAX_FILE_BYTES: usize = 16_777_216;
 
+/// The newest format of a process file.
+pub const NEWEST_FORMAT: u32 = 3;
+
+/// The newest format whose calls a store keeps: it has each type's definition before all other calls.
+pub const NEWEST_KEPT_FORMAT: u32 = 2;
+
+/// The number of the first role that has a name, in format 3: a role that is a number there is below it.
+pub const FIRST_NAMED_ROLE: u32 = 2_147_483_648;
+
 /// How many bytes a name may have.
 pub const MAX_NAME: usize = 64;
 

@@ -1,7 +1,6 @@
 -- How large a file that is read can be.
 use Rattle.std.proofs.Common.{◌≡◌, ℕ, ◌+◌, ◌==◌, Bool, true, false, List, [], ◌∷◌, ◌++◌, length, refl, subst, arith, Option, Some, None, Result, Ok, Err}
-use Rattle.std.proofs.lemmas.List.Sums.{sum_by_push}
-use Rattle.std.specs.Prelude.{IfOk, if◌then◌else◌}
+use Rattle.std.specs.Prelude.{IfOk, nat_le, if◌then◌else◌}
 use Rattle.std.specs.Str.{is_utf8}
 use Rattle.file_words.specs.Lines.{Bytes, lines_of, without_return}
 use Rattle.file_words.specs.Words.{words_of, is_skipped}
@@ -11,22 +10,21 @@ use Rattle.file_forms.specs.DeclarationForms.{header, declaration_line}
 use Rattle.file_forms.specs.TypeForms.{type_line}
 use Rattle.file_forms.specs.ScriptForms.{script_line}
 use Rattle.file_forms.specs.OperationForms.{operation_line}
-use Rattle.file_model.specs.Steps.{State, Step, opening, refuse}
-use Rattle.file_model.specs.Declaring.{declared, outside}
+use Rattle.file_model.specs.Steps.{State, Step, opening, outside, refuse}
+use Rattle.file_model.specs.Declaring.{declared}
 use Rattle.file_model.specs.Typing.{typed}
 use Rattle.file_model.specs.Scripting.{scripted}
 use Rattle.file_model.specs.Operating.{operated}
-use Rattle.file_model.specs.Reading.{in_format, unless_long, formed, fitting, unless_not_text, step_in, step_words, step, file_of, finished_in, finished, at_line, read_from, file}
-use Rattle.file_model.specs.Sizes.{phase_effort, IsBounded}
+use Rattle.file_model.specs.Reading.{in_format, unless_long, formed, fitting, unless_not_text, declares, step_outside, step_in, step_words, step, file_of, finished_in, finished, at_line, read_from, file_up_to}
+use Rattle.file_model.specs.Sizes.{IsBounded}
 use Rattle.file_model.specs.declared.files.File.{File}
-use Rattle.file_model.specs.declared.files.Line.{Line}
 use Rattle.file_model.specs.declared.refusals.Refused.{Refused}
 use Rattle.file_model.specs.declared.refusals.Why.{Why}
 use Rattle.file_model.specs.declared.refusals.Why.TheVariants as why
 use Rattle.file_model.specs.declared.states.Contents.{Contents}
 use Rattle.file_model.specs.declared.states.Section.{Section}
 use Rattle.file_model.specs.declared.states.Section.TheVariants as section
-use Rattle.file_model.proofs.Kept.{CountsKept, KeptIn, KeptState, KeptStep}
+use Rattle.file_model.proofs.Kept.{CountsKept, KeptIn, KeptState, KeptStep, all_effort}
 use Rattle.file_model.proofs.KeptByLines.{declared-kept, typed-kept, scripted-kept, operated-kept}
 
 -- ---- a line
@@ -46,37 +44,35 @@ text-kept : (test : Bool) (c : Contents) (s : Step) → KeptStep s → KeptStep 
 text-kept true c s h = h
 text-kept false c s h = tt
 
-format-kept : (o : Option ℕ) (c : Contents) → CountsKept c 0 → KeptStep (in_format o c)
-format-kept None c h = tt
-format-kept (Some n) c h = h
+format-kept : (newest : ℕ) (o : Option ℕ) (c : Contents) → CountsKept c 0 → KeptStep (in_format newest o c)
+format-kept newest None c h = tt
+format-kept newest (Some n) c h = if-kept (nat_le n newest) _ _ h tt
+
+outside-kept : (at : ℕ) (ws : List Bytes) (c : Contents) → CountsKept c 0 → KeptStep (step_outside at ws c)
+outside-kept at ws c h =
+    if-kept (declares ws c) _ _ (formed-kept (declaration_line c.format ws) ws (λ d. declared d c) c (λ d. declared-kept d c h))
+    (formed-kept (script_line c.format ws) ws (λ l. scripted l at c) c (λ l. scripted-kept l at c h))
 
 step_in-kept : (p : Section) (at : ℕ) (line : Bytes) (ws : List Bytes) (c : Contents) → KeptIn p c → KeptStep (step_in p at line ws c)
-step_in-kept section.Head at line ws c h = format-kept (header ws) c h
-step_in-kept section.Outside at line ws c h =
-    text-kept (is_utf8 line) c _ (formed-kept (declaration_line ws) ws (λ d. declared d c) c (λ d. declared-kept d c h))
+step_in-kept (section.Head newest) at line ws c h = format-kept newest (header ws) c h
+step_in-kept section.Outside at line ws c h = text-kept (is_utf8 line) c _ (outside-kept at ws c h)
 step_in-kept (section.InType d) at line ws c h =
-    text-kept (is_utf8 line) c _ (formed-kept (fitting d (type_line ws)) ws (λ l. typed l d c) c (λ l. typed-kept l d c h))
-step_in-kept (section.InPhase lines) at line ws c h =
-    text-kept (is_utf8 line) c _ (formed-kept (script_line c.format ws) ws (λ l. scripted l lines at c) c (λ l. scripted-kept l lines at c h))
-step_in-kept (section.InGroup lines g) at line ws c h =
-    text-kept (is_utf8 line) c _ (formed-kept (operation_line ws) ws (λ l. operated l g lines c) c (λ l. operated-kept l g lines c h.0 h.1))
+    text-kept (is_utf8 line) c _ (formed-kept (fitting d (type_line c.format ws)) ws (λ l. typed l d c) c (λ l. typed-kept l d c h))
+step_in-kept (section.InGroup g) at line ws c h =
+    text-kept (is_utf8 line) c _ (formed-kept (operation_line c.format ws) ws (λ l. operated l g c) c (λ l. operated-kept l g c h.0 h.1))
 
 step-kept : (s : State) (at : ℕ) (line : Bytes) (ws : List Bytes) → KeptState s → KeptStep (step_words s at line ws)
 step-kept s at line ws h = if-kept (is_skipped ws) (Ok s) (step_in s.place at line ws s.contents) h (step_in-kept s.place at line ws s.contents h)
 
 -- ---- the end of a file
-bounded : (c : Contents) → CountsKept c 0 → IsBounded (file_of c c.phases)
-bounded c h = record { types = h.few; small = h.small; effort = omega (arith, h.within, h.effort) }
-
-last-bounded : (lines : List Line) (c : Contents) → CountsKept c (phase_effort lines) → IsBounded (file_of c (c.phases ++ lines ∷ []))
-last-bounded lines c h = record { types = h.few; small = h.small; effort = omega (arith, h.within, h.effort, sum_by_push phase_effort c.phases lines) }
+bounded : (c : Contents) → CountsKept c 0 → IsBounded (file_of c)
+bounded c h = record { types = h.few; small = h.small; effort = omega (arith, h.within, h.effort, all_effort c.current c.phases) }
 
 finished_in-bounded : (p : Section) (c : Contents) → KeptIn p c → IfOk (finished_in p c) IsBounded
-finished_in-bounded section.Head c h = tt
+finished_in-bounded (section.Head newest) c h = tt
 finished_in-bounded section.Outside c h = bounded c h
 finished_in-bounded (section.InType d) c h = tt
-finished_in-bounded (section.InPhase lines) c h = last-bounded lines c h
-finished_in-bounded (section.InGroup lines g) c h = tt
+finished_in-bounded (section.InGroup g) c h = tt
 
 ended-bounded : (test : Bool) (s : State) → KeptState s → IfOk (if test then finished_in s.place s.contents else Err (why.Unended, s.contents)) IsBounded
 ended-bounded true s h = finished_in-bounded s.place s.contents h
@@ -95,7 +91,7 @@ read_from-bounded (Ok s) at left (l ∷ ls) h =
     read_from-bounded (at_line at (step s at line)) (at + 1) left ls (at_line-holds KeptState at (step s at line) (step-kept s at line (words_of line) h))
 
 -- a file that is read is bounded
-pub file-bounded : (bytes : Bytes) (f : File) → file bytes ≡ Ok f → IsBounded f
-file-bounded bytes f is =
+pub file-bounded : (newest : ℕ) (bytes : Bytes) (f : File) → file_up_to newest bytes ≡ Ok f → IsBounded f
+file-bounded newest bytes f is =
     subst (λ (o : Result File Refused). IfOk o IsBounded) is
-    (read_from-bounded (Ok opening) 1 (lines_of bytes).left (lines_of bytes).ended (record { few = omega arith; small = refl; within = omega arith; effort = omega arith }))
+    (read_from-bounded (Ok (opening newest)) 1 (lines_of bytes).left (lines_of bytes).ended (record { few = omega arith; small = refl; within = omega arith; effort = omega arith }))

@@ -1,4 +1,4 @@
--- How many names a line adds: at most five, and one for each of its words.
+-- How many names a line adds: at most six, and one for each of its words.
 use Rattle.std.proofs.Common.{◌≡◌, ◌≤◌, ℕ, ◌+◌, Bool, true, false, List, [], ◌∷◌, ◌++◌, length, arith, Option, Some, None, Result, Ok, Err}
 use Rattle.std.proofs.lemmas.List.{length-append}
 use Rattle.std.specs.Prelude.{IfOk, IfSome, nat_le, nat_lt, if◌then◌else◌}
@@ -14,24 +14,23 @@ use Rattle.file_words.specs.Lines.{Bytes}
 use Rattle.file_words.specs.declared.lengths.TooLong.{TooLong}
 use Rattle.file_names.specs.Names.{is_listed, noted, place_of}
 use Rattle.file_forms.specs.DeclarationForms.{header, declaration_line}
-use Rattle.file_forms.specs.Forms.{Declaration, a_type, an_actor, a_case, first_phase, TypeLine, activity, opens_and, opens_xor, opens_branch, opens_loop, closes_block, a_sync, an_element, a_read, a_write, type_end}
+use Rattle.file_forms.specs.Forms.{RoleWord, by_number, by_name, Declaration, a_type, an_actor, a_case, first_phase, TypeLine, activity, opens_and, opens_xor, opens_branch, opens_loop, closes_block, a_sync, an_element, a_read, a_write, type_end}
 use Rattle.file_forms.specs.Forms.{Deed, to_create, to_start, to_withdraw, to_end, to_change, to_install, to_migrate, ScriptLine, next_phase, a_deed}
 use Rattle.file_forms.specs.Forms.{NamedGap, behind, at_head, OperationLine, insert, parallel, conditional, delete, move, sync, unsync, element, read, unread, write, unwrite, set_role, group_end}
-use Rattle.file_forms.specs.NamesInForms.{writes_in_deed, writes_in}
+use Rattle.file_forms.specs.NamesInForms.{roles_in, writes_in_deed, writes_in}
 use Rattle.file_forms.specs.OperationForms.{operation_line}
 use Rattle.file_forms.specs.ScriptForms.{script_line}
 use Rattle.file_forms.specs.TypeForms.{type_line}
-use Rattle.file_forms.proofs.FewWrites.{script_line-few}
+use Rattle.file_forms.proofs.FewWrites.{declaration-few, script_line-few}
 use Rattle.file_drafts.specs.Drafts.{whole}
 use Rattle.file_drafts.specs.declared.drafts.Draft.{Draft}
-use Rattle.file_model.specs.Declaring.{case_declared, declared, outside, with_actor, with_case, with_type}
+use Rattle.file_model.specs.Declaring.{case_declared, declared, phase_begun, role_numbers, roles_noted, with_actor, with_case, with_roles, with_type}
 use Rattle.file_model.specs.Operating.{grouped, op_in, operated, with_names, with_place}
-use Rattle.file_model.specs.Reading.{fitting, formed, in_format, step_in, unless_long, unless_not_text}
+use Rattle.file_model.specs.Reading.{declares, fitting, formed, in_format, step_in, step_outside, unless_long, unless_not_text}
 use Rattle.file_model.specs.Room.{count_of_names}
 use Rattle.file_model.specs.Scripting.{acted, actor_in, case_in, if_known, scripted, with_elements}
-use Rattle.file_model.specs.Steps.{State, Step, unless, with_element, with_node}
+use Rattle.file_model.specs.Steps.{State, Step, outside, role_noted, unless, with_element, with_node, with_role}
 use Rattle.file_model.specs.Typing.{ended, typed}
-use Rattle.file_model.specs.declared.files.Line.{Line}
 use Rattle.file_model.specs.declared.refusals.Why.{Why}
 use Rattle.file_model.specs.declared.states.Contents.{Contents}
 use Rattle.file_model.specs.declared.states.Group.{Group}
@@ -59,6 +58,20 @@ node_grown n c = omega (arith, noted-count c.nodes n)
 pub element_grown : (e : Bytes) (c : Contents) → Grown 1 c (with_element e c)
 element_grown e c = omega (arith, noted-count c.elements e)
 
+role_noted-count : (names : List Bytes) (r : RoleWord) → length (role_noted names r) ≤ length names + 1
+role_noted-count names (by_number n) = omega arith
+role_noted-count names (by_name n) = noted-count names n
+
+roles_noted-count : (names : List Bytes) (rs : List RoleWord) → length (roles_noted names rs) ≤ length names + length rs
+roles_noted-count names [] = omega arith
+roles_noted-count names (r ∷ rs) = omega (arith, role_noted-count names r, roles_noted-count (role_noted names r) rs)
+
+pub role_grown : (r : RoleWord) (c : Contents) → Grown 1 c (with_role r c)
+role_grown r c = omega (arith, role_noted-count c.roles r)
+
+pub roles_grown : (rs : List RoleWord) (c : Contents) → Grown (length rs) c (with_roles rs c)
+roles_grown rs c = omega (arith, roles_noted-count c.roles rs)
+
 nodes-grown : (a b : Bytes) (c : Contents) → Grown 2 c (with_node b (with_node a c))
 nodes-grown a b c = omega (arith, node_grown a c, node_grown b (with_node a c))
 
@@ -79,28 +92,33 @@ case-grown : (n : Bytes) (t : Option ℕ) (c : Contents) → GrownStep 1 c (case
 case-grown n None c = tt
 case-grown n (Some t) c = unless-grown 1 c _ c (outside (with_case n t c)) (omega (arith, noted-count c.cases.names n))
 
-declared-grown : (d : Declaration) (c : Contents) → GrownStep 1 c (declared d c)
+begun-grown : (n : ℕ) (c : Contents) → GrownStep n c (phase_begun c)
+begun-grown n c = unless-grown n c _ c _ (omega arith)
+
+declared-grown : (d : Declaration) (c : Contents) → GrownStep (roles_in d + 1) c (declared d c)
 declared-grown (a_type n) c = unless-grown 1 c _ c _ (omega arith)
-declared-grown (an_actor n roles) c = unless-grown 1 c _ c (outside (with_actor n roles c)) (omega (arith, noted-count c.actors.names n))
+declared-grown (an_actor n roles) c =
+    unless-grown (length roles + 1) c _ c (outside (with_actor n (role_numbers c.roles roles) (with_roles roles c)))
+    (omega (arith, noted-count c.actors.names n, roles_noted-count c.roles roles))
 declared-grown (a_case n kind) c = case-grown n (place_of c.types.names kind) c
-declared-grown first_phase c = omega arith
+declared-grown first_phase c = begun-grown 1 c
 
 -- ---- lines of a type
-ended-grown : (n : Bytes) (s : SchemaModel) (f : Option Fault) (c : Contents) → GrownStep 2 c (ended n s f c)
+ended-grown : (n : Bytes) (s : SchemaModel) (f : Option Fault) (c : Contents) → GrownStep 3 c (ended n s f c)
 ended-grown n s None c = omega (arith, noted-count c.types.names n)
 ended-grown n s (Some f) c = tt
 
-typed-grown : (l : TypeLine) (d : Draft) (c : Contents) → GrownStep 2 c (typed l d c)
-typed-grown (activity n role) d c = omega (arith, node_grown n c)
-typed-grown (opens_and a b) d c = unless-grown 2 c _ c _ (nodes-grown a b c)
-typed-grown (opens_xor a b role) d c = unless-grown 2 c _ c _ (nodes-grown a b c)
+typed-grown : (l : TypeLine) (d : Draft) (c : Contents) → GrownStep 3 c (typed l d c)
+typed-grown (activity n role) d c = omega (arith, node_grown n c, role_noted-count c.roles role)
+typed-grown (opens_and a b) d c = unless-grown 3 c _ c _ (omega (arith, nodes-grown a b c))
+typed-grown (opens_xor a b role) d c = unless-grown 3 c _ c _ (omega (arith, nodes-grown a b c, role_noted-count c.roles role))
 typed-grown (opens_branch code) d c = omega arith
-typed-grown (opens_loop a b role) d c = unless-grown 2 c _ c _ (nodes-grown a b c)
+typed-grown (opens_loop a b role) d c = unless-grown 3 c _ c _ (omega (arith, nodes-grown a b c, role_noted-count c.roles role))
 typed-grown closes_block d c = omega arith
-typed-grown (a_sync a b) d c = unless-grown 2 c _ (with_node b (with_node a c)) _ (nodes-grown a b c)
-typed-grown (an_element e k) d c = unless-grown 2 c _ (with_element e c) _ (omega (arith, element_grown e c))
-typed-grown (a_read n e mandatory) d c = unless-grown 2 c _ (with_element e (with_node n c)) _ (edge-grown n e c)
-typed-grown (a_write n e) d c = unless-grown 2 c _ (with_element e (with_node n c)) _ (edge-grown n e c)
+typed-grown (a_sync a b) d c = unless-grown 3 c _ (with_node b (with_node a c)) _ (omega (arith, nodes-grown a b c))
+typed-grown (an_element e k) d c = unless-grown 3 c _ (with_element e c) _ (omega (arith, element_grown e c))
+typed-grown (a_read n e mandatory) d c = unless-grown 3 c _ (with_element e (with_node n c)) _ (omega (arith, edge-grown n e c))
+typed-grown (a_write n e) d c = unless-grown 3 c _ (with_element e (with_node n c)) _ (omega (arith, edge-grown n e c))
 typed-grown type_end d c = ended-grown d.name (whole d) (fault_of (whole d)) c
 
 -- ---- lines of a phase
@@ -108,36 +126,37 @@ elements-grown : (ws : List (Bytes × Value)) (c : Contents) → Grown (length w
 elements-grown [] c = omega arith
 elements-grown (w ∷ ws) c = omega (arith, element_grown w.0 c, elements-grown ws (with_element w.0 c))
 
-acted-grown : (d : Deed) (actor : ℕ) (lines : List Line) (at : ℕ) (c : Contents) → GrownStep (writes_in_deed d + 1) c (acted d actor lines at c)
-acted-grown (to_create n) actor lines at c = known-grown 1 c (case_in n c) _ c (λ id. unless-grown 1 c _ c _ (omega arith))
-acted-grown (to_start n node) actor lines at c = known-grown 1 c (case_in n c) _ c (λ id. unless-grown 1 c _ (with_node node c) _ (node_grown node c))
-acted-grown (to_withdraw n node) actor lines at c = known-grown 1 c (case_in n c) _ c (λ id. unless-grown 1 c _ (with_node node c) _ (node_grown node c))
-acted-grown (to_end n node choice writes) actor lines at c =
+acted-grown : (d : Deed) (actor at : ℕ) (c : Contents) → GrownStep (writes_in_deed d + 1) c (acted d actor at c)
+acted-grown (to_create n) actor at c = known-grown 1 c (case_in n c) _ c (λ id. unless-grown 1 c _ c _ (omega arith))
+acted-grown (to_start n node) actor at c = known-grown 1 c (case_in n c) _ c (λ id. unless-grown 1 c _ (with_node node c) _ (node_grown node c))
+acted-grown (to_withdraw n node) actor at c = known-grown 1 c (case_in n c) _ c (λ id. unless-grown 1 c _ (with_node node c) _ (node_grown node c))
+acted-grown (to_end n node choice writes) actor at c =
     let c1 = with_node node c in
     known-grown (length writes + 1) c (case_in n c) _ c
     (λ id. unless-grown (length writes + 1) c _ (with_elements writes c1) _ (omega (arith, node_grown node c, elements-grown writes c1)))
-acted-grown (to_change n) actor lines at c = known-grown 1 c (case_in n c) _ c (λ id. unless-grown 1 c _ c _ (omega arith))
-acted-grown (to_install n) actor lines at c = known-grown 1 c (place_of c.types.names n) _ c (λ t. unless-grown 1 c _ c _ (omega arith))
-acted-grown (to_migrate n) actor lines at c = known-grown 1 c (place_of c.types.names n) _ c (λ t. unless-grown 1 c _ c _ (omega arith))
+acted-grown (to_change n) actor at c = known-grown 1 c (case_in n c) _ c (λ id. unless-grown 1 c _ c _ (omega arith))
+acted-grown (to_install n) actor at c = known-grown 1 c (place_of c.types.names n) _ c (λ t. unless-grown 1 c _ c _ (omega arith))
+acted-grown (to_migrate n) actor at c = known-grown 1 c (place_of c.types.names n) _ c (λ t. unless-grown 1 c _ c _ (omega arith))
 
-scripted-grown : (l : ScriptLine) (lines : List Line) (at : ℕ) (c : Contents) → GrownStep (writes_in l + 1) c (scripted l lines at c)
-scripted-grown next_phase lines at c = unless-grown 1 c _ c _ (omega arith)
-scripted-grown (a_deed a d) lines at c = known-grown (writes_in_deed d + 1) c (actor_in a c) _ c (λ actor. acted-grown d actor lines at c)
+scripted-grown : (l : ScriptLine) (at : ℕ) (c : Contents) → GrownStep (writes_in l + 1) c (scripted l at c)
+scripted-grown next_phase at c = begun-grown 1 c
+scripted-grown (a_deed a d) at c = known-grown (writes_in_deed d + 1) c (actor_in a c) _ c (λ actor. acted-grown d actor at c)
 
 -- ---- lines of a group
 place-grown : (p : NamedGap) (c : Contents) → Grown 1 c (with_place p c)
 place-grown (behind n) c = node_grown n c
 place-grown (at_head n code) c = node_grown n c
 
-names-grown : (l : OperationLine) (c : Contents) → Grown 5 c (with_names l c)
-names-grown (insert n r p) c = omega (arith, node_grown n c, place-grown p (with_node n c))
+names-grown : (l : OperationLine) (c : Contents) → Grown 6 c (with_names l c)
+names-grown (insert n r p) c = omega (arith, node_grown n c, place-grown p (with_node n c), role_grown r (with_place p (with_node n c)))
 names-grown (parallel n r s j a b) c =
     let c1 = with_node n c in
     let c3 = with_node j (with_node s c1) in
-    omega (arith, node_grown n c, nodes-grown s j c1, nodes-grown a b c3)
+    omega (arith, node_grown n c, nodes-grown s j c1, nodes-grown a b c3, role_noted-count c.roles r)
 names-grown (conditional n r s j p) c =
     let c1 = with_node n c in
-    omega (arith, node_grown n c, nodes-grown s j c1, place-grown p (with_node j (with_node s c1)))
+    let c3 = with_node j (with_node s c1) in
+    omega (arith, node_grown n c, nodes-grown s j c1, place-grown p c3, role_grown r (with_place p c3))
 names-grown (delete n) c = omega (arith, node_grown n c)
 names-grown (move n p) c = omega (arith, node_grown n c, place-grown p (with_node n c))
 names-grown (sync a b) c = omega (arith, nodes-grown a b c)
@@ -147,15 +166,15 @@ names-grown (read n e m) c = omega (arith, edge-grown n e c)
 names-grown (unread n e) c = omega (arith, edge-grown n e c)
 names-grown (write n e) c = omega (arith, edge-grown n e c)
 names-grown (unwrite n e) c = omega (arith, edge-grown n e c)
-names-grown (set_role n r) c = omega (arith, node_grown n c)
+names-grown (set_role n r) c = omega (arith, node_grown n c, role_noted-count c.roles r)
 names-grown group_end c = omega arith
 
-grouped-grown : (n : ℕ) (first : Contents) (o : Option Op) (g : Group) (lines : List Line) (c : Contents) → Grown n first c → GrownStep n first (grouped o g lines c)
-grouped-grown n first None g lines c h = h
-grouped-grown n first (Some o) g lines c h = unless-grown n first _ c _ h
+grouped-grown : (n : ℕ) (first : Contents) (o : Option Op) (g : Group) (c : Contents) → Grown n first c → GrownStep n first (grouped o g c)
+grouped-grown n first None g c h = h
+grouped-grown n first (Some o) g c h = unless-grown n first _ c _ h
 
-operated-grown : (l : OperationLine) (g : Group) (lines : List Line) (c : Contents) → GrownStep 5 c (operated l g lines c)
-operated-grown l g lines c = grouped-grown 5 c (op_in l c) g lines (with_names l c) (names-grown l c)
+operated-grown : (l : OperationLine) (g : Group) (c : Contents) → GrownStep 6 c (operated l g c)
+operated-grown l g c = grouped-grown 6 c (op_in l c) g (with_names l c) (names-grown l c)
 
 -- ---- a line
 wider : (n m : ℕ) (c : Contents) (o : Step) → n ≤ m → GrownStep n c o → GrownStep m c o
@@ -175,29 +194,35 @@ text-grown : (n : ℕ) (test : Bool) (c : Contents) (s : Step) → GrownStep n c
 text-grown n true c s h = h
 text-grown n false c s h = tt
 
-format-grown : (n : ℕ) (o : Option ℕ) (c : Contents) → GrownStep n c (in_format o c)
-format-grown n None c = tt
-format-grown n (Some f) c = omega arith
+if-grown : (n : ℕ) (test : Bool) (c : Contents) (s o : Step) → GrownStep n c s → GrownStep n c o → GrownStep n c (if test then s else o)
+if-grown n true c s o h k = h
+if-grown n false c s o h k = k
+
+format-grown : (n newest : ℕ) (o : Option ℕ) (c : Contents) → GrownStep n c (in_format newest o c)
+format-grown n newest None c = tt
+format-grown n newest (Some f) c = if-grown n (nat_le f newest) c _ _ (omega arith) tt
 
 any : {F : Type 0} (o : Option F) → IfSome o (λ f. Unit {0})
 any None = tt
 any (Some f) = tt
 
-pub step_in-grown : (p : Section) (at : ℕ) (line : Bytes) (ws : List Bytes) (c : Contents) → GrownStep (length ws + 5) c (step_in p at line ws c)
-step_in-grown section.Head at line ws c = format-grown (length ws + 5) (header ws) c
-step_in-grown section.Outside at line ws c =
-    let n = length ws + 5 in
-    text-grown n (is_utf8 line) c _ (formed-grown n (λ d. Unit {0}) (declaration_line ws) ws (λ d. declared d c) c (any (declaration_line ws))
-    (λ d any. wider 1 n c (declared d c) (omega arith) (declared-grown d c)))
+outside-grown : (at : ℕ) (ws : List Bytes) (c : Contents) → GrownStep (length ws + 6) c (step_outside at ws c)
+outside-grown at ws c =
+    let n = length ws + 6 in
+    if-grown n (declares ws c) c _ _
+    (formed-grown n (λ d. roles_in d ≤ length ws) (declaration_line c.format ws) ws (λ d. declared d c) c (declaration-few c.format ws)
+    (λ d few. wider (roles_in d + 1) n c (declared d c) (omega (arith, few)) (declared-grown d c)))
+    (formed-grown n (λ l. writes_in l ≤ length ws) (script_line c.format ws) ws (λ l. scripted l at c) c (script_line-few c.format ws)
+    (λ l few. wider (writes_in l + 1) n c (scripted l at c) (omega (arith, few)) (scripted-grown l at c)))
+
+pub step_in-grown : (p : Section) (at : ℕ) (line : Bytes) (ws : List Bytes) (c : Contents) → GrownStep (length ws + 6) c (step_in p at line ws c)
+step_in-grown (section.Head newest) at line ws c = format-grown (length ws + 6) newest (header ws) c
+step_in-grown section.Outside at line ws c = text-grown (length ws + 6) (is_utf8 line) c _ (outside-grown at ws c)
 step_in-grown (section.InType d) at line ws c =
-    let n = length ws + 5 in
-    text-grown n (is_utf8 line) c _ (formed-grown n (λ l. Unit {0}) (fitting d (type_line ws)) ws (λ l. typed l d c) c (any (fitting d (type_line ws)))
-    (λ l any. wider 2 n c (typed l d c) (omega arith) (typed-grown l d c)))
-step_in-grown (section.InPhase lines) at line ws c =
-    let n = length ws + 5 in
-    text-grown n (is_utf8 line) c _ (formed-grown n (λ l. writes_in l ≤ length ws) (script_line c.format ws) ws (λ l. scripted l lines at c) c (script_line-few c.format ws)
-    (λ l few. wider (writes_in l + 1) n c (scripted l lines at c) (omega (arith, few)) (scripted-grown l lines at c)))
-step_in-grown (section.InGroup lines g) at line ws c =
-    let n = length ws + 5 in
-    text-grown n (is_utf8 line) c _ (formed-grown n (λ l. Unit {0}) (operation_line ws) ws (λ l. operated l g lines c) c (any (operation_line ws))
-    (λ l any. wider 5 n c (operated l g lines c) (omega arith) (operated-grown l g lines c)))
+    let n = length ws + 6 in
+    text-grown n (is_utf8 line) c _ (formed-grown n (λ l. Unit {0}) (fitting d (type_line c.format ws)) ws (λ l. typed l d c) c (any (fitting d (type_line c.format ws)))
+    (λ l any. wider 3 n c (typed l d c) (omega arith) (typed-grown l d c)))
+step_in-grown (section.InGroup g) at line ws c =
+    let n = length ws + 6 in
+    text-grown n (is_utf8 line) c _ (formed-grown n (λ l. Unit {0}) (operation_line c.format ws) ws (λ l. operated l g c) c (any (operation_line c.format ws))
+    (λ l any. wider 6 n c (operated l g c) (omega arith) (operated-grown l g c)))

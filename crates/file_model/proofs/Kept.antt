@@ -15,9 +15,9 @@ use Rattle.wsm_schema.specs.declared.faults.LimitKind.TheVariants.{Nodes}
 use Rattle.wsm_sound.specs.Faults.{fault_of}
 use Rattle.wsm_sound.proofs.NoFaults.{is_sound}
 use Rattle.file_words.specs.Lines.{Bytes}
-use Rattle.file_model.specs.Steps.{State, Step, unless, over}
+use Rattle.file_model.specs.Steps.{State, Step, all_phases, open_lines, over, phases_with, unless, with_script_line}
 use Rattle.file_model.specs.Declaring.{with_type}
-use Rattle.file_model.specs.Scripting.{counted, with_phase, if_known}
+use Rattle.file_model.specs.Scripting.{counted, if_known}
 use Rattle.file_model.specs.Sizes.{is_small, line_effort, phase_effort}
 use Rattle.file_model.specs.declared.files.Line.{Line}
 use Rattle.file_model.specs.declared.files.TypeDecl.{TypeDecl}
@@ -34,16 +34,16 @@ pub record IsKept (types : List TypeDecl) (phases : List (List Line)) (lines beg
   pub within : lines ≤ 60000
   pub effort : begun + sum_by phase_effort phases ≤ 769 * lines
 
+-- the open phase asks for what its lines do, and for so much more
 abbrev pub CountsKept : Contents → ℕ → Type 0
-CountsKept c begun = IsKept c.types.items c.phases c.counts.lines begun
+CountsKept c more = IsKept c.types.items c.phases c.counts.lines (phase_effort (open_lines c.current) + more)
 
--- the open phase asks for what its lines do, and for an open group at most
+-- an open group asks for as much as a group may
 abbrev pub KeptIn : Section → Contents → Type 0
-KeptIn section.Head c = CountsKept c 0
+KeptIn (section.Head newest) c = CountsKept c 0
 KeptIn section.Outside c = CountsKept c 0
 KeptIn (section.InType d) c = CountsKept c 0 × (length c.types.items < 64)
-KeptIn (section.InPhase lines) c = CountsKept c (phase_effort lines)
-KeptIn (section.InGroup lines g) c = CountsKept c (phase_effort lines + 769) × (length g.ops ≤ 256)
+KeptIn (section.InGroup g) c = CountsKept c 769 × (length g.ops ≤ 256)
 
 abbrev pub KeptState : State → Type 0
 KeptState s = KeptIn s.place s.contents
@@ -96,22 +96,33 @@ type-kept n s c none h below = record {
 }
 
 -- ---- the effort of one more phase, and of one more line
-pub phase-kept : (lines : List Line) (c : Contents) → CountsKept c (phase_effort lines) → CountsKept (with_phase lines c) 0
-phase-kept lines c h = record {
+-- of all phases, with the open one
+pub all_effort : (o : Option (List Line)) (phases : List (List Line)) → sum_by phase_effort (phases_with o phases) ≡ phase_effort (open_lines o) + sum_by phase_effort phases
+all_effort None phases = omega arith
+all_effort (Some lines) phases = omega (arith, sum_by_push phase_effort phases lines)
+
+pub phase-kept : (c : Contents) → CountsKept c 0 → CountsKept (record c { phases = all_phases c; current = Some [] }) 0
+phase-kept c h = record {
   few = h.few;
   small = h.small;
   within = h.within;
-  effort = omega (arith, h.effort, sum_by_push phase_effort c.phases lines);
+  effort = omega (arith, h.effort, all_effort c.current c.phases);
 }
 
 -- a line more is counted, while it asks for so much
-pub counted-kept : (begun more : ℕ) (c : Contents) → more ≤ 769 → nat_le 60000 c.counts.lines ≡ false → CountsKept c begun → CountsKept (counted c) (begun + more)
-counted-kept begun more c less below h = record {
+pub counted-kept : (more : ℕ) (c : Contents) → more ≤ 769 → nat_le 60000 c.counts.lines ≡ false → CountsKept c 0 → CountsKept (counted c) more
+counted-kept more c less below h = record {
   few = h.few;
   small = h.small;
   within = omega (arith, leb-false 60000 c.counts.lines below);
-  effort = omega (arith, h.effort);
+  effort = omega (arith, h.effort, less);
 }
 
-pub more_effort : (lines : List Line) (l : Line) → phase_effort (lines ++ l ∷ []) ≡ phase_effort lines + line_effort l
-more_effort lines l = sum_by_push line_effort lines l
+-- the line stands in the open phase
+pub line-kept : (l : Line) (c : Contents) (more : ℕ) → line_effort l ≤ more → CountsKept c more → CountsKept (with_script_line l c) 0
+line-kept l c more less h = record {
+  few = h.few;
+  small = h.small;
+  within = h.within;
+  effort = omega (arith, h.effort, less, sum_by_push line_effort (open_lines c.current) l);
+}

@@ -16,12 +16,12 @@ use Rattle.file_forms.specs.Forms.{Deed, to_create, to_start, to_withdraw, to_en
 use Rattle.file_forms.specs.Forms.{NamedGap, behind, at_head, OperationLine, insert, parallel, conditional, delete, move, sync, unsync, element, read, unread, write, unwrite, set_role, group_end}
 use Rattle.file_drafts.specs.Drafts.{new_draft, whole}
 use Rattle.file_drafts.specs.declared.drafts.Draft.{Draft}
-use Rattle.file_model.specs.Steps.{at_place, over, twice, unless, node_in, with_node, with_element}
-use Rattle.file_model.specs.Declaring.{case_declared, declared}
+use Rattle.file_model.specs.Steps.{at_place, outside, over, twice, unless, node_in, with_node, with_element, with_script_line}
+use Rattle.file_model.specs.Declaring.{case_declared, declared, phase_begun}
 use Rattle.file_model.specs.Typing.{ended, typed}
-use Rattle.file_model.specs.Scripting.{case_in, actor_in, counted, line_of, with_line, with_group, changing, one_install, installing, migrations_with, migrating, with_elements, numbered, acted, scripted}
+use Rattle.file_model.specs.Scripting.{case_in, actor_in, counted, line_of, with_line, with_group, changing, one_install, installing, migrate_of, migrations_with, migrating, with_elements, numbered, acted, scripted}
 use Rattle.file_model.specs.Operating.{with_place, op_in, with_names, act_of, line_of_group, with_op, grouped, operated}
-use Rattle.file_model.specs.Sizes.{act_effort, phase_effort}
+use Rattle.file_model.specs.Sizes.{act_effort}
 use Rattle.file_model.specs.declared.files.Act.{Act}
 use Rattle.file_model.specs.declared.files.Act.TheVariants as act
 use Rattle.file_model.specs.declared.files.Line.{Line}
@@ -31,9 +31,12 @@ use Rattle.file_model.specs.declared.states.Group.{Group}
 use Rattle.file_model.specs.declared.states.Target.{Target}
 use Rattle.file_model.specs.declared.states.Target.TheVariants as target
 use Rattle.file_model.specs.declared.states.Section.TheVariants as section
-use Rattle.file_model.proofs.Kept.{CountsKept, KeptIn, KeptState, KeptStep, unless-kept, within-kept, within_both-kept, known-kept, type-kept, phase-kept, counted-kept, more_effort}
+use Rattle.file_model.proofs.Kept.{CountsKept, KeptIn, KeptState, KeptStep, unless-kept, within-kept, within_both-kept, known-kept, type-kept, phase-kept, counted-kept, line-kept}
 
 -- ---- declarations
+begun_phase-kept : (c : Contents) → CountsKept c 0 → KeptStep (phase_begun c)
+begun_phase-kept c h = unless-kept _ c _ (phase-kept c h)
+
 case_declared-kept : (n : Bytes) (t : Option ℕ) (c : Contents) → CountsKept c 0 → KeptStep (case_declared n t c)
 case_declared-kept n None c h = tt
 case_declared-kept n (Some t) c h = unless-kept _ c _ h
@@ -47,7 +50,7 @@ pub declared-kept : (d : Declaration) (c : Contents) → CountsKept c 0 → Kept
 declared-kept (a_type n) c h = begun-kept n (is_listed n c.types.names) c h
 declared-kept (an_actor n roles) c h = unless-kept _ c _ h
 declared-kept (a_case n kind) c h = case_declared-kept n (place_of c.types.names kind) c h
-declared-kept first_phase c h = h
+declared-kept first_phase c h = begun_phase-kept c h
 
 -- ---- lines of a type
 ended-kept : (n : Bytes) (s : SchemaModel) (f : Option Fault) (c : Contents) → fault_of s ≡ f → CountsKept c 0 → length c.types.items < 64 → KeptStep (ended n s f c)
@@ -68,55 +71,53 @@ typed-kept (a_write n e) d c h = unless-kept _ (with_element e (with_node n c)) 
 typed-kept type_end d c h = ended-kept d.name (whole d) (fault_of (whole d)) c refl h.0 h.1
 
 -- ---- lines of a phase
-one_line : (lines : List Line) (at actor : ℕ) (a : Act) (c : Contents) → act_effort a ≡ 0 → nat_le 60000 c.counts.lines ≡ false →
-    CountsKept c (phase_effort lines) → CountsKept (counted c) (phase_effort (lines ++ line_of at actor a c ∷ []))
-one_line lines at actor a c none below h =
-    let e : phase_effort (lines ++ line_of at actor a c ∷ []) ≡ phase_effort lines + 1 = omega (arith, more_effort lines (line_of at actor a c), none) in
-    rw e (counted-kept (phase_effort lines) 1 c (omega arith) below h)
+one_line : (at actor : ℕ) (a : Act) (c : Contents) → act_effort a ≡ 0 → nat_le 60000 c.counts.lines ≡ false → CountsKept c 0 →
+    CountsKept (with_script_line (line_of at actor a c) (counted c)) 0
+one_line at actor a c none below h = line-kept (line_of at actor a c) (counted c) 1 (omega (arith, none)) (counted-kept 1 c (omega arith) below h)
 
-with_line-kept : (lines : List Line) (at actor : ℕ) (a : Act) (c : Contents) → act_effort a ≡ 0 → CountsKept c (phase_effort lines) → KeptStep (with_line lines at actor a c)
-with_line-kept lines at actor a c none h =
-    within-kept (nat_le 60000 c.counts.lines) limit.Lines c (at_place (section.InPhase (lines ++ line_of at actor a c ∷ [])) (counted c)) (λ below. one_line lines at actor a c none below h)
+with_line-kept : (at actor : ℕ) (a : Act) (c : Contents) → act_effort a ≡ 0 → CountsKept c 0 → KeptStep (with_line at actor a c)
+with_line-kept at actor a c none h =
+    within-kept (nat_le 60000 c.counts.lines) limit.Lines c (outside (with_script_line (line_of at actor a c) (counted c))) (λ below. one_line at actor a c none below h)
 
-with_group-kept : (lines : List Line) (at actor : ℕ) (t : Target) (c : Contents) → nat_le 60000 c.counts.lines ≡ false → CountsKept c (phase_effort lines) → KeptState (with_group lines at actor t c)
-with_group-kept lines at actor t c below h = (counted-kept (phase_effort lines) 769 c (omega arith) below h, omega arith)
+with_group-kept : (at actor : ℕ) (t : Target) (c : Contents) → nat_le 60000 c.counts.lines ≡ false → CountsKept c 0 → KeptState (with_group at actor t c)
+with_group-kept at actor t c below h = (counted-kept 769 c (omega arith) below h, omega arith)
 
-changing-kept : (lines : List Line) (at actor : ℕ) (id : CaseId) (c : Contents) → CountsKept c (phase_effort lines) → KeptStep (changing lines at actor id c)
-changing-kept lines at actor id c h =
-    within-kept (nat_le 60000 c.counts.lines) limit.Lines c (with_group lines at actor (target.Case id) c) (λ below. with_group-kept lines at actor (target.Case id) c below h)
+changing-kept : (at actor : ℕ) (id : CaseId) (c : Contents) → CountsKept c 0 → KeptStep (changing at actor id c)
+changing-kept at actor id c h =
+    within-kept (nat_le 60000 c.counts.lines) limit.Lines c (with_group at actor (target.Case id) c) (λ below. with_group-kept at actor (target.Case id) c below h)
 
-installing-kept : (lines : List Line) (at actor t : ℕ) (c : Contents) → CountsKept c (phase_effort lines) → KeptStep (installing lines at actor t c)
-installing-kept lines at actor t c h =
-    within_both-kept (nat_le 60000 c.counts.lines) limit.Lines (over (nat_le 1024 c.counts.installs) limit.Installs) c (with_group lines at actor (target.«Type» t) (one_install c))
-    (λ below. with_group-kept lines at actor (target.«Type» t) (one_install c) below h)
+installing-kept : (at actor t : ℕ) (c : Contents) → CountsKept c 0 → KeptStep (installing at actor t c)
+installing-kept at actor t c h =
+    within_both-kept (nat_le 60000 c.counts.lines) limit.Lines (over (nat_le 1024 c.counts.installs) limit.Installs) c (with_group at actor (target.«Type» t) (one_install c))
+    (λ below. with_group-kept at actor (target.«Type» t) (one_install c) below h)
 
-migrating-kept : (lines : List Line) (at actor t : ℕ) (c : Contents) → CountsKept c (phase_effort lines) → KeptStep (migrating lines at actor t c)
-migrating-kept lines at actor t c h =
+migrating-kept : (at actor t : ℕ) (c : Contents) → CountsKept c 0 → KeptStep (migrating at actor t c)
+migrating-kept at actor t c h =
     within_both-kept (nat_le 60000 c.counts.lines) limit.Lines (over (nat_lt 65536 (migrations_with t c)) limit.Migrations) c
-    (at_place (section.InPhase (lines ++ line_of at actor (act.Migrate t) c ∷ [])) (counted (record c { counts = record c.counts { migrations = migrations_with t c } })))
-    (λ below. one_line lines at actor (act.Migrate t) c refl below h)
+    (outside (with_script_line (line_of at actor (migrate_of t c) c) (counted (record c { counts = record c.counts { migrations = migrations_with t c } }))))
+    (λ below. one_line at actor (migrate_of t c) c refl below h)
 
 elements-kept : (ws : List (Bytes × Value)) (c : Contents) (begun : ℕ) → CountsKept c begun → CountsKept (with_elements ws c) begun
 elements-kept [] c begun h = h
 elements-kept (w ∷ ws) c begun h = elements-kept ws (with_element w.0 c) begun h
 
-acted-kept : (d : Deed) (actor : ℕ) (lines : List Line) (at : ℕ) (c : Contents) → CountsKept c (phase_effort lines) → KeptStep (acted d actor lines at c)
-acted-kept (to_create n) actor lines at c h = known-kept (case_in n c) _ c (λ id. with_line-kept lines at actor (act.Create id) c refl h)
-acted-kept (to_start n node) actor lines at c h =
-    known-kept (case_in n c) _ c (λ id. with_line-kept lines at actor (act.Start id (node_in node c)) (with_node node c) refl h)
-acted-kept (to_withdraw n node) actor lines at c h =
-    known-kept (case_in n c) _ c (λ id. with_line-kept lines at actor (act.Withdraw id (node_in node c)) (with_node node c) refl h)
-acted-kept (to_end n node choice writes) actor lines at c h =
+acted-kept : (d : Deed) (actor at : ℕ) (c : Contents) → CountsKept c 0 → KeptStep (acted d actor at c)
+acted-kept (to_create n) actor at c h = known-kept (case_in n c) _ c (λ id. with_line-kept at actor (act.Create id) c refl h)
+acted-kept (to_start n node) actor at c h =
+    known-kept (case_in n c) _ c (λ id. with_line-kept at actor (act.Start id (node_in node c)) (with_node node c) refl h)
+acted-kept (to_withdraw n node) actor at c h =
+    known-kept (case_in n c) _ c (λ id. with_line-kept at actor (act.Withdraw id (node_in node c)) (with_node node c) refl h)
+acted-kept (to_end n node choice writes) actor at c h =
     let c1 = with_node node c in
     known-kept (case_in n c) _ c (λ id.
-    with_line-kept lines at actor (act.End id (node_in node c) choice (numbered writes c1)) (with_elements writes c1) refl (elements-kept writes c1 (phase_effort lines) h))
-acted-kept (to_change n) actor lines at c h = known-kept (case_in n c) _ c (λ id. changing-kept lines at actor id c h)
-acted-kept (to_install n) actor lines at c h = known-kept (place_of c.types.names n) _ c (λ t. installing-kept lines at actor t c h)
-acted-kept (to_migrate n) actor lines at c h = known-kept (place_of c.types.names n) _ c (λ t. migrating-kept lines at actor t c h)
+    with_line-kept at actor (act.End id (node_in node c) choice (numbered writes c1)) (with_elements writes c1) refl (elements-kept writes c1 0 h))
+acted-kept (to_change n) actor at c h = known-kept (case_in n c) _ c (λ id. changing-kept at actor id c h)
+acted-kept (to_install n) actor at c h = known-kept (place_of c.types.names n) _ c (λ t. installing-kept at actor t c h)
+acted-kept (to_migrate n) actor at c h = known-kept (place_of c.types.names n) _ c (λ t. migrating-kept at actor t c h)
 
-pub scripted-kept : (l : ScriptLine) (lines : List Line) (at : ℕ) (c : Contents) → CountsKept c (phase_effort lines) → KeptStep (scripted l lines at c)
-scripted-kept next_phase lines at c h = unless-kept _ c _ (phase-kept lines c h)
-scripted-kept (a_deed a d) lines at c h = known-kept (actor_in a c) _ c (λ actor. acted-kept d actor lines at c h)
+pub scripted-kept : (l : ScriptLine) (at : ℕ) (c : Contents) → CountsKept c 0 → KeptStep (scripted l at c)
+scripted-kept next_phase at c h = begun_phase-kept c h
+scripted-kept (a_deed a d) at c h = known-kept (actor_in a c) _ c (λ actor. acted-kept d actor at c h)
 
 -- ---- lines of a group
 place-kept : (p : NamedGap) (c : Contents) (begun : ℕ) → CountsKept c begun → CountsKept (with_place p c) begun
@@ -144,19 +145,14 @@ group_effort (target.Case id) ops = refl
 group_effort (target.«Type» t) ops = refl
 
 -- an open group was counted with all the operations that it may have
-closed-kept : (g : Group) (lines : List Line) (c : Contents) → CountsKept c (phase_effort lines + 769) → length g.ops ≤ 256 → CountsKept c (phase_effort (lines ++ line_of_group g ∷ []))
-closed-kept g lines c h fits = record {
-  few = h.few;
-  small = h.small;
-  within = h.within;
-  effort = omega (arith, h.effort, more_effort lines (line_of_group g), group_effort g.target g.ops);
-}
+closed-kept : (g : Group) (c : Contents) → CountsKept c 769 → length g.ops ≤ 256 → CountsKept (with_script_line (line_of_group g) c) 0
+closed-kept g c h fits = line-kept (line_of_group g) c 769 (omega (arith, fits, group_effort g.target g.ops)) h
 
-grouped-kept : (o : Option Op) (g : Group) (lines : List Line) (c : Contents) → CountsKept c (phase_effort lines + 769) → length g.ops ≤ 256 → KeptStep (grouped o g lines c)
-grouped-kept None g lines c h fits = closed-kept g lines c h fits
-grouped-kept (Some o) g lines c h fits =
-    within-kept (nat_le 256 (length g.ops)) limit.Ops c (at_place (section.InGroup lines (with_op o g)) c)
+grouped-kept : (o : Option Op) (g : Group) (c : Contents) → CountsKept c 769 → length g.ops ≤ 256 → KeptStep (grouped o g c)
+grouped-kept None g c h fits = closed-kept g c h fits
+grouped-kept (Some o) g c h fits =
+    within-kept (nat_le 256 (length g.ops)) limit.Ops c (at_place (section.InGroup (with_op o g)) c)
     (λ below. (h, omega (arith, leb-false 256 (length g.ops) below, length-append g.ops (o ∷ []))))
 
-pub operated-kept : (l : OperationLine) (g : Group) (lines : List Line) (c : Contents) → CountsKept c (phase_effort lines + 769) → length g.ops ≤ 256 → KeptStep (operated l g lines c)
-operated-kept l g lines c h fits = grouped-kept (op_in l c) g lines (with_names l c) (names-kept l c (phase_effort lines + 769) h) fits
+pub operated-kept : (l : OperationLine) (g : Group) (c : Contents) → CountsKept c 769 → length g.ops ≤ 256 → KeptStep (operated l g c)
+operated-kept l g c h fits = grouped-kept (op_in l c) g (with_names l c) (names-kept l c 769 h) fits

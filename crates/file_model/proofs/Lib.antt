@@ -7,6 +7,7 @@ pub mod ShortWords
 pub mod Grown
 pub mod Examples
 pub mod FileExamples
+pub mod GrowingExamples
 pub mod FaultExamples
 pub mod ReadingExamples
 pub mod SoundExamples

@@ -186,9 +186,9 @@ pub group-of-an-unknown-case : told (file (codes "adept 1\ntype t\nact A\nend\na
 unfolding is_utf8 chars lib.Utf8.encode digits fault_of
 group-of-an-unknown-case = refl
 
-pub header-3 : told (file (codes "adept 3\n")) ≡ (1, codes "header")
+pub header-4 : told (file (codes "adept 4\n")) ≡ (1, codes "header")
 unfolding is_utf8 chars lib.Utf8.encode digits fault_of
-header-3 = refl
+header-4 = refl
 
 pub header-3-words : told (file (codes "adept 1 1\n")) ≡ (1, codes "header")
 unfolding is_utf8 chars lib.Utf8.encode digits fault_of

@@ -6,7 +6,7 @@ use Rattle.wsm_ops.specs.declared.operations.Gap.{Gap}
 use Rattle.wsm_ops.specs.declared.operations.Gap.TheVariants as gap
 use Rattle.file_limits.specs.declared.TheConstants.{MAX_OPS}
 use Rattle.file_forms.specs.Forms.{NamedGap, behind, at_head, OperationLine, insert, parallel, conditional, delete, move, sync, unsync, element, read, unread, write, unwrite, set_role, group_end}
-use Rattle.file_model.specs.Steps.{Step, at_place, unless, over, node_in, with_node, element_in, with_element}
+use Rattle.file_model.specs.Steps.{Step, at_place, outside, unless, over, role_in, with_role, node_in, with_node, element_in, with_element, with_script_line}
 use Rattle.file_model.specs.declared.files.Line.{Line}
 use Rattle.file_model.specs.declared.files.Act.{Act}
 use Rattle.file_model.specs.declared.files.Act.TheVariants as act
@@ -27,18 +27,18 @@ with_place (at_head n code) c = with_node n c
 
 -- the operation of a line; the end of the group is none
 abbrev pub op_in : OperationLine → Contents → Option Op
-op_in (insert n r p) c = Some (op.InsertSerial (node_in n c) r (gap_in p (with_node n c)))
+op_in (insert n r p) c = Some (op.InsertSerial (node_in n c) (role_in r c) (gap_in p (with_node n c)))
 op_in (parallel n r s j a b) c =
     let c1 = with_node n c in
     let c2 = with_node s c1 in
     let c3 = with_node j c2 in
     let c4 = with_node a c3 in
-    Some (op.InsertParallel (node_in n c) r (node_in s c1) (node_in j c2) (node_in a c3) (node_in b c4))
+    Some (op.InsertParallel (node_in n c) (role_in r c) (node_in s c1) (node_in j c2) (node_in a c3) (node_in b c4))
 op_in (conditional n r s j p) c =
     let c1 = with_node n c in
     let c2 = with_node s c1 in
     let c3 = with_node j c2 in
-    Some (op.InsertConditional (node_in n c) r (node_in s c1) (node_in j c2) (gap_in p c3))
+    Some (op.InsertConditional (node_in n c) (role_in r c) (node_in s c1) (node_in j c2) (gap_in p c3))
 op_in (delete n) c = Some (op.DeleteActivity (node_in n c))
 op_in (move n p) c = Some (op.MoveActivity (node_in n c) (gap_in p (with_node n c)))
 op_in (sync a b) c = Some (op.InsertSync (node_in a c) (node_in b (with_node a c)))
@@ -48,14 +48,14 @@ op_in (read n e m) c = Some (op.AddRead (node_in n c) (element_in e (with_node n
 op_in (unread n e) c = Some (op.RemoveRead (node_in n c) (element_in e (with_node n c)))
 op_in (write n e) c = Some (op.AddWrite (node_in n c) (element_in e (with_node n c)))
 op_in (unwrite n e) c = Some (op.RemoveWrite (node_in n c) (element_in e (with_node n c)))
-op_in (set_role n r) c = Some (op.SetRole (node_in n c) r)
+op_in (set_role n r) c = Some (op.SetRole (node_in n c) (role_in r c))
 op_in group_end c = None
 
 -- the contents with the names of a line
 abbrev pub with_names : OperationLine → Contents → Contents
-with_names (insert n r p) c = with_place p (with_node n c)
-with_names (parallel n r s j a b) c = with_node b (with_node a (with_node j (with_node s (with_node n c))))
-with_names (conditional n r s j p) c = with_place p (with_node j (with_node s (with_node n c)))
+with_names (insert n r p) c = with_role r (with_place p (with_node n c))
+with_names (parallel n r s j a b) c = with_role r (with_node b (with_node a (with_node j (with_node s (with_node n c)))))
+with_names (conditional n r s j p) c = with_role r (with_place p (with_node j (with_node s (with_node n c))))
 with_names (delete n) c = with_node n c
 with_names (move n p) c = with_place p (with_node n c)
 with_names (sync a b) c = with_node b (with_node a c)
@@ -65,7 +65,7 @@ with_names (read n e m) c = with_element e (with_node n c)
 with_names (unread n e) c = with_element e (with_node n c)
 with_names (write n e) c = with_element e (with_node n c)
 with_names (unwrite n e) c = with_element e (with_node n c)
-with_names (set_role n r) c = with_node n c
+with_names (set_role n r) c = with_role r (with_node n c)
 with_names group_end c = c
 
 abbrev pub act_of : Target → List Op → Act
@@ -78,9 +78,9 @@ line_of_group g = record { at = g.at; order = g.order; actor = g.actor; act = ac
 abbrev pub with_op : Op → Group → Group
 with_op o g = record g { ops = g.ops ++ o ∷ [] }
 
-abbrev pub grouped : Option Op → Group → List Line → Contents → Step
-grouped None g lines c = Ok (at_place (section.InPhase (lines ++ line_of_group g ∷ [])) c)
-grouped (Some o) g lines c = unless (over (nat_le MAX_OPS (length g.ops)) limit.Ops) c (at_place (section.InGroup lines (with_op o g)) c)
+abbrev pub grouped : Option Op → Group → Contents → Step
+grouped None g c = Ok (outside (with_script_line (line_of_group g) c))
+grouped (Some o) g c = unless (over (nat_le MAX_OPS (length g.ops)) limit.Ops) c (at_place (section.InGroup (with_op o g)) c)
 
-abbrev pub operated : OperationLine → Group → List Line → Contents → Step
-operated l g lines c = grouped (op_in l c) g lines (with_names l c)
+abbrev pub operated : OperationLine → Group → Contents → Step
+operated l g c = grouped (op_in l c) g (with_names l c)

@@ -1,26 +1,27 @@
 -- What the bytes of a process file say: a file, or the first refusal.
-use Rattle.std.specs.Prelude.{ℕ, ◌+◌, length, ◌==◌, Bool, true, false, List, [], ◌∷◌, ◌++◌, Option, Some, None, Result, Ok, Err, if◌then◌else◌}
+use Rattle.std.specs.Prelude.{ℕ, ◌+◌, length, ◌==◌, nat_le, Bool, true, false, not, List, [], ◌∷◌, Option, Some, None, Result, Ok, Err, if◌then◌else◌}
+use Rattle.std.specs.Option.{is_some}
 use Rattle.std.specs.Str.{is_utf8}
+use Rattle.file_limits.specs.declared.TheConstants.{NEWEST_FORMAT}
 use Rattle.file_words.specs.Lines.{Bytes, lines_of, without_return}
 use Rattle.file_words.specs.Words.{words_of, is_skipped}
 use Rattle.file_words.specs.Lengths.{first_long}
 use Rattle.file_words.specs.declared.lengths.TooLong.{TooLong}
 use Rattle.file_words.specs.declared.lengths.TooLong.TheVariants as long
 use Rattle.file_forms.specs.Forms.{TypeLine}
-use Rattle.file_forms.specs.DeclarationForms.{header, declaration_line}
+use Rattle.file_forms.specs.DeclarationForms.{begins_reserved, header, declaration_line}
 use Rattle.file_forms.specs.TypeForms.{type_line}
 use Rattle.file_forms.specs.ScriptForms.{script_line}
 use Rattle.file_forms.specs.OperationForms.{operation_line}
 use Rattle.file_drafts.specs.Drafts.{around}
 use Rattle.file_drafts.specs.declared.drafts.Draft.{Draft}
 use Rattle.file_model.specs.RefusalTexts.{refusal}
-use Rattle.file_model.specs.Steps.{State, Step, opening, refuse}
-use Rattle.file_model.specs.Declaring.{declared, outside}
+use Rattle.file_model.specs.Steps.{State, Step, all_phases, opening, outside, refuse}
+use Rattle.file_model.specs.Declaring.{declared}
 use Rattle.file_model.specs.Typing.{fits_in, typed}
 use Rattle.file_model.specs.Scripting.{scripted}
 use Rattle.file_model.specs.Operating.{operated}
 use Rattle.file_model.specs.declared.files.File.{File}
-use Rattle.file_model.specs.declared.files.Line.{Line}
 use Rattle.file_model.specs.declared.refusals.FileLimit.TheVariants as limit
 use Rattle.file_model.specs.declared.refusals.Refused.{Refused}
 use Rattle.file_model.specs.declared.refusals.Why.{Why}
@@ -48,12 +49,22 @@ abbrev pub fitting : Draft → Option TypeLine → Option TypeLine
 fitting d None = None
 fitting d (Some l) = if fits_in (around d.frames) l then Some l else None
 
-abbrev pub in_format : Option ℕ → Contents → Step
-in_format None c = refuse c why.Header
-in_format (Some n) c = Ok (outside (record c { format = n }))
+-- a format up to the newest one
+abbrev pub in_format : ℕ → Option ℕ → Contents → Step
+in_format newest None c = refuse c why.Header
+in_format newest (Some n) c = if nat_le n newest then Ok (outside (record c { format = n })) else refuse c why.Header
 
-abbrev pub headed : List Bytes → Contents → Step
-headed ws c = in_format (header ws) c
+abbrev pub headed : ℕ → List Bytes → Contents → Step
+headed newest ws c = in_format newest (header ws) c
+
+-- whether a line outside of types and groups is no script line: in format 3 its first word tells, and else no phase has begun
+abbrev pub declares : List Bytes → Contents → Bool
+declares ws c = if c.format == 3 then begins_reserved ws else not (is_some c.current)
+
+abbrev pub step_outside : ℕ → List Bytes → Contents → Step
+step_outside at ws c =
+    if declares ws c then formed (declaration_line c.format ws) ws (λ d. declared d c) c
+    else formed (script_line c.format ws) ws (λ l. scripted l at c) c
 
 abbrev pub unless_not_text : Bool → Contents → Step → Step
 unless_not_text true c s = s
@@ -61,15 +72,12 @@ unless_not_text false c s = refuse c why.NotText
 
 -- a line that is not skipped, by where it stands
 abbrev pub step_in : Section → ℕ → Bytes → List Bytes → Contents → Step
-step_in section.Head at line ws c = headed ws c
-step_in section.Outside at line ws c =
-    unless_not_text (is_utf8 line) c (formed (declaration_line ws) ws (λ d. declared d c) c)
+step_in (section.Head newest) at line ws c = headed newest ws c
+step_in section.Outside at line ws c = unless_not_text (is_utf8 line) c (step_outside at ws c)
 step_in (section.InType d) at line ws c =
-    unless_not_text (is_utf8 line) c (formed (fitting d (type_line ws)) ws (λ l. typed l d c) c)
-step_in (section.InPhase lines) at line ws c =
-    unless_not_text (is_utf8 line) c (formed (script_line c.format ws) ws (λ l. scripted l lines at c) c)
-step_in (section.InGroup lines g) at line ws c =
-    unless_not_text (is_utf8 line) c (formed (operation_line ws) ws (λ l. operated l g lines c) c)
+    unless_not_text (is_utf8 line) c (formed (fitting d (type_line c.format ws)) ws (λ l. typed l d c) c)
+step_in (section.InGroup g) at line ws c =
+    unless_not_text (is_utf8 line) c (formed (operation_line c.format ws) ws (λ l. operated l g c) c)
 
 abbrev pub step_words : State → ℕ → Bytes → List Bytes → Step
 step_words s at line ws = if is_skipped ws then Ok s else step_in s.place at line ws s.contents
@@ -77,24 +85,24 @@ step_words s at line ws = if is_skipped ws then Ok s else step_in s.place at lin
 abbrev pub step : State → ℕ → Bytes → Step
 step s at line = step_words s at line (words_of line)
 
-abbrev pub file_of : Contents → List (List Line) → File
-file_of c phases = record {
+abbrev pub file_of : Contents → File
+file_of c = record {
   format = c.format;
   nodes = c.nodes;
   elements = c.elements;
+  roles = c.roles;
   types = c.types.items;
   actors = c.actors.items;
   cases = c.cases.items;
-  phases = phases;
+  phases = all_phases c;
 }
 
 -- a file may end outside of types and groups
 abbrev pub finished_in : Section → Contents → Result File (Why × Contents)
-finished_in section.Head c = Err (why.Header, c)
-finished_in section.Outside c = Ok (file_of c c.phases)
+finished_in (section.Head newest) c = Err (why.Header, c)
+finished_in section.Outside c = Ok (file_of c)
 finished_in (section.InType d) c = Err (why.Unended, c)
-finished_in (section.InPhase lines) c = Ok (file_of c (c.phases ++ lines ∷ []))
-finished_in (section.InGroup lines g) c = Err (why.Unended, c)
+finished_in (section.InGroup g) c = Err (why.Unended, c)
 
 -- nothing stands behind the last line feed
 abbrev pub finished : State → Bytes → Result File (Why × Contents)
@@ -113,6 +121,10 @@ read_from (Err r) at left ls = Err r
 read_from (Ok s) at left [] = at_line at (finished s left)
 read_from (Ok s) at left (l ∷ ls) = read_from (at_line at (step s at (without_return l))) (at + 1) left ls
 
--- the file that the bytes stand for, or the first refusal
+-- the file that the bytes stand for, or the first refusal, where formats up to this one are taken
+abbrev pub file_up_to : ℕ → Bytes → Result File Refused
+file_up_to newest bytes = read_from (Ok (opening newest)) 1 (lines_of bytes).left (lines_of bytes).ended
+
+-- the same, of every format
 abbrev pub file : Bytes → Result File Refused
-file bytes = read_from (Ok opening) 1 (lines_of bytes).left (lines_of bytes).ended
+file bytes = file_up_to NEWEST_FORMAT bytes

@@ -1,14 +1,15 @@
 -- Lines of a phase.
-use Rattle.std.specs.Prelude.{ℕ, ◌+◌, ◌-◌, List, [], ◌∷◌, ◌++◌, length, nat_lt, nat_le, slice_get, Option, Some, None, option_map}
+use Rattle.std.specs.Prelude.{ℕ, ◌+◌, List, [], ◌∷◌, length, nat_lt, nat_le, slice_get, Option, Some, None, option_map}
 use Rattle.std.specs.Option.{option_or}
 use Rattle.wsm_lists.specs.declared.values.Value.{Value}
 use Rattle.wsm_sound.specs.declared.versions.CaseId.{CaseId}
-use Rattle.file_limits.specs.declared.TheConstants.{MAX_INSTALLS, MAX_LINES, MAX_MIGRATIONS, MAX_PHASES}
+use Rattle.file_limits.specs.declared.TheConstants.{MAX_INSTALLS, MAX_LINES, MAX_MIGRATIONS}
 use Rattle.file_words.specs.Lines.{Bytes}
 use Rattle.file_names.specs.Names.{place_of}
 use Rattle.file_forms.specs.PieceForms.{◌>>=◌}
 use Rattle.file_forms.specs.Forms.{Deed, to_create, to_start, to_withdraw, to_end, to_change, to_install, to_migrate, ScriptLine, next_phase, a_deed}
-use Rattle.file_model.specs.Steps.{State, Step, at_place, refuse, unless, over, node_in, with_node, element_in, with_element}
+use Rattle.file_model.specs.Steps.{State, Step, at_place, outside, refuse, unless, over, node_in, with_node, element_in, with_element, with_script_line}
+use Rattle.file_model.specs.Declaring.{phase_begun}
 use Rattle.file_model.specs.CaseCounts.{cases_of_type}
 use Rattle.file_model.specs.declared.files.Line.{Line}
 use Rattle.file_model.specs.declared.files.Act.{Act}
@@ -32,37 +33,39 @@ abbrev pub line_of : ℕ → ℕ → Act → Contents → Line
 line_of at actor a c = record { at = at; order = c.counts.lines + 1; actor = actor; act = a }
 
 -- a script line of its own behind others of its phase
-abbrev pub with_line : List Line → ℕ → ℕ → Act → Contents → Step
-with_line lines at actor a c =
-    unless (over (nat_le MAX_LINES c.counts.lines) limit.Lines) c
-    (at_place (section.InPhase (lines ++ line_of at actor a c ∷ [])) (counted c))
+abbrev pub with_line : ℕ → ℕ → Act → Contents → Step
+with_line at actor a c =
+    unless (over (nat_le MAX_LINES c.counts.lines) limit.Lines) c (outside (with_script_line (line_of at actor a c) (counted c)))
 
 -- the state in which the operations of a group are read
-abbrev pub with_group : List Line → ℕ → ℕ → Target → Contents → State
-with_group lines at actor t c =
-    at_place (section.InGroup lines (record { at = at; order = c.counts.lines + 1; actor = actor; target = t; ops = [] })) (counted c)
+abbrev pub with_group : ℕ → ℕ → Target → Contents → State
+with_group at actor t c =
+    at_place (section.InGroup (record { at = at; order = c.counts.lines + 1; actor = actor; target = t; ops = [] })) (counted c)
 
-abbrev pub changing : List Line → ℕ → ℕ → CaseId → Contents → Step
-changing lines at actor id c =
-    unless (over (nat_le MAX_LINES c.counts.lines) limit.Lines) c (with_group lines at actor (target.Case id) c)
+abbrev pub changing : ℕ → ℕ → CaseId → Contents → Step
+changing at actor id c =
+    unless (over (nat_le MAX_LINES c.counts.lines) limit.Lines) c (with_group at actor (target.Case id) c)
 
 abbrev pub one_install : Contents → Contents
 one_install c = record c { counts = record c.counts { installs = c.counts.installs + 1 } }
 
-abbrev pub installing : List Line → ℕ → ℕ → ℕ → Contents → Step
-installing lines at actor t c =
+abbrev pub installing : ℕ → ℕ → ℕ → Contents → Step
+installing at actor t c =
     unless (option_or (over (nat_le MAX_LINES c.counts.lines) limit.Lines) (over (nat_le MAX_INSTALLS c.counts.installs) limit.Installs)) c
-    (with_group lines at actor (target.«Type» t) (one_install c))
+    (with_group at actor (target.«Type» t) (one_install c))
 
 -- the migrations so far with those of a type
 abbrev pub migrations_with : ℕ → Contents → ℕ
 migrations_with t c = c.counts.migrations + cases_of_type t c.cases.items
 
-abbrev pub migrating : List Line → ℕ → ℕ → ℕ → Contents → Step
-migrating lines at actor t c =
+-- a migrate calls the cases of its type that were declared before it
+abbrev pub migrate_of : ℕ → Contents → Act
+migrate_of t c = act.Migrate t (cases_of_type t c.cases.items)
+
+abbrev pub migrating : ℕ → ℕ → ℕ → Contents → Step
+migrating at actor t c =
     unless (option_or (over (nat_le MAX_LINES c.counts.lines) limit.Lines) (over (nat_lt MAX_MIGRATIONS (migrations_with t c)) limit.Migrations)) c
-    (at_place (section.InPhase (lines ++ line_of at actor (act.Migrate t) c ∷ []))
-    (counted (record c { counts = record c.counts { migrations = migrations_with t c } })))
+    (outside (with_script_line (line_of at actor (migrate_of t c) c) (counted (record c { counts = record c.counts { migrations = migrations_with t c } }))))
 
 -- writes with the numbers of their elements, and the contents with their names
 abbrev pub with_elements : List (Bytes × Value) → Contents → Contents
@@ -77,32 +80,28 @@ abbrev pub if_known : {A : Type 0} → Option A → (A → Step) → Contents �
 if_known None go c = refuse c why.Unknown
 if_known (Some x) go c = go x
 
-abbrev pub acted : Deed → ℕ → List Line → ℕ → Contents → Step
-acted (to_create n) actor lines at c = if_known (case_in n c) (λ id. with_line lines at actor (act.Create id) c) c
-acted (to_start n node) actor lines at c =
-    if_known (case_in n c) (λ id. with_line lines at actor (act.Start id (node_in node c)) (with_node node c)) c
-acted (to_withdraw n node) actor lines at c =
-    if_known (case_in n c) (λ id. with_line lines at actor (act.Withdraw id (node_in node c)) (with_node node c)) c
-acted (to_end n node choice writes) actor lines at c =
+abbrev pub acted : Deed → ℕ → ℕ → Contents → Step
+acted (to_create n) actor at c = if_known (case_in n c) (λ id. with_line at actor (act.Create id) c) c
+acted (to_start n node) actor at c =
+    if_known (case_in n c) (λ id. with_line at actor (act.Start id (node_in node c)) (with_node node c)) c
+acted (to_withdraw n node) actor at c =
+    if_known (case_in n c) (λ id. with_line at actor (act.Withdraw id (node_in node c)) (with_node node c)) c
+acted (to_end n node choice writes) actor at c =
     if_known (case_in n c) (λ id.
     let c1 = with_node node c in
-    with_line lines at actor (act.End id (node_in node c) choice (numbered writes c1)) (with_elements writes c1)) c
-acted (to_change n) actor lines at c = if_known (case_in n c) (λ id. changing lines at actor id c) c
-acted (to_install n) actor lines at c = if_known (place_of c.types.names n) (λ t. installing lines at actor t c) c
-acted (to_migrate n) actor lines at c = if_known (place_of c.types.names n) (λ t. migrating lines at actor t c) c
+    with_line at actor (act.End id (node_in node c) choice (numbered writes c1)) (with_elements writes c1)) c
+acted (to_change n) actor at c = if_known (case_in n c) (λ id. changing at actor id c) c
+acted (to_install n) actor at c = if_known (place_of c.types.names n) (λ t. installing at actor t c) c
+acted (to_migrate n) actor at c = if_known (place_of c.types.names n) (λ t. migrating at actor t c) c
 
 -- the act of an actor that was declared
-abbrev pub acted_by : Option ℕ → Deed → List Line → ℕ → Contents → Step
-acted_by found d lines at c = if_known found (λ actor. acted d actor lines at c) c
+abbrev pub acted_by : Option ℕ → Deed → ℕ → Contents → Step
+acted_by found d at c = if_known found (λ actor. acted d actor at c) c
 
 -- actors are numbered from 1
 abbrev pub actor_in : Bytes → Contents → Option ℕ
 actor_in a c = option_map (λ i. i + 1) (place_of c.actors.names a)
 
-abbrev pub with_phase : List Line → Contents → Contents
-with_phase lines c = record c { phases = c.phases ++ lines ∷ [] }
-
-abbrev pub scripted : ScriptLine → List Line → ℕ → Contents → Step
-scripted next_phase lines at c =
-    unless (over (nat_le (MAX_PHASES - 1) (length c.phases)) limit.Phases) c (at_place (section.InPhase []) (with_phase lines c))
-scripted (a_deed a d) lines at c = acted_by (actor_in a c) d lines at c
+abbrev pub scripted : ScriptLine → ℕ → Contents → Step
+scripted next_phase at c = phase_begun c
+scripted (a_deed a d) at c = acted_by (actor_in a c) d at c

@@ -33,7 +33,8 @@ pub record IsBounded (f : File) : Type 0 where
   pub small : list_all is_small f.types ≡ true
   pub effort : effort f ≤ 50000000
 
--- each node and each element has a number
+-- each node, each element and each named role has a number
 pub record HasNumbers (f : File) : Type 0 where
   pub nodes : length f.nodes < 2 ^ 32
   pub elements : length f.elements < 2 ^ 32
+  pub roles : length f.roles < 2 ^ 32

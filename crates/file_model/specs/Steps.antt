@@ -1,7 +1,10 @@
 -- What was read so far, where the next line stands, and what a line makes of it.
-use Rattle.std.specs.Prelude.{ℕ, Bool, [], ◌∷◌, Option, Some, None, Result, Ok, Err, if◌then◌else◌, codes}
+use Rattle.std.specs.Prelude.{ℕ, ◌+◌, Bool, List, [], ◌∷◌, ◌++◌, Option, Some, None, Result, Ok, Err, if◌then◌else◌, codes}
+use Rattle.file_limits.specs.declared.TheConstants.{FIRST_NAMED_ROLE}
 use Rattle.file_words.specs.Lines.{Bytes}
 use Rattle.file_names.specs.Names.{noted, number_of}
+use Rattle.file_forms.specs.Forms.{RoleWord, by_number, by_name}
+use Rattle.file_model.specs.declared.files.Line.{Line}
 use Rattle.file_model.specs.declared.refusals.FileLimit.{FileLimit}
 use Rattle.file_model.specs.declared.refusals.Why.{Why}
 use Rattle.file_model.specs.declared.refusals.Why.TheVariants as why
@@ -15,10 +18,12 @@ no_contents = record {
   format = 1;
   nodes = codes "start" ∷ codes "finish" ∷ [];
   elements = [];
+  roles = [];
   types = record { names = []; items = [] };
   actors = record { names = []; items = [] };
   cases = record { names = []; items = [] };
   phases = [];
+  current = None;
   counts = record { lines = 0; installs = 0; migrations = 0 };
 }
 
@@ -30,8 +35,12 @@ pub record State : Type 0 where
 abbrev pub at_place : Section → Contents → State
 at_place p c = record { place = p; contents = c }
 
-abbrev pub opening : State
-opening = at_place section.Head no_contents
+-- the header may name a format up to this one
+abbrev pub opening : ℕ → State
+opening newest = at_place (section.Head newest) no_contents
+
+abbrev pub outside : Contents → State
+outside c = at_place section.Outside c
 
 -- the state behind a line, or why there is none, with what was read so far
 abbrev pub Step : Type 0
@@ -63,6 +72,37 @@ element_in e c = number_of (noted c.elements e) e
 
 abbrev pub with_element : Bytes → Contents → Contents
 with_element e c = record c { elements = noted c.elements e }
+
+-- the number of a role, where so many have names before, and the names with that of the role
+abbrev pub role_number : List Bytes → RoleWord → ℕ
+role_number names (by_number n) = n
+role_number names (by_name r) = FIRST_NAMED_ROLE + number_of (noted names r) r
+
+abbrev pub role_noted : List Bytes → RoleWord → List Bytes
+role_noted names (by_number n) = names
+role_noted names (by_name r) = noted names r
+
+abbrev pub role_in : RoleWord → Contents → ℕ
+role_in r c = role_number c.roles r
+
+abbrev pub with_role : RoleWord → Contents → Contents
+with_role r c = record c { roles = role_noted c.roles r }
+
+-- the lines of the open phase, and one more; a line that stands in no phase begins one
+abbrev pub open_lines : Option (List Line) → List Line
+open_lines None = []
+open_lines (Some lines) = lines
+
+abbrev pub with_script_line : Line → Contents → Contents
+with_script_line l c = record c { current = Some (open_lines c.current ++ l ∷ []) }
+
+-- the phases with the open one
+abbrev pub phases_with : Option (List Line) → List (List Line) → List (List Line)
+phases_with None phases = phases
+phases_with (Some lines) phases = phases ++ lines ∷ []
+
+abbrev pub all_phases : Contents → List (List Line)
+all_phases c = phases_with c.current c.phases
 
 -- the number of a node or an element behind a node in its line, and the contents with both
 abbrev pub node_behind : Bytes → Bytes → Contents → ℕ

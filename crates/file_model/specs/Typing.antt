@@ -9,15 +9,15 @@ use Rattle.wsm_sound.specs.Faults.{fault_of}
 use Rattle.wsm_sound.specs.declared.faults.Fault.{Fault}
 use Rattle.file_limits.specs.declared.TheConstants.{MAX_DEPTH}
 use Rattle.file_words.specs.Lines.{Bytes}
-use Rattle.file_forms.specs.Forms.{TypeLine, activity, opens_and, opens_xor, opens_branch, opens_loop, closes_block, a_sync, an_element, a_read, a_write, type_end}
-use Rattle.file_drafts.specs.Drafts.{with_role, with_activity, gate_opened, loop_opened, closed, branched, around, with_sync, with_read, with_write, whole}
+use Rattle.file_forms.specs.Forms.{RoleWord, TypeLine, activity, opens_and, opens_xor, opens_branch, opens_loop, closes_block, a_sync, an_element, a_read, a_write, type_end}
+use Rattle.file_drafts.specs.Drafts.{with_activity, gate_opened, loop_opened, closed, branched, around, with_sync, with_read, with_write, whole}
 use Rattle.file_drafts.specs.Drafts as draft
 use Rattle.file_drafts.specs.declared.drafts.Draft.{Draft}
 use Rattle.file_drafts.specs.declared.drafts.Around.{Around}
 use Rattle.file_drafts.specs.declared.drafts.Around.TheVariants.{NoBlock, BeforeBranches, InBranch, InBody}
 use Rattle.file_drafts.specs.declared.frames.GateKind.TheVariants as kind
-use Rattle.file_model.specs.Steps.{State, Step, at_place, refuse, unless, over, twice, node_in, with_node, element_in, with_element, node_behind, with_nodes, element_behind, with_node_and_element}
-use Rattle.file_model.specs.Declaring.{outside, with_type}
+use Rattle.file_model.specs.Steps.{State, Step, at_place, outside, refuse, unless, over, twice, role_in, with_role, node_in, with_node, element_in, with_element, node_behind, with_nodes, element_behind, with_node_and_element}
+use Rattle.file_model.specs.Declaring.{with_type}
 use Rattle.file_model.specs.declared.refusals.FileLimit.TheVariants as limit
 use Rattle.file_model.specs.declared.refusals.Why.TheVariants as why
 use Rattle.file_model.specs.declared.states.Contents.{Contents}
@@ -67,17 +67,17 @@ ended n schema None c = Ok (outside (with_type n schema c))
 ended n schema (Some fault) c = refuse c (why.Unsound fault)
 
 -- the draft with what a line puts into it, and whether it has a row with that key, where the contents were these before
-abbrev pub with_role_of : Bytes → ℕ → Draft → Contents → Draft
-with_role_of n role d c = with_role (node_in n c) role (with_activity (node_in n c) d)
+abbrev pub with_role_of : Bytes → RoleWord → Draft → Contents → Draft
+with_role_of n role d c = draft.with_role (node_in n c) (role_in role c) (with_activity (node_in n c) d)
 
 abbrev pub with_and : Bytes → Bytes → Draft → Contents → Draft
 with_and a b d c = gate_opened kind.And (node_in a c) (node_behind a b c) d
 
-abbrev pub with_xor : Bytes → Bytes → ℕ → Draft → Contents → Draft
-with_xor a b role d c = with_role (node_in a c) role (gate_opened kind.Xor (node_in a c) (node_behind a b c) d)
+abbrev pub with_xor : Bytes → Bytes → RoleWord → Draft → Contents → Draft
+with_xor a b role d c = draft.with_role (node_in a c) (role_in role c) (gate_opened kind.Xor (node_in a c) (node_behind a b c) d)
 
-abbrev pub with_loop : Bytes → Bytes → ℕ → Draft → Contents → Draft
-with_loop a b role d c = with_role (node_behind a b c) role (loop_opened (node_in a c) (node_behind a b c) d)
+abbrev pub with_loop : Bytes → Bytes → RoleWord → Draft → Contents → Draft
+with_loop a b role d c = draft.with_role (node_behind a b c) (role_in role c) (loop_opened (node_in a c) (node_behind a b c) d)
 
 abbrev pub has_sync : Bytes → Bytes → Draft → Contents → Bool
 has_sync a b d c = is_some (row_at both (node_in a c, node_behind a b c) d.schema.syncs)
@@ -104,11 +104,11 @@ abbrev pub put_write : Bytes → Bytes → Draft → Contents → Draft
 put_write n e d c = with_write (node_in n c) (element_behind n e c) d
 
 abbrev pub typed : TypeLine → Draft → Contents → Step
-typed (activity n role) d c = drafted (with_role_of n role d c) (with_node n c)
+typed (activity n role) d c = drafted (with_role_of n role d c) (with_role role (with_node n c))
 typed (opens_and a b) d c = opened d c (at_place (section.InType (with_and a b d c)) (with_nodes a b c))
-typed (opens_xor a b role) d c = opened d c (at_place (section.InType (with_xor a b role d c)) (with_nodes a b c))
+typed (opens_xor a b role) d c = opened d c (at_place (section.InType (with_xor a b role d c)) (with_role role (with_nodes a b c)))
 typed (opens_branch code) d c = drafted (branched code d) c
-typed (opens_loop a b role) d c = opened d c (at_place (section.InType (with_loop a b role d c)) (with_nodes a b c))
+typed (opens_loop a b role) d c = opened d c (at_place (section.InType (with_loop a b role d c)) (with_role role (with_nodes a b c)))
 typed closes_block d c = drafted (closed d) c
 typed (a_sync a b) d c = unless_there (has_sync a b d c) (put_sync a b d c) (with_nodes a b c)
 typed (an_element e k) d c = unless_there (has_element e d c) (put_element e k d c) (with_element e c)

@@ -1,4 +1,7 @@
 // A process file, read.
+ghost use Rattle.std.specs.Prelude.{◌≡◌};
+ghost use Rattle.file_model.specs.CaseCounts.{is_among};
+
 use file_names::{Name64, Names};
 use wsm_lists::{Listing, RoleList, Writes};
 use wsm_ops::Ops;
@@ -24,6 +27,15 @@ pub struct ActorDecl {
 pub struct CaseDecl {
     pub name: Name64,
     pub id: CaseId,
+}
+
+impl CaseDecl {
+    /// Whether the case is one of the first so many of a type.
+    pub fn is_among(&self, type_no: u32, many: u32) -> bool
+        ensures { result ≡ is_among type_no many self.now }
+    {
+        self.id.type_no == type_no && self.id.place < many
+    }
 }
 
 /// Process types in order of declaration.
@@ -75,9 +87,10 @@ pub enum Act {
         type_no: u32,
         ops: Ops,
     },
-    /// Each case of the type moves to the newest version.
+    /// Each of the type's first `many` cases moves to the newest version. So many were declared before the line.
     Migrate {
         type_no: u32,
+        many: u32,
     },
 }
 
@@ -91,14 +104,16 @@ pub struct Line {
     pub act: Act,
 }
 
-/// A process file. Nodes and elements are numbered over the whole file in order of first occurrence; node 0 is `start`
-/// and node 1 `finish`.
+/// A process file. Nodes, elements and named roles are numbered over the whole file in order of first occurrence; node 0 is
+/// `start` and node 1 `finish`, and the first role with a name is `FIRST_NAMED_ROLE`.
 #[derive(Drop)]
 pub struct File {
-    /// The format of the file and of its report: 1, or 2 where nodes may be given back.
+    /// The format of the file and of its report: 1, 2 where nodes may be given back, 3 where declarations may stand among
+    /// script lines and roles may have names.
     pub format: u32,
     pub nodes: Names,
     pub elements: Names,
+    pub roles: Names,
     pub types: TypeDecls,
     pub actors: ActorDecls,
     pub cases: CaseDecls,

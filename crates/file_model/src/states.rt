@@ -28,16 +28,14 @@ pub struct Group {
 /// Where the next line stands.
 #[derive(Drop)]
 pub enum Section {
-    /// Before the header.
-    Head,
-    /// Outside of types and phases.
+    /// Before the header, which may name a format up to this one.
+    Head(u32),
+    /// Outside of types and groups.
     Outside,
     /// In a type.
     InType(Draft),
-    /// In a phase, behind these lines of it.
-    InPhase(Lines),
-    /// In a group, behind these lines of its phase.
-    InGroup(Lines, Group),
+    /// In a group.
+    InGroup(Group),
 }
 
 /// How many script lines, installs and migrations of cases there were.
@@ -48,17 +46,21 @@ pub struct Counts {
     pub migrations: u32,
 }
 
-/// What was read so far. The open phase is not among the phases.
+/// What was read so far.
 #[derive(Drop)]
 pub struct Contents {
     /// The format that the header named, 1 before it.
     pub format: u32,
     pub nodes: NameTable,
     pub elements: NameTable,
+    pub roles: NameTable,
     pub types: DeclaredList<TypeDecl>,
     pub actors: DeclaredList<ActorDecl>,
     pub cases: CaseTable,
+    /// The phases that have ended.
     pub phases: Phases,
+    /// The lines of the phase that is open.
+    pub current: Option<Lines>,
     pub counts: Counts,
 }
 

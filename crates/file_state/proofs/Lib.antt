@@ -1,2 +1,4 @@
 pub mod EndLines
 pub mod SpacedWords
+pub mod PhaseCounts
+pub mod RoleNumbers

@@ -1,17 +1,23 @@
 // What was read so far: names and refusals.
-ghost use Rattle.std.specs.Prelude.{◌≡◌, ◌≤◌, ◌+◌, Err, IfOk, OnOk};
+ghost use Rattle.std.specs.Prelude.{◌≡◌, ◌≤◌, ◌+◌, length, map, Err, IfOk, OnOk};
+ghost use Rattle.wsm_lists.specs.Rows.{AllRows};
+ghost use Rattle.file_forms.specs.NamesInForms.{RoleHas};
+ghost use Rattle.file_forms.specs.Shown.{shown_role};
+ghost use Rattle.file_model.specs.Declaring.{role_numbers, with_roles};
 ghost use Rattle.file_model.specs.Outcomes.{Tells};
 ghost use Rattle.file_model.specs.Reading.{refused};
 ghost use Rattle.file_model.specs.Room.{HasRoom, count_of_names};
 ghost use Rattle.file_model.specs.ShortForms.{IsShort};
-ghost use Rattle.file_model.specs.Steps.{no_contents, node_in, with_node, element_in, with_element, node_behind, with_nodes, element_behind, with_node_and_element};
+ghost use Rattle.file_model.specs.Steps.{no_contents, node_in, with_node, element_in, with_element, node_behind, with_nodes, element_behind, with_node_and_element, role_in, with_role};
 
 use crate::texts::text_of;
+use file_forms::RoleWord;
+use file_limits::FIRST_NAMED_ROLE;
 use file_model::{CaseTable, Contents, Counts, FileRefusal, Phases, Refused, Why};
 use file_names::{DeclaredList, NameTable};
 use file_words::NameWord;
 use std::alloc::Global;
-use wsm_lists::NoMemory;
+use wsm_lists::{NoMemory, RoleList};
 
 /// Before the first line.
 pub fn no_contents(alloc: Global) -> Result<Contents, NoMemory>
@@ -22,10 +28,12 @@ pub fn no_contents(alloc: Global) -> Result<Contents, NoMemory>
         format: 1,
         nodes,
         elements: NameTable::new(alloc),
+        roles: NameTable::new(alloc),
         types: DeclaredList::new(alloc),
         actors: DeclaredList::new(alloc),
         cases: CaseTable::new(alloc),
         phases: Phases::new(alloc),
+        current: None,
         counts: Counts {
             lines: 0,
             installs: 0,
@@ -114,4 +122,42 @@ pub fn node_and_element_numbers(
     let first = node_number(contents, alloc, node)?;
     let second = element_number(contents, alloc, element)?;
     Ok((first, second))
+}
+
+/// The number of a role. A name gets the next one where it has none.
+#[tactic(auto, using(file_model::proofs::Grown::role_grown))]
+pub fn role_number(
+    contents: &mut Contents,
+    alloc: Global,
+    role: RoleWord<'_>,
+) -> Result<u32, NoMemory>
+    requires short { RoleHas IsShort (shown_role role) }
+    requires room { HasRoom 1 contents.old }
+    ensures noted { OnOk result (contents.new ≡ with_role (shown_role role.entry) contents.old) }
+    ensures number { IfOk result (λ number. number ≡ role_in (shown_role role.entry) contents.old) }
+    ensures room { OnOk result (count_of_names contents.new ≤ count_of_names contents.old + 1) }
+{
+    match role {
+        RoleWord::Number(number) => Ok(number),
+        RoleWord::Name(name) => Ok(FIRST_NAMED_ROLE + contents.roles.note(alloc, name)?),
+    }
+}
+
+/// The numbers of roles, one after another.
+pub fn role_numbers(
+    contents: &mut Contents,
+    alloc: Global,
+    roles: &[RoleWord<'_>],
+) -> Result<RoleList, NoMemory>
+    requires short { AllRows (RoleHas IsShort) (map shown_role roles.now) }
+    requires room { HasRoom (length roles.now) contents.old }
+    ensures noted { OnOk result (contents.new ≡ with_roles (map shown_role roles.now) contents.old) }
+    ensures numbers { IfOk result (λ numbers. numbers ≡ role_numbers contents.old.roles (map shown_role roles.now)) }
+    ensures room { OnOk result (count_of_names contents.new ≤ count_of_names contents.old + length roles.now) }
+{
+    let mut numbers = RoleList::new(alloc);
+    for role in roles {
+        numbers.push(role_number(contents, alloc, *role)?)?;
+    }
+    Ok(numbers)
 }

@@ -10,9 +10,9 @@ mod texts;
 mod typing;
 
 pub use contents::{no_contents, refusal};
-pub use declaring::{declared, headed};
+pub use declaring::{declared, end_phase, headed};
 pub use file_model::{Contents, FileRefusal, Group, Lines, Phases, Section, Stop, Why};
 pub use operating::operated;
-pub use scripting::{scripted, without_room};
+pub use scripting::scripted;
 pub use typing::{fits_in, typed};
 pub use wsm_lists::NoMemory;

@@ -1,6 +1,7 @@
 // Lines of a group of operations.
 ghost use Rattle.std.specs.Prelude.{◌≡◌, [], ◌∷◌, ◌++◌, Ok, Some, IfOk, IfErr, OnOk};
-ghost use Rattle.file_forms.specs.Shown.{shown_place, shown_operation};
+ghost use Rattle.file_forms.specs.NamesInForms.{RoleHas};
+ghost use Rattle.file_forms.specs.Shown.{shown_role, shown_place, shown_operation};
 ghost use Rattle.file_forms.specs.Forms.{insert, delete, move, sync, unsync, element, read, unread, write, unwrite, set_role};
 ghost use Rattle.file_model.specs.Outcomes.{Stops};
 ghost use Rattle.file_model.specs.Room.{HasRoom};
@@ -8,10 +9,13 @@ ghost use Rattle.file_model.specs.ShortForms.{IsShort, IsShortGap, IsShortOperat
 ghost use Rattle.file_model.specs.Steps.{at_place, node_in, with_node};
 ghost use Rattle.file_model.specs.Operating.{gap_in, with_place, op_in, with_names, line_of_group, grouped, operated};
 
-use crate::contents::{element_number, node_and_element_numbers, node_number, node_numbers};
-use file_forms::{NamedGap, OperationLine};
+use crate::contents::{
+    element_number, node_and_element_numbers, node_number, node_numbers, role_number,
+};
+use crate::scripting::push_line;
+use file_forms::{NamedGap, OperationLine, RoleWord};
 use file_limits::MAX_OPS;
-use file_model::{Act, Contents, FileLimit, Group, Line, Lines, Section, Stop, Target, Why};
+use file_model::{Act, Contents, FileLimit, Group, Line, Section, Stop, Target, Why};
 use file_words::NameWord;
 use std::alloc::Global;
 use wsm_lists::{ElementKind, NoMemory};
@@ -36,64 +40,55 @@ fn line_of_group(group: Group) -> Line
     }
 }
 
-// The lines of a phase with that of a group at their end.
-fn ended(lines: Lines, group: Group) -> Result<Lines, NoMemory>
-    ensures { IfOk result (λ all. all ≡ lines ++ line_of_group group ∷ []) }
-{
-    let mut all = lines;
-    all.push(line_of_group(group))?;
-    Ok(all)
-}
-
 /// A line of a group.
 pub fn operated(
     contents: &mut Contents,
     alloc: Global,
-    lines: Lines,
     group: Group,
     line: OperationLine<'_>,
 ) -> Result<Section, Stop>
     requires short { IsShortOperation (shown_operation line) }
-    requires room { HasRoom 5 contents.old }
-    ensures ok { IfOk result (λ next. operated (shown_operation line.entry) group lines contents.old ≡ Ok (at_place next contents.new)) }
-    ensures refused { IfErr result (λ stop. Stops (operated (shown_operation line.entry) group lines contents.old) contents.new stop) }
+    requires room { HasRoom 6 contents.old }
+    ensures ok { IfOk result (λ next. operated (shown_operation line.entry) group contents.old ≡ Ok (at_place next contents.new)) }
+    ensures refused { IfErr result (λ stop. Stops (operated (shown_operation line.entry) group contents.old) contents.new stop) }
 {
     let found = operation(contents, alloc, line)?;
-    grouped(contents, alloc, lines, group, found)
+    grouped(contents, alloc, group, found)
 }
 
 fn grouped(
     contents: &mut Contents,
     alloc: Global,
-    lines: Lines,
     group: Group,
     found: Option<Op>,
 ) -> Result<Section, Stop>
-    ensures ok { IfOk result (λ next. grouped found group lines contents.old ≡ Ok (at_place next contents.new)) }
-    ensures refused { IfErr result (λ stop. Stops (grouped found group lines contents.old) contents.new stop) }
+    ensures ok { IfOk result (λ next. grouped found group contents.old ≡ Ok (at_place next contents.new)) }
+    ensures refused { IfErr result (λ stop. Stops (grouped found group contents.old) contents.new stop) }
 {
     match found {
-        None => Ok(Section::InPhase(ended(lines, group)?)),
-        Some(op) => with_operation(contents, alloc, lines, group, op),
+        None => {
+            push_line(contents, alloc, line_of_group(group))?;
+            Ok(Section::Outside)
+        }
+        Some(op) => with_operation(contents, alloc, group, op),
     }
 }
 
 fn with_operation(
     contents: &mut Contents,
     alloc: Global,
-    lines: Lines,
     group: Group,
     op: Op,
 ) -> Result<Section, Stop>
-    ensures ok { IfOk result (λ next. grouped (Some op) group lines contents.old ≡ Ok (at_place next contents.new)) }
-    ensures refused { IfErr result (λ stop. Stops (grouped (Some op) group lines contents.old) contents.new stop) }
+    ensures ok { IfOk result (λ next. grouped (Some op) group contents.old ≡ Ok (at_place next contents.new)) }
+    ensures refused { IfErr result (λ stop. Stops (grouped (Some op) group contents.old) contents.new stop) }
 {
     if group.ops.len() >= MAX_OPS {
         return Err(Stop::Refused(Why::Limit(FileLimit::Ops)));
     }
     let mut longer = group;
     longer.ops = with_one(alloc, longer.ops, op)?;
-    Ok(Section::InGroup(lines, longer))
+    Ok(Section::InGroup(longer))
 }
 
 // One more operation. Most groups have one alone, and take no room for more.
@@ -115,7 +110,7 @@ fn operation(
     line: OperationLine<'_>,
 ) -> Result<Option<Op>, NoMemory>
     requires short { IsShortOperation (shown_operation line) }
-    requires room { HasRoom 5 contents.old }
+    requires room { HasRoom 6 contents.old }
     ensures noted { OnOk result (contents.new ≡ with_names (shown_operation line.entry) contents.old) }
     ensures op { IfOk result (λ found. found ≡ op_in (shown_operation line.entry) contents.old) }
 {
@@ -172,16 +167,17 @@ fn insertion(
     contents: &mut Contents,
     alloc: Global,
     node: NameWord<'_>,
-    role: u32,
+    role: RoleWord<'_>,
     place: NamedGap<'_>,
 ) -> Result<Option<Op>, NoMemory>
-    requires short { IsShort node.bytes.now × IsShortGap (shown_place place) }
-    requires room { HasRoom 5 contents.old }
-    ensures noted { OnOk result (contents.new ≡ with_names (insert node.entry.bytes.now role (shown_place place.entry)) contents.old) }
-    ensures op { IfOk result (λ found. found ≡ op_in (insert node.entry.bytes.now role (shown_place place.entry)) contents.old) }
+    requires short { IsShort node.bytes.now × RoleHas IsShort (shown_role role) × IsShortGap (shown_place place) }
+    requires room { HasRoom 6 contents.old }
+    ensures noted { OnOk result (contents.new ≡ with_names (insert node.entry.bytes.now (shown_role role.entry) (shown_place place.entry)) contents.old) }
+    ensures op { IfOk result (λ found. found ≡ op_in (insert node.entry.bytes.now (shown_role role.entry) (shown_place place.entry)) contents.old) }
 {
     let node = node_number(contents, alloc, node)?;
     let gap = gap(contents, alloc, place)?;
+    let role = role_number(contents, alloc, role)?;
     Ok(Some(Op::InsertSerial { node, role, gap }))
 }
 
@@ -189,20 +185,21 @@ fn parallel_insertion(
     contents: &mut Contents,
     alloc: Global,
     node: NameWord<'_>,
-    role: u32,
+    role: RoleWord<'_>,
     split: NameWord<'_>,
     join: NameWord<'_>,
     first: NameWord<'_>,
     last: NameWord<'_>,
 ) -> Result<Option<Op>, NoMemory>
-    requires short { IsShort node.bytes.now × IsShort split.bytes.now × IsShort join.bytes.now × IsShort first.bytes.now × IsShort last.bytes.now }
-    requires room { HasRoom 5 contents.old }
-    ensures noted { OnOk result (contents.new ≡ with_names (shown_operation (OperationLine.Parallel node.entry role split.entry join.entry first.entry last.entry)) contents.old) }
-    ensures op { IfOk result (λ found. found ≡ op_in (shown_operation (OperationLine.Parallel node.entry role split.entry join.entry first.entry last.entry)) contents.old) }
+    requires short { IsShort node.bytes.now × RoleHas IsShort (shown_role role) × IsShort split.bytes.now × IsShort join.bytes.now × IsShort first.bytes.now × IsShort last.bytes.now }
+    requires room { HasRoom 6 contents.old }
+    ensures noted { OnOk result (contents.new ≡ with_names (shown_operation (OperationLine.Parallel node.entry role.entry split.entry join.entry first.entry last.entry)) contents.old) }
+    ensures op { IfOk result (λ found. found ≡ op_in (shown_operation (OperationLine.Parallel node.entry role.entry split.entry join.entry first.entry last.entry)) contents.old) }
 {
     let node = node_number(contents, alloc, node)?;
     let (split, join) = node_numbers(contents, alloc, split, join)?;
     let (first, last) = node_numbers(contents, alloc, first, last)?;
+    let role = role_number(contents, alloc, role)?;
     Ok(Some(Op::InsertParallel {
         node,
         role,
@@ -217,19 +214,20 @@ fn conditional_insertion(
     contents: &mut Contents,
     alloc: Global,
     node: NameWord<'_>,
-    role: u32,
+    role: RoleWord<'_>,
     split: NameWord<'_>,
     join: NameWord<'_>,
     place: NamedGap<'_>,
 ) -> Result<Option<Op>, NoMemory>
-    requires short { IsShort node.bytes.now × IsShort split.bytes.now × IsShort join.bytes.now × IsShortGap (shown_place place) }
-    requires room { HasRoom 5 contents.old }
-    ensures noted { OnOk result (contents.new ≡ with_names (shown_operation (OperationLine.Conditional node.entry role split.entry join.entry place.entry)) contents.old) }
-    ensures op { IfOk result (λ found. found ≡ op_in (shown_operation (OperationLine.Conditional node.entry role split.entry join.entry place.entry)) contents.old) }
+    requires short { IsShort node.bytes.now × RoleHas IsShort (shown_role role) × IsShort split.bytes.now × IsShort join.bytes.now × IsShortGap (shown_place place) }
+    requires room { HasRoom 6 contents.old }
+    ensures noted { OnOk result (contents.new ≡ with_names (shown_operation (OperationLine.Conditional node.entry role.entry split.entry join.entry place.entry)) contents.old) }
+    ensures op { IfOk result (λ found. found ≡ op_in (shown_operation (OperationLine.Conditional node.entry role.entry split.entry join.entry place.entry)) contents.old) }
 {
     let node = node_number(contents, alloc, node)?;
     let (split, join) = node_numbers(contents, alloc, split, join)?;
     let gap = gap(contents, alloc, place)?;
+    let role = role_number(contents, alloc, role)?;
     Ok(Some(Op::InsertConditional {
         node,
         role,
@@ -245,7 +243,7 @@ fn deletion(
     node: NameWord<'_>,
 ) -> Result<Option<Op>, NoMemory>
     requires short { IsShort node.bytes.now }
-    requires room { HasRoom 5 contents.old }
+    requires room { HasRoom 6 contents.old }
     ensures noted { OnOk result (contents.new ≡ with_names (delete node.entry.bytes.now) contents.old) }
     ensures op { IfOk result (λ found. found ≡ op_in (delete node.entry.bytes.now) contents.old) }
 {
@@ -260,7 +258,7 @@ fn movement(
     place: NamedGap<'_>,
 ) -> Result<Option<Op>, NoMemory>
     requires short { IsShort node.bytes.now × IsShortGap (shown_place place) }
-    requires room { HasRoom 5 contents.old }
+    requires room { HasRoom 6 contents.old }
     ensures noted { OnOk result (contents.new ≡ with_names (move node.entry.bytes.now (shown_place place.entry)) contents.old) }
     ensures op { IfOk result (λ found. found ≡ op_in (move node.entry.bytes.now (shown_place place.entry)) contents.old) }
 {
@@ -276,7 +274,7 @@ fn new_sync(
     target: NameWord<'_>,
 ) -> Result<Option<Op>, NoMemory>
     requires short { IsShort source.bytes.now × IsShort target.bytes.now }
-    requires room { HasRoom 5 contents.old }
+    requires room { HasRoom 6 contents.old }
     ensures noted { OnOk result (contents.new ≡ with_names (sync source.entry.bytes.now target.entry.bytes.now) contents.old) }
     ensures op { IfOk result (λ found. found ≡ op_in (sync source.entry.bytes.now target.entry.bytes.now) contents.old) }
 {
@@ -291,7 +289,7 @@ fn lost_sync(
     target: NameWord<'_>,
 ) -> Result<Option<Op>, NoMemory>
     requires short { IsShort source.bytes.now × IsShort target.bytes.now }
-    requires room { HasRoom 5 contents.old }
+    requires room { HasRoom 6 contents.old }
     ensures noted { OnOk result (contents.new ≡ with_names (unsync source.entry.bytes.now target.entry.bytes.now) contents.old) }
     ensures op { IfOk result (λ found. found ≡ op_in (unsync source.entry.bytes.now target.entry.bytes.now) contents.old) }
 {
@@ -306,7 +304,7 @@ fn new_element(
     kind: ElementKind,
 ) -> Result<Option<Op>, NoMemory>
     requires short { IsShort name.bytes.now }
-    requires room { HasRoom 5 contents.old }
+    requires room { HasRoom 6 contents.old }
     ensures noted { OnOk result (contents.new ≡ with_names (element name.entry.bytes.now kind) contents.old) }
     ensures op { IfOk result (λ found. found ≡ op_in (element name.entry.bytes.now kind) contents.old) }
 {
@@ -322,7 +320,7 @@ fn new_read(
     mandatory: bool,
 ) -> Result<Option<Op>, NoMemory>
     requires short { IsShort node.bytes.now × IsShort element.bytes.now }
-    requires room { HasRoom 5 contents.old }
+    requires room { HasRoom 6 contents.old }
     ensures noted { OnOk result (contents.new ≡ with_names (read node.entry.bytes.now element.entry.bytes.now mandatory) contents.old) }
     ensures op { IfOk result (λ found. found ≡ op_in (read node.entry.bytes.now element.entry.bytes.now mandatory) contents.old) }
 {
@@ -341,7 +339,7 @@ fn lost_read(
     element: NameWord<'_>,
 ) -> Result<Option<Op>, NoMemory>
     requires short { IsShort node.bytes.now × IsShort element.bytes.now }
-    requires room { HasRoom 5 contents.old }
+    requires room { HasRoom 6 contents.old }
     ensures noted { OnOk result (contents.new ≡ with_names (unread node.entry.bytes.now element.entry.bytes.now) contents.old) }
     ensures op { IfOk result (λ found. found ≡ op_in (unread node.entry.bytes.now element.entry.bytes.now) contents.old) }
 {
@@ -356,7 +354,7 @@ fn new_write(
     element: NameWord<'_>,
 ) -> Result<Option<Op>, NoMemory>
     requires short { IsShort node.bytes.now × IsShort element.bytes.now }
-    requires room { HasRoom 5 contents.old }
+    requires room { HasRoom 6 contents.old }
     ensures noted { OnOk result (contents.new ≡ with_names (write node.entry.bytes.now element.entry.bytes.now) contents.old) }
     ensures op { IfOk result (λ found. found ≡ op_in (write node.entry.bytes.now element.entry.bytes.now) contents.old) }
 {
@@ -371,7 +369,7 @@ fn lost_write(
     element: NameWord<'_>,
 ) -> Result<Option<Op>, NoMemory>
     requires short { IsShort node.bytes.now × IsShort element.bytes.now }
-    requires room { HasRoom 5 contents.old }
+    requires room { HasRoom 6 contents.old }
     ensures noted { OnOk result (contents.new ≡ with_names (unwrite node.entry.bytes.now element.entry.bytes.now) contents.old) }
     ensures op { IfOk result (λ found. found ≡ op_in (unwrite node.entry.bytes.now element.entry.bytes.now) contents.old) }
 {
@@ -383,13 +381,14 @@ fn new_role(
     contents: &mut Contents,
     alloc: Global,
     node: NameWord<'_>,
-    role: u32,
+    role: RoleWord<'_>,
 ) -> Result<Option<Op>, NoMemory>
-    requires short { IsShort node.bytes.now }
-    requires room { HasRoom 5 contents.old }
-    ensures noted { OnOk result (contents.new ≡ with_names (set_role node.entry.bytes.now role) contents.old) }
-    ensures op { IfOk result (λ found. found ≡ op_in (set_role node.entry.bytes.now role) contents.old) }
+    requires short { IsShort node.bytes.now × RoleHas IsShort (shown_role role) }
+    requires room { HasRoom 6 contents.old }
+    ensures noted { OnOk result (contents.new ≡ with_names (set_role node.entry.bytes.now (shown_role role.entry)) contents.old) }
+    ensures op { IfOk result (λ found. found ≡ op_in (set_role node.entry.bytes.now (shown_role role.entry)) contents.old) }
 {
     let node = node_number(contents, alloc, node)?;
+    let role = role_number(contents, alloc, role)?;
     Ok(Some(Op::SetRole { node, role }))
 }

@@ -4,17 +4,18 @@ ghost use Rattle.wsm_lists.specs.Rows.{AllRows};
 ghost use Rattle.file_forms.specs.NamesInForms.{writes_in, writes_in_deed};
 ghost use Rattle.file_words.specs.Shown.{shown_literal, shown_pair};
 ghost use Rattle.file_forms.specs.Shown.{shown_deed, shown_script_line};
-ghost use Rattle.file_forms.specs.Forms.{to_create, to_change, to_install, to_migrate, next_phase, a_deed};
+ghost use Rattle.file_forms.specs.Forms.{to_create, to_change, to_install, to_migrate, a_deed};
 ghost use Rattle.file_model.specs.Outcomes.{Stops};
 ghost use Rattle.file_model.specs.Room.{HasRoom, count_of_names};
 ghost use Rattle.file_model.specs.ShortForms.{IsShort, IsShortDeed, IsShortScriptLine, IsShortValue, IsShortWrite};
-ghost use Rattle.file_model.specs.Steps.{at_place, node_in, with_node};
+ghost use Rattle.file_model.specs.Steps.{at_place, node_in, with_node, with_script_line};
 ghost use Rattle.file_state.specs.Unknown.{StopsUnknown};
 ghost use Rattle.file_model.specs.Scripting.{actor_in, if_known, case_in, with_line, line_of, counted, with_group, changing, one_install, installing, migrations_with, migrating, with_elements, numbered, acted, acted_by, scripted};
 
 use crate::contents::{element_number, node_number};
+use crate::declaring::phase_begun;
 use file_forms::{Deed, ScriptLine, WriteWords};
-use file_limits::{MAX_INSTALLS, MAX_LINES, MAX_MIGRATIONS, MAX_PHASES};
+use file_limits::{MAX_INSTALLS, MAX_LINES, MAX_MIGRATIONS};
 use file_model::{Act, Contents, FileLimit, Group, Line, Lines, Section, Stop, Target, Why};
 use file_words::{Literal, NameWord};
 use std::alloc::Global;
@@ -68,38 +69,17 @@ pub fn scripted(
     contents: &mut Contents,
     alloc: Global,
     at: u32,
-    lines: Lines,
     line: ScriptLine<'_>,
 ) -> Result<Section, Stop>
     requires short { IsShortScriptLine (shown_script_line line) }
     requires room { HasRoom (writes_in (shown_script_line line) + 1) contents.old }
-    ensures ok { IfOk result (λ place. scripted (shown_script_line line.entry) lines at contents.old ≡ Ok (at_place place contents.new)) }
-    ensures refused { IfErr result (λ stop. Stops (scripted (shown_script_line line.entry) lines at contents.old) contents.new stop) }
+    ensures ok { IfOk result (λ place. scripted (shown_script_line line.entry) at contents.old ≡ Ok (at_place place contents.new)) }
+    ensures refused { IfErr result (λ stop. Stops (scripted (shown_script_line line.entry) at contents.old) contents.new stop) }
 {
     match line {
-        ScriptLine::Phase => phase_line(contents, alloc, lines),
-        ScriptLine::Deed { actor, deed } => deed_line(contents, alloc, at, lines, actor, deed),
+        ScriptLine::Phase => phase_begun(contents, alloc),
+        ScriptLine::Deed { actor, deed } => deed_line(contents, alloc, at, actor, deed),
     }
-}
-
-fn phase_line(contents: &mut Contents, alloc: Global, lines: Lines) -> Result<Section, Stop>
-    ensures ok { IfOk result (λ place. scripted next_phase lines 0 contents.old ≡ Ok (at_place place contents.new)) }
-    ensures refused { IfErr result (λ stop. Stops (scripted next_phase lines 0 contents.old) contents.new stop) }
-{
-    if contents.phases.len() >= MAX_PHASES - 1 {
-        return Err(Stop::Refused(Why::Limit(FileLimit::Phases)));
-    }
-    contents.phases.push(without_room(lines))?;
-    Ok(Section::InPhase(Lines::new(alloc)))
-}
-
-/// The lines of a phase that has ended, without room for more.
-pub fn without_room(lines: Lines) -> Lines
-    ensures { result ≡ lines }
-{
-    let mut items = lines.into_vec();
-    items.shrink_to_fit();
-    Lines::from_vec(items)
 }
 
 // The number of an actor, from 1.
@@ -114,35 +94,33 @@ fn deed_line(
     contents: &mut Contents,
     alloc: Global,
     at: u32,
-    lines: Lines,
     actor: NameWord<'_>,
     deed: Deed<'_>,
 ) -> Result<Section, Stop>
     requires short { IsShortDeed (shown_deed deed) }
     requires room { HasRoom (writes_in_deed (shown_deed deed) + 1) contents.old }
-    ensures ok { IfOk result (λ place. scripted (a_deed actor.entry.bytes.now (shown_deed deed.entry)) lines at contents.old ≡ Ok (at_place place contents.new)) }
-    ensures refused { IfErr result (λ stop. Stops (scripted (a_deed actor.entry.bytes.now (shown_deed deed.entry)) lines at contents.old) contents.new stop) }
+    ensures ok { IfOk result (λ place. scripted (a_deed actor.entry.bytes.now (shown_deed deed.entry)) at contents.old ≡ Ok (at_place place contents.new)) }
+    ensures refused { IfErr result (λ stop. Stops (scripted (a_deed actor.entry.bytes.now (shown_deed deed.entry)) at contents.old) contents.new stop) }
 {
     let found = actor_in(contents, actor);
-    acted_by(contents, alloc, at, lines, found, deed)
+    acted_by(contents, alloc, at, found, deed)
 }
 
 fn acted_by(
     contents: &mut Contents,
     alloc: Global,
     at: u32,
-    lines: Lines,
     found: Option<u32>,
     deed: Deed<'_>,
 ) -> Result<Section, Stop>
     requires short { IsShortDeed (shown_deed deed) }
     requires room { HasRoom (writes_in_deed (shown_deed deed) + 1) contents.old }
-    ensures ok { IfOk result (λ place. acted_by found (shown_deed deed.entry) lines at contents.old ≡ Ok (at_place place contents.new)) }
-    ensures refused { IfErr result (λ stop. Stops (acted_by found (shown_deed deed.entry) lines at contents.old) contents.new stop) }
+    ensures ok { IfOk result (λ place. acted_by found (shown_deed deed.entry) at contents.old ≡ Ok (at_place place contents.new)) }
+    ensures refused { IfErr result (λ stop. Stops (acted_by found (shown_deed deed.entry) at contents.old) contents.new stop) }
 {
     match found {
         None => Err(Stop::Refused(Why::Unknown)),
-        Some(actor) => acted(contents, alloc, at, lines, actor, deed),
+        Some(actor) => acted(contents, alloc, at, actor, deed),
     }
 }
 
@@ -150,48 +128,43 @@ fn acted(
     contents: &mut Contents,
     alloc: Global,
     at: u32,
-    lines: Lines,
     actor: u32,
     deed: Deed<'_>,
 ) -> Result<Section, Stop>
     requires short { IsShortDeed (shown_deed deed) }
     requires room { HasRoom (writes_in_deed (shown_deed deed) + 1) contents.old }
-    ensures ok { IfOk result (λ place. acted (shown_deed deed.entry) actor lines at contents.old ≡ Ok (at_place place contents.new)) }
-    ensures refused { IfErr result (λ stop. Stops (acted (shown_deed deed.entry) actor lines at contents.old) contents.new stop) }
+    ensures ok { IfOk result (λ place. acted (shown_deed deed.entry) actor at contents.old ≡ Ok (at_place place contents.new)) }
+    ensures refused { IfErr result (λ stop. Stops (acted (shown_deed deed.entry) actor at contents.old) contents.new stop) }
 {
     match deed {
-        Deed::Create(case) => create_line(contents, at, lines, actor, case),
-        Deed::Start { case, node } => start_line(contents, alloc, at, lines, actor, case, node),
-        Deed::Withdraw { case, node } => {
-            withdraw_line(contents, alloc, at, lines, actor, case, node)
-        }
+        Deed::Create(case) => create_line(contents, alloc, at, actor, case),
+        Deed::Start { case, node } => start_line(contents, alloc, at, actor, case, node),
+        Deed::Withdraw { case, node } => { withdraw_line(contents, alloc, at, actor, case, node) }
         Deed::End {
             case,
             node,
             choice,
             writes,
-        } => end_line(
-            contents, alloc, at, lines, actor, case, node, choice, writes,
-        ),
-        Deed::Change(case) => change_line(contents, alloc, at, lines, actor, case),
-        Deed::Install(kind) => install_line(contents, alloc, at, lines, actor, kind),
-        Deed::Migrate(kind) => migrate_line(contents, at, lines, actor, kind),
+        } => end_line(contents, alloc, at, actor, case, node, choice, writes),
+        Deed::Change(case) => change_line(contents, alloc, at, actor, case),
+        Deed::Install(kind) => install_line(contents, alloc, at, actor, kind),
+        Deed::Migrate(kind) => migrate_line(contents, alloc, at, actor, kind),
     }
 }
 
 fn create_line(
     contents: &mut Contents,
+    alloc: Global,
     at: u32,
-    lines: Lines,
     actor: u32,
     case: NameWord<'_>,
 ) -> Result<Section, Stop>
-    ensures ok { IfOk result (λ place. acted (to_create case.entry.bytes.now) actor lines at contents.old ≡ Ok (at_place place contents.new)) }
-    ensures refused { IfErr result (λ stop. Stops (acted (to_create case.entry.bytes.now) actor lines at contents.old) contents.new stop) }
+    ensures ok { IfOk result (λ place. acted (to_create case.entry.bytes.now) actor at contents.old ≡ Ok (at_place place contents.new)) }
+    ensures refused { IfErr result (λ stop. Stops (acted (to_create case.entry.bytes.now) actor at contents.old) contents.new stop) }
 {
     match case_of(contents, case) {
         None => Err(Stop::Refused(Why::Unknown)),
-        Some(id) => with_line(contents, at, lines, actor, Act::Create { id }),
+        Some(id) => with_line(contents, alloc, at, actor, Act::Create { id }),
     }
 }
 
@@ -220,43 +193,40 @@ fn start_line(
     contents: &mut Contents,
     alloc: Global,
     at: u32,
-    lines: Lines,
     actor: u32,
     case: NameWord<'_>,
     node: NameWord<'_>,
 ) -> Result<Section, Stop>
     requires short { IsShort node.bytes.now }
     requires room { HasRoom 1 contents.old }
-    ensures ok { IfOk result (λ place. acted (shown_deed (Deed.Start case.entry node.entry)) actor lines at contents.old ≡ Ok (at_place place contents.new)) }
-    ensures refused { IfErr result (λ stop. Stops (acted (shown_deed (Deed.Start case.entry node.entry)) actor lines at contents.old) contents.new stop) }
+    ensures ok { IfOk result (λ place. acted (shown_deed (Deed.Start case.entry node.entry)) actor at contents.old ≡ Ok (at_place place contents.new)) }
+    ensures refused { IfErr result (λ stop. Stops (acted (shown_deed (Deed.Start case.entry node.entry)) actor at contents.old) contents.new stop) }
 {
     let (id, node) = case_and_node(contents, alloc, case, node)?;
-    with_line(contents, at, lines, actor, Act::Start { id, node })
+    with_line(contents, alloc, at, actor, Act::Start { id, node })
 }
 
 fn withdraw_line(
     contents: &mut Contents,
     alloc: Global,
     at: u32,
-    lines: Lines,
     actor: u32,
     case: NameWord<'_>,
     node: NameWord<'_>,
 ) -> Result<Section, Stop>
     requires short { IsShort node.bytes.now }
     requires room { HasRoom 1 contents.old }
-    ensures ok { IfOk result (λ place. acted (shown_deed (Deed.Withdraw case.entry node.entry)) actor lines at contents.old ≡ Ok (at_place place contents.new)) }
-    ensures refused { IfErr result (λ stop. Stops (acted (shown_deed (Deed.Withdraw case.entry node.entry)) actor lines at contents.old) contents.new stop) }
+    ensures ok { IfOk result (λ place. acted (shown_deed (Deed.Withdraw case.entry node.entry)) actor at contents.old ≡ Ok (at_place place contents.new)) }
+    ensures refused { IfErr result (λ stop. Stops (acted (shown_deed (Deed.Withdraw case.entry node.entry)) actor at contents.old) contents.new stop) }
 {
     let (id, node) = case_and_node(contents, alloc, case, node)?;
-    with_line(contents, at, lines, actor, Act::Withdraw { id, node })
+    with_line(contents, alloc, at, actor, Act::Withdraw { id, node })
 }
 
 fn end_line(
     contents: &mut Contents,
     alloc: Global,
     at: u32,
-    lines: Lines,
     actor: u32,
     case: NameWord<'_>,
     node: NameWord<'_>,
@@ -265,15 +235,15 @@ fn end_line(
 ) -> Result<Section, Stop>
     requires short { IsShort node.bytes.now × AllRows IsShortWrite (map shown_pair writes.items) }
     requires room { HasRoom (length writes.items + 1) contents.old }
-    ensures ok { IfOk result (λ place. acted (shown_deed (Deed.End case.entry node.entry choice writes.entry)) actor lines at contents.old ≡ Ok (at_place place contents.new)) }
-    ensures refused { IfErr result (λ stop. Stops (acted (shown_deed (Deed.End case.entry node.entry choice writes.entry)) actor lines at contents.old) contents.new stop) }
+    ensures ok { IfOk result (λ place. acted (shown_deed (Deed.End case.entry node.entry choice writes.entry)) actor at contents.old ≡ Ok (at_place place contents.new)) }
+    ensures refused { IfErr result (λ stop. Stops (acted (shown_deed (Deed.End case.entry node.entry choice writes.entry)) actor at contents.old) contents.new stop) }
 {
     let (id, node) = case_and_node(contents, alloc, case, node)?;
     let writes = numbered_writes(contents, alloc, &writes)?;
     with_line(
         contents,
+        alloc,
         at,
-        lines,
         actor,
         Act::End {
             id,
@@ -288,16 +258,15 @@ fn change_line(
     contents: &mut Contents,
     alloc: Global,
     at: u32,
-    lines: Lines,
     actor: u32,
     case: NameWord<'_>,
 ) -> Result<Section, Stop>
-    ensures ok { IfOk result (λ place. acted (to_change case.entry.bytes.now) actor lines at contents.old ≡ Ok (at_place place contents.new)) }
-    ensures refused { IfErr result (λ stop. Stops (acted (to_change case.entry.bytes.now) actor lines at contents.old) contents.new stop) }
+    ensures ok { IfOk result (λ place. acted (to_change case.entry.bytes.now) actor at contents.old ≡ Ok (at_place place contents.new)) }
+    ensures refused { IfErr result (λ stop. Stops (acted (to_change case.entry.bytes.now) actor at contents.old) contents.new stop) }
 {
     match case_of(contents, case) {
         None => Err(Stop::Refused(Why::Unknown)),
-        Some(id) => changing(contents, alloc, at, lines, actor, id),
+        Some(id) => changing(contents, alloc, at, actor, id),
     }
 }
 
@@ -305,48 +274,45 @@ fn changing(
     contents: &mut Contents,
     alloc: Global,
     at: u32,
-    lines: Lines,
     actor: u32,
     id: CaseId,
 ) -> Result<Section, Stop>
-    ensures ok { IfOk result (λ place. changing lines at actor id contents.old ≡ Ok (at_place place contents.new)) }
-    ensures refused { IfErr result (λ stop. Stops (changing lines at actor id contents.old) contents.new stop) }
+    ensures ok { IfOk result (λ place. changing at actor id contents.old ≡ Ok (at_place place contents.new)) }
+    ensures refused { IfErr result (λ stop. Stops (changing at actor id contents.old) contents.new stop) }
 {
     if contents.counts.lines >= MAX_LINES {
         return Err(Stop::Refused(Why::Limit(FileLimit::Lines)));
     }
-    Ok(with_group(contents, alloc, at, lines, actor, Target::Case(id)))
+    Ok(with_group(contents, alloc, at, actor, Target::Case(id)))
 }
 
 fn install_line(
     contents: &mut Contents,
     alloc: Global,
     at: u32,
-    lines: Lines,
     actor: u32,
     kind: NameWord<'_>,
 ) -> Result<Section, Stop>
-    ensures ok { IfOk result (λ place. acted (to_install kind.entry.bytes.now) actor lines at contents.old ≡ Ok (at_place place contents.new)) }
-    ensures refused { IfErr result (λ stop. Stops (acted (to_install kind.entry.bytes.now) actor lines at contents.old) contents.new stop) }
+    ensures ok { IfOk result (λ place. acted (to_install kind.entry.bytes.now) actor at contents.old ≡ Ok (at_place place contents.new)) }
+    ensures refused { IfErr result (λ stop. Stops (acted (to_install kind.entry.bytes.now) actor at contents.old) contents.new stop) }
 {
     let found = contents.types.names.find(kind);
-    install_known(contents, alloc, at, lines, actor, found)
+    install_known(contents, alloc, at, actor, found)
 }
 
 fn install_known(
     contents: &mut Contents,
     alloc: Global,
     at: u32,
-    lines: Lines,
     actor: u32,
     found: Option<u32>,
 ) -> Result<Section, Stop>
-    ensures ok { IfOk result (λ place. if_known found (λ t. installing lines at actor t contents.old) contents.old ≡ Ok (at_place place contents.new)) }
-    ensures refused { IfErr result (λ stop. Stops (if_known found (λ t. installing lines at actor t contents.old) contents.old) contents.new stop) }
+    ensures ok { IfOk result (λ place. if_known found (λ t. installing at actor t contents.old) contents.old ≡ Ok (at_place place contents.new)) }
+    ensures refused { IfErr result (λ stop. Stops (if_known found (λ t. installing at actor t contents.old) contents.old) contents.new stop) }
 {
     match found {
         None => Err(Stop::Refused(Why::Unknown)),
-        Some(type_no) => installing(contents, alloc, at, lines, actor, type_no),
+        Some(type_no) => installing(contents, alloc, at, actor, type_no),
     }
 }
 
@@ -354,12 +320,11 @@ fn installing(
     contents: &mut Contents,
     alloc: Global,
     at: u32,
-    lines: Lines,
     actor: u32,
     type_no: u32,
 ) -> Result<Section, Stop>
-    ensures ok { IfOk result (λ place. installing lines at actor type_no contents.old ≡ Ok (at_place place contents.new)) }
-    ensures refused { IfErr result (λ stop. Stops (installing lines at actor type_no contents.old) contents.new stop) }
+    ensures ok { IfOk result (λ place. installing at actor type_no contents.old ≡ Ok (at_place place contents.new)) }
+    ensures refused { IfErr result (λ stop. Stops (installing at actor type_no contents.old) contents.new stop) }
 {
     if contents.counts.lines >= MAX_LINES {
         return Err(Stop::Refused(Why::Limit(FileLimit::Lines)));
@@ -368,109 +333,129 @@ fn installing(
         return Err(Stop::Refused(Why::Limit(FileLimit::Installs)));
     }
     contents.counts.installs += 1;
-    Ok(with_group(contents, alloc, at, lines, actor, Target::Type(type_no)))
+    Ok(with_group(contents, alloc, at, actor, Target::Type(type_no)))
 }
 
 fn migrate_line(
     contents: &mut Contents,
+    alloc: Global,
     at: u32,
-    lines: Lines,
     actor: u32,
     kind: NameWord<'_>,
 ) -> Result<Section, Stop>
-    ensures ok { IfOk result (λ place. acted (to_migrate kind.entry.bytes.now) actor lines at contents.old ≡ Ok (at_place place contents.new)) }
-    ensures refused { IfErr result (λ stop. Stops (acted (to_migrate kind.entry.bytes.now) actor lines at contents.old) contents.new stop) }
+    ensures ok { IfOk result (λ place. acted (to_migrate kind.entry.bytes.now) actor at contents.old ≡ Ok (at_place place contents.new)) }
+    ensures refused { IfErr result (λ stop. Stops (acted (to_migrate kind.entry.bytes.now) actor at contents.old) contents.new stop) }
 {
     let found = contents.types.names.find(kind);
-    migrate_known(contents, at, lines, actor, found)
+    migrate_known(contents, alloc, at, actor, found)
 }
 
 fn migrate_known(
     contents: &mut Contents,
+    alloc: Global,
     at: u32,
-    lines: Lines,
     actor: u32,
     found: Option<u32>,
 ) -> Result<Section, Stop>
-    ensures ok { IfOk result (λ place. if_known found (λ t. migrating lines at actor t contents.old) contents.old ≡ Ok (at_place place contents.new)) }
-    ensures refused { IfErr result (λ stop. Stops (if_known found (λ t. migrating lines at actor t contents.old) contents.old) contents.new stop) }
+    ensures ok { IfOk result (λ place. if_known found (λ t. migrating at actor t contents.old) contents.old ≡ Ok (at_place place contents.new)) }
+    ensures refused { IfErr result (λ stop. Stops (if_known found (λ t. migrating at actor t contents.old) contents.old) contents.new stop) }
 {
     match found {
         None => Err(Stop::Refused(Why::Unknown)),
-        Some(type_no) => migrating(contents, at, lines, actor, type_no),
+        Some(type_no) => migrating(contents, alloc, at, actor, type_no),
     }
 }
 
 fn migrating(
     contents: &mut Contents,
+    alloc: Global,
     at: u32,
-    lines: Lines,
     actor: u32,
     type_no: u32,
 ) -> Result<Section, Stop>
-    ensures ok { IfOk result (λ place. migrating lines at actor type_no contents.old ≡ Ok (at_place place contents.new)) }
-    ensures refused { IfErr result (λ stop. Stops (migrating lines at actor type_no contents.old) contents.new stop) }
+    ensures ok { IfOk result (λ place. migrating at actor type_no contents.old ≡ Ok (at_place place contents.new)) }
+    ensures refused { IfErr result (λ stop. Stops (migrating at actor type_no contents.old) contents.new stop) }
 {
     if contents.counts.lines >= MAX_LINES {
         return Err(Stop::Refused(Why::Limit(FileLimit::Lines)));
     }
-    let migrations = contents.counts.migrations as u64 + contents.cases.count(type_no) as u64;
+    let many = contents.cases.count(type_no);
+    let migrations = contents.counts.migrations as u64 + many as u64;
     if migrations > MAX_MIGRATIONS {
         return Err(Stop::Refused(Why::Limit(FileLimit::Migrations)));
     }
     contents.counts.migrations = migrations as u32;
-    Ok(Section::InPhase(push_line(contents, at, lines, actor, Act::Migrate { type_no })?))
+    count_line(contents, alloc, at, actor, Act::Migrate { type_no, many })?;
+    Ok(Section::Outside)
 }
 
 fn with_line(
     contents: &mut Contents,
+    alloc: Global,
     at: u32,
-    lines: Lines,
     actor: u32,
     act: Act,
 ) -> Result<Section, Stop>
-    ensures ok { IfOk result (λ place. with_line lines at actor act contents.old ≡ Ok (at_place place contents.new)) }
-    ensures refused { IfErr result (λ stop. Stops (with_line lines at actor act contents.old) contents.new stop) }
+    ensures ok { IfOk result (λ place. with_line at actor act contents.old ≡ Ok (at_place place contents.new)) }
+    ensures refused { IfErr result (λ stop. Stops (with_line at actor act contents.old) contents.new stop) }
 {
     if contents.counts.lines >= MAX_LINES {
         return Err(Stop::Refused(Why::Limit(FileLimit::Lines)));
     }
-    Ok(Section::InPhase(push_line(contents, at, lines, actor, act)?))
+    count_line(contents, alloc, at, actor, act)?;
+    Ok(Section::Outside)
 }
 
-fn push_line(
+// One more script line, of its own.
+fn count_line(
     contents: &mut Contents,
+    alloc: Global,
     at: u32,
-    lines: Lines,
     actor: u32,
     act: Act,
-) -> Result<Lines, NoMemory>
+) -> Result<(), NoMemory>
     requires { contents.old.counts.lines < MAX_LINES }
-    ensures counted { OnOk result (contents.new ≡ counted contents.old) }
-    ensures lines { IfOk result (λ all. all ≡ lines ++ line_of at actor act contents.old ∷ []) }
+    ensures { OnOk result (contents.new ≡ with_script_line (line_of at actor act contents.old) (counted contents.old)) }
 {
     contents.counts.lines += 1;
-    let order = contents.counts.lines;
-    let mut all = lines;
-    all.push(Line {
+    let line = Line {
         at,
-        order,
+        order: contents.counts.lines,
         actor,
         act,
-    })?;
-    Ok(all)
+    };
+    push_line(contents, alloc, line)
+}
+
+/// One more line of the open phase, which begins where none is open.
+pub fn push_line(contents: &mut Contents, alloc: Global, line: Line) -> Result<(), NoMemory>
+    ensures { OnOk result (contents.new ≡ with_script_line line contents.old) }
+{
+    match &mut contents.current {
+        Some(lines) => lines.push(line),
+        None => begin_with(contents, alloc, line),
+    }
+}
+
+// A phase of one line begins.
+fn begin_with(contents: &mut Contents, alloc: Global, line: Line) -> Result<(), NoMemory>
+    ensures { OnOk result (contents.new ≡ record contents.old { current = Some (line ∷ []) }) }
+{
+    let mut lines = Lines::new(alloc);
+    lines.push(line)?;
+    contents.current = Some(lines);
+    Ok(())
 }
 
 fn with_group(
     contents: &mut Contents,
     alloc: Global,
     at: u32,
-    lines: Lines,
     actor: u32,
     target: Target,
 ) -> Section
     requires { contents.old.counts.lines < MAX_LINES }
-    ensures { at_place result contents.new ≡ with_group lines at actor target contents.old }
+    ensures { at_place result contents.new ≡ with_group at actor target contents.old }
 {
     contents.counts.lines += 1;
     let group = Group {
@@ -480,5 +465,5 @@ fn with_group(
         target,
         ops: Ops::new(alloc),
     };
-    Section::InGroup(lines, group)
+    Section::InGroup(group)
 }

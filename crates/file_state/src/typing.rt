@@ -1,19 +1,22 @@
 // Lines of a type.
 ghost use Rattle.std.specs.Prelude.{◌≡◌, not, Ok, IfOk, IfErr, OnOk, if◌then◌else◌};
-ghost use Rattle.file_forms.specs.Shown.{shown_type_line};
+ghost use Rattle.file_forms.specs.NamesInForms.{RoleHas};
+ghost use Rattle.file_forms.specs.Shown.{shown_role, shown_type_line};
 ghost use Rattle.file_forms.specs.Forms.{activity, opens_and, opens_xor, opens_branch, opens_loop, closes_block, a_sync, an_element, a_read, a_write, type_end};
 ghost use Rattle.file_drafts.specs.Drafts.{closed, branched, whole};
 ghost use Rattle.file_model.specs.Outcomes.{Stops};
 ghost use Rattle.file_model.specs.Room.{HasRoom};
 ghost use Rattle.file_model.specs.ShortForms.{IsShort, IsShortTypeLine};
-ghost use Rattle.file_model.specs.Steps.{at_place, with_node, with_element, with_nodes, with_node_and_element};
+ghost use Rattle.file_model.specs.Steps.{at_place, with_role, with_node, with_element, with_nodes, with_node_and_element};
 ghost use Rattle.file_model.specs.Declaring.{with_type};
 ghost use Rattle.file_model.specs.Typing.{takes_blocks, takes_branch, is_outside, fits_in, typed, with_role_of, with_and, with_xor, with_loop, has_sync, put_sync, has_element, put_element, has_read, put_read, has_write, put_write};
 ghost use Rattle.file_state.specs.Taken.{Taken};
 
-use crate::contents::{element_number, node_and_element_numbers, node_number, node_numbers};
+use crate::contents::{
+    element_number, node_and_element_numbers, node_number, node_numbers, role_number,
+};
 use file_drafts::{Around, Draft, GateKind};
-use file_forms::TypeLine;
+use file_forms::{RoleWord, TypeLine};
 use file_limits::MAX_DEPTH;
 use file_model::{Contents, FileLimit, Section, Stop, TypeDecl, Why};
 use file_names::Name64;
@@ -76,7 +79,7 @@ pub fn typed(
     line: TypeLine<'_>,
 ) -> Result<Section, Stop>
     requires short { IsShortTypeLine (shown_type_line line) }
-    requires room { HasRoom 2 contents.old }
+    requires room { HasRoom 3 contents.old }
     ensures ok { IfOk result (λ place. typed (shown_type_line line.entry) draft contents.old ≡ Ok (at_place place contents.new)) }
     ensures refused { IfErr result (λ stop. Stops (typed (shown_type_line line.entry) draft contents.old) contents.new stop) }
 {
@@ -97,7 +100,7 @@ fn put_line(
     line: TypeLine<'_>,
 ) -> Result<bool, Stop>
     requires short { IsShortTypeLine (shown_type_line line) }
-    requires room { HasRoom 2 contents.old }
+    requires room { HasRoom 3 contents.old }
     ensures ok { IfOk result (λ inside. Taken inside (shown_type_line line.entry) draft.old contents.old draft.new contents.new) }
     ensures refused { IfErr result (λ stop. Stops (typed (shown_type_line line.entry) draft.old contents.old) contents.new stop) }
 {
@@ -125,12 +128,12 @@ fn activity_line(
     alloc: Global,
     draft: &mut Draft,
     node: NameWord<'_>,
-    role: u32,
+    role: RoleWord<'_>,
 ) -> Result<bool, Stop>
-    requires short { IsShort node.bytes.now }
-    requires room { HasRoom 2 contents.old }
-    ensures ok { IfOk result (λ inside. Taken inside (activity node.entry.bytes.now role) draft.old contents.old draft.new contents.new) }
-    ensures refused { IfErr result (λ stop. Stops (typed (activity node.entry.bytes.now role) draft.old contents.old) contents.new stop) }
+    requires short { IsShort node.bytes.now × RoleHas IsShort (shown_role role) }
+    requires room { HasRoom 3 contents.old }
+    ensures ok { IfOk result (λ inside. Taken inside (activity node.entry.bytes.now (shown_role role.entry)) draft.old contents.old draft.new contents.new) }
+    ensures refused { IfErr result (λ stop. Stops (typed (activity node.entry.bytes.now (shown_role role.entry)) draft.old contents.old) contents.new stop) }
 {
     add_activity(contents, alloc, draft, node, role)?;
     Ok(true)
@@ -144,7 +147,7 @@ fn and_line(
     join: NameWord<'_>,
 ) -> Result<bool, Stop>
     requires short { IsShort split.bytes.now × IsShort join.bytes.now }
-    requires room { HasRoom 2 contents.old }
+    requires room { HasRoom 3 contents.old }
     ensures ok { IfOk result (λ inside. Taken inside (opens_and split.entry.bytes.now join.entry.bytes.now) draft.old contents.old draft.new contents.new) }
     ensures refused { IfErr result (λ stop. Stops (typed (opens_and split.entry.bytes.now join.entry.bytes.now) draft.old contents.old) contents.new stop) }
 {
@@ -161,12 +164,12 @@ fn xor_line(
     draft: &mut Draft,
     split: NameWord<'_>,
     join: NameWord<'_>,
-    role: u32,
+    role: RoleWord<'_>,
 ) -> Result<bool, Stop>
-    requires short { IsShort split.bytes.now × IsShort join.bytes.now }
-    requires room { HasRoom 2 contents.old }
-    ensures ok { IfOk result (λ inside. Taken inside (opens_xor split.entry.bytes.now join.entry.bytes.now role) draft.old contents.old draft.new contents.new) }
-    ensures refused { IfErr result (λ stop. Stops (typed (opens_xor split.entry.bytes.now join.entry.bytes.now role) draft.old contents.old) contents.new stop) }
+    requires short { IsShort split.bytes.now × IsShort join.bytes.now × RoleHas IsShort (shown_role role) }
+    requires room { HasRoom 3 contents.old }
+    ensures ok { IfOk result (λ inside. Taken inside (opens_xor split.entry.bytes.now join.entry.bytes.now (shown_role role.entry)) draft.old contents.old draft.new contents.new) }
+    ensures refused { IfErr result (λ stop. Stops (typed (opens_xor split.entry.bytes.now join.entry.bytes.now (shown_role role.entry)) draft.old contents.old) contents.new stop) }
 {
     if draft.depth() >= MAX_DEPTH {
         return Err(Stop::Refused(Why::Limit(FileLimit::Depth)));
@@ -181,12 +184,12 @@ fn loop_line(
     draft: &mut Draft,
     start: NameWord<'_>,
     end: NameWord<'_>,
-    role: u32,
+    role: RoleWord<'_>,
 ) -> Result<bool, Stop>
-    requires short { IsShort start.bytes.now × IsShort end.bytes.now }
-    requires room { HasRoom 2 contents.old }
-    ensures ok { IfOk result (λ inside. Taken inside (opens_loop start.entry.bytes.now end.entry.bytes.now role) draft.old contents.old draft.new contents.new) }
-    ensures refused { IfErr result (λ stop. Stops (typed (opens_loop start.entry.bytes.now end.entry.bytes.now role) draft.old contents.old) contents.new stop) }
+    requires short { IsShort start.bytes.now × IsShort end.bytes.now × RoleHas IsShort (shown_role role) }
+    requires room { HasRoom 3 contents.old }
+    ensures ok { IfOk result (λ inside. Taken inside (opens_loop start.entry.bytes.now end.entry.bytes.now (shown_role role.entry)) draft.old contents.old draft.new contents.new) }
+    ensures refused { IfErr result (λ stop. Stops (typed (opens_loop start.entry.bytes.now end.entry.bytes.now (shown_role role.entry)) draft.old contents.old) contents.new stop) }
 {
     if draft.depth() >= MAX_DEPTH {
         return Err(Stop::Refused(Why::Limit(FileLimit::Depth)));
@@ -224,7 +227,7 @@ fn sync_line(
     target: NameWord<'_>,
 ) -> Result<bool, Stop>
     requires short { IsShort source.bytes.now × IsShort target.bytes.now }
-    requires room { HasRoom 2 contents.old }
+    requires room { HasRoom 3 contents.old }
     ensures ok { IfOk result (λ inside. Taken inside (a_sync source.entry.bytes.now target.entry.bytes.now) draft.old contents.old draft.new contents.new) }
     ensures refused { IfErr result (λ stop. Stops (typed (a_sync source.entry.bytes.now target.entry.bytes.now) draft.old contents.old) contents.new stop) }
 {
@@ -243,7 +246,7 @@ fn element_line(
     kind: ElementKind,
 ) -> Result<bool, Stop>
     requires short { IsShort element.bytes.now }
-    requires room { HasRoom 2 contents.old }
+    requires room { HasRoom 3 contents.old }
     ensures ok { IfOk result (λ inside. Taken inside (an_element element.entry.bytes.now kind) draft.old contents.old draft.new contents.new) }
     ensures refused { IfErr result (λ stop. Stops (typed (an_element element.entry.bytes.now kind) draft.old contents.old) contents.new stop) }
 {
@@ -263,7 +266,7 @@ fn read_line(
     mandatory: bool,
 ) -> Result<bool, Stop>
     requires short { IsShort node.bytes.now × IsShort element.bytes.now }
-    requires room { HasRoom 2 contents.old }
+    requires room { HasRoom 3 contents.old }
     ensures ok { IfOk result (λ inside. Taken inside (a_read node.entry.bytes.now element.entry.bytes.now mandatory) draft.old contents.old draft.new contents.new) }
     ensures refused { IfErr result (λ stop. Stops (typed (a_read node.entry.bytes.now element.entry.bytes.now mandatory) draft.old contents.old) contents.new stop) }
 {
@@ -282,7 +285,7 @@ fn write_line(
     element: NameWord<'_>,
 ) -> Result<bool, Stop>
     requires short { IsShort node.bytes.now × IsShort element.bytes.now }
-    requires room { HasRoom 2 contents.old }
+    requires room { HasRoom 3 contents.old }
     ensures ok { IfOk result (λ inside. Taken inside (a_write node.entry.bytes.now element.entry.bytes.now) draft.old contents.old draft.new contents.new) }
     ensures refused { IfErr result (λ stop. Stops (typed (a_write node.entry.bytes.now element.entry.bytes.now) draft.old contents.old) contents.new stop) }
 {
@@ -294,7 +297,7 @@ fn write_line(
 }
 
 fn end_line(contents: &mut Contents, alloc: Global, draft: Draft) -> Result<Section, Stop>
-    requires room { HasRoom 2 contents.old }
+    requires room { HasRoom 3 contents.old }
     ensures ok { IfOk result (λ place. typed (type_end) draft contents.old ≡ Ok (at_place place contents.new)) }
     ensures refused { IfErr result (λ stop. Stops (typed (type_end) draft contents.old) contents.new stop) }
 {
@@ -314,14 +317,15 @@ fn add_activity(
     alloc: Global,
     draft: &mut Draft,
     node: NameWord<'_>,
-    role: u32,
+    role: RoleWord<'_>,
 ) -> Result<(), NoMemory>
-    requires short { IsShort node.bytes.now }
-    requires room { HasRoom 2 contents.old }
-    ensures noted { OnOk result (contents.new ≡ with_node node.entry.bytes.now contents.old) }
-    ensures draft { OnOk result (draft.new ≡ with_role_of node.entry.bytes.now role draft.old contents.old) }
+    requires short { IsShort node.bytes.now × RoleHas IsShort (shown_role role) }
+    requires room { HasRoom 3 contents.old }
+    ensures noted { OnOk result (contents.new ≡ with_role (shown_role role.entry) (with_node node.entry.bytes.now contents.old)) }
+    ensures draft { OnOk result (draft.new ≡ with_role_of node.entry.bytes.now (shown_role role.entry) draft.old contents.old) }
 {
     let node = node_number(contents, alloc, node)?;
+    let role = role_number(contents, alloc, role)?;
     draft.push_activity(node)?;
     draft.put_role(node, role)
 }
@@ -334,7 +338,7 @@ fn open_and(
     join: NameWord<'_>,
 ) -> Result<(), NoMemory>
     requires short { IsShort split.bytes.now × IsShort join.bytes.now }
-    requires room { HasRoom 2 contents.old }
+    requires room { HasRoom 3 contents.old }
     ensures noted { OnOk result (contents.new ≡ with_nodes split.entry.bytes.now join.entry.bytes.now contents.old) }
     ensures draft { OnOk result (draft.new ≡ with_and split.entry.bytes.now join.entry.bytes.now draft.old contents.old) }
 {
@@ -348,14 +352,15 @@ fn open_xor(
     draft: &mut Draft,
     split: NameWord<'_>,
     join: NameWord<'_>,
-    role: u32,
+    role: RoleWord<'_>,
 ) -> Result<(), NoMemory>
-    requires short { IsShort split.bytes.now × IsShort join.bytes.now }
-    requires room { HasRoom 2 contents.old }
-    ensures noted { OnOk result (contents.new ≡ with_nodes split.entry.bytes.now join.entry.bytes.now contents.old) }
-    ensures draft { OnOk result (draft.new ≡ with_xor split.entry.bytes.now join.entry.bytes.now role draft.old contents.old) }
+    requires short { IsShort split.bytes.now × IsShort join.bytes.now × RoleHas IsShort (shown_role role) }
+    requires room { HasRoom 3 contents.old }
+    ensures noted { OnOk result (contents.new ≡ with_role (shown_role role.entry) (with_nodes split.entry.bytes.now join.entry.bytes.now contents.old)) }
+    ensures draft { OnOk result (draft.new ≡ with_xor split.entry.bytes.now join.entry.bytes.now (shown_role role.entry) draft.old contents.old) }
 {
     let (split, join) = node_numbers(contents, alloc, split, join)?;
+    let role = role_number(contents, alloc, role)?;
     draft.open_gate(alloc, GateKind::Xor, split, join)?;
     draft.put_role(split, role)
 }
@@ -366,14 +371,15 @@ fn open_loop(
     draft: &mut Draft,
     start: NameWord<'_>,
     end: NameWord<'_>,
-    role: u32,
+    role: RoleWord<'_>,
 ) -> Result<(), NoMemory>
-    requires short { IsShort start.bytes.now × IsShort end.bytes.now }
-    requires room { HasRoom 2 contents.old }
-    ensures noted { OnOk result (contents.new ≡ with_nodes start.entry.bytes.now end.entry.bytes.now contents.old) }
-    ensures draft { OnOk result (draft.new ≡ with_loop start.entry.bytes.now end.entry.bytes.now role draft.old contents.old) }
+    requires short { IsShort start.bytes.now × IsShort end.bytes.now × RoleHas IsShort (shown_role role) }
+    requires room { HasRoom 3 contents.old }
+    ensures noted { OnOk result (contents.new ≡ with_role (shown_role role.entry) (with_nodes start.entry.bytes.now end.entry.bytes.now contents.old)) }
+    ensures draft { OnOk result (draft.new ≡ with_loop start.entry.bytes.now end.entry.bytes.now (shown_role role.entry) draft.old contents.old) }
 {
     let (start, end) = node_numbers(contents, alloc, start, end)?;
+    let role = role_number(contents, alloc, role)?;
     draft.open_loop(alloc, start, end)?;
     draft.put_role(end, role)
 }
@@ -386,7 +392,7 @@ fn put_sync(
     target: NameWord<'_>,
 ) -> Result<bool, NoMemory>
     requires short { IsShort source.bytes.now × IsShort target.bytes.now }
-    requires room { HasRoom 2 contents.old }
+    requires room { HasRoom 3 contents.old }
     ensures noted { OnOk result (contents.new ≡ with_nodes source.entry.bytes.now target.entry.bytes.now contents.old) }
     ensures added { IfOk result (λ added. added ≡ not (has_sync source.entry.bytes.now target.entry.bytes.now draft.old contents.old)) }
     ensures rows { IfOk result (λ added. draft.new ≡ (if added then put_sync source.entry.bytes.now target.entry.bytes.now draft.old contents.old else draft.old)) }
@@ -403,7 +409,7 @@ fn put_element(
     kind: ElementKind,
 ) -> Result<bool, NoMemory>
     requires short { IsShort element.bytes.now }
-    requires room { HasRoom 2 contents.old }
+    requires room { HasRoom 3 contents.old }
     ensures noted { OnOk result (contents.new ≡ with_element element.entry.bytes.now contents.old) }
     ensures added { IfOk result (λ added. added ≡ not (has_element element.entry.bytes.now draft.old contents.old)) }
     ensures rows { IfOk result (λ added. draft.new ≡ (if added then put_element element.entry.bytes.now kind draft.old contents.old else draft.old)) }
@@ -421,7 +427,7 @@ fn put_read(
     mandatory: bool,
 ) -> Result<bool, NoMemory>
     requires short { IsShort node.bytes.now × IsShort element.bytes.now }
-    requires room { HasRoom 2 contents.old }
+    requires room { HasRoom 3 contents.old }
     ensures noted { OnOk result (contents.new ≡ with_node_and_element node.entry.bytes.now element.entry.bytes.now contents.old) }
     ensures added { IfOk result (λ added. added ≡ not (has_read node.entry.bytes.now element.entry.bytes.now draft.old contents.old)) }
     ensures rows { IfOk result (λ added. draft.new ≡ (if added then put_read node.entry.bytes.now element.entry.bytes.now mandatory draft.old contents.old else draft.old)) }
@@ -438,7 +444,7 @@ fn put_write(
     element: NameWord<'_>,
 ) -> Result<bool, NoMemory>
     requires short { IsShort node.bytes.now × IsShort element.bytes.now }
-    requires room { HasRoom 2 contents.old }
+    requires room { HasRoom 3 contents.old }
     ensures noted { OnOk result (contents.new ≡ with_node_and_element node.entry.bytes.now element.entry.bytes.now contents.old) }
     ensures added { IfOk result (λ added. added ≡ not (has_write node.entry.bytes.now element.entry.bytes.now draft.old contents.old)) }
     ensures rows { IfOk result (λ added. draft.new ≡ (if added then put_write node.entry.bytes.now element.entry.bytes.now draft.old contents.old else draft.old)) }
@@ -454,7 +460,7 @@ fn add_sound(
     name: Name64,
     checked: Checked,
 ) -> Result<(), NoMemory>
-    requires room { HasRoom 2 contents.old }
+    requires room { HasRoom 3 contents.old }
     ensures { OnOk result (contents.new ≡ with_type name checked contents.old) }
 {
     add_type(contents, alloc, name, &checked)
@@ -466,7 +472,7 @@ fn add_type(
     name: Name64,
     checked: &Checked,
 ) -> Result<(), NoMemory>
-    requires room { HasRoom 2 contents.old }
+    requires room { HasRoom 3 contents.old }
     ensures { OnOk result (contents.new ≡ with_type name checked.now contents.old) }
 {
     let schema = checked.schema().copy(alloc)?;

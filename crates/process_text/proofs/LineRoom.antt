@@ -1,5 +1,5 @@
 -- How much of a file a line takes, and how many names it adds.
-use Rattle.std.proofs.Common.{◌≡◌, ◌≤◌, ℕ, suc, ◌+◌, ◌-◌, ◌==◌, Bool, true, false, List, [], ◌∷◌, length, filter, map, take, Ok, IfOk, arith, subst, sym, ap, ◌∙◌}
+use Rattle.std.proofs.Common.{◌≡◌, ◌≤◌, ℕ, ◌+◌, ◌-◌, ◌==◌, Bool, true, false, List, [], ◌∷◌, length, filter, take, Ok, IfOk, arith, subst, sym, ap, ◌∙◌}
 use Rattle.std.proofs.lemmas.List.{length-map, length-take}
 use Rattle.std.specs.Prelude.{if◌then◌else◌, slice_index}
 use Rattle.std.specs.Borrow.{Bor}
@@ -11,7 +11,7 @@ use Rattle.file_words.specs.declared.words.Quote.{Quote}
 use Rattle.file_words.specs.declared.words.Quote.TheVariants.{Outside}
 use Rattle.file_model.specs.Reading.{step_in}
 use Rattle.file_model.specs.Room.{count_of_names}
-use Rattle.file_model.specs.Steps.{State, Step, at_place}
+use Rattle.file_model.specs.Steps.{Step, at_place}
 use Rattle.file_model.specs.declared.states.Contents.{Contents}
 use Rattle.file_model.specs.declared.states.Section.{Section}
 use Rattle.file_model.proofs.Grown.{step_in-grown}
@@ -77,6 +77,6 @@ words_take words rest line more are is =
     omega (arith, same, line_takes rest line more is)
 
 pub step_adds : (p next : Section) (at : ℕ) (line : Bytes) (ws : List Bytes) (c after : Contents) → step_in p at line ws c ≡ Ok (at_place next after) →
-    count_of_names after ≤ count_of_names c + (length ws + 5)
+    count_of_names after ≤ count_of_names c + (length ws + 6)
 step_adds p next at line ws c after is =
-    subst (λ (o : Step). IfOk o (λ s. count_of_names s.contents ≤ count_of_names c + (length ws + 5))) is (step_in-grown p at line ws c)
+    subst (λ (o : Step). IfOk o (λ s. count_of_names s.contents ≤ count_of_names c + (length ws + 6))) is (step_in-grown p at line ws c)

@@ -1,5 +1,5 @@
 -- A line without a long word has a form that is short.
-use Rattle.std.proofs.Common.{◌≡◌, ◌≤◌, ℕ, Bool, true, false, List, length, Option, Some, None, map, sym, subst, arith}
+use Rattle.std.proofs.Common.{◌≡◌, ◌≤◌, ℕ, Bool, true, false, List, length, Option, Some, None, sym, subst, arith}
 use Rattle.std.proofs.lemmas.List.{length-map}
 use Rattle.std.specs.Prelude.{IfSome, if◌then◌else◌}
 use Rattle.std.specs.Borrow.{Bor}
@@ -8,11 +8,11 @@ use Rattle.file_words.specs.Lines.{Bytes}
 use Rattle.file_words.specs.Shown.{shown}
 use Rattle.file_forms.specs.DeclarationForms.{declaration_line}
 use Rattle.file_forms.specs.Forms.{Declaration, TypeLine, ScriptLine, OperationLine}
-use Rattle.file_forms.specs.NamesInForms.{writes_in}
+use Rattle.file_forms.specs.NamesInForms.{roles_in, writes_in}
 use Rattle.file_forms.specs.OperationForms.{operation_line}
 use Rattle.file_forms.specs.ScriptForms.{script_line}
 use Rattle.file_forms.specs.TypeForms.{type_line}
-use Rattle.file_forms.proofs.FewWrites.{script_line-few}
+use Rattle.file_forms.proofs.FewWrites.{declaration-few, script_line-few}
 use Rattle.file_forms.proofs.NamesInForms.{declaration-has, operation-has, script_line-has, type_line-has}
 use Rattle.file_drafts.specs.Drafts.{around}
 use Rattle.file_drafts.specs.declared.drafts.Draft.{Draft}
@@ -32,11 +32,17 @@ fitted d (Some l) h = by (fits_in (around d.frames) l)
     by true = h
     by false = tt
 
-pub short_declaration : (ws : List Bytes) (f : Declaration) → first_long ws ≡ None → Some f ≡ declaration_line ws → IsShortDeclaration f
-short_declaration ws f none is = given IsShortDeclaration (declaration_line ws) f is (declaration-has IsShort IsShortWrite ws (words-short ws none))
+pub short_declaration : (format : ℕ) (ws : List Bytes) (f : Declaration) → first_long ws ≡ None → Some f ≡ declaration_line format ws → IsShortDeclaration f
+short_declaration format ws f none is = given IsShortDeclaration (declaration_line format ws) f is (declaration-has IsShort IsShortWrite format ws (words-short ws none))
 
-pub short_type_line : (d : Draft) (ws : List Bytes) (f : TypeLine) → first_long ws ≡ None → Some f ≡ fitting d (type_line ws) → IsShortTypeLine f
-short_type_line d ws f none is = given IsShortTypeLine (fitting d (type_line ws)) f is (fitted d (type_line ws) (type_line-has IsShort IsShortWrite ws (words-short ws none)))
+pub few_roles : (format : ℕ) (words : List (Bor Bytes)) (f : Declaration) → Some f ≡ declaration_line format (shown words) → roles_in f ≤ length words
+few_roles format words f is =
+    let few : roles_in f ≤ length (shown words) = given (λ d. roles_in d ≤ length (shown words)) (declaration_line format (shown words)) f is (declaration-few format (shown words)) in
+    omega (arith, few, length-map words (λ (w : Bor Bytes). w.now))
+
+pub short_type_line : (format : ℕ) (d : Draft) (ws : List Bytes) (f : TypeLine) → first_long ws ≡ None → Some f ≡ fitting d (type_line format ws) → IsShortTypeLine f
+short_type_line format d ws f none is =
+    given IsShortTypeLine (fitting d (type_line format ws)) f is (fitted d (type_line format ws) (type_line-has IsShort IsShortWrite format ws (words-short ws none)))
 
 pub short_script_line : (format : ℕ) (ws : List Bytes) (f : ScriptLine) → first_long ws ≡ None → Some f ≡ script_line format ws → IsShortScriptLine f
 short_script_line format ws f none is = given IsShortScriptLine (script_line format ws) f is (script_line-has IsShort IsShortWrite format ws (words-short ws none))
@@ -46,5 +52,5 @@ few_writes format words f is =
     let few : writes_in f ≤ length (shown words) = given (λ l. writes_in l ≤ length (shown words)) (script_line format (shown words)) f is (script_line-few format (shown words)) in
     omega (arith, few, length-map words (λ (w : Bor Bytes). w.now))
 
-pub short_operation : (ws : List Bytes) (f : OperationLine) → first_long ws ≡ None → Some f ≡ operation_line ws → IsShortOperation f
-short_operation ws f none is = given IsShortOperation (operation_line ws) f is (operation-has IsShort IsShortWrite ws (words-short ws none))
+pub short_operation : (format : ℕ) (ws : List Bytes) (f : OperationLine) → first_long ws ≡ None → Some f ≡ operation_line format ws → IsShortOperation f
+short_operation format ws f none is = given IsShortOperation (operation_line format ws) f is (operation-has IsShort IsShortWrite format ws (words-short ws none))

@@ -13,6 +13,7 @@ pub use file_model::{
     Act, ActorDecl, ActorDecls, Bytes, CaseDecl, CaseDecls, File, FileLimit, FileRefusal, Line,
     Lines, Name64, Names, Phases, Refused, TypeDecl, TypeDecls, Why,
 };
-pub use reading::read_file;
-pub use workable::read_workable;
+pub use reading::{read_file, read_file_up_to};
+pub use stepping::step_in;
+pub use workable::{read_workable, read_workable_up_to};
 pub use wsm_lists::NoMemory;

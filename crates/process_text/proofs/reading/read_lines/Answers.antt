@@ -1,12 +1,9 @@
-use Rattle.std.proofs.Common.{rules, ◌≡◌, ◌≤◌, ◌+◌, ◌*◌, length, Ok, ap, ◌∙◌, arith}
+use Rattle.std.proofs.Common.{rules, ◌≡◌, length, ap, ◌∙◌, arith}
 use Rattle.std.proofs.lemmas.List.{length-map}
 use Rattle.std.specs.Borrow.{Bor}
 use Rattle.file_words.specs.Lines.{Bytes, front_line, lines_of, without_return}
 use Rattle.file_words.specs.Shown.{shown}
 use Rattle.file_words.specs.Words.{words_of}
-use Rattle.file_model.specs.Reading.{step_in}
-use Rattle.file_model.specs.Room.{count_of_names}
-use Rattle.file_model.specs.Steps.{at_place}
 use Rattle.process_text.proofs.LineRoom.{step_adds, words_take}
 use Rattle.process_text.proofs.reading.read_lines.Goals as goal
 use Rattle.process_text.proofs.reading.read_lines.Goals.{then-not-is_skipped+in-Ok, else-not-is_skipped}

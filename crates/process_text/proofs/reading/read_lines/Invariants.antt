@@ -2,14 +2,14 @@ use Rattle.std.proofs.Common.{◌≡◌, ◌≤◌, ◌+◌, ◌*◌, length, Ok
 use Rattle.file_model.specs.Room.{count_of_names}
 use Rattle.file_words.specs.Lines.{lines_of}
 use Rattle.file_model.specs.Steps.{at_place}
-use Rattle.file_model.specs.Reading.{read_from, file}
+use Rattle.file_model.specs.Reading.{read_from, file_up_to}
 use Rattle.process_text.proofs.reading.read_lines.Given as goal
 
 abbrev pub invariant-loop-line : goal.invariant-loop-line
 invariant-loop-line l = record {
   counted : l.at + length l.rest ≤ 1 + length l.bytes;
-  room : count_of_names l.contents + 6 * length l.rest ≤ 2 + 6 * length l.bytes;
-  left : read_from (Ok (at_place l.place l.contents)) l.at (lines_of l.rest).left (lines_of l.rest).ended ≡ file l.bytes;
+  room : count_of_names l.contents + 7 * length l.rest ≤ 2 + 7 * length l.bytes;
+  left : read_from (Ok (at_place l.place l.contents)) l.at (lines_of l.rest).left (lines_of l.rest).ended ≡ file_up_to l.newest l.bytes;
 }
 
 abbrev pub decreases-loop-line : goal.decreases-loop-line
