@@ -1,17 +1,18 @@
 -- What the calls of an act leave of a desk, and the lines of an actor one after another.
-use Rattle.std.proofs.Common.{◌≡◌, ◌≢◌, ℕ, zero, suc, ◌+◌, Bool, true, List, [], ◌∷◌, ◌++◌, length, map, get_or, Option, Some, None, Result, Ok, Err, slice_get, set, IsErrAnd, is_some, inl, inr, refl, sym, ap, ◌∙◌, subst, arith, eq-eqb, ne_eqb, if◌then◌else◌}
+use Rattle.std.proofs.Common.{◌≡◌, ◌≢◌, ℕ, zero, suc, ◌+◌, ◌≤◌, Bool, true, List, [], ◌∷◌, ◌++◌, length, take, drop, map, get_or, Option, Some, None, Result, Ok, Err, slice_get, set, IsErrAnd, is_some, inl, inr, refl, sym, ap, ◌∙◌, subst, arith, eq-eqb, ne_eqb, if◌then◌else◌}
 use Rattle.std.proofs.Math.ListN.{length-map}
+use Rattle.std.proofs.lemmas.List.{length-take-le}
 use Rattle.std.proofs.lemmas.Option.{get_or_from_slice_get}
 use Rattle.adept_actor.proofs.Desks.{case-there, done-defined, nothing-done, then-done, kind-done, case-done, cases-done, each_calls, reply_in}
-use Rattle.adept_actor.proofs.Doing.{each-length}
+use Rattle.adept_actor.proofs.Doing.{each-length, there-before}
 use Rattle.adept_actor.specs.Growth.{DeskHasDone}
-use Rattle.adept_actor.specs.Work.{Acts, CanAct, CanWork, WorksLines, Does, SeesFull, case_count, first_fault}
+use Rattle.adept_actor.specs.Work.{Acts, CanAct, CanWork, WorksLines, Does, SeesFull, first_fault}
 use Rattle.adept_actor.specs.Work.SeesFull.{of_kind as kind_is_full, of_case as case_is_full}
 use Rattle.adept_server.proofs.Keeping.{kind_beside, kind_keeps}
 use Rattle.adept_server.specs.Calling.{CallEach, CallsKind, CallsCase, CallsCases, Creates, Migrates}
 use Rattle.adept_server.specs.Calling.Creates.{unasked as uncreated, asked as created}
 use Rattle.adept_server.specs.Calling.Migrates.{unasked as none_moves, asked as none_told, told as all_told}
-use Rattle.adept_server.specs.Desks.{DeskView, in_row, at_case, case_pass, has_case, has_kind, CasePass, IsDesk}
+use Rattle.adept_server.specs.Desks.{DeskView, in_row, at_case, case_count, case_pass, has_case, has_kind, CasePass, IsDesk}
 use Rattle.case_core.specs.Machine.{case_after, case_reply}
 use Rattle.case_core.specs.declared.events.Event.{Event}
 use Rattle.case_core.specs.declared.events.Event.TheVariants as event
@@ -55,10 +56,11 @@ each-full after reply e (v ∷ vs) (a ∷ answers) [] k is = absurd k
 each-full after reply e (v ∷ vs) (Ok r ∷ answers) (w ∷ ws) k is = let r = each-full after reply e vs answers ws k.2 is in (suc r.0, r.1, r.2, r.3)
 each-full after reply e (v ∷ vs) (Err f ∷ answers) (w ∷ ws) k is = (zero, w, refl, k.0.full (ap Err (cc (is))))
 
-cases-full : (e : Event) (t : ℕ) (answers : List (Result Reply CallFault)) (v w : DeskView) → CallsCases e t answers v w → first_fault answers ≡ Some fault.Full → SeesFull w
-cases-full e t answers v w k is =
-    let r = each-full case_after case_reply e k.row answers k.row_behind k.called is in
-    case_is_full (record { type_no = t; place = r.0 }) r.1 (behind-row v w t k.row k.row_behind (ap (λ (x : DeskView). x.cases) k.others) k.there r.0 ∙ r.2) r.3
+cases-full : (e : Event) (t many : ℕ) (answers : List (Result Reply CallFault)) (v w : DeskView) → CallsCases e t many answers v w → first_fault answers ≡ Some fault.Full → SeesFull w
+cases-full e t many answers v w k is =
+    let r = each-full case_after case_reply e (take many k.row) answers k.front k.called is in
+    let new = k.front ++ drop many k.row in
+    case_is_full (record { type_no = t; place = r.0 }) r.1 (behind-row v w t k.row new (ap (λ (x : DeskView). x.cases) k.others) k.there r.0 ∙ there-before k.front (drop many k.row) r.0 r.1 r.2) r.3
 
 -- where there is no fault, each case was told
 all-told : (n t : ℕ) (e : Event) (place : ℕ) (answers : List (Result Reply CallFault)) → first_fault answers ≡ None → (rs : List Reply) × (length rs ≡ length answers) × (each_calls n t e place answers ≡ told_each n t e place rs)
@@ -118,66 +120,47 @@ module _ (roles : List ℕ) (v w : DeskView) (desk : IsDesk v) where
         λ full. case-full (event.Create version) id (Err f) m w c (ap Err full),
       )
 
-  -- the cases of a type were told to move
-  moved : (t : ℕ) (version : _) (m : DeskView) (answers : List (Result Reply CallFault)) → CallsKind kind_event.Newest t (Ok (reply.Is version)) v m → CallsCases (event.Migrate version) t answers m w
-      → DeskHasDone (asked v.number t version ∷ each_calls v.number t (event.Migrate version) 0 answers) v w × (length answers ≡ case_count v t)
-  moved t version m answers k c =
+  -- the first cases of a type were told to move
+  moved : (t many : ℕ) (version : _) (m : DeskView) (answers : List (Result Reply CallFault)) → many ≤ case_count v t → CallsKind kind_event.Newest t (Ok (reply.Is version)) v m
+      → CallsCases (event.Migrate version) t many answers m w → DeskHasDone (asked v.number t version ∷ each_calls v.number t (event.Migrate version) 0 answers) v w × (length answers ≡ many)
+  moved t many version m answers enough k c =
       let asked_it = kind-done kind_event.Newest t (Ok (reply.Is version)) v m desk k in
       let kept = kind_keeps kind_event.Newest t (Ok (reply.Is version)) v m k desk in
       let number = (kind_beside kind_event.Newest t (Ok (reply.Is version)) v m k).number in
-      let there : slice_get v.cases t ≡ Some c.row = ap (λ rows. slice_get rows t) (sym (ap (λ (x : DeskView). x.cases) k.others)) ∙ c.there in (
+      let there : slice_get v.cases t ≡ Some c.row = ap (λ rows. slice_get rows t) (sym (ap (λ (x : DeskView). x.cases) k.others)) ∙ c.there in
+      let long : case_count v t ≡ length c.row = ap length (get_or_from_slice_get v.cases t c.row [] there) in (
         then-done (asked v.number t version ∷ []) (each_calls v.number t (event.Migrate version) 0 answers) v m w asked_it
-            (subst (λ n. DeskHasDone (each_calls n t (event.Migrate version) 0 answers) m w) number (cases-done (event.Migrate version) t answers m w kept c)),
-        (each-length case_after case_reply (event.Migrate version) c.row answers c.row_behind c.called).1 ∙ sym (ap length (get_or_from_slice_get v.cases t c.row [] there)),
+            (subst (λ n. DeskHasDone (each_calls n t (event.Migrate version) 0 answers) m w) number (cases-done (event.Migrate version) t many answers m w kept c)),
+        (each-length case_after case_reply (event.Migrate version) (take many c.row) answers c.front c.called).1 ∙ length-take-le many c.row (omega (arith, enough, long)),
       )
 
-  pub migrate-acts : (t : ℕ) (answers : List (Result Reply CallFault)) → Migrates t (Ok answers) v w
-      → (first_fault answers ≡ None → Does (AreCallsOf (case_count v) roles v.number (act.Migrate t)) v w)
-      × ((f : CallFault) → first_fault answers ≡ Some f → Does (ArePartOf (case_count v) roles v.number (act.Migrate t)) v w × (f ≡ fault.Full → SeesFull w))
-  migrate-acts t answers (none_moves f is k) = absurd (cc (is))
-  migrate-acts t answers (none_told version is k) = absurd (cc (is))
-  migrate-acts t answers (all_told version m others is k c) =
+  pub migrate-acts : (t many : ℕ) (answers : List (Result Reply CallFault)) → CanAct v (act.Migrate t many) → Migrates t many (Ok answers) v w
+      → (first_fault answers ≡ None → Does (AreCallsOf roles v.number (act.Migrate t many)) v w)
+      × ((f : CallFault) → first_fault answers ≡ Some f → Does (ArePartOf roles v.number (act.Migrate t many)) v w × (f ≡ fault.Full → SeesFull w))
+  migrate-acts t many answers can (none_moves f is k) = absurd (cc (is))
+  migrate-acts t many answers can (none_told version is k) = absurd (cc (is))
+  migrate-acts t many answers can (all_told version m others is k c) =
       let same : others ≡ answers = cc (is) in
-      let told : CallsCases (event.Migrate version) t answers m w = subst (λ xs. CallsCases (event.Migrate version) t xs m w) same c in
-      let d = moved t version m answers k told in (
+      let told : CallsCases (event.Migrate version) t many answers m w = subst (λ xs. CallsCases (event.Migrate version) t many xs m w) same c in
+      let d = moved t many version m answers can.2 k told in (
         λ none.
             let all = all-told v.number t (event.Migrate version) 0 answers none in
             (_, (version, all.0, all.1 ∙ d.1, ap (λ calls. asked v.number t version ∷ calls) all.2), d.0),
-        λ f some. ((_, inr (version, map reply_in answers, (let n = length-map answers reply_in in omega (arith, d.1)), refl), d.0), λ full. cases-full (event.Migrate version) t answers m w told (some ∙ ap Some full)),
+        λ f some. ((_, inr (version, map reply_in answers, (let n = length-map answers reply_in in omega (arith, d.1)), refl), d.0), λ full. cases-full (event.Migrate version) t many answers m w told (some ∙ ap Some full)),
       )
 
-  pub migrate-fails : (t : ℕ) (f : CallFault) → Migrates t (Err f) v w → Does (ArePartOf (case_count v) roles v.number (act.Migrate t)) v w × (f ≡ fault.Full → SeesFull w)
-  migrate-fails t f (none_moves g is k) =
+  pub migrate-fails : (t many : ℕ) (f : CallFault) → Migrates t many (Err f) v w → Does (ArePartOf roles v.number (act.Migrate t many)) v w × (f ≡ fault.Full → SeesFull w)
+  migrate-fails t many f (none_moves g is k) =
       let same : g ≡ f = cc (is) in
       (([], inl refl, kind-done kind_event.Newest t (Err g) v w desk k), λ full. kind-full kind_event.Newest t (Err g) v w k (ap Err (same ∙ full)))
-  migrate-fails t f (none_told version is k) =
+  migrate-fails t many f (none_told version is k) =
       ((_, inr (version, [], omega arith, refl), kind-done kind_event.Newest t (Ok (reply.Is version)) v w desk k), λ full. absurd (cc (is, full)))
-  migrate-fails t f (all_told version m answers is k c) = absurd (cc (is))
+  migrate-fails t many f (all_told version m answers is k c) = absurd (cc (is))
 
 -- how an act ended, told without its reply
 pub acts-fault : {B : Type 0} (roles : List ℕ) (x y : Act) (v w : DeskView) (f : CallFault) (b : Result B CallFault) → y ≡ x → IsErrAnd b (λ g. g ≡ f) → Acts {A = Unit {0}} roles x (Err f) v w → Acts {A = B} roles y b v w
 acts-fault roles x y v w f (Ok r) is same k = absurd same
 acts-fault {B} roles x y v w f (Err g) is same k = subst (λ h. Acts {A = B} roles y (Err h) v w) (sym same) (subst (λ z. Acts {A = B} roles z (Err f) v w) (sym is) k)
-
--- the calls of an act are the same where each type has as many cases
-same-act : (many others : ℕ → ℕ) → ((t : ℕ) → many t ≡ others t) → (roles : List ℕ) (a : ℕ) (x : Act) (calls : List Call) → AreCallsOf many roles a x calls → AreCallsOf others roles a x calls
-same-act many others same roles a (act.Create c) calls k = k
-same-act many others same roles a (act.Start c n) calls k = k
-same-act many others same roles a (act.Withdraw c n) calls k = k
-same-act many others same roles a (act.End c n choice writes) calls k = k
-same-act many others same roles a (act.Change c ops) calls k = k
-same-act many others same roles a (act.Install t ops) calls k = k
-same-act many others same roles a (act.Migrate t) calls (v, rs, many_told, is) = (v, rs, many_told ∙ same t, is)
-
-same-part : (many others : ℕ → ℕ) → ((t : ℕ) → many t ≡ others t) → (roles : List ℕ) (a : ℕ) (x : Act) (calls : List Call) → ArePartOf many roles a x calls → ArePartOf others roles a x calls
-same-part many others same roles a (act.Create c) calls k = k
-same-part many others same roles a (act.Start c n) calls k = k
-same-part many others same roles a (act.Withdraw c n) calls k = k
-same-part many others same roles a (act.End c n choice writes) calls k = k
-same-part many others same roles a (act.Change c ops) calls k = k
-same-part many others same roles a (act.Install t ops) calls k = k
-same-part many others same roles a (act.Migrate t) calls (inl none) = inl none
-same-part many others same roles a (act.Migrate t) calls (inr (v, answers, few, is)) = inr (v, answers, (let e = same t in omega (arith, few)), is)
 
 -- as many cases of each type
 same-counts : {A B : Type 0} (rows : List (List A)) (others : List (List B)) → map length others ≡ map length rows → (t : ℕ) → length (get_or others t []) ≡ length (get_or rows t [])
@@ -191,12 +174,11 @@ module _ (roles : List ℕ) where
   -- Some lines of a whole are left, and whatever they come to, the whole comes to.
   pub record Leads (whole left : List Line) (v w : DeskView) : Type 0 where
     pub number : w.number ≡ v.number
-    pub rows : map length w.cases ≡ map length v.cases
-    pub done : (u : DeskView) → Does (AreCallsOfLines (case_count v) roles v.number (lines_of v.number left)) w u → Does (AreCallsOfLines (case_count v) roles v.number (lines_of v.number whole)) v u
-    pub begun : (u : DeskView) → Does (AreBegun (case_count v) roles v.number (lines_of v.number left)) w u → Does (AreBegun (case_count v) roles v.number (lines_of v.number whole)) v u
+    pub done : (u : DeskView) → Does (AreCallsOfLines roles v.number (lines_of v.number left)) w u → Does (AreCallsOfLines roles v.number (lines_of v.number whole)) v u
+    pub begun : (u : DeskView) → Does (AreBegun roles v.number (lines_of v.number left)) w u → Does (AreBegun roles v.number (lines_of v.number whole)) v u
 
   pub leads-all : (lines : List Line) (v : DeskView) → Leads lines lines v v
-  leads-all lines v = record { number = refl; rows = refl; done = λ u k. k; begun = λ u k. k }
+  leads-all lines v = record { number = refl; done = λ u k. k; begun = λ u k. k }
 
   own-line : (n : ℕ) (l : Line) (left : List Line) → l.actor ≡ n → lines_of n (l ∷ left) ≡ l ∷ lines_of n left
   own-line n l left is = ap (λ (b : Bool). if b then l ∷ lines_of n left else lines_of n left) (eq-eqb l.actor n is)
@@ -211,43 +193,31 @@ module _ (roles : List ℕ) where
         let same = other-line v.number l left (λ is. not (is ∙ sym k.number)) in
         record {
           number = k.number;
-          rows = k.rows;
-          done = λ u d. k.done u (subst (λ ls. Does (AreCallsOfLines (case_count v) roles v.number ls) w u) (sym same) d);
-          begun = λ u d. k.begun u (subst (λ ls. Does (AreBegun (case_count v) roles v.number ls) w u) (sym same) d);
+          done = λ u d. k.done u (subst (λ ls. Does (AreCallsOfLines roles v.number ls) w u) (sym same) d);
+          begun = λ u d. k.begun u (subst (λ ls. Does (AreBegun roles v.number ls) w u) (sym same) d);
         }
 
     -- a line is worked
-    pub leads-on : (m : DeskView) → l.actor ≡ w.number → Does (AreCallsOf (case_count w) roles w.number l.act) w m → Leads whole left v m
+    pub leads-on : (m : DeskView) → l.actor ≡ w.number → Does (AreCallsOf roles w.number l.act) w m → Leads whole left v m
     leads-on m own (first, fit, d) =
         let same = own-line v.number l left (own ∙ k.number) in
-        let here : AreCallsOf (case_count v) roles v.number l.act first = subst (λ n. AreCallsOf (case_count v) roles n l.act first) k.number (same-act (case_count w) (case_count v) (same-counts v.cases w.cases k.rows) roles w.number l.act first fit) in
+        let here : AreCallsOf roles v.number l.act first = subst (λ n. AreCallsOf roles n l.act first) k.number fit in
         record {
           number = d.number ∙ k.number;
-          rows = d.rows ∙ k.rows;
-          done = λ u r. k.done u (subst (λ ls. Does (AreCallsOfLines (case_count v) roles v.number ls) w u) (sym same) (first ++ r.0, (first, r.0, refl, here, r.1), then-done first r.0 w m u d r.2));
-          begun = λ u r. k.begun u (subst (λ ls. Does (AreBegun (case_count v) roles v.number ls) w u) (sym same) (first ++ r.0, inr (first, r.0, refl, here, r.1), then-done first r.0 w m u d r.2));
+          done = λ u r. k.done u (subst (λ ls. Does (AreCallsOfLines roles v.number ls) w u) (sym same) (first ++ r.0, (first, r.0, refl, here, r.1), then-done first r.0 w m u d r.2));
+          begun = λ u r. k.begun u (subst (λ ls. Does (AreBegun roles v.number ls) w u) (sym same) (first ++ r.0, inr (first, r.0, refl, here, r.1), then-done first r.0 w m u d r.2));
         }
 
     -- a line is begun up to a fault
-    pub leads-begun : (m : DeskView) → l.actor ≡ w.number → Does (ArePartOf (case_count w) roles w.number l.act) w m → Does (AreBegun (case_count v) roles v.number (lines_of v.number whole)) v m
+    pub leads-begun : (m : DeskView) → l.actor ≡ w.number → Does (ArePartOf roles w.number l.act) w m → Does (AreBegun roles v.number (lines_of v.number whole)) v m
     leads-begun m own (calls, part, d) =
         let same = own-line v.number l left (own ∙ k.number) in
-        let here : ArePartOf (case_count v) roles v.number l.act calls = subst (λ n. ArePartOf (case_count v) roles n l.act calls) k.number (same-part (case_count w) (case_count v) (same-counts v.cases w.cases k.rows) roles w.number l.act calls part) in
-        k.begun m (subst (λ ls. Does (AreBegun (case_count v) roles v.number ls) w m) (sym same) (calls, inl here, d))
+        let here : ArePartOf roles v.number l.act calls = subst (λ n. ArePartOf roles n l.act calls) k.number part in
+        k.begun m (subst (λ ls. Does (AreBegun roles v.number ls) w m) (sym same) (calls, inl here, d))
 
   -- no line is left
-  pub leads-end : (whole : List Line) (v w : DeskView) → Leads whole [] v w → Does (AreCallsOfLines (case_count v) roles v.number (lines_of v.number whole)) v w
+  pub leads-end : (whole : List Line) (v w : DeskView) → Leads whole [] v w → Does (AreCallsOfLines roles v.number (lines_of v.number whole)) v w
   leads-end whole v w k = k.done w ([], refl, nothing-done w)
-
--- the calls of lines are the same where each type has as many cases
-pub same-lines : (many others : ℕ → ℕ) → ((t : ℕ) → many t ≡ others t) → (roles : List ℕ) (a : ℕ) (ls : List Line) (calls : List Call) → AreCallsOfLines many roles a ls calls → AreCallsOfLines others roles a ls calls
-same-lines many others same roles a [] calls k = k
-same-lines many others same roles a (l ∷ ls) calls (first, rest, is, fit, k) = (first, rest, is, same-act many others same roles a l.act first fit, same-lines many others same roles a ls rest k)
-
-pub same-begun : (many others : ℕ → ℕ) → ((t : ℕ) → many t ≡ others t) → (roles : List ℕ) (a : ℕ) (ls : List Line) (calls : List Call) → AreBegun many roles a ls calls → AreBegun others roles a ls calls
-same-begun many others same roles a [] calls k = absurd k
-same-begun many others same roles a (l ∷ ls) calls (inl part) = inl (same-part many others same roles a l.act calls part)
-same-begun many others same roles a (l ∷ ls) calls (inr (first, rest, is, fit, k)) = inr (first, rest, is, same-act many others same roles a l.act first fit, same-begun many others same roles a ls rest k)
 
 -- how lines ended that met a fault
 pub works-fault : {B : Type 0} (roles : List ℕ) (lines : List Line) (v w : DeskView) (f : CallFault) (b : Result B CallFault) → IsErrAnd b (λ g. g ≡ f) → WorksLines {A = Unit {0}} roles lines (Err f) v w → WorksLines {A = B} roles lines b v w
@@ -273,7 +243,8 @@ module _ (calls : List Call) (v w : DeskView) (d : DeskHasDone calls v w) where
   act-still (act.End c node choice writes) there = case-still c there
   act-still (act.Change c ops) (there, few) = (case-still c there, few)
   act-still (act.Install t ops) (there, few) = (kind-still t there, few)
-  act-still (act.Migrate t) (there, known) = (kind-still t there, done-defined calls v w d t known)
+  act-still (act.Migrate t many) (there, known, enough) =
+      (kind-still t there, done-defined calls v w d t known, (let same = same-counts v.cases w.cases d.rows t in omega (arith, enough)))
 
   pub work-still : (lines : List Line) → CanWork v lines → CanWork w lines
   work-still [] all = tt

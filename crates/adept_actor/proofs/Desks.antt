@@ -1,13 +1,14 @@
 -- What a desk's calls leave of it.
-use Rattle.std.proofs.Common.{◌≡◌, ◌≢◌, ℕ, zero, suc, ◌&&◌, List, [], ◌∷◌, ◌++◌, length, map, Option, Some, None, Result, Ok, Err, slice_get, set, inl, refl, sym, ap, ◌∙◌, subst, arith, ◌==◌, eq-eqb, ne_eqb, if◌then◌else◌}
+use Rattle.std.proofs.Common.{◌≡◌, ◌≢◌, ℕ, zero, suc, ◌&&◌, List, [], ◌∷◌, ◌++◌, length, drop, map, Option, Some, None, Result, Ok, Err, slice_get, set, inl, refl, sym, ap, ◌∙◌, subst, arith, ◌==◌, eq-eqb, ne_eqb, if◌then◌else◌}
 use Rattle.std.proofs.Math.ListN.{length-set}
 use Rattle.std.proofs.lemmas.List.{map-set}
 use Rattle.std.proofs.lemmas.Option.{slice_get-map}
 use Rattle.std.specs.Option.{option_map}
 use mathlib.Core.Logic.{dite}
 use native.Mathlib.Decide.{ℕ_discrete}
-use Rattle.adept_actor.proofs.Doing.{none-done, more-done, entries_of, entries_at, one-done, each-done, each-length, either_same}
+use Rattle.adept_actor.proofs.Doing.{none-done, more-done, entries_of, entries_at, one-done, each-done, either_same}
 use Rattle.adept_actor.specs.Growth.{HasDone, DeskHasDone}
+use Rattle.adept_server.proofs.Fronts.{first-even}
 use Rattle.adept_server.proofs.Keeping.{has_more, kind_beside, case_beside, cases_beside}
 use Rattle.adept_server.specs.Calling.{CallsKind, CallsCase, CallsCases}
 use Rattle.adept_server.specs.Desks.{KindPass, CasePass, DeskView, in_row, at_case, case_pass, has_version, IsDefinedFor, IsDesk}
@@ -179,36 +180,39 @@ module _ (n t : ℕ) (e : Event) where
   on-case_each : (c : CaseId) (answers : List (Result Reply CallFault)) → t ≡ c.type_no → calls_of_case c (each_calls 0 answers) ≡ entries_at n e (slice_get answers c.place)
   on-case_each c answers same = some-at n t e c 0 c.place (map reply_in answers) same (omega arith) ∙ (ap (entry_if n e) (slice_get-map reply_in answers c.place) ∙ entry-of (slice_get answers c.place))
 
-pub cases-done : (e : Event) (t : ℕ) (answers : List (Result Reply CallFault)) (v w : DeskView) → IsDesk v → CallsCases e t answers v w → DeskHasDone (each_calls v.number t e 0 answers) v w
-cases-done e t answers v w desk k =
-    let beside = cases_beside e t answers v w k in
+pub cases-done : (e : Event) (t many : ℕ) (answers : List (Result Reply CallFault)) (v w : DeskView) → IsDesk v → CallsCases e t many answers v w → DeskHasDone (each_calls v.number t e 0 answers) v w
+cases-done e t many answers v w desk k =
+    let beside = cases_beside e t many answers v w k in
     record {
       number = beside.number;
       made = beside.made;
       taken = beside.taken;
       types = ap length same_kinds;
-      rows = ap (map length) cases_behind ∙ rows-set v.cases t k.row k.row_behind k.there (each-length case_after case_reply e k.row answers k.row_behind k.called).0;
+      rows = ap (map length) cases_behind ∙ rows-set v.cases t k.row row_behind k.there (first-even case_after case_reply e many answers k.row k.front k.called);
       kinds = λ u p q there there_then. subst (λ es. HasDone es p q) (sym (some-kind v.number t e u 0 (map reply_in answers))) (none-done p q (some_one there (sym (ap (λ ps. slice_get ps u) same_kinds) ∙ there_then)));
       cases = λ c p q there there_then. at_cell c p q there (sym (ap (λ rows. at_case rows c) cases_behind) ∙ there_then);
     }
   where
+    row_behind : List CasePass
+    row_behind = k.front ++ drop many k.row
+
     same_kinds : w.kinds ≡ v.kinds
     same_kinds = ap (λ (x : DeskView). x.kinds) k.others
 
-    cases_behind : w.cases ≡ set v.cases t k.row_behind
+    cases_behind : w.cases ≡ set v.cases t row_behind
     cases_behind = ap (λ (x : DeskView). x.cases) k.others
 
     numbered : (j : ℕ) (p : CasePass) → slice_get k.row j ≡ Some p → p.number ≡ v.number
     numbered j p at = (desk.cases (record { type_no = t; place = j }) p (ap (in_row j) k.there ∙ at)).number
 
-    at_cell : (c : CaseId) (p q : CasePass) → case_pass v c ≡ Some p → at_case (set v.cases t k.row_behind) c ≡ Some q → HasDone (calls_of_case c (each_calls v.number t e 0 answers)) p q
+    at_cell : (c : CaseId) (p q : CasePass) → case_pass v c ≡ Some p → at_case (set v.cases t row_behind) c ≡ Some q → HasDone (calls_of_case c (each_calls v.number t e 0 answers)) p q
     at_cell c p q there there_then =
         dite (ℕ_discrete t c.type_no)
         (λ (same : t ≡ c.type_no).
         let row : slice_get v.cases c.type_no ≡ Some k.row = ap (slice_get v.cases) (sym same) ∙ k.there in
-        let row_then : slice_get (set v.cases t k.row_behind) c.type_no ≡ Some k.row_behind = ap (slice_get (set v.cases t k.row_behind)) (sym same) ∙ set-here v.cases t k.row_behind k.row k.there in
+        let row_then : slice_get (set v.cases t row_behind) c.type_no ≡ Some row_behind = ap (slice_get (set v.cases t row_behind)) (sym same) ∙ set-here v.cases t row_behind k.row k.there in
         subst (λ es. HasDone es p q) (sym (on-case_each v.number t e c answers same))
-        (each-done case_after case_reply e k.row answers k.row_behind v.number numbered k.called c.place p q (sym (ap (in_row c.place) row) ∙ there) (sym (ap (in_row c.place) row_then) ∙ there_then)))
+        (each-done case_after case_reply e many k.row answers k.front v.number numbered k.called c.place p q (sym (ap (in_row c.place) row) ∙ there) (sym (ap (in_row c.place) row_then) ∙ there_then)))
         (λ (not : t ≢ c.type_no).
         subst (λ es. HasDone es p q) (sym (some-other v.number t e c 0 (map reply_in answers) (inl not)))
-        (none-done p q (some_one there (sym (ap (in_row c.place) (set-other v.cases t c.type_no k.row_behind not)) ∙ there_then))))
+        (none-done p q (some_one there (sym (ap (in_row c.place) (set-other v.cases t c.type_no row_behind not)) ∙ there_then))))

@@ -1,10 +1,10 @@
 -- What calls leave of passes.
-use Rattle.std.proofs.Common.{◌≡◌, ℕ, zero, suc, Bool, true, false, List, [], ◌∷◌, ◌++◌, length, Option, Some, None, Result, Ok, Err, MatchResult, slice_get, refl, sym, ap, ◌∙◌, subst, append_assoc, ◌==◌, if◌then◌else◌}
+use Rattle.std.proofs.Common.{◌≡◌, ℕ, zero, suc, ◌≤◌, Bool, true, false, List, [], ◌∷◌, ◌++◌, length, take, drop, Option, Some, None, Result, Ok, Err, MatchResult, slice_get, refl, sym, ap, ◌∙◌, subst, arith, append_assoc, ◌==◌, if◌then◌else◌}
 use Rattle.std.proofs.lemmas.List.{append-nil}
 use Rattle.adept_actor.specs.Growth.{HasDone}
 use Rattle.adept_server.proofs.OneCall.{more_seen}
 use Rattle.adept_server.specs.Calling.{IsAnswered, CallsOne, CallEach}
-use Rattle.legal_run.proofs.Places.{one-becomes}
+use Rattle.legal_run.proofs.Places.{one-becomes, some_one}
 use Rattle.turn_cell.proofs.Prefixes.{prefix_self, prefix_trans}
 use Rattle.turn_cell.specs.History.{entry}
 use Rattle.turn_cell.specs.Passes.{PassView, Sees, Calls}
@@ -12,6 +12,17 @@ use Rattle.turn_cell.specs.declared.faults.CallFault.{CallFault}
 use Rattle.turn_cell.specs.declared.journal.Entry.{Entry}
 
 module _ {A : Type 0} where
+  -- nothing stands in an empty list
+  pub none-there : (i : ℕ) → slice_get {X = A} [] i ≡ None
+  none-there zero = refl
+  none-there (suc i) = refl
+
+  -- what stands in a list stands there with more behind it
+  pub there-before : (xs ys : List A) (i : ℕ) (x : A) → slice_get xs i ≡ Some x → slice_get (xs ++ ys) i ≡ Some x
+  there-before [] ys i x is = absurd (cc (is, none-there i))
+  there-before (y ∷ xs) ys zero x is = is
+  there-before (y ∷ xs) ys (suc i) x is = there-before xs ys i x is
+
   -- a choice between the same
   pub either_same : (b : Bool) (x : A) → (if b then x else x) ≡ x
   either_same true x = refl
@@ -67,19 +78,35 @@ module _ {M E R W S : Type 0} (after : S → E → S) (reply : S → E → R) (e
   one-done i answer vs ws n numbered k =
       one-becomes HasDone (λ p. none-done p p refl) vs ws i k.before k.behind (entries_of n e answer) k.there k.others (answered-done k.before k.behind answer n (numbered k.before k.there) k.called)
 
-  -- each pass of a list called
-  pub each-done : (vs : List (PassView M E R W S)) (answers : List (Result R CallFault)) (ws : List (PassView M E R W S)) (n : ℕ) → ((j : ℕ) (p : PassView M E R W S) → slice_get vs j ≡ Some p → p.number ≡ n) → CallEach after reply e vs answers ws
-      → (j : ℕ) (p q : PassView M E R W S) → slice_get vs j ≡ Some p → slice_get ws j ≡ Some q → HasDone (entries_at n e (slice_get answers j)) p q
-  each-done [] [] [] n numbered k j p q there there_then = absurd (cc (there))
-  each-done [] [] (w ∷ ws) n numbered k j p q there there_then = absurd k
-  each-done [] (a ∷ answers) ws n numbered k j p q there there_then = absurd k
-  each-done (v ∷ vs) [] ws n numbered k j p q there there_then = absurd k
-  each-done (v ∷ vs) (a ∷ answers) [] n numbered k j p q there there_then = absurd k
-  each-done (v ∷ vs) (a ∷ answers) (w ∷ ws) n numbered k zero p q there there_then =
+  -- each of the first passes of a list called, and the others left
+  pub each-done : (many : ℕ) (vs : List (PassView M E R W S)) (answers : List (Result R CallFault)) (ws : List (PassView M E R W S)) (n : ℕ) → ((j : ℕ) (p : PassView M E R W S) → slice_get vs j ≡ Some p → p.number ≡ n)
+      → CallEach after reply e (take many vs) answers ws
+      → (j : ℕ) (p q : PassView M E R W S) → slice_get vs j ≡ Some p → slice_get (ws ++ drop many vs) j ≡ Some q → HasDone (entries_at n e (slice_get answers j)) p q
+  each-done zero vs [] [] n numbered k j p q there there_then = subst (λ es. HasDone es p q) (sym (ap (entries_at n e) (none-there j))) (none-done p q (some_one there there_then))
+  each-done zero vs [] (w ∷ ws) n numbered k j p q there there_then = absurd k
+  each-done zero vs (a ∷ answers) ws n numbered k j p q there there_then = absurd k
+  each-done (suc many) [] answers ws n numbered k j p q there there_then = absurd (cc (there))
+  each-done (suc many) (v ∷ vs) [] ws n numbered k j p q there there_then = absurd k
+  each-done (suc many) (v ∷ vs) (a ∷ answers) [] n numbered k j p q there there_then = absurd k
+  each-done (suc many) (v ∷ vs) (a ∷ answers) (w ∷ ws) n numbered k zero p q there there_then =
       let is_p : v ≡ p = cc (there) in
       let is_q : w ≡ q = cc (there_then) in
       answered-done p q a n (numbered zero p there) (subst (λ x. IsAnswered after reply e p a x) is_q (subst (λ x. IsAnswered after reply e x a w) is_p k.0))
-  each-done (v ∷ vs) (a ∷ answers) (w ∷ ws) n numbered k (suc j) p q there there_then = each-done vs answers ws n (λ i x at. numbered (suc i) x at) k.2 j p q there there_then
+  each-done (suc many) (v ∷ vs) (a ∷ answers) (w ∷ ws) n numbered k (suc j) p q there there_then = each-done many vs answers ws n (λ i x at. numbered (suc i) x at) k.2 j p q there there_then
+
+  -- the passes behind the first so many are as before
+  pub others-left : (many : ℕ) (vs : List (PassView M E R W S)) (answers : List (Result R CallFault)) (ws : List (PassView M E R W S)) → CallEach after reply e (take many vs) answers ws
+      → (j : ℕ) → many ≤ j → slice_get (ws ++ drop many vs) j ≡ slice_get vs j
+  others-left zero vs [] [] k j past = refl
+  others-left zero vs [] (w ∷ ws) k j past = absurd k
+  others-left zero vs (a ∷ answers) ws k j past = absurd k
+  others-left (suc many) [] [] [] k j past = refl
+  others-left (suc many) [] [] (w ∷ ws) k j past = absurd k
+  others-left (suc many) [] (a ∷ answers) ws k j past = absurd k
+  others-left (suc many) (v ∷ vs) [] ws k j past = absurd k
+  others-left (suc many) (v ∷ vs) (a ∷ answers) [] k j past = absurd k
+  others-left (suc many) (v ∷ vs) (a ∷ answers) (w ∷ ws) k zero past = absurd (omega arith)
+  others-left (suc many) (v ∷ vs) (a ∷ answers) (w ∷ ws) k (suc j) past = others-left many vs answers ws k.2 j (omega arith)
 
   pub each-length : (vs : List (PassView M E R W S)) (answers : List (Result R CallFault)) (ws : List (PassView M E R W S)) → CallEach after reply e vs answers ws → (length ws ≡ length vs) × (length answers ≡ length vs)
   each-length [] [] [] k = (refl, refl)

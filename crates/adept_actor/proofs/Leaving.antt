@@ -1,15 +1,18 @@
 -- Calls leave the passes of other cells as they were.
-use Rattle.std.proofs.Common.{◌≡◌, ◌≢◌, ℕ, zero, suc, ◌==◌, eq-eqb, ne_eqb, ◌&&◌, ◌<◌, Bool, true, false, List, [], ◌∷◌, length, get_or, drop, Option, Some, Result, slice_get, set, refl, sym, ap, ◌∙◌, subst, arith, if◌then◌else◌}
+use Rattle.std.proofs.Common.{◌≡◌, ℕ, zero, suc, ◌==◌, eq-eqb, ◌&&◌, ◌<◌, Bool, true, false, List, [], ◌∷◌, ◌++◌, drop, Option, Some, Result, slice_get, set, refl, sym, ap, ◌∙◌, subst}
+use Rattle.std.proofs.lemmas.Bool.{and_from, lt-ltb, ltb-false, ltb-true}
+use Rattle.std.specs.Prelude.{nat_lt}
+use Rattle.adept_actor.proofs.Doing.{others-left}
 use Rattle.adept_actor.specs.Others.{LeavesOthers, LeavesSuch, LeavesUnnamed, names_kind, names_case}
 use Rattle.adept_server.specs.Calling.{CallsKind, CallsCase, CallsCases, Creates, Migrates}
 use Rattle.adept_server.specs.Calling.Creates.{unasked as uncreated, asked as created}
 use Rattle.adept_server.specs.Calling.Migrates.{unasked as none_moves, asked as none_told, told as all_told}
-use Rattle.adept_server.specs.Desks.{DeskView, at_case, case_pass, in_row}
+use Rattle.adept_server.specs.Desks.{DeskView, case_pass, in_row}
+use Rattle.case_core.specs.Machine.{case_after, case_reply}
 use Rattle.case_core.specs.declared.events.Event.{Event}
 use Rattle.case_core.specs.declared.replies.Reply.{Reply}
-use Rattle.legal_run.proofs.Places.{set-other, some_one}
+use Rattle.legal_run.proofs.Places.{set-other}
 use Rattle.line_calls.specs.Calls.{is_case}
-use Rattle.file_model.specs.declared.files.Act.{Act}
 use Rattle.file_model.specs.declared.files.Act.TheVariants as act
 use Rattle.file_model.specs.declared.files.Line.{Line}
 use Rattle.turn_cell.specs.declared.faults.CallFault.{CallFault}
@@ -37,7 +40,7 @@ module _ (SuchKind : ℕ → Type 0) (SuchCase : CaseId → Type 0) where
   pub leaves-then : (u v w : DeskView) → LeavesSuch SuchKind SuchCase u v → LeavesSuch SuchKind SuchCase v w → LeavesSuch SuchKind SuchCase u w
   leaves-then u v w h k = record { kinds = λ t such. k.kinds t such ∙ h.kinds t such; cases = λ c such. k.cases c such ∙ h.cases c such }
 
-  -- a call of a type that is not such, of a case that is not, and of all cases of a type that are not
+  -- a call of a type that is not such, of a case that is not, and of cases of a type that are not
   kind-leaves : (e : KindEvent) (t : ℕ) (answer : Result KindReply CallFault) (v w : DeskView) → (SuchKind t → ⊥) → CallsKind e t answer v w → LeavesSuch SuchKind SuchCase v w
   kind-leaves e t answer v w not k = record {
     kinds = λ u such. ap (λ ps. slice_get ps u) k.called.others ∙ set-other v.kinds t u k.called.behind (λ same. not (subst SuchKind (sym same) such));
@@ -52,20 +55,24 @@ module _ (SuchKind : ℕ → Type 0) (SuchCase : CaseId → Type 0) where
         (λ same. ap (λ ps. slice_get ps c.place) k.called.others ∙ set-other k.row id.place c.place k.called.behind (λ place. not (subst SuchCase (one-case c id same (sym place)) such)));
   }
 
-  cases-leave : (e : Event) (t : ℕ) (answers : List (Result Reply CallFault)) (v w : DeskView) → ((c : CaseId) → c.type_no ≡ t → SuchCase c → ⊥) → CallsCases e t answers v w → LeavesSuch SuchKind SuchCase v w
-  cases-leave e t answers v w not k = record {
+  cases-leave : (e : Event) (t many : ℕ) (answers : List (Result Reply CallFault)) (v w : DeskView) → ((c : CaseId) → c.type_no ≡ t → c.place < many → SuchCase c → ⊥) → CallsCases e t many answers v w → LeavesSuch SuchKind SuchCase v w
+  cases-leave e t many answers v w not k = record {
     kinds = λ u such. ap (λ (x : DeskView). slice_get x.kinds u) k.others;
-    cases = λ c such. ap (λ (x : DeskView). case_pass x c) k.others ∙ elsewhere v.cases t k.row k.row_behind c.type_no c.place k.there (λ same. absurd (not c same such));
+    cases = λ c such. ap (λ (x : DeskView). case_pass x c) k.others ∙ elsewhere v.cases t k.row (k.front ++ drop many k.row) c.type_no c.place k.there (λ same. behind c such same (nat_lt c.place many) refl);
   }
+    where
+      behind : (c : CaseId) → SuchCase c → c.type_no ≡ t → (b : Bool) → nat_lt c.place many ≡ b → slice_get (k.front ++ drop many k.row) c.place ≡ slice_get k.row c.place
+      behind c such same true low = absurd (not c same (ltb-true c.place many low) such)
+      behind c such same false high = others-left case_after case_reply e many k.row answers k.front k.called c.place (ltb-false c.place many high)
 
   creates-leave : (id : CaseId) (answer : Result Reply CallFault) (v w : DeskView) → (SuchKind id.type_no → ⊥) → (SuchCase id → ⊥) → Creates id answer v w → LeavesSuch SuchKind SuchCase v w
   creates-leave id answer v w no_kind no_case (uncreated f is k) = kind-leaves _ id.type_no _ v w no_kind k
   creates-leave id answer v w no_kind no_case (created version m k c) = leaves-then v m w (kind-leaves _ id.type_no _ v m no_kind k) (case-leaves _ id answer m w no_case c)
 
-  migrates-leave : (t : ℕ) (answer : Result (List (Result Reply CallFault)) CallFault) (v w : DeskView) → (SuchKind t → ⊥) → ((c : CaseId) → c.type_no ≡ t → SuchCase c → ⊥) → Migrates t answer v w → LeavesSuch SuchKind SuchCase v w
-  migrates-leave t answer v w no_kind no_case (none_moves f is k) = kind-leaves _ t _ v w no_kind k
-  migrates-leave t answer v w no_kind no_case (none_told version is k) = kind-leaves _ t _ v w no_kind k
-  migrates-leave t answer v w no_kind no_case (all_told version m answers is k c) = leaves-then v m w (kind-leaves _ t _ v m no_kind k) (cases-leave _ t answers m w no_case c)
+  migrates-leave : (t many : ℕ) (answer : Result (List (Result Reply CallFault)) CallFault) (v w : DeskView) → (SuchKind t → ⊥) → ((c : CaseId) → c.type_no ≡ t → c.place < many → SuchCase c → ⊥) → Migrates t many answer v w → LeavesSuch SuchKind SuchCase v w
+  migrates-leave t many answer v w no_kind no_case (none_moves f is k) = kind-leaves _ t _ v w no_kind k
+  migrates-leave t many answer v w no_kind no_case (none_told version is k) = kind-leaves _ t _ v w no_kind k
+  migrates-leave t many answer v w no_kind no_case (all_told version m answers is k c) = leaves-then v m w (kind-leaves _ t _ v m no_kind k) (cases-leave _ t many answers m w no_case c)
 
 -- a type is named by its number, and a case by its own
 named : (t : ℕ) → (t == t) ≡ false → ⊥
@@ -98,9 +105,10 @@ module _ (v w : DeskView) where
   pub install-leaves : (t : ℕ) (ops : _) (e : KindEvent) (answer : Result KindReply CallFault) → CallsKind e t answer v w → LeavesOthers (act.Install t ops) v w
   install-leaves t ops e answer k = kind-leaves (λ u. names_kind u (act.Install t ops) ≡ false) (λ c. names_case c (act.Install t ops) ≡ false) e t answer v w (named t) k
 
-  pub migrate-leaves : (t : ℕ) (answer : Result (List (Result Reply CallFault)) CallFault) → Migrates t answer v w → LeavesOthers (act.Migrate t) v w
-  migrate-leaves t answer k =
-      migrates-leave (λ u. names_kind u (act.Migrate t) ≡ false) (λ c. names_case c (act.Migrate t) ≡ false) t answer v w (named t) (λ c same unnamed. cc (unnamed, eq-eqb t c.type_no (sym same))) k
+  pub migrate-leaves : (t many : ℕ) (answer : Result (List (Result Reply CallFault)) CallFault) → Migrates t many answer v w → LeavesOthers (act.Migrate t many) v w
+  migrate-leaves t many answer k =
+      migrates-leave (λ u. names_kind u (act.Migrate t many) ≡ false) (λ c. names_case c (act.Migrate t many) ≡ false) t many answer v w (named t)
+      (λ c same low unnamed. cc (unnamed, and_from _ _ (eq-eqb t c.type_no (sym same)) (lt-ltb c.place many low))) k
 
 -- a line leaves the cells that none of the lines names
 row-there : {X : Type 0} (P : X → Type 0) (xs rest : List X) (i : ℕ) (x : X) → drop i xs ≡ x ∷ rest → AllRows P xs → P x

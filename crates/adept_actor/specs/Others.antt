@@ -1,5 +1,5 @@
 -- The cells that an act names, and what work leaves of the others.
-use Rattle.std.specs.Prelude.{◌≡◌, ℕ, ◌==◌, Bool, false, List, slice_get}
+use Rattle.std.specs.Prelude.{◌≡◌, ℕ, Bool, false, List, slice_get}
 use Rattle.adept_server.specs.Desks.{DeskView, case_pass}
 use Rattle.line_calls.specs.Calls as line
 use Rattle.file_model.specs.declared.files.Act.{Act}

@@ -1,7 +1,7 @@
 -- What an actor's work on lines leaves of its desk.
-use Rattle.std.specs.Prelude.{◌≡◌, ℕ, ◌≤◌, List, [], ◌∷◌, length, get_or, MatchResult, Option, Some, None, Result, Ok, Err, slice_get}
+use Rattle.std.specs.Prelude.{◌≡◌, ℕ, ◌≤◌, List, [], ◌∷◌, length, MatchResult, Option, Some, None, Result, Ok, Err, slice_get}
 use Rattle.adept_actor.specs.Growth.{DeskHasDone}
-use Rattle.adept_server.specs.Desks.{KindPass, CasePass, DeskView, IsDefinedFor, case_pass, has_case, has_kind}
+use Rattle.adept_server.specs.Desks.{KindPass, CasePass, DeskView, IsDefinedFor, case_count, case_pass, has_case, has_kind}
 use Rattle.legal_run.specs.LineCalls.{Call as Told, AreCallsOf, AreCallsOfLines, ArePartOf, AreBegun, lines_of}
 use Rattle.file_limits.specs.declared.TheConstants.{MAX_OPS}
 use Rattle.file_model.specs.declared.files.Act.{Act}
@@ -18,18 +18,15 @@ use Rattle.turn_cell.specs.declared.limits.TheConstants.{MAX_ENTRIES}
 use Rattle.wsm_lists.specs.Rows.{AllRows}
 use Rattle.wsm_sound.specs.declared.versions.CaseId.{CaseId}
 
--- how many cases a type has
-abbrev pub case_count : DeskView → ℕ → ℕ
-case_count v t = length (get_or v.cases t [])
-
--- The calls of an act can be made: its type or case is there, a type that is asked has a version, and its operations are not too many.
+-- The calls of an act can be made: its type or case is there, a type that is asked has a version, there are the cases that are to move, and
+-- its operations are not too many.
 abbrev pub CanCall : DeskView → Call → Type 0
 CanCall v (call.Kind t (kind_event.Install ops)) = has_kind v t × (length ops ≤ MAX_OPS)
 CanCall v (call.Kind t e) = has_kind v t
 CanCall v (call.Case c (event.Change ops)) = has_case v c × (length ops ≤ MAX_OPS)
 CanCall v (call.Case c e) = has_case v c
 CanCall v (call.Newest t (told.Create c)) = has_case v c × IsDefinedFor v t
-CanCall v (call.Newest t told.Migrate) = has_kind v t × IsDefinedFor v t
+CanCall v (call.Newest t (told.Migrate many)) = has_kind v t × IsDefinedFor v t × (many ≤ case_count v t)
 
 abbrev pub CanAct : DeskView → Act → Type 0
 CanAct v x = CanCall v (call_of 0 [] x)
@@ -59,7 +56,7 @@ Leaves Whole Begun answer v w = MatchResult answer (λ _. Does Whole v w) (λ f.
 
 -- an actor with these roles works an act, and the lines of its own among these
 abbrev pub Acts : {A : Type 0} → List ℕ → Act → Result A CallFault → DeskView → DeskView → Type 0
-Acts roles a answer v w = Leaves (AreCallsOf (case_count v) roles v.number a) (ArePartOf (case_count v) roles v.number a) answer v w
+Acts roles a answer v w = Leaves (AreCallsOf roles v.number a) (ArePartOf roles v.number a) answer v w
 
 abbrev pub WorksLines : {A : Type 0} → List ℕ → List Line → Result A CallFault → DeskView → DeskView → Type 0
-WorksLines roles lines answer v w = Leaves (AreCallsOfLines (case_count v) roles v.number (lines_of v.number lines)) (AreBegun (case_count v) roles v.number (lines_of v.number lines)) answer v w
+WorksLines roles lines answer v w = Leaves (AreCallsOfLines roles v.number (lines_of v.number lines)) (AreBegun roles v.number (lines_of v.number lines)) answer v w

@@ -55,8 +55,8 @@ pub fn act<R: Threads + Wait + Sync, G: Gate + Sync>(
         Act::Install { type_no, ops } => {
             server.install(rt, alloc, desk, *type_no, ops, gate, line)?;
         }
-        Act::Migrate { type_no } => {
-            let answers = server.migrate_all(rt, alloc, desk, *type_no, gate, line)?;
+        Act::Migrate { type_no, many } => {
+            let answers = server.migrate_first(rt, alloc, desk, *type_no, *many, gate, line)?;
             if let Some(fault) = first_fault(answers) {
                 return Err(fault);
             }

@@ -4,4 +4,4 @@
 mod calls;
 mod working;
 
-pub use working::work;
+pub use working::{work, work_line};

@@ -38,7 +38,9 @@ pub fn work<R: Threads + Wait + Sync, G: Gate + Sync>(
     Ok(())
 }
 
-fn work_line<R: Threads + Wait + Sync, G: Gate + Sync>(
+/// Makes the calls of a line, for an actor with these roles. The gate is reached before and after it. Passes of cells that the line
+/// does not name are as before.
+pub fn work_line<R: Threads + Wait + Sync, G: Gate + Sync>(
     rt: &R,
     alloc: Global,
     server: &Server,

@@ -1,17 +1,21 @@
 -- What a type answers to whom it defines and who asks it.
-use Rattle.std.proofs.Common.{◌≡◌, ℕ, ◌<◌, true, List, [], ◌∷◌, ◌++◌, length, Option, Some, None, OnOk, IfErr, IsErrAnd, ◌⊎◌, inl, Result, Ok, Err, slice_get, refl, sym, ap, ◌∙◌, subst, arith}
+use Rattle.std.proofs.Common.{◌≡◌, ℕ, ◌+◌, ◌^◌, ◌<◌, ◌≤◌, true, List, [], ◌∷◌, ◌++◌, length, take, drop, set, get_or, Option, Some, None, OnOk, IfErr, IsErrAnd, ◌⊎◌, inl, Result, Ok, Err, slice_get, refl, sym, ap, ◌∙◌, subst, arith}
+use Rattle.std.proofs.lemmas.Option.{get_or_from_slice_get}
 use Rattle.std.specs.Result.{result_map_both}
 use Rattle.adept_server.proofs.Called.{not_called}
+use Rattle.adept_server.proofs.Fronts.{all_in_front}
 use Rattle.adept_server.proofs.Histories.{state-append, last-reply}
 use Rattle.adept_server.proofs.Keeping.{answered, kind_now_defined}
 use Rattle.adept_server.proofs.Places.{set_same}
 use Rattle.adept_server.proofs.Rows.{there_at, in_there}
-use Rattle.adept_server.specs.Calling.{CallsKind, CallsCase, Creates, Migrates, tells_version, tells_newest}
+use Rattle.adept_server.proofs.Short.{short_at}
+use Rattle.adept_server.specs.Calling.{CallEach, CallsKind, CallsCase, CallsCases, Creates, Migrates, tells_version, tells_newest}
 use Rattle.adept_server.specs.Calling.Creates.{unasked}
-use Rattle.adept_server.specs.Calling.Migrates.{unasked as none_moves, asked as none_told}
-use Rattle.adept_server.specs.Desks.{KindPass, CasePass, DeskView, in_row, case_pass, has_kind, has_case, has_version, IsDefinedFor, IsDesk}
+use Rattle.adept_server.specs.Calling.Migrates.{unasked as none_moves, asked as none_told, told}
+use Rattle.adept_server.specs.Desks.{AreShort, KindPass, CasePass, DeskView, in_row, case_count, case_pass, has_kind, has_case, has_version, IsDefinedFor, IsDesk}
 use Rattle.case_core.specs.Machine.{case_after, case_reply}
 use Rattle.case_core.specs.declared.events.Event.{Event}
+use Rattle.case_core.specs.declared.events.Event.TheVariants as event
 use Rattle.case_core.specs.declared.replies.Reply.{Reply}
 use Rattle.turn_cell.specs.History.{IsLegal, IsLegalFrom, entry, state_after}
 use Rattle.turn_cell.specs.Passes.{Calls}
@@ -129,9 +133,31 @@ pub none_asked : {X Y : Type 0} (g : X → Y) (o : Result X CallFault) (f : Call
 none_asked g (Ok x) f same = absurd same
 none_asked g (Err x) f same = ap Err same
 
-pub migrate_unasked : (t : ℕ) (v w : DeskView) (asked : Result KindReply CallFault) (answer : Result (List (Result Reply CallFault)) CallFault) (f : CallFault) → asked ≡ Err f → answer ≡ Err f → CallsKind kind_event.Newest t asked v w → Migrates t answer v w
-migrate_unasked t v w asked answer f is same called = none_moves f same (subst (λ a. CallsKind kind_event.Newest t a v w) is called)
+pub migrate_unasked : (t many : ℕ) (v w : DeskView) (asked : Result KindReply CallFault) (answer : Result (List (Result Reply CallFault)) CallFault) (f : CallFault) → asked ≡ Err f → answer ≡ Err f → CallsKind kind_event.Newest t asked v w → Migrates t many answer v w
+migrate_unasked t many v w asked answer f is same called = none_moves f same (subst (λ a. CallsKind kind_event.Newest t a v w) is called)
 
-pub migrate_untold : (t : ℕ) (v u w : DeskView) (version : VersionModel) (asked : Result KindReply CallFault) (answer : Result (List (Result Reply CallFault)) CallFault) → asked ≡ Ok (reply.Is version) → answer ≡ Err NoMemory → w ≡ u
-    → CallsKind kind_event.Newest t asked v u → Migrates t answer v w
-migrate_untold t v u w version asked answer is out same called = none_told version out (subst (λ x. CallsKind kind_event.Newest t (Ok (reply.Is version)) v x) (sym same) (subst (λ a. CallsKind kind_event.Newest t a v u) is called))
+pub migrate_untold : (t many : ℕ) (v u w : DeskView) (version : VersionModel) (asked : Result KindReply CallFault) (answer : Result (List (Result Reply CallFault)) CallFault) → asked ≡ Ok (reply.Is version) → answer ≡ Err NoMemory → w ≡ u
+    → CallsKind kind_event.Newest t asked v u → Migrates t many answer v w
+migrate_untold t many v u w version asked answer is out same called = none_told version out (subst (λ x. CallsKind kind_event.Newest t (Ok (reply.Is version)) v x) (sym same) (subst (λ a. CallsKind kind_event.Newest t a v u) is called))
+
+-- where as many cases are told as no type has, each case of the type is told
+all_cases : (e : Event) (t many : ℕ) (answers : List (Result Reply CallFault)) (v w : DeskView) → AreShort v.cases → 2 ^ 32 ≤ many + 1 → CallsCases e t many answers v w → CallsCases e t (case_count v t) answers v w
+all_cases e t many answers v w short enough k =
+    let within = short_at v.cases t k.row k.there short in
+    let count : case_count v t ≡ length k.row = ap length (get_or_from_slice_get v.cases t k.row [] k.there) in
+    let all = all_in_front many k.row (omega (arith, within, enough)) in
+    record {
+      row = k.row;
+      front = k.front;
+      there = k.there;
+      called = subst (λ vs. CallEach case_after case_reply e vs answers k.front) (all.0 ∙ ap (λ n. take n k.row) (sym count)) k.called;
+      others = k.others ∙ ap (λ (rest : List CasePass). let x : DeskView = record v { cases = set v.cases t (k.front ++ rest) } in x) (all.1 ∙ ap (λ n. drop n k.row) (sym count));
+    }
+
+pub all_move : (t many : ℕ) (v w : DeskView) (answer : Result (List (Result Reply CallFault)) CallFault) → IsDesk v → 2 ^ 32 ≤ many + 1 → Migrates t many answer v w → Migrates t (case_count v t) answer v w
+all_move t many v w answer desk enough (none_moves f is k) = none_moves f is k
+all_move t many v w answer desk enough (none_told version is k) = none_told version is k
+all_move t many v w answer desk enough (told version between answers is k c) =
+    let same : between.cases ≡ v.cases = ap (λ (x : DeskView). x.cases) k.others in
+    let all = all_cases (event.Migrate version) t many answers between w (subst AreShort (sym same) desk.short) enough c in
+    told version between answers is k (subst (λ rows. CallsCases (event.Migrate version) t (length (get_or rows t [])) answers between w) same all)

@@ -1,13 +1,14 @@
 -- A desk stays one behind each call.
-use Rattle.std.proofs.Common.{◌≡◌, ℕ, ◌^◌, ◌<◌, Bool, true, false, List, [], ◌∷◌, ◌++◌, length, Option, Some, None, Result, Ok, Err, slice_get, set, ◌⊎◌, inl, inr, refl, sym, ap, ◌∙◌, subst, arith, if◌then◌else◌}
+use Rattle.std.proofs.Common.{◌≡◌, ℕ, ◌^◌, ◌<◌, Bool, true, false, List, [], ◌∷◌, ◌++◌, length, drop, Option, Some, None, Result, Ok, Err, slice_get, set, ◌⊎◌, inl, inr, refl, sym, ap, ◌∙◌, subst, arith, if◌then◌else◌}
 use Rattle.std.proofs.Math.ListN.{length-set}
 use Rattle.std.proofs.lemmas.Option.{slice_get_within}
 use mathlib.Core.List.{IsPrefix}
+use Rattle.adept_server.proofs.Fronts.{first-even, first_behind}
 use Rattle.adept_server.proofs.Histories.{state-append, last-reply}
-use Rattle.adept_server.proofs.OneCall.{legal_behind, more_seen, one_behind, one_before, each_behind}
+use Rattle.adept_server.proofs.OneCall.{legal_behind, more_seen, one_behind, one_before}
 use Rattle.adept_server.proofs.Places.{get-set_same, set_cases}
 use Rattle.adept_server.proofs.Rows.{case_cases}
-use Rattle.adept_server.proofs.Short.{each-even, short_set}
+use Rattle.adept_server.proofs.Short.{short_set}
 use Rattle.adept_server.proofs.Versions.{told-version}
 use Rattle.adept_server.specs.Calling.{IsAnswered, CallsOne, CallsKind, CallsCase, CallsCases, answer_tells, tells_version}
 use Rattle.adept_server.specs.Desks.{KindPass, CasePass, DeskView, in_row, at_case, case_pass, has_version, AreShort, IsDefinedFor, IsPassAt, IsDesk}
@@ -186,22 +187,22 @@ module _ (e : Event) (id : CaseId) (answer : Result Reply CallFault) (v w : Desk
           pass_either case_after case_reply v w case_beside (not_created c.type_no) e p.0 q answer (c.place ≡ id.place) (desk.cases c p.0 there) p.2
       go c q (inr s) = pass_beside case_after case_reply v w case_beside (not_created c.type_no) q (desk.cases c q s)
 
-module _ (e : Event) (t : ℕ) (answers : List (Result Reply CallFault)) (v w : DeskView) (k : CallsCases e t answers v w) where
+module _ (e : Event) (t many : ℕ) (answers : List (Result Reply CallFault)) (v w : DeskView) (k : CallsCases e t many answers v w) where
   pub cases_beside : Beside v w
   cases_beside = record { number = ap (λ (x : DeskView). x.number) k.others; made = ap (λ (x : DeskView). x.made) k.others; taken = ap (λ (x : DeskView). x.taken) k.others }
 
   pub cases_still_defined : (u : ℕ) → IsDefinedFor v u → IsDefinedFor w u
   cases_still_defined u has = subst (λ ps. has_version u (slice_get ps u)) (sym (ap (λ (x : DeskView). x.kinds) k.others)) has
 
-  -- a desk is one still behind a call of each case of a type
+  -- a desk is one still behind a call of each of the first so many cases of a type
   pub cases_keep : IsDesk v → IsDesk w
   cases_keep desk = record {
     kinds = λ u p is. pass_beside kind_after kind_reply v w cases_beside (not_defined u) p (desk.kinds u p (ap (λ ps. slice_get ps u) (sym same_kinds) ∙ is));
-    cases = λ c q is. go c q (case_cases v.cases t k.row_behind c q (ap (λ rows. at_case rows c) (sym cases_behind) ∙ is));
-    rows = ap length cases_behind ∙ (length-set v.cases t k.row_behind ∙ (desk.rows ∙ ap length (sym same_kinds)));
+    cases = λ c q is. go c q (case_cases v.cases t row_behind c q (ap (λ rows. at_case rows c) (sym cases_behind) ∙ is));
+    rows = ap length cases_behind ∙ (length-set v.cases t row_behind ∙ (desk.rows ∙ ap length (sym same_kinds)));
     flags = ap length same_flags ∙ (desk.flags ∙ ap length (sym same_kinds));
-    few = omega (arith, ap length cases_behind, length-set v.cases t k.row_behind, desk.few);
-    short = subst (λ (rows : List (List CasePass)). AreShort rows) (sym cases_behind) (short_set v.cases t k.row k.row_behind k.there (each-even case_after case_reply e k.row answers k.row_behind k.called) desk.short);
+    few = omega (arith, ap length cases_behind, length-set v.cases t row_behind, desk.few);
+    short = subst (λ (rows : List (List CasePass)). AreShort rows) (sym cases_behind) (short_set v.cases t k.row row_behind k.there (first-even case_after case_reply e many answers k.row k.front k.called) desk.short);
     known = λ u is. cases_still_defined u (desk.known u (ap (λ xs. slice_get xs u) (sym same_flags) ∙ is));
   }
     where
@@ -211,12 +212,15 @@ module _ (e : Event) (t : ℕ) (answers : List (Result Reply CallFault)) (v w : 
       same_flags : w.defined ≡ v.defined
       same_flags = ap (λ (x : DeskView). x.defined) k.others
 
-      cases_behind : w.cases ≡ set v.cases t k.row_behind
+      row_behind : List CasePass
+      row_behind = k.front ++ drop many k.row
+
+      cases_behind : w.cases ≡ set v.cases t row_behind
       cases_behind = ap (λ (x : DeskView). x.cases) k.others
 
-      go : (c : CaseId) (q : CasePass) → ((c.type_no ≡ t) × (slice_get k.row_behind c.place ≡ Some q)) ⊎ (case_pass v c ≡ Some q) → IsPassAt case_after case_reply (not_created c.type_no) w q
+      go : (c : CaseId) (q : CasePass) → ((c.type_no ≡ t) × (slice_get row_behind c.place ≡ Some q)) ⊎ (case_pass v c ≡ Some q) → IsPassAt case_after case_reply (not_created c.type_no) w q
       go c q (inl s) =
-          let p = each_behind case_after case_reply e k.row answers k.row_behind k.called c.place q s.1 in
+          let p = first_behind case_after case_reply e many answers k.row k.front k.called c.place q s.1 in
           let there = ap (in_row c.place) (ap (slice_get v.cases) s.0 ∙ k.there) ∙ p.2 in
-          pass_behind case_after case_reply v w cases_beside (not_created c.type_no) e p.0 q p.1 (desk.cases c p.0 there) p.3
+          pass_either case_after case_reply v w cases_beside (not_created c.type_no) e p.0 q p.1 (c.place < many) (desk.cases c p.0 there) p.3
       go c q (inr s) = pass_beside case_after case_reply v w cases_beside (not_created c.type_no) q (desk.cases c q s)

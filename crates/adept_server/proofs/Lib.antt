@@ -5,6 +5,7 @@ pub mod Versions
 pub mod Rows
 pub mod OneCall
 pub mod Short
+pub mod Fronts
 pub mod Keeping
 pub mod Asked
 pub mod Looks

@@ -1,7 +1,8 @@
 -- The calls of a server's desks, and what they make of them.
-use Rattle.std.proofs.Common.{◌≡◌, ℕ, ◌<◌, Bool, true, List, length, map, IfOk, OnErr, Result, Ok, Err, set, slice_get, refl, sym, ap, ◌∙◌, subst, arith, if◌then◌else◌}
+use Rattle.std.proofs.Common.{◌≡◌, ℕ, ◌<◌, Bool, true, List, ◌++◌, length, map, take, drop, IfOk, OnErr, Result, Ok, Err, set, slice_get, refl, sym, ap, ◌∙◌, subst, arith, if◌then◌else◌}
 use Rattle.std.proofs.Math.ListN.{length-map}
 use Rattle.std.proofs.lemmas.Option.{slice_get_within}
+use Rattle.adept_server.proofs.Fronts.{row_cut}
 use Rattle.adept_server.proofs.Keeping.{kind_call, kind_keeps, case_keeps, cases_keep}
 use Rattle.adept_server.proofs.Looks.{looks_keep}
 use Rattle.adept_server.specs.Offering.{AllLooked, Looks}
@@ -92,27 +93,30 @@ cases_there d t desk there = omega (arith, desk.rows, length-map d.cases.items (
 pub kind_row : (s : Server) (d : Desk) (t : ℕ) → IsDeskOf s d → has_kind (desk_view d) t → RowAt s.cases.items d.cases.items t
 kind_row s d t k there = row_of s.cases.items d.cases.items t k.cases (cases_there d t k.desk there)
 
--- a call of each case of a type changes the type's row of passes
-pub cases_made : (s : Server) (d e : Desk) (event : Event) (t : ℕ) (answers : List (Result Reply CallFault)) → IsDeskOf s d → (r : RowAt s.cases.items d.cases.items t) (row : _)
-    → e.number ≡ d.number → e.made ≡ d.made → e.taken ≡ d.taken → e.defined ≡ d.defined → e.kinds ≡ d.kinds → e.cases.items ≡ set d.cases.items t row
-    → AreOf r.cells.items row.items → CallEach case_after case_reply event (map view_of r.passes.items) answers (map view_of row.items) → IsDeskOf s e × CallsCases event t answers (desk_view d) (desk_view e)
-cases_made s d e event t answers k r row number made taken defined kinds cases of called = (
+-- a call of each of the first so many cases of a type changes the front of the type's row of passes
+pub cases_made : (s : Server) (d e : Desk) (event : Event) (t many : ℕ) (answers : List (Result Reply CallFault)) (front : List CasePass) → IsDeskOf s d → (r : RowAt s.cases.items d.cases.items t) (row : _)
+    → e.number ≡ d.number → e.made ≡ d.made → e.taken ≡ d.taken → e.defined ≡ d.defined → e.kinds ≡ d.kinds → e.cases.items ≡ set d.cases.items t row → AreOf r.cells.items row.items
+    → CallEach case_after case_reply event (take many (map view_of r.passes.items)) answers front → map view_of row.items ≡ front ++ drop many (map view_of r.passes.items) → IsDeskOf s e × CallsCases event t many answers (desk_view d) (desk_view e)
+cases_made s d e event t many answers front k r row number made taken defined kinds cases of called cut = (
   record {
     kinds = subst (λ (ps : _). AreOf s.kinds.items ps.items) (sym kinds) k.kinds;
     cases = rows_behind s.cases.items d.cases.items e.cases.items t r row cases k.cases of;
-    desk = cases_keep event t answers (desk_view d) (desk_view e) made_calls k.desk;
+    desk = cases_keep event t many answers (desk_view d) (desk_view e) made_calls k.desk;
   },
   made_calls,
 )
   where
-    made_calls : CallsCases event t answers (desk_view d) (desk_view e)
+    new : List CasePass
+    new = front ++ drop many (map view_of r.passes.items)
+
+    made_calls : CallsCases event t many answers (desk_view d) (desk_view e)
     made_calls = record {
       row = map view_of r.passes.items;
-      row_behind = map view_of row.items;
+      front = front;
       there = view_there s.cases.items d.cases.items t r;
       called = called;
-      others = same_views (record (desk_view d) { cases = set (desk_view d).cases t (map view_of row.items) }) (desk_view e) number made taken (ap (λ (x : _). x.items) defined) (ap (λ (x : _). map view_of x.items) kinds)
-          (views_behind d.cases.items e.cases.items t row cases);
+      others = same_views (record (desk_view d) { cases = set (desk_view d).cases t new }) (desk_view e) number made taken (ap (λ (x : _). x.items) defined) (ap (λ (x : _). map view_of x.items) kinds)
+          (views_behind d.cases.items e.cases.items t row cases ∙ ap (λ (ps : List CasePass). set (desk_view d).cases t ps) cut);
     }
 
 -- a row that was put back as it was
@@ -121,14 +125,14 @@ row_unchanged : (s : Server) (d e : Desk) (t : ℕ) → (r : RowAt s.cases.items
 row_unchanged s d e t r row number made taken defined kinds cases same = same_views (desk_view d) (desk_view e) number made taken (ap (λ (x : _). x.items) defined) (ap (λ (x : _). map view_of x.items) kinds)
     (views_behind d.cases.items e.cases.items t row cases ∙ (ap (λ (ps : List CasePass). set (desk_view d).cases t ps) (ap (map view_of) same) ∙ sym (set_same (desk_view d).cases t (map view_of r.passes.items) (view_there s.cases.items d.cases.items t r))))
 
--- a batch of calls on a type's row of passes
-pub batch_made : {X Y : Type 0} (f : X → List (Result Reply CallFault)) (o : Result X Y) (s : Server) (d e : Desk) (event : Event) (t : ℕ) → IsDeskOf s d → (r : RowAt s.cases.items d.cases.items t) (row : _)
-    → e.number ≡ d.number → e.made ≡ d.made → e.taken ≡ d.taken → e.defined ≡ d.defined → e.kinds ≡ d.kinds → e.cases.items ≡ set d.cases.items t row
-    → AreOf r.cells.items row.items → IfOk o (λ a. CallEach case_after case_reply event (map view_of r.passes.items) (f a) (map view_of row.items)) → OnErr o (row.items ≡ r.passes.items)
-    → IsDeskOf s e × IfOk o (λ a. CallsCases event t (f a) (desk_view d) (desk_view e)) × OnErr o (desk_view e ≡ desk_view d)
-batch_made f (Ok a) s d e event t k r row number made taken defined kinds cases of called same =
-    let m = cases_made s d e event t (f a) k r row number made taken defined kinds cases of called in (m.0, m.1, tt)
-batch_made f (Err y) s d e event t k r row number made taken defined kinds cases of called same =
+-- a batch of calls on the front of a type's row of passes
+pub batch_made : {X Y : Type 0} (f : X → List (Result Reply CallFault)) (o : Result X Y) (s : Server) (d e : Desk) (event : Event) (t many : ℕ) → IsDeskOf s d → (r : RowAt s.cases.items d.cases.items t) (row : _)
+    → e.number ≡ d.number → e.made ≡ d.made → e.taken ≡ d.taken → e.defined ≡ d.defined → e.kinds ≡ d.kinds → e.cases.items ≡ set d.cases.items t row → AreOf r.cells.items row.items
+    → IfOk o (λ a. CallEach case_after case_reply event (take many (map view_of r.passes.items)) (f a) (map view_of (take many row.items))) → drop many row.items ≡ drop many r.passes.items → OnErr o (row.items ≡ r.passes.items)
+    → IsDeskOf s e × IfOk o (λ a. CallsCases event t many (f a) (desk_view d) (desk_view e)) × OnErr o (desk_view e ≡ desk_view d)
+batch_made f (Ok a) s d e event t many k r row number made taken defined kinds cases of called rest same =
+    let m = cases_made s d e event t many (f a) (map view_of (take many row.items)) k r row number made taken defined kinds cases of called (row_cut many r.passes.items row.items rest) in (m.0, m.1, tt)
+batch_made f (Err y) s d e event t many k r row number made taken defined kinds cases of called rest same =
     let is = row_unchanged s d e t r row number made taken defined kinds cases same in (
       record {
         kinds = subst (λ (ps : _). AreOf s.kinds.items ps.items) (sym kinds) k.kinds;

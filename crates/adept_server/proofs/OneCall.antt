@@ -1,5 +1,6 @@
 -- What one call leaves of each pass of a list.
-use Rattle.std.proofs.Common.{◌≡◌, ℕ, zero, suc, List, [], ◌∷◌, ◌++◌, map, Some, Result, Ok, Err, IfOk, OnErr, OnOk, MatchResult, slice_get, ◌⊎◌, inl, inr, refl, sym, ap, ◌∙◌, subst, append_assoc}
+use Rattle.std.proofs.Common.{◌≡◌, ℕ, List, [], ◌∷◌, ◌++◌, map, take, Some, Result, Ok, Err, IfOk, OnErr, OnOk, MatchResult, slice_get, ◌⊎◌, inl, inr, refl, sym, ap, ◌∙◌, subst, append_assoc}
+use Rattle.std.proofs.lemmas.List.{take-map}
 use mathlib.Core.List.{IsPrefix}
 use Rattle.adept_server.proofs.Places.{set_cases, stays_or_set}
 use Rattle.adept_server.specs.Calling.{IsAnswered, CallEach, CallsOne}
@@ -49,17 +50,6 @@ module _ {M E R W S : Type 0} (after : S → E → S) (reply : S → E → R) (e
       same : (x y : PassView M E R W S) → Some x ≡ Some y → x ≡ y
       same x y e = cc
 
-  -- the passes behind a call each
-  pub each_behind : (ps : List (PassView M E R W S)) (answers : List (Result R CallFault)) (qs : List (PassView M E R W S)) → CallEach after reply event ps answers qs
-      → (j : ℕ) (q : PassView M E R W S) → slice_get qs j ≡ Some q → (p : PassView M E R W S) × (a : Result R CallFault) × (slice_get ps j ≡ Some p) × IsAnswered after reply event p a q
-  each_behind [] [] [] k j q is = absurd (cc)
-  each_behind [] [] (r ∷ qs) k j q is = absurd k
-  each_behind [] (a ∷ answers) qs k j q is = absurd k
-  each_behind (p ∷ ps) [] qs k j q is = absurd k
-  each_behind (p ∷ ps) (a ∷ answers) [] k j q is = absurd k
-  each_behind (p ∷ ps) (a ∷ answers) (r ∷ qs) k zero q is = (p, a, refl, (let same : r ≡ q = cc (is) in subst (IsAnswered after reply event p a) same k.0))
-  each_behind (p ∷ ps) (a ∷ answers) (r ∷ qs) k (suc j) q is = each_behind ps answers qs k.2 j q is
-
   -- what a batch of calls leaves of its passes
   pub each_called : {g : _} (ps : List (Pass M E R W S g)) (answers : List (Result R CallFault)) (qs : List (Pass M E R W S g)) → AreCalled after reply event ps answers qs → CallEach after reply event (map view_of ps) answers (map view_of qs)
   each_called [] [] [] k = tt
@@ -84,11 +74,13 @@ module _ {M E R W S : Type 0} (after : S → E → S) (reply : S → E → R) (e
     each_called ps answers qs k.2,
   )
 
-  -- the same of a batch whose passes were read from a row and put back there
-  pub batch_ok : {g : _} {X Y : Type 0} (f : X → List (Result R CallFault)) (o : Result X Y) (ps read qs row : List (Pass M E R W S g)) → read ≡ ps → row ≡ qs → IfOk o (λ a. AreCalled after reply event read (f a) qs)
-      → IfOk o (λ a. CallEach after reply event (map view_of ps) (f a) (map view_of row))
-  batch_ok f (Ok a) ps read qs row is behind k = each_called ps (f a) row (subst (AreCalled after reply event ps (f a)) (sym behind) (subst (λ xs. AreCalled after reply event xs (f a) qs) is k))
-  batch_ok f (Err y) ps read qs row is behind k = tt
+  -- the same of a batch whose passes were read in front of a row and put back there
+  pub batch_ok : {g : _} {X Y : Type 0} (f : X → List (Result R CallFault)) (o : Result X Y) (many : ℕ) (ps read qs row : List (Pass M E R W S g)) → read ≡ ps → row ≡ qs
+      → IfOk o (λ a. AreCalled after reply event (take many read) (f a) (take many qs)) → IfOk o (λ a. CallEach after reply event (take many (map view_of ps)) (f a) (map view_of (take many row)))
+  batch_ok f (Err y) many ps read qs row is behind k = tt
+  batch_ok f (Ok a) many ps read qs row is behind k =
+      let each = each_called (take many ps) (f a) (take many row) (subst (λ xs. AreCalled after reply event (take many ps) (f a) (take many xs)) (sym behind) (subst (λ xs. AreCalled after reply event (take many xs) (f a) (take many qs)) is k)) in
+      subst (λ vs. CallEach after reply event vs (f a) (map view_of (take many row))) (sym (take-map view_of many ps)) each
 
 -- where there was no batch, the row is as before
 pub batch_err : {A X Y : Type 0} (o : Result X Y) (ps read qs row : List A) → read ≡ ps → row ≡ qs → OnErr o (qs ≡ read) → OnErr o (row ≡ ps)

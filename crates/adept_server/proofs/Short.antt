@@ -14,6 +14,12 @@ short_set [] t row new there even k = tt
 short_set (r ∷ rows) zero row new there even k = let same : r ≡ row = cc (there) in (omega (arith, even, ap length same, k.0), k.1)
 short_set (r ∷ rows) (suc t) row new there even k = (k.0, short_set rows t row new there even k.1)
 
+-- a row is as short as all are
+pub short_at : {X : Type 0} (rows : List (List X)) (t : ℕ) (row : List X) → slice_get rows t ≡ Some row → AreShort rows → length row < 2 ^ 32
+short_at [] t row there k = absurd (cc (there))
+short_at (r ∷ rows) zero row there k = let same : r ≡ row = cc (there) in omega (arith, ap length same, k.0)
+short_at (r ∷ rows) (suc t) row there k = short_at rows t row there k.1
+
 pub short_map : {X Y : Type 0} (f : X → Y) (rows : List (List X)) → AreShort rows → AreShort (map (map f) rows)
 short_map f [] k = tt
 short_map f (row ∷ rows) k = (omega (arith, length-map row f, k.0), short_map f rows k.1)

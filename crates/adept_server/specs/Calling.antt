@@ -1,5 +1,5 @@
 -- What a call leaves of a desk: an entry more on each cell that it calls.
-use Rattle.std.specs.Prelude.{◌≡◌, ℕ, ◌<◌, ◌≤◌, ◌⊎◌, Bool, true, false, List, [], ◌∷◌, length, Option, Some, None, Result, Ok, Err, OnOk, MatchResult, slice_get, slice_set, if◌then◌else◌}
+use Rattle.std.specs.Prelude.{◌≡◌, ℕ, ◌<◌, ◌≤◌, ◌⊎◌, Bool, true, false, List, [], ◌∷◌, ◌++◌, length, take, drop, Option, Some, None, Result, Ok, Err, OnOk, MatchResult, slice_get, slice_set, if◌then◌else◌}
 use Rattle.adept_server.specs.Desks.{CasePass, DeskView}
 use Rattle.case_core.specs.Machine.{case_after, case_reply}
 use Rattle.case_core.specs.declared.events.Event.{Event}
@@ -93,17 +93,17 @@ pub data Creates (id : CaseId) (answer : Result Reply CallFault) (v w : DeskView
   asked : (version : VersionModel) (between : DeskView) → CallsKind kind_event.Newest id.type_no (Ok (kind_reply.Is version)) v between
       → CallsCase (event.Create version) id answer between w → Creates id answer v w
 
--- each case of a type is told an event
-pub record CallsCases (e : Event) (t : ℕ) (answers : List (Result Reply CallFault)) (v w : DeskView) : Type 0 where
+-- the first so many cases of a type are told an event
+pub record CallsCases (e : Event) (t many : ℕ) (answers : List (Result Reply CallFault)) (v w : DeskView) : Type 0 where
   pub row : List CasePass
-  pub row_behind : List CasePass
+  pub front : List CasePass
   pub there : slice_get v.cases t ≡ Some row
-  pub called : CallEach case_after case_reply e row answers row_behind
-  pub others : w ≡ record v { cases = slice_set v.cases t row_behind }
+  pub called : CallEach case_after case_reply e (take many row) answers front
+  pub others : w ≡ record v { cases = slice_set v.cases t (front ++ drop many row) }
 
--- The cases of a type are to move to its newest version: the type is asked for it, and each case is told.
-pub data Migrates (t : ℕ) (answer : Result (List (Result Reply CallFault)) CallFault) (v w : DeskView) : Type 0 where
-  unasked : (f : CallFault) → answer ≡ Err f → CallsKind kind_event.Newest t (Err f) v w → Migrates t answer v w
-  asked : (version : VersionModel) → answer ≡ Err fault.NoMemory → CallsKind kind_event.Newest t (Ok (kind_reply.Is version)) v w → Migrates t answer v w
+-- The first so many cases of a type are to move to its newest version: the type is asked for it, and each of them is told.
+pub data Migrates (t many : ℕ) (answer : Result (List (Result Reply CallFault)) CallFault) (v w : DeskView) : Type 0 where
+  unasked : (f : CallFault) → answer ≡ Err f → CallsKind kind_event.Newest t (Err f) v w → Migrates t many answer v w
+  asked : (version : VersionModel) → answer ≡ Err fault.NoMemory → CallsKind kind_event.Newest t (Ok (kind_reply.Is version)) v w → Migrates t many answer v w
   told : (version : VersionModel) (between : DeskView) (answers : List (Result Reply CallFault)) → answer ≡ Ok answers
-      → CallsKind kind_event.Newest t (Ok (kind_reply.Is version)) v between → CallsCases (event.Migrate version) t answers between w → Migrates t answer v w
+      → CallsKind kind_event.Newest t (Ok (kind_reply.Is version)) v between → CallsCases (event.Migrate version) t many answers between w → Migrates t many answer v w

@@ -1,5 +1,5 @@
 -- A desk as contracts see it: one pass of each type's cell and of each case's cell.
-use Rattle.std.specs.Prelude.{◌≡◌, ℕ, ◌^◌, ◌<◌, Bool, true, List, [], ◌∷◌, length, map, Option, Some, None, IsSome, slice_get}
+use Rattle.std.specs.Prelude.{◌≡◌, ℕ, ◌^◌, ◌<◌, Bool, true, List, [], ◌∷◌, length, map, get_or, Option, Some, None, IsSome, slice_get}
 use Rattle.adept_server.specs.declared.desks.Desk.{Desk}
 use Rattle.adept_server.specs.declared.servers.Server.{Server}
 use Rattle.case_core.specs.CaseModel.{CaseModel, not_created}
@@ -56,6 +56,10 @@ at_case rows c = in_row c.place (slice_get rows c.type_no)
 -- the pass of a case
 abbrev pub case_pass : DeskView → CaseId → Option CasePass
 case_pass v c = at_case v.cases c
+
+-- how many cases a type has
+abbrev pub case_count : DeskView → ℕ → ℕ
+case_count v t = length (get_or v.cases t [])
 
 -- The type has a version in what was seen of its cell.
 abbrev pub has_version : ℕ → Option KindPass → Type 0

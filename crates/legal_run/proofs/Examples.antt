@@ -7,7 +7,7 @@ use Rattle.case_core.specs.Machine.{case_after}
 use Rattle.case_core.specs.declared.events.Event.TheVariants as event
 use Rattle.case_core.specs.declared.replies.Reply.TheVariants as reply
 use Rattle.case_core.specs.CaseModel.{not_created}
-use Rattle.legal_run.specs.Legal.{Trace, IsActor, IsTrace, AreTraces, HasCalls, IsLegalCase, IsLegalKind, Legal, declared_cases, done_by}
+use Rattle.legal_run.specs.Legal.{Trace, IsActor, IsTrace, AreTraces, HasCalls, IsLegalCase, IsLegalKind, Legal, done_by}
 use Rattle.legal_run.specs.LineCalls.{Call, AreCallsOfLines, asked, lines_of, calls_of_case, calls_of_kind, told}
 use Rattle.file_model.specs.declared.files.Act.TheVariants as act
 use Rattle.file_model.specs.declared.files.File.{File}
@@ -48,6 +48,7 @@ a_file = record {
   format = 1;
   nodes = codes "start" ∷ codes "finish" ∷ codes "A" ∷ [];
   elements = [];
+  roles = [];
   types = record { name = codes "t"; schema = schema } ∷ [];
   actors = record { name = codes "ann"; roles = [] } ∷ record { name = codes "bob"; roles = [] } ∷ [];
   cases = record { name = codes "c"; id = the_case } ∷ [];
@@ -102,7 +103,7 @@ abbrev run_with : List CaseEntry → Run
 run_with journal = record { kinds = closed_kind ∷ []; cases = case_with journal ∷ [] }
 
 abbrev does : List Line → Trace → ℕ → Type 0
-does lines trace a = AreCallsOfLines (declared_cases a_file) (roles_of a_file a) a (lines_of a lines) (trace a)
+does lines trace a = AreCallsOfLines (roles_of a_file a) a (lines_of a lines) (trace a)
 
 in_first : IsTrace a_file (creation ∷ []) created
 in_first = by_actor (does (creation ∷ []) created) (created 1, [], refl, (version, reply.Created, refl), refl) refl

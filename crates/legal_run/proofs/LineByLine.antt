@@ -1,10 +1,11 @@
 -- What a script line makes of a run in file order: calls that the line stands for.
-use Rattle.std.proofs.Common.{◌≡◌, ◌≢◌, ℕ, zero, suc, ◌+◌, ◌<◌, ◌==◌, eq-eqb, ne_eqb, Bool, true, false, cond, ◌&&◌, inl, inr, List, [], ◌∷◌, length, map, set, take, get_or, Some, slice_get, refl, sym, ap, ◌∙◌, subst, arith, if◌then◌else◌}
+use Rattle.std.proofs.Common.{◌≡◌, ◌≢◌, ℕ, zero, suc, ◌+◌, ◌<◌, ◌≤◌, ◌==◌, eq-eqb, ne_eqb, Bool, true, false, cond, ◌&&◌, inl, inr, List, [], ◌∷◌, length, map, set, take, get_or, Some, None, slice_get, refl, sym, ap, ◌∙◌, subst, arith, if◌then◌else◌}
 use Rattle.std.proofs.Math.ListN.{length-set}
-use Rattle.std.proofs.lemmas.Bool.{and_parts, cases_Bool, eqb-true}
+use Rattle.std.proofs.lemmas.Bool.{and_from, and_parts, cases_Bool, eqb-true, ltb-false, ltb-true}
 use Rattle.std.proofs.lemmas.List.Quantifiers.{position-Some}
 use Rattle.std.proofs.lemmas.List.Sums.{sum_by-cons}
 use Rattle.std.proofs.lemmas.Option.{slice_get-get_or, slice_get-map, slice_get_cases}
+use Rattle.std.specs.Prelude.{nat_lt}
 use Rattle.std.specs.List.{list_any, position_from}
 use Rattle.std.specs.Option.{option_map}
 use mathlib.Core.Logic.{dite}
@@ -19,7 +20,6 @@ use Rattle.legal_run.proofs.Made.{CaseMade, HasGone, KindMade, case_made-none, g
 use Rattle.legal_run.proofs.OnMachines.{caller_of}
 use Rattle.legal_run.proofs.Places.{one-becomes, some_one, there-as}
 use Rattle.legal_run.proofs.Told.{each-all, each-kind, entry_if, some-at, some-other}
-use Rattle.legal_run.specs.Legal.{declared_cases}
 use Rattle.legal_run.specs.LineCalls.{AreOf, Call, asked, of_kind, calls_of_case, calls_of_kind, told, told_each}
 use Rattle.line_calls.proofs.Facts.{known-call}
 use Rattle.line_calls.specs.Calls.{call_of, is_case}
@@ -27,13 +27,14 @@ use Rattle.line_calls.specs.Known.{IsKnownCall}
 use Rattle.line_calls.specs.declared.calls.Call as line
 use Rattle.line_calls.specs.declared.calls.Call.TheVariants as call
 use Rattle.line_calls.specs.declared.calls.Told.TheVariants as tell
-use Rattle.file_model.specs.CaseCounts.{cases_of_type as counted, has_id}
+use Rattle.file_model.specs.CaseCounts.{cases_of_type as counted, has_id, is_among}
 use Rattle.file_model.specs.declared.files.Act.{Act}
 use Rattle.file_model.specs.declared.files.CaseDecl.{CaseDecl}
 use Rattle.file_model.specs.declared.files.File.{File}
 use Rattle.line_calls.proofs.Places.{position-from_0}
-use Rattle.script_run.specs.Calls.{acted, call_case, call_kind, called, changed_where, created, each_of, if_of_type, migrated, newest, newest_in, on_case as case_called, on_each as each_called, on_kind as kind_called, put_back, answered_version}
+use Rattle.script_run.specs.Calls.{acted, call_case, call_kind, called, changed_where, created, each_of, if_among, migrated, newest, newest_in, on_case as case_called, on_each as each_called, on_kind as kind_called, put_back, answered_version}
 use Rattle.line_calls.specs.Files.{place_of, roles_of}
+use Rattle.script_run.specs.Entries.{CaseEntry}
 use Rattle.script_run.specs.declared.runs.ClosedCase.{ClosedCase}
 use Rattle.script_run.specs.declared.runs.ClosedKind.{ClosedKind}
 use Rattle.script_run.specs.declared.runs.Run.{Run}
@@ -183,53 +184,112 @@ reply-at t e (x ∷ ds) (y ∷ cs) (suc i) d c at_d at_c typed =
     let all : counted t (x ∷ take i ds) ≡ cond (x.id.type_no == t) 1 0 + counted t (take i ds) = sum_by-cons (λ (z : CaseDecl). cond (z.id.type_no == t) 1 0) x (take i ds) in
     ap (slice_get (replies t e (x ∷ ds) (y ∷ cs))) all ∙ (behind_if (x.id.type_no == t) (case_reply y.machine e) (replies t e ds cs) (counted t (take i ds)) ∙ reply-at t e ds cs i d c at_d at_c typed)
 
-each-at : (t : ℕ) (g : ClosedCase → ClosedCase) (ds : List CaseDecl) (cs : List ClosedCase) (i : ℕ) (d : CaseDecl) (c : ClosedCase) → slice_get ds i ≡ Some d → slice_get cs i ≡ Some c → slice_get (each_of t g ds cs) i ≡ Some (if_of_type t g d c)
-each-at t g [] cs i d c at_d at_c = absurd (cc)
-each-at t g (x ∷ ds) [] i d c at_d at_c = absurd (cc)
-each-at t g (x ∷ ds) (y ∷ cs) zero d c at_d at_c =
+each-at : (t many : ℕ) (g : ClosedCase → ClosedCase) (ds : List CaseDecl) (cs : List ClosedCase) (i : ℕ) (d : CaseDecl) (c : ClosedCase) → slice_get ds i ≡ Some d → slice_get cs i ≡ Some c →
+    slice_get (each_of t many g ds cs) i ≡ Some (if_among t many g d c)
+each-at t many g [] cs i d c at_d at_c = absurd (cc)
+each-at t many g (x ∷ ds) [] i d c at_d at_c = absurd (cc)
+each-at t many g (x ∷ ds) (y ∷ cs) zero d c at_d at_c =
     let is_d : x ≡ d = cc (at_d) in
     let is_c : y ≡ c = cc (at_c) in
-    ap (λ (z : CaseDecl). Some (if_of_type t g z y)) is_d ∙ ap (λ (z : ClosedCase). Some (if_of_type t g d z)) is_c
-each-at t g (x ∷ ds) (y ∷ cs) (suc i) d c at_d at_c = each-at t g ds cs i d c at_d at_c
+    ap (λ (z : CaseDecl). Some (if_among t many g z y)) is_d ∙ ap (λ (z : ClosedCase). Some (if_among t many g d z)) is_c
+each-at t many g (x ∷ ds) (y ∷ cs) (suc i) d c at_d at_c = each-at t many g ds cs i d c at_d at_c
 
-length-each : (t : ℕ) (g : ClosedCase → ClosedCase) (ds : List CaseDecl) (cs : List ClosedCase) → length (each_of t g ds cs) ≡ length cs
-length-each t g [] cs = refl
-length-each t g (d ∷ ds) [] = refl
-length-each t g (d ∷ ds) (c ∷ cs) = ap suc (length-each t g ds cs)
+length-each : (t many : ℕ) (g : ClosedCase → ClosedCase) (ds : List CaseDecl) (cs : List ClosedCase) → length (each_of t many g ds cs) ≡ length cs
+length-each t many g [] cs = refl
+length-each t many g (d ∷ ds) [] = refl
+length-each t many g (d ∷ ds) (c ∷ cs) = ap suc (length-each t many g ds cs)
 
-call-each : (f : File) → IsWorkable f → (a t : ℕ) (e : Event) (r : Run) → IsRunning f r → (rs : List Reply) × (length rs ≡ declared_cases f t) × HasGone f (told_each a t e 0 rs) r (each_called f a t e r)
-call-each f workable a t e r running = (
+-- the first so many of a list
+take-long : {A : Type 0} (n : ℕ) (xs : List A) → n ≤ length xs → length (take n xs) ≡ n
+take-long zero [] enough = refl
+take-long zero (x ∷ xs) enough = refl
+take-long (suc n) [] enough = absurd (omega (arith, enough))
+take-long (suc n) (x ∷ xs) enough = ap suc (take-long n xs (omega (arith, enough)))
+
+take-got : {A : Type 0} (n : ℕ) (xs : List A) (i : ℕ) → i < n → slice_get (take n xs) i ≡ slice_get xs i
+take-got zero xs i below = absurd (omega (arith, below))
+take-got (suc n) [] i below = refl
+take-got (suc n) (x ∷ xs) zero below = refl
+take-got (suc n) (x ∷ xs) (suc i) below = take-got n xs i (omega (arith, below))
+
+take-past : {A : Type 0} (n : ℕ) (xs : List A) (i : ℕ) → n ≤ i → slice_get (take n xs) i ≡ None
+take-past zero [] zero past = refl
+take-past zero [] (suc i) past = refl
+take-past zero (x ∷ xs) zero past = refl
+take-past zero (x ∷ xs) (suc i) past = refl
+take-past (suc n) [] zero past = absurd (omega (arith, past))
+take-past (suc n) [] (suc i) past = refl
+take-past (suc n) (x ∷ xs) zero past = absurd (omega (arith, past))
+take-past (suc n) (x ∷ xs) (suc i) past = take-past n xs i (omega (arith, past))
+
+and_false : (b : Bool) → (b && false) ≡ false
+and_false true = refl
+and_false false = refl
+
+call-each : (f : File) → IsWorkable f → (a t many : ℕ) (e : Event) (r : Run) → IsRunning f r → many ≤ counted t f.cases →
+    (rs : List Reply) × (length rs ≡ many) × HasGone f (told_each a t e 0 rs) r (each_called f a t many e r)
+call-each f workable a t many e r running enough = (
   answers,
-  length-replies t e f.cases r.cases running.cases,
+  take-long many all (omega (arith, enough, length-replies t e f.cases r.cases running.cases)),
   record {
     types = refl;
-    many = length-each t (call_case a e) f.cases r.cases;
+    many = length-each t many (call_case a e) f.cases r.cases;
     kinds = λ u p q at at_then. subst (λ es. KindMade es p q) (sym (each-kind a t e u 0 answers)) (subst (KindMade [] p) (some_one at at_then) (kind_made-none p));
     cases = λ i d p q at_d at at_then.
-        let now : if_of_type t (call_case a e) d p ≡ q = some_one (each-at t (call_case a e) f.cases r.cases i d p at_d at) at_then in
-        dite (ℕ_discrete t d.id.type_no) (called i d p q at_d at now) (passed_over d p q now);
+        let now : if_among t many (call_case a e) d p ≡ q = some_one (each-at t many (call_case a e) f.cases r.cases i d p at_d at) at_then in
+        dite (ℕ_discrete t d.id.type_no) (typed i d p q at_d at now) (λ not. passed_over d p q now (by_type d not) (of_others d not));
   },
 )
   where
-    answers : List Reply
-    answers = replies t e f.cases r.cases
+    all : List Reply
+    all = replies t e f.cases r.cases
 
-    called : (i : ℕ) (d : CaseDecl) (p q : ClosedCase) → slice_get f.cases i ≡ Some d → slice_get r.cases i ≡ Some p → if_of_type t (call_case a e) d p ≡ q → t ≡ d.id.type_no → CaseMade (calls_of_case d.id (told_each a t e 0 answers)) p q
-    called i d p q at_d at now same =
-        let place : d.id.place ≡ counted t (take i f.cases) = workable.placed i d at_d ∙ ap (λ n. counted n (take i f.cases)) (sym same) in
-        let answer : slice_get answers d.id.place ≡ Some (case_reply p.machine e) = ap (slice_get answers) place ∙ reply-at t e f.cases r.cases i d p at_d at (sym same) in
-        let one : calls_of_case d.id (told_each a t e 0 answers) ≡ entry a e (case_reply p.machine e) ∷ [] =
+    answers : List Reply
+    answers = take many all
+
+    made : CaseDecl → List CaseEntry
+    made d = calls_of_case d.id (told_each a t e 0 answers)
+
+    -- a case of another type, and one that is not among the first
+    by_type : (d : CaseDecl) → t ≢ d.id.type_no → is_among t many d ≡ false
+    by_type d not = ap (λ b. b && nat_lt d.id.place many) (ne_eqb d.id.type_no t (λ is. not (sym is)))
+
+    of_others : (d : CaseDecl) → t ≢ d.id.type_no → made d ≡ []
+    of_others d not = ap (calls_of_case d.id) (each-all a t e 0 answers) ∙ some-other a t e d.id 0 (map (λ x. Some x) answers) (inl not)
+
+    -- the entry of a case of the type, where its place has an answer
+    one : (d : CaseDecl) → t ≡ d.id.type_no → made d ≡ entry_if a e (option_map (λ (x : Reply). Some x) (slice_get answers d.id.place))
+    one d same =
         ap (calls_of_case d.id) (each-all a t e 0 answers)
         ∙ (some-at a t e d.id 0 d.id.place (map (λ x. Some x) answers) same (omega arith)
-        ∙ ap (entry_if a e) (slice_get-map (λ x. Some x) answers d.id.place ∙ ap (option_map (λ (x : Reply). Some x)) answer)) in
-        let is_q : call_case a e p ≡ q = sym (ap (λ (b : Bool). if b then call_case a e p else p) (eq-eqb d.id.type_no t (sym same))) ∙ now in
-        subst (λ es. CaseMade es p q) (sym one) (subst (CaseMade (entry a e (case_reply p.machine e) ∷ []) p) is_q (record { takes = (refl, refl); grown = refl }))
+        ∙ ap (entry_if a e) (slice_get-map (λ x. Some x) answers d.id.place))
 
-    passed_over : (d : CaseDecl) (p q : ClosedCase) → if_of_type t (call_case a e) d p ≡ q → t ≢ d.id.type_no → CaseMade (calls_of_case d.id (told_each a t e 0 answers)) p q
-    passed_over d p q now not =
-        let none : calls_of_case d.id (told_each a t e 0 answers) ≡ [] = ap (calls_of_case d.id) (each-all a t e 0 answers) ∙ some-other a t e d.id 0 (map (λ x. Some x) answers) (inl not) in
-        let is_q : p ≡ q = sym (ap (λ (b : Bool). if b then call_case a e p else p) (ne_eqb d.id.type_no t (λ is. not (sym is)))) ∙ now in
+    passed_over : (d : CaseDecl) (p q : ClosedCase) → if_among t many (call_case a e) d p ≡ q → is_among t many d ≡ false → made d ≡ [] → CaseMade (made d) p q
+    passed_over d p q now not none =
+        let is_q : p ≡ q = sym (ap (λ (b : Bool). if b then call_case a e p else p) not) ∙ now in
         subst (λ es. CaseMade es p q) (sym none) (subst (CaseMade [] p) is_q (case_made-none p))
+
+    typed : (i : ℕ) (d : CaseDecl) (p q : ClosedCase) → slice_get f.cases i ≡ Some d → slice_get r.cases i ≡ Some p → if_among t many (call_case a e) d p ≡ q → t ≡ d.id.type_no → CaseMade (made d) p q
+    typed i d p q at_d at now same = by (nat_lt d.id.place many) refl
+      where
+        of_type : (d.id.type_no == t) ≡ true
+        of_type = eq-eqb d.id.type_no t (sym same)
+
+        answer : slice_get all d.id.place ≡ Some (case_reply p.machine e)
+        answer =
+            let place : d.id.place ≡ counted t (take i f.cases) = workable.placed i d at_d ∙ ap (λ n. counted n (take i f.cases)) (sym same) in
+            ap (slice_get all) place ∙ reply-at t e f.cases r.cases i d p at_d at (sym same)
+
+        by : (b : Bool) → nat_lt d.id.place many ≡ b → CaseMade (made d) p q
+        by true low =
+            let told_it : made d ≡ entry a e (case_reply p.machine e) ∷ [] =
+            one d same ∙ ap (λ o. entry_if a e (option_map (λ (x : Reply). Some x) o)) (take-got many all d.id.place (ltb-true d.id.place many low) ∙ answer) in
+            let among : is_among t many d ≡ true = and_from _ _ of_type low in
+            let is_q : call_case a e p ≡ q = sym (ap (λ (b : Bool). if b then call_case a e p else p) among) ∙ now in
+            subst (λ es. CaseMade es p q) (sym told_it) (subst (CaseMade (entry a e (case_reply p.machine e) ∷ []) p) is_q (record { takes = (refl, refl); grown = refl }))
+        by false high =
+            let none : made d ≡ [] = one d same ∙ ap (λ o. entry_if a e (option_map (λ (x : Reply). Some x) o)) (take-past many all d.id.place (ltb-false d.id.place many high)) in
+            passed_over d p q now (ap (λ b. (d.id.type_no == t) && b) high ∙ and_false (d.id.type_no == t)) none
 
 own-each : (a t : ℕ) (e : Event) (place : ℕ) (rs : List Reply) → AllRows (λ c. caller_of c ≡ a) (told_each a t e place rs)
 own-each a t e place [] = tt
@@ -239,7 +299,7 @@ own-each a t e place (r ∷ rs) = (refl, own-each a t e (place + 1) rs)
 -- the call of a line has made its calls, and no others
 pub record HasCalled (f : File) (a : ℕ) (k : line.Call) (r s : Run) : Type 0 where
   pub calls : List Call
-  pub fit : AreOf (declared_cases f) a k calls
+  pub fit : AreOf a k calls
   pub own : AllRows (λ c. caller_of c ≡ a) calls
   pub gone : HasGone f calls r s
 
@@ -267,17 +327,17 @@ has-called f workable a (call.Newest t (tell.Create c)) r running (same, declare
       own = (refl, (refl, tt));
       gone = subst (λ o. HasGone f (asked a t v ∷ told a c (event.Create v) answer ∷ []) r (created f a c o between)) (sym is) (gone-then f asking creating r between (case_called f a c (event.Create v) between) first second);
     }
-has-called f workable a (call.Newest t tell.Migrate) r running low =
+has-called f workable a (call.Newest t (tell.Migrate many)) r running (low, enough) =
     let (v, is, first) = call-newest f a t r running low in
     let asking = asked a t v ∷ [] in
     let between = kind_called a t kind_event.Newest r in
-    let (answers, many, second) = call-each f workable a t (event.Migrate v) between (running-still f asking r between first running) in
+    let (answers, all, second) = call-each f workable a t many (event.Migrate v) between (running-still f asking r between first running) enough in
     record {
       calls = asked a t v ∷ told_each a t (event.Migrate v) 0 answers;
-      fit = (v, answers, many, refl);
+      fit = (v, answers, all, refl);
       own = (refl, own-each a t (event.Migrate v) 0 answers);
-      gone = subst (λ o. HasGone f (asked a t v ∷ told_each a t (event.Migrate v) 0 answers) r (migrated f a t o between)) (sym is)
-          (gone-then f asking (told_each a t (event.Migrate v) 0 answers) r between (each_called f a t (event.Migrate v) between) first second);
+      gone = subst (λ o. HasGone f (asked a t v ∷ told_each a t (event.Migrate v) 0 answers) r (migrated f a t many o between)) (sym is)
+          (gone-then f asking (told_each a t (event.Migrate v) 0 answers) r between (each_called f a t many (event.Migrate v) between) first second);
     }
 
 -- so has a line

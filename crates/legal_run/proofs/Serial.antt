@@ -14,7 +14,7 @@ use Rattle.file_facts.specs.Facts.{IsKnown, IsSound, IsWorkable}
 use Rattle.legal_run.proofs.LineByLine.{HasActed, IsRunning, has-acted, running-still}
 use Rattle.legal_run.proofs.Made.{HasGone, Takes, gone-none, gone-then, takes-legal, takes-state}
 use Rattle.legal_run.proofs.OnMachines.{caller_of, calls_by, calls_by-append, case_callers, case_calls-by, kind_callers, kind_calls-by, calls_of_case-append, calls_of_kind-append}
-use Rattle.legal_run.specs.Legal.{AreOfActors, AreTraces, HasCalls, IsActor, IsByPhases, IsLegalCase, IsLegalKind, Legal, Trace, declared_cases, done_by}
+use Rattle.legal_run.specs.Legal.{AreOfActors, AreTraces, HasCalls, IsActor, IsByPhases, IsLegalCase, IsLegalKind, Legal, Trace, done_by}
 use Rattle.legal_run.specs.LineCalls.{AreCallsOf, AreCallsOfLines, Call, lines_of, calls_of_case, calls_of_kind}
 use Rattle.file_model.specs.declared.files.CaseDecl.{CaseDecl}
 use Rattle.file_model.specs.declared.files.File.{File}
@@ -51,27 +51,27 @@ calls-none a b (c ∷ calls) (is, own) not =
     ap (λ (x : Bool). if x then c ∷ calls_by b calls else calls_by b calls) (ne_eqb (caller_of c) b (λ same. not (sym is ∙ same))) ∙ calls-none a b calls own not
 
 -- the calls of an actor's line come first among the actor's own, and are no other actor's
-with-line : (f : File) (l : Line) (lines : List Line) (rest : List Call) (r s : Run) (acted : HasActed f l.actor l.act r s) (a : ℕ) → AreCallsOfLines (declared_cases f) (roles_of f a) a (lines_of a lines) (calls_by a rest)
-    → AreCallsOfLines (declared_cases f) (roles_of f a) a (lines_of a (l ∷ lines)) (calls_by a (acted.calls ++ rest))
+with-line : (f : File) (l : Line) (lines : List Line) (rest : List Call) (r s : Run) (acted : HasActed f l.actor l.act r s) (a : ℕ) → AreCallsOfLines (roles_of f a) a (lines_of a lines) (calls_by a rest)
+    → AreCallsOfLines (roles_of f a) a (lines_of a (l ∷ lines)) (calls_by a (acted.calls ++ rest))
 with-line f l lines rest r s acted a fit =
     dite (ℕ_discrete l.actor a)
     (λ (same : l.actor ≡ a).
     let own : lines_of a (l ∷ lines) ≡ l ∷ lines_of a lines = ap (λ (b : Bool). if b then l ∷ lines_of a lines else lines_of a lines) (eq-eqb l.actor a same) in
     let calls : calls_by a (acted.calls ++ rest) ≡ acted.calls ++ calls_by a rest =
     calls_by-append a acted.calls rest ∙ ap (λ cs. cs ++ calls_by a rest) (calls-own a acted.calls (subst (λ n. AllRows (λ c. caller_of c ≡ n) acted.calls) same acted.own)) in
-    subst (λ ls. AreCallsOfLines (declared_cases f) (roles_of f a) a ls (calls_by a (acted.calls ++ rest))) (sym own)
-    (acted.calls, calls_by a rest, calls, subst (λ n. AreCallsOf (declared_cases f) (roles_of f n) n l.act acted.calls) same acted.fit, fit))
+    subst (λ ls. AreCallsOfLines (roles_of f a) a ls (calls_by a (acted.calls ++ rest))) (sym own)
+    (acted.calls, calls_by a rest, calls, subst (λ n. AreCallsOf (roles_of f n) n l.act acted.calls) same acted.fit, fit))
     (λ (not : l.actor ≢ a).
     let others : lines_of a (l ∷ lines) ≡ lines_of a lines = ap (λ (b : Bool). if b then l ∷ lines_of a lines else lines_of a lines) (ne_eqb l.actor a not) in
     let calls : calls_by a (acted.calls ++ rest) ≡ calls_by a rest = calls_by-append a acted.calls rest ∙ ap (λ cs. cs ++ calls_by a rest) (calls-none l.actor a acted.calls acted.own not) in
-    subst (λ ls. AreCallsOfLines (declared_cases f) (roles_of f a) a ls (calls_by a (acted.calls ++ rest))) (sym others)
-    (subst (AreCallsOfLines (declared_cases f) (roles_of f a) a (lines_of a lines)) (sym calls) fit))
+    subst (λ ls. AreCallsOfLines (roles_of f a) a ls (calls_by a (acted.calls ++ rest))) (sym others)
+    (subst (AreCallsOfLines (roles_of f a) a (lines_of a lines)) (sym calls) fit))
 
 -- ---- a phase, and all phases
 -- the lines of a phase have made these calls: each actor those of its own lines, in order
 record HasWorkedPhase (f : File) (lines : List Line) (r s : Run) : Type 0 where
   calls : List Call
-  fit : (a : ℕ) → AreCallsOfLines (declared_cases f) (roles_of f a) a (lines_of a lines) (calls_by a calls)
+  fit : (a : ℕ) → AreCallsOfLines (roles_of f a) a (lines_of a lines) (calls_by a calls)
   actors : AllRows (λ c. IsActor f (caller_of c)) calls
   gone : HasGone f calls r s
 

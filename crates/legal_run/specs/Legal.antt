@@ -35,7 +35,7 @@ Trace = ℕ → List Call
 
 -- in a phase each actor did what its lines stand for, in file order
 abbrev pub IsTrace : File → List Line → Trace → Type 0
-IsTrace f lines trace = (a : ℕ) → IsActor f a → AreCallsOfLines (declared_cases f) (roles_of f a) a (lines_of a lines) (trace a)
+IsTrace f lines trace = (a : ℕ) → IsActor f a → AreCallsOfLines (roles_of f a) a (lines_of a lines) (trace a)
 
 -- one trace for each phase
 abbrev pub AreTraces : File → List (List Line) → List Trace → Type 0

@@ -42,7 +42,7 @@ asked a t v = of_kind t (entry a kind_event.Newest (kind_reply.Is v))
 abbrev pub told : ℕ → CaseId → Event → Reply → Call
 told a c e r = of_case c (entry a e r)
 
--- an event told to each case of a type, from a place on
+-- an event told to cases of a type one after another, from a place on
 abbrev pub told_each : ℕ → ℕ → Event → ℕ → List Reply → List Call
 told_each a t e place [] = []
 told_each a t e place (r ∷ rs) = told a (record { type_no = t; place = place }) e r ∷ told_each a t e (place + 1) rs
@@ -53,28 +53,28 @@ told_some a t e place [] = []
 told_some a t e place (None ∷ answers) = told_some a t e (place + 1) answers
 told_some a t e place (Some r ∷ answers) = told a (record { type_no = t; place = place }) e r ∷ told_some a t e (place + 1) answers
 
--- entries that a call of an actor may have made, where many says how many cases a type has
-module _ (many : ℕ → ℕ) (a : ℕ) where
+-- entries that a call of an actor may have made
+module _ (a : ℕ) where
   abbrev pub AreOf : line.Call → List Call → Type 0
   AreOf (call.Kind t e) calls = (r : KindReply) × (calls ≡ of_kind t (entry a e r) ∷ [])
   AreOf (call.Case c e) calls = (r : Reply) × (calls ≡ told a c e r ∷ [])
   AreOf (call.Newest t (tell.Create c)) calls = (v : VersionModel) × (r : Reply) × (calls ≡ asked a t v ∷ told a c (event.Create v) r ∷ [])
-  AreOf (call.Newest t tell.Migrate) calls = (v : VersionModel) × (rs : List Reply) × (length rs ≡ many t) × (calls ≡ asked a t v ∷ told_each a t (event.Migrate v) 0 rs)
+  AreOf (call.Newest t (tell.Migrate many)) calls = (v : VersionModel) × (rs : List Reply) × (length rs ≡ many) × (calls ≡ asked a t v ∷ told_each a t (event.Migrate v) 0 rs)
 
   -- What it has done where it met a fault: nothing, or the first of its two calls; of a migration also the calls of some cases.
   abbrev pub ArePart : line.Call → List Call → Type 0
   ArePart (call.Newest t (tell.Create c)) calls = (calls ≡ []) ⊎ ((v : VersionModel) × (calls ≡ asked a t v ∷ []))
-  ArePart (call.Newest t tell.Migrate) calls = (calls ≡ []) ⊎ ((v : VersionModel) × (answers : List (Option Reply)) × (length answers ≤ many t) × (calls ≡ asked a t v ∷ told_some a t (event.Migrate v) 0 answers))
+  ArePart (call.Newest t (tell.Migrate many)) calls = (calls ≡ []) ⊎ ((v : VersionModel) × (answers : List (Option Reply)) × (length answers ≤ many) × (calls ≡ asked a t v ∷ told_some a t (event.Migrate v) 0 answers))
   ArePart _ calls = calls ≡ []
 
 -- for an actor with these roles
-module _ (many : ℕ → ℕ) (roles : List ℕ) (a : ℕ) where
+module _ (roles : List ℕ) (a : ℕ) where
   -- the calls of a line, and what a line has done that met a fault
   abbrev pub AreCallsOf : Act → List Call → Type 0
-  AreCallsOf x calls = AreOf many a (call_of a roles x) calls
+  AreCallsOf x calls = AreOf a (call_of a roles x) calls
 
   abbrev pub ArePartOf : Act → List Call → Type 0
-  ArePartOf x calls = ArePart many a (call_of a roles x) calls
+  ArePartOf x calls = ArePart a (call_of a roles x) calls
 
   -- the calls of lines, one line after another
   abbrev pub AreCallsOfLines : List Line → List Call → Type 0

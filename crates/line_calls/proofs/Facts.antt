@@ -32,7 +32,7 @@ module _ (a : ℕ) (roles : List ℕ) where
   cells-same (act.End c node choice writes) = refl
   cells-same (act.Change c ops) = refl
   cells-same (act.Install t ops) = refl
-  cells-same (act.Migrate t) = refl
+  cells-same (act.Migrate t many) = refl
 
   pub kind_event-same : (x : Act) → kind_event_in (call_of a roles x) ≡ kind_event_in (call_of 0 [] x)
   kind_event-same (act.Create c) = refl
@@ -41,7 +41,7 @@ module _ (a : ℕ) (roles : List ℕ) where
   kind_event-same (act.End c node choice writes) = refl
   kind_event-same (act.Change c ops) = refl
   kind_event-same (act.Install t ops) = refl
-  kind_event-same (act.Migrate t) = refl
+  kind_event-same (act.Migrate t many) = refl
 
   -- it goes to what was declared
   pub known-call : (types : ℕ) (cases : List CaseDecl) (x : Act) → IsKnownAct types cases x → IsKnownCall types cases (call_of a roles x)
@@ -51,7 +51,7 @@ module _ (a : ℕ) (roles : List ℕ) where
   known-call types cases (act.End c node choice writes) known = known
   known-call types cases (act.Change c ops) known = known.0
   known-call types cases (act.Install t ops) known = known.0
-  known-call types cases (act.Migrate t) known = known
+  known-call types cases (act.Migrate t many) known = known
 
   -- it ages no machine by more than its operations may be
   pub known-light : (types : ℕ) (cases : List CaseDecl) (x : Act) → IsKnownAct types cases x → call_weight (call_of a roles x) ≤ 768
@@ -61,7 +61,7 @@ module _ (a : ℕ) (roles : List ℕ) where
   known-light types cases (act.End c node choice writes) known = omega arith
   known-light types cases (act.Change c ops) known = omega (arith, known.1)
   known-light types cases (act.Install t ops) known = omega (arith, known.1)
-  known-light types cases (act.Migrate t) known = omega arith
+  known-light types cases (act.Migrate t many) known = omega arith
 
   pub plain-call : (x : Act) → IsPlain (call_of a roles x)
   plain-call (act.Create c) = tt
@@ -70,7 +70,7 @@ module _ (a : ℕ) (roles : List ℕ) where
   plain-call (act.End c node choice writes) = refl
   plain-call (act.Change c ops) = refl
   plain-call (act.Install t ops) = refl
-  plain-call (act.Migrate t) = tt
+  plain-call (act.Migrate t many) = tt
 
   -- it writes what its line writes
   pub writes-same : (x : Act) → call_writes (call_of a roles x) ≡ act_writes x
@@ -80,7 +80,7 @@ module _ (a : ℕ) (roles : List ℕ) where
   writes-same (act.End c node choice writes) = refl
   writes-same (act.Change c ops) = refl
   writes-same (act.Install t ops) = refl
-  writes-same (act.Migrate t) = refl
+  writes-same (act.Migrate t many) = refl
 
 -- ---- by the call
 -- the type that is asked is one of so many
@@ -88,7 +88,7 @@ pub asked-known : (types : ℕ) (cases : List CaseDecl) → AllRows (HasType typ
 asked-known types cases typed (call.Kind u e) t known is = absurd (cc (is))
 asked-known types cases typed (call.Case c e) t known is = absurd (cc (is))
 asked-known types cases typed (call.Newest u (told.Create c)) t known is = let same : u ≡ t = cc is in subst (λ n. n < types) (sym known.0 ∙ same) (declared-typed types cases c typed known.1)
-asked-known types cases typed (call.Newest u told.Migrate) t known is = let same : u ≡ t = cc is in subst (λ n. n < types) same known
+asked-known types cases typed (call.Newest u (told.Migrate many)) t known is = let same : u ≡ t = cc is in subst (λ n. n < types) same known.0
 
 -- its events weigh what it weighs at most
 pub kind-light : (k : Call) (e : KindEvent) → kind_event_in k ≡ Some e → kind_weight e ≤ call_weight k
@@ -99,7 +99,7 @@ kind-light (call.Newest t w) e is = let same : kind_event.Newest ≡ e = cc is i
 told-light : (w : Told) (o : Option VersionModel) (e : Event) → option_map (version_event w) o ≡ Some e → weight e ≤ 0
 told-light w None e is = absurd (cc (is))
 told-light (told.Create c) (Some v) e is = let same : event.Create v ≡ e = cc is in rw (← same) (omega arith)
-told-light told.Migrate (Some v) e is = let same : event.Migrate v ≡ e = cc is in rw (← same) (omega arith)
+told-light (told.Migrate many) (Some v) e is = let same : event.Migrate v ≡ e = cc is in rw (← same) (omega arith)
 
 pub case-light : (o : Option VersionModel) (k : Call) (e : Event) → case_event_in o k ≡ Some e → weight e ≤ call_weight k
 case-light o (call.Kind t f) e is = absurd (cc (is))

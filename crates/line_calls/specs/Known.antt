@@ -1,8 +1,9 @@
 -- What is known of the calls of lines that are known.
-use Rattle.std.specs.Prelude.{◌≡◌, ℕ, ◌<◌, Bool, true, false, List, []}
+use Rattle.std.specs.Prelude.{◌≡◌, ℕ, ◌<◌, ◌≤◌, Bool, true, false, List, []}
 use Rattle.case_core.specs.declared.events.Event.{Event}
 use Rattle.case_core.specs.declared.events.Event.TheVariants as event
 use Rattle.file_facts.specs.Facts.{IsDeclared}
+use Rattle.file_model.specs.CaseCounts.{cases_of_type}
 use Rattle.file_model.specs.declared.files.CaseDecl.{CaseDecl}
 use Rattle.line_calls.specs.declared.calls.Call.{Call}
 use Rattle.line_calls.specs.declared.calls.Call.TheVariants as call
@@ -16,7 +17,7 @@ abbrev pub IsKnownCall : ℕ → List CaseDecl → Call → Type 0
 IsKnownCall types cases (call.Kind t e) = t < types
 IsKnownCall types cases (call.Case c e) = IsDeclared c cases
 IsKnownCall types cases (call.Newest t (told.Create c)) = (t ≡ c.type_no) × IsDeclared c cases
-IsKnownCall types cases (call.Newest t told.Migrate) = t < types
+IsKnownCall types cases (call.Newest t (told.Migrate many)) = (t < types) × (many ≤ cases_of_type t cases)
 
 -- a case is told no version but one that its type has just answered, and a type nothing but operations
 abbrev pub brings_version : Event → Bool

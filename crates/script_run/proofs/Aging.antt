@@ -1,11 +1,12 @@
 -- How old the oldest case is at most after calls.
-use Rattle.std.proofs.Common.{◌≡◌, ℕ, zero, suc, ◌+◌, ◌≤◌, Bool, true, false, ◌==◌, List, [], ◌∷◌, map, set, Option, Some, None, refl, arith}
+use Rattle.std.proofs.Common.{◌≡◌, ℕ, zero, suc, ◌+◌, ◌≤◌, Bool, true, false, List, [], ◌∷◌, map, set, Option, Some, None, refl, arith}
 use Rattle.std.specs.Prelude.{slice_get, IfSome, if◌then◌else◌}
 use Rattle.case_core.proofs.AgesOfSteps.{age-next_case}
 use Rattle.case_core.specs.Ages.{age, weight}
 use Rattle.case_core.specs.declared.events.Event.{Event}
+use Rattle.file_model.specs.CaseCounts.{is_among}
 use Rattle.file_model.specs.declared.files.CaseDecl.{CaseDecl}
-use Rattle.script_run.specs.Calls.{call_case, put_back, changed_at, changed_where, if_of_type, each_of}
+use Rattle.script_run.specs.Calls.{call_case, put_back, changed_at, changed_where, if_among, each_of}
 use Rattle.script_run.specs.Oldest.{oldest}
 use Rattle.script_run.specs.Serial.{uncalled}
 use Rattle.script_run.specs.declared.runs.ClosedCase.{ClosedCase}
@@ -49,20 +50,20 @@ pub oldest-changed_where : (caller : ℕ) (e : Event) (place : Option ℕ) (cs :
 oldest-changed_where caller e None cs = omega arith
 oldest-changed_where caller e (Some i) cs = oldest-changed_at caller e i cs
 
-age-if_of_type : (t caller : ℕ) (e : Event) (d : CaseDecl) (c : ClosedCase) → age (if_of_type t (call_case caller e) d c).machine ≤ age c.machine + weight e
-age-if_of_type t caller e d c = go (d.id.type_no == t)
+age-if_among : (t many caller : ℕ) (e : Event) (d : CaseDecl) (c : ClosedCase) → age (if_among t many (call_case caller e) d c).machine ≤ age c.machine + weight e
+age-if_among t many caller e d c = go (is_among t many d)
   where
     go : (b : Bool) → age (if b then call_case caller e c else c).machine ≤ age c.machine + weight e
     go true = age-call_case caller e c
     go false = omega arith
 
-pub oldest-each_of : (t caller : ℕ) (e : Event) (ds : List CaseDecl) (cs : List ClosedCase) → oldest (each_of t (call_case caller e) ds cs) ≤ oldest cs + weight e
+pub oldest-each_of : (t many caller : ℕ) (e : Event) (ds : List CaseDecl) (cs : List ClosedCase) → oldest (each_of t many (call_case caller e) ds cs) ≤ oldest cs + weight e
 unfolding oldest
-oldest-each_of t caller e [] cs = omega arith
-oldest-each_of t caller e (d ∷ ds) [] = omega arith
-oldest-each_of t caller e (d ∷ ds) (c ∷ cs) =
-    let first = age-if_of_type t caller e d c in
-    let more = oldest-each_of t caller e ds cs in
+oldest-each_of t many caller e [] cs = omega arith
+oldest-each_of t many caller e (d ∷ ds) [] = omega arith
+oldest-each_of t many caller e (d ∷ ds) (c ∷ cs) =
+    let first = age-if_among t many caller e d c in
+    let more = oldest-each_of t many caller e ds cs in
     omega arith
 
 -- nobody has called a case in the beginning

@@ -1,9 +1,9 @@
 -- The cases of a type, called one after another in order of declaration.
-use Rattle.std.proofs.Common.{◌≡◌, ℕ, zero, suc, ◌+◌, ◌<◌, Bool, true, false, ◌==◌, List, [], ◌∷◌, length, take, get_or, Option, Some, None, refl, ap, sym, ◌∙◌, arith, add-one, ◌≢◌}
-use Rattle.std.proofs.lemmas.Bool.{eq-eqb, ne_eqb}
+use Rattle.std.proofs.Common.{◌≡◌, ℕ, zero, suc, ◌+◌, ◌<◌, Bool, true, false, List, [], ◌∷◌, length, take, get_or, Option, Some, None, refl, ap, sym, ◌∙◌, arith, add-one}
 use Rattle.std.specs.Prelude.{slice_get, if◌then◌else◌}
+use Rattle.file_model.specs.CaseCounts.{is_among}
 use Rattle.file_model.specs.declared.files.CaseDecl.{CaseDecl}
-use Rattle.script_run.specs.Calls.{put_back, changed_at, if_of_type, each_of}
+use Rattle.script_run.specs.Calls.{put_back, changed_at, if_among, each_of}
 use Rattle.script_run.specs.declared.runs.ClosedCase.{ClosedCase}
 
 changed_at-suc : (f : ClosedCase → ClosedCase) (i : ℕ) (c : ClosedCase) (cs : List ClosedCase) → changed_at f (suc i) (c ∷ cs) ≡ c ∷ changed_at f i cs
@@ -14,55 +14,55 @@ changed_at-suc f i c cs = go (slice_get cs i)
     go (Some x) = refl
 
 -- the cases up to an index are changed, and those from there on are not
-abbrev one_more : ℕ → (ClosedCase → ClosedCase) → CaseDecl → ℕ → List ClosedCase → List ClosedCase
-one_more t f d i cs = if d.id.type_no == t then changed_at f i cs else cs
+abbrev one_more : ℕ → ℕ → (ClosedCase → ClosedCase) → CaseDecl → ℕ → List ClosedCase → List ClosedCase
+one_more t many f d i cs = if is_among t many d then changed_at f i cs else cs
 
-first : (t : ℕ) (f : ClosedCase → ClosedCase) (d : CaseDecl) (c : ClosedCase) (cs : List ClosedCase) → if_of_type t f d c ∷ cs ≡ one_more t f d 0 (c ∷ cs)
-first t f d c cs = go (d.id.type_no == t)
+first : (t many : ℕ) (f : ClosedCase → ClosedCase) (d : CaseDecl) (c : ClosedCase) (cs : List ClosedCase) → if_among t many f d c ∷ cs ≡ one_more t many f d 0 (c ∷ cs)
+first t many f d c cs = go (is_among t many d)
   where
     go : (b : Bool) → (if b then f c else c) ∷ cs ≡ (if b then f c ∷ cs else c ∷ cs)
     go true = refl
     go false = refl
 
-none : (t : ℕ) (f : ClosedCase → ClosedCase) (d : CaseDecl) (i : ℕ) → [] ≡ one_more t f d i []
-none t f d i = go (d.id.type_no == t)
+none : (t many : ℕ) (f : ClosedCase → ClosedCase) (d : CaseDecl) (i : ℕ) → [] ≡ one_more t many f d i []
+none t many f d i = go (is_among t many d)
   where
     go : (b : Bool) → ◌≡◌ {A = List ClosedCase} [] (if b then [] else [])
     go true = refl
     go false = refl
 
-later : (t : ℕ) (f : ClosedCase → ClosedCase) (d : CaseDecl) (i : ℕ) (c : ClosedCase) (cs : List ClosedCase) → c ∷ one_more t f d i cs ≡ one_more t f d (suc i) (c ∷ cs)
-later t f d i c cs = go (d.id.type_no == t)
+later : (t many : ℕ) (f : ClosedCase → ClosedCase) (d : CaseDecl) (i : ℕ) (c : ClosedCase) (cs : List ClosedCase) → c ∷ one_more t many f d i cs ≡ one_more t many f d (suc i) (c ∷ cs)
+later t many f d i c cs = go (is_among t many d)
   where
     go : (b : Bool) → c ∷ (if b then changed_at f i cs else cs) ≡ (if b then changed_at f (suc i) (c ∷ cs) else c ∷ cs)
     go true = sym (changed_at-suc f i c cs)
     go false = refl
 
-each-suc : (t : ℕ) (f : ClosedCase → ClosedCase) (ds : List CaseDecl) (cs : List ClosedCase) (i : ℕ) (d : CaseDecl) → i < length ds → d ≡ get_or ds i d →
-    each_of t f (take (suc i) ds) cs ≡ one_more t f d i (each_of t f (take i ds) cs)
-each-suc t f [] cs i d within is = absurd (omega arith)
-each-suc t f (x ∷ xs) [] zero d within is = none t f d 0
-each-suc t f (x ∷ xs) [] (suc i) d within is = none t f d (suc i)
-each-suc t f (x ∷ xs) (c ∷ cs) zero d within is = rw is (first t f x c cs)
-each-suc t f (x ∷ xs) (c ∷ cs) (suc i) d within is =
-    ap (λ more. if_of_type t f x c ∷ more) (each-suc t f xs cs i d (omega arith) is) ∙ later t f d i (if_of_type t f x c) (each_of t f (take i xs) cs)
+each-suc : (t many : ℕ) (f : ClosedCase → ClosedCase) (ds : List CaseDecl) (cs : List ClosedCase) (i : ℕ) (d : CaseDecl) → i < length ds → d ≡ get_or ds i d →
+    each_of t many f (take (suc i) ds) cs ≡ one_more t many f d i (each_of t many f (take i ds) cs)
+each-suc t many f [] cs i d within is = absurd (omega arith)
+each-suc t many f (x ∷ xs) [] zero d within is = none t many f d 0
+each-suc t many f (x ∷ xs) [] (suc i) d within is = none t many f d (suc i)
+each-suc t many f (x ∷ xs) (c ∷ cs) zero d within is = rw is (first t many f x c cs)
+each-suc t many f (x ∷ xs) (c ∷ cs) (suc i) d within is =
+    ap (λ more. if_among t many f x c ∷ more) (each-suc t many f xs cs i d (omega arith) is) ∙ later t many f d i (if_among t many f x c) (each_of t many f (take i xs) cs)
 
-pub each-more : (t : ℕ) (f : ClosedCase → ClosedCase) (ds : List CaseDecl) (cs : List ClosedCase) (i : ℕ) (d : CaseDecl) → i < length ds → d ≡ get_or ds i d →
-    each_of t f (take (i + 1) ds) cs ≡ (if d.id.type_no == t then changed_at f i (each_of t f (take i ds) cs) else each_of t f (take i ds) cs)
-each-more t f ds cs i d within is = rw add-one (each-suc t f ds cs i d within is)
+pub each-more : (t many : ℕ) (f : ClosedCase → ClosedCase) (ds : List CaseDecl) (cs : List ClosedCase) (i : ℕ) (d : CaseDecl) → i < length ds → d ≡ get_or ds i d →
+    each_of t many f (take (i + 1) ds) cs ≡ (if is_among t many d then changed_at f i (each_of t many f (take i ds) cs) else each_of t many f (take i ds) cs)
+each-more t many f ds cs i d within is = rw add-one (each-suc t many f ds cs i d within is)
 
 -- a case is as it was until its turn comes
-pub each-at : (t : ℕ) (f : ClosedCase → ClosedCase) (ds : List CaseDecl) (cs : List ClosedCase) (i : ℕ) → slice_get (each_of t f (take i ds) cs) i ≡ slice_get cs i
-each-at t f [] cs zero = refl
-each-at t f [] cs (suc i) = refl
-each-at t f (x ∷ xs) cs zero = refl
-each-at t f (x ∷ xs) [] (suc i) = refl
-each-at t f (x ∷ xs) (c ∷ cs) (suc i) = each-at t f xs cs i
+pub each-at : (t many : ℕ) (f : ClosedCase → ClosedCase) (ds : List CaseDecl) (cs : List ClosedCase) (i : ℕ) → slice_get (each_of t many f (take i ds) cs) i ≡ slice_get cs i
+each-at t many f [] cs zero = refl
+each-at t many f [] cs (suc i) = refl
+each-at t many f (x ∷ xs) cs zero = refl
+each-at t many f (x ∷ xs) [] (suc i) = refl
+each-at t many f (x ∷ xs) (c ∷ cs) (suc i) = each-at t many f xs cs i
 
-pub each-called : (t : ℕ) (f : ClosedCase → ClosedCase) (ds : List CaseDecl) (cs : List ClosedCase) (i : ℕ) (d : CaseDecl) → i < length ds → d ≡ get_or ds i d → d.id.type_no ≡ t →
-    each_of t f (take (i + 1) ds) cs ≡ changed_at f i (each_of t f (take i ds) cs)
-each-called t f ds cs i d within is same = each-more t f ds cs i d within is ∙ rw (eq-eqb d.id.type_no t same) refl
+pub each-called : (t many : ℕ) (f : ClosedCase → ClosedCase) (ds : List CaseDecl) (cs : List ClosedCase) (i : ℕ) (d : CaseDecl) → i < length ds → d ≡ get_or ds i d → is_among t many d ≡ true →
+    each_of t many f (take (i + 1) ds) cs ≡ changed_at f i (each_of t many f (take i ds) cs)
+each-called t many f ds cs i d within is same = each-more t many f ds cs i d within is ∙ rw same refl
 
-pub each-passed : (t : ℕ) (f : ClosedCase → ClosedCase) (ds : List CaseDecl) (cs : List ClosedCase) (i : ℕ) (d : CaseDecl) → i < length ds → d ≡ get_or ds i d → d.id.type_no ≢ t →
-    each_of t f (take (i + 1) ds) cs ≡ each_of t f (take i ds) cs
-each-passed t f ds cs i d within is other = each-more t f ds cs i d within is ∙ rw (ne_eqb d.id.type_no t other) refl
+pub each-passed : (t many : ℕ) (f : ClosedCase → ClosedCase) (ds : List CaseDecl) (cs : List ClosedCase) (i : ℕ) (d : CaseDecl) → i < length ds → d ≡ get_or ds i d → is_among t many d ≡ false →
+    each_of t many f (take (i + 1) ds) cs ≡ each_of t many f (take i ds) cs
+each-passed t many f ds cs i d within is other = each-more t many f ds cs i d within is ∙ rw other refl

@@ -1,8 +1,9 @@
 -- The calls of script lines.
-use Rattle.std.specs.Prelude.{ℕ, ◌==◌, List, [], ◌∷◌, ◌++◌, slice_get, slice_set, Option, Some, None, if◌then◌else◌}
+use Rattle.std.specs.Prelude.{ℕ, List, [], ◌∷◌, ◌++◌, slice_get, slice_set, Option, Some, None, if◌then◌else◌}
 use Rattle.case_core.specs.Machine.{next_case}
 use Rattle.case_core.specs.declared.events.Event.{Event}
 use Rattle.case_core.specs.declared.events.Event.TheVariants as event
+use Rattle.file_model.specs.CaseCounts.{is_among}
 use Rattle.file_model.specs.declared.files.Act.{Act}
 use Rattle.file_model.specs.declared.files.CaseDecl.{CaseDecl}
 use Rattle.file_model.specs.declared.files.File.{File}
@@ -47,24 +48,24 @@ abbrev pub changed_where : {X : Type 0} → (X → X) → Option ℕ → List X 
 changed_where f None xs = xs
 changed_where f (Some i) xs = changed_at f i xs
 
--- one call of a type, of a case, and of each case of a type
+-- one call of a type, of a case, and of each of the first cases of a type
 abbrev pub on_kind : ℕ → ℕ → KindEvent → Run → Run
 on_kind caller t e r = record { kinds = changed_at (call_kind caller e) t r.kinds; cases = r.cases }
 
 abbrev pub on_case : File → ℕ → CaseId → Event → Run → Run
 on_case f caller c e r = record { kinds = r.kinds; cases = changed_where (call_case caller e) (place_of f c) r.cases }
 
-abbrev pub if_of_type : ℕ → (ClosedCase → ClosedCase) → CaseDecl → ClosedCase → ClosedCase
-if_of_type t f d c = if d.id.type_no == t then f c else c
+abbrev pub if_among : ℕ → ℕ → (ClosedCase → ClosedCase) → CaseDecl → ClosedCase → ClosedCase
+if_among t many f d c = if is_among t many d then f c else c
 
--- each case of a type changed, where the declarations tell the types
-abbrev pub each_of : ℕ → (ClosedCase → ClosedCase) → List CaseDecl → List ClosedCase → List ClosedCase
-each_of t f [] cs = cs
-each_of t f (d ∷ ds) [] = []
-each_of t f (d ∷ ds) (c ∷ cs) = if_of_type t f d c ∷ each_of t f ds cs
+-- each of the first so many cases of a type changed, where the declarations tell the types
+abbrev pub each_of : ℕ → ℕ → (ClosedCase → ClosedCase) → List CaseDecl → List ClosedCase → List ClosedCase
+each_of t many f [] cs = cs
+each_of t many f (d ∷ ds) [] = []
+each_of t many f (d ∷ ds) (c ∷ cs) = if_among t many f d c ∷ each_of t many f ds cs
 
-abbrev pub on_each : File → ℕ → ℕ → Event → Run → Run
-on_each f caller t e r = record { kinds = r.kinds; cases = each_of t (call_case caller e) f.cases r.cases }
+abbrev pub on_each : File → ℕ → ℕ → ℕ → Event → Run → Run
+on_each f caller t many e r = record { kinds = r.kinds; cases = each_of t many (call_case caller e) f.cases r.cases }
 
 -- the version that a type answers where it is asked for the newest
 abbrev pub answered_version : KindReply → Option VersionModel
@@ -83,14 +84,14 @@ abbrev pub created : File → ℕ → CaseId → Option VersionModel → Run →
 created f caller c None r = r
 created f caller c (Some v) r = on_case f caller c (event.Create v) r
 
-abbrev pub migrated : File → ℕ → ℕ → Option VersionModel → Run → Run
-migrated f caller t None r = r
-migrated f caller t (Some v) r = on_each f caller t (event.Migrate v) r
+abbrev pub migrated : File → ℕ → ℕ → ℕ → Option VersionModel → Run → Run
+migrated f caller t many None r = r
+migrated f caller t many (Some v) r = on_each f caller t many (event.Migrate v) r
 
 -- a run behind a call
 abbrev pub told_to : File → ℕ → ℕ → Told → Option VersionModel → Run → Run
 told_to f caller t (told.Create c) o r = created f caller c o r
-told_to f caller t told.Migrate o r = migrated f caller t o r
+told_to f caller t (told.Migrate many) o r = migrated f caller t many o r
 
 abbrev pub called : File → ℕ → Call → Run → Run
 called f caller (call.Kind t e) r = on_kind caller t e r

@@ -64,7 +64,7 @@ impl CallCounts {
                 self.note_kind(type_no);
                 self.note_case(id);
             }
-            Cells::KindAndEach(type_no) => {
+            Cells::KindAndEach(type_no, _) => {
                 self.note_kind(type_no);
                 self.note_migration(type_no);
             }

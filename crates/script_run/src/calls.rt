@@ -93,29 +93,30 @@ impl Working {
         }
     }
 
-    /// One call of each case of a type.
+    /// One call of each of the first so many cases of a type.
     pub fn on_each(
         &mut self,
         alloc: Global,
         script: &Script<'_>,
         caller: u32,
         type_no: u32,
+        many: u32,
         event: &Event,
     ) -> Result<(), NoMemory>
         requires { oldest self.old.cases.items + weight event.now ≤ 4000000000 }
-        ensures run { OnOk result (run_of self.new ≡ on_each script.now.file.now caller type_no event.now (run_of self.old)) }
+        ensures run { OnOk result (run_of self.new ≡ on_each script.now.file.now caller type_no many event.now (run_of self.old)) }
         ensures age { OnOk result (oldest self.new.cases.items ≤ oldest self.old.cases.items + weight event.now) }
     {
         for (place, decl) in script.file.cases.as_slice().iter().enumerate() {
-            if decl.id.type_no == type_no {
+            if decl.is_among(type_no, many) {
                 self.on_case_at(alloc, place, caller, event.copy(alloc)?)?;
             }
         }
         Ok(())
     }
 
-    // One call of the case at a place, where there is one.
-    fn on_case_at(
+    /// One call of the case at a place, where there is one.
+    pub fn on_case_at(
         &mut self,
         alloc: Global,
         place: usize,

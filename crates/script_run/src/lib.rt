@@ -10,10 +10,11 @@ mod runs;
 mod serial;
 
 pub use call_counts::CallCounts;
+pub use calls::Working;
 pub use checking::{defined_kind, verdicts};
 pub use runs::{
     CaseEntry, CaseJournal, ClosedCase, ClosedCases, ClosedKind, ClosedKinds, KindEntry,
     KindJournal, Run, Verdict, Verdicts,
 };
-pub use serial::serial_run;
+pub use serial::{defined, serial_run};
 pub use wsm_lists::NoMemory;

@@ -68,8 +68,8 @@ fn defined_kinds(
     Ok(kinds)
 }
 
-// A type behind its definition, with room for so many calls.
-fn defined(
+/// A type behind its definition, with room for so many calls.
+pub fn defined(
     alloc: Global,
     number: u32,
     decl: &TypeDecl,
@@ -172,7 +172,14 @@ impl Working {
     {
         match then {
             Told::Create(id) => self.on_case(alloc, script, caller, id, Event::Create(version)),
-            Told::Migrate => self.on_each(alloc, script, caller, type_no, &Event::Migrate(version)),
+            Told::Migrate(many) => self.on_each(
+                alloc,
+                script,
+                caller,
+                type_no,
+                many,
+                &Event::Migrate(version),
+            ),
         }
     }
 }

@@ -2,7 +2,7 @@ use Rattle.std.proofs.Common.{Ok, Err, sym, ◌∙◌, subst}
 use Rattle.adept_actor.proofs.Acts.{acts-fault, create-acts, start-acts, withdraw-acts, end-acts, change-acts, install-acts, migrate-acts, migrate-fails}
 use Rattle.adept_actor.proofs.Leaving.{create-leaves, start-leaves, withdraw-leaves, end-leaves, change-leaves, install-leaves, migrate-leaves}
 use Rattle.adept_actor.specs.Others.{LeavesOthers}
-use Rattle.adept_actor.specs.Work.{Acts}
+use Rattle.adept_actor.specs.Work.{Acts, CanAct}
 use Rattle.adept_server.specs.Desks.{desk_view}
 use Rattle.file_model.specs.declared.files.Act.TheVariants as act
 use Rattle.adept_actor.proofs.calls.act.Goals as goal
@@ -100,25 +100,25 @@ returns-in_ok-install-in-Install-clause-worked g c =
 pub returns-in_err-answers-in-Migrate-clause-worked : goal.returns-in_err-answers-in-Migrate-clause-worked
 returns-in_err-answers-in-Migrate-clause-worked g c =
     let v = desk_view c.args.desk.now in
-    let w = desk_view c.migrate_all.new.desk in
+    let w = desk_view c.migrate_first.new.desk in
     let f = c.in_err-answers-in-Migrate.field-0.0 in
-    acts-fault c.args.roles.now (act.Migrate c.in-Migrate.type_no) c.args.act.now v w f c.from_residual-in_err-answers-in-Migrate.result c.in-Migrate.is c.from_residual-in_err-answers-in-Migrate.ensures.1
-    (migrate-fails c.args.roles.now v w c.requires.desk.desk c.in-Migrate.type_no f c.in_err-answers-in-Migrate.ensures.called)
+    acts-fault c.args.roles.now (act.Migrate c.in-Migrate.type_no c.in-Migrate.many) c.args.act.now v w f c.from_residual-in_err-answers-in-Migrate.result c.in-Migrate.is c.from_residual-in_err-answers-in-Migrate.ensures.1
+    (migrate-fails c.args.roles.now v w c.requires.desk.desk c.in-Migrate.type_no c.in-Migrate.many f c.in_err-answers-in-Migrate.ensures.called)
 
 pub returns-in-Some-clause-worked : goal.returns-in-Some-clause-worked
 returns-in-Some-clause-worked g c =
     let v = desk_view c.args.desk.now in
-    let w = desk_view c.migrate_all.new.desk in
+    let w = desk_view c.migrate_first.new.desk in
     let answers = c.in_ok-answers-in-Migrate.answers.items.items in
-    let moves = migrate-acts c.args.roles.now v w c.requires.desk.desk c.in-Migrate.type_no answers c.in_ok-answers-in-Migrate.ensures.called in
+    let moves = migrate-acts c.args.roles.now v w c.requires.desk.desk c.in-Migrate.type_no c.in-Migrate.many answers (subst (CanAct v) c.in-Migrate.is c.requires.able) c.in_ok-answers-in-Migrate.ensures.called in
     subst (λ x. Acts {A = Unit {0}} c.args.roles.now x (Err c.in-Some.fault) v w) (sym c.in-Migrate.is) (moves.1 c.in-Some.fault (sym c.first_fault.ensures ∙ c.in-Some.is))
 
 pub returns-in_default-clause-worked : goal.returns-in_default-clause-worked
 returns-in_default-clause-worked g c =
     let v = desk_view c.args.desk.now in
-    let w = desk_view c.migrate_all.new.desk in
+    let w = desk_view c.migrate_first.new.desk in
     let answers = c.in_ok-answers-in-Migrate.answers.items.items in
-    let moves = migrate-acts c.args.roles.now v w c.requires.desk.desk c.in-Migrate.type_no answers c.in_ok-answers-in-Migrate.ensures.called in
+    let moves = migrate-acts c.args.roles.now v w c.requires.desk.desk c.in-Migrate.type_no c.in-Migrate.many answers (subst (CanAct v) c.in-Migrate.is c.requires.able) c.in_ok-answers-in-Migrate.ensures.called in
     subst (λ x. Acts {A = Unit {0}} c.args.roles.now x (Ok tt) v w) (sym c.in-Migrate.is) (moves.0 (sym c.first_fault.ensures ∙ c.in_default.is))
 
 pub returns-in_err-create-in-Create-clause-others : goal.returns-in_err-create-in-Create-clause-others
@@ -196,17 +196,17 @@ returns-in_ok-install-in-Install-clause-others g c =
 pub returns-in_err-answers-in-Migrate-clause-others : goal.returns-in_err-answers-in-Migrate-clause-others
 returns-in_err-answers-in-Migrate-clause-others g c =
     let v = desk_view c.args.desk.now in
-    let w = desk_view c.migrate_all.new.desk in
-    subst (λ x. LeavesOthers x v w) (sym c.in-Migrate.is) (migrate-leaves v w c.in-Migrate.type_no _ c.in_err-answers-in-Migrate.ensures.called)
+    let w = desk_view c.migrate_first.new.desk in
+    subst (λ x. LeavesOthers x v w) (sym c.in-Migrate.is) (migrate-leaves v w c.in-Migrate.type_no c.in-Migrate.many _ c.in_err-answers-in-Migrate.ensures.called)
 
 pub returns-in-Some-clause-others : goal.returns-in-Some-clause-others
 returns-in-Some-clause-others g c =
     let v = desk_view c.args.desk.now in
-    let w = desk_view c.migrate_all.new.desk in
-    subst (λ x. LeavesOthers x v w) (sym c.in-Migrate.is) (migrate-leaves v w c.in-Migrate.type_no _ c.in_ok-answers-in-Migrate.ensures.called)
+    let w = desk_view c.migrate_first.new.desk in
+    subst (λ x. LeavesOthers x v w) (sym c.in-Migrate.is) (migrate-leaves v w c.in-Migrate.type_no c.in-Migrate.many _ c.in_ok-answers-in-Migrate.ensures.called)
 
 pub returns-in_default-clause-others : goal.returns-in_default-clause-others
 returns-in_default-clause-others g c =
     let v = desk_view c.args.desk.now in
-    let w = desk_view c.migrate_all.new.desk in
-    subst (λ x. LeavesOthers x v w) (sym c.in-Migrate.is) (migrate-leaves v w c.in-Migrate.type_no _ c.in_ok-answers-in-Migrate.ensures.called)
+    let w = desk_view c.migrate_first.new.desk in
+    subst (λ x. LeavesOthers x v w) (sym c.in-Migrate.is) (migrate-leaves v w c.in-Migrate.type_no c.in-Migrate.many _ c.in_ok-answers-in-Migrate.ensures.called)

@@ -1,4 +1,4 @@
-use Rattle.std.proofs.Common.{refl, sym, ◌∙◌, subst, arith}
+use Rattle.std.proofs.Common.{drop, refl, sym, ap, ◌∙◌, subst, arith}
 use Rattle.std.proofs.Crossing.{crosses}
 use Rattle.std.proofs.lemmas.List.{with_items_is}
 use Rattle.std.proofs.lemmas.Option.{slice_get_within}
@@ -12,17 +12,17 @@ use Rattle.case_core.specs.Machine.{case_after, case_reply}
 use Rattle.turn_batch.specs.Batch.{AreOf}
 use Rattle.adept_server.proofs.servers.Server.call_cases.Goals as goal
 
-pub all-requires-send-M : goal.all-requires-send-M
-all-requires-send-M g c κs = search (case-send, sendable, crosses) depth 30
+pub call_first-requires-send-M : goal.call_first-requires-send-M
+call_first-requires-send-M g c κs = search (case-send, sendable, crosses) depth 30
 
-pub all-requires-send-M-Event : goal.all-requires-send-M-Event
-all-requires-send-M-Event g c κs = search (event-send, sendable, crosses) depth 30
+pub call_first-requires-send-M-Event : goal.call_first-requires-send-M-Event
+call_first-requires-send-M-Event g c κs = search (event-send, sendable, crosses) depth 30
 
-pub all-requires-sync-M : goal.all-requires-sync-M
-all-requires-sync-M g c κs = search (case-sync, sendable, crosses) depth 30
+pub call_first-requires-sync-M : goal.call_first-requires-sync-M
+call_first-requires-sync-M g c κs = search (case-sync, sendable, crosses) depth 30
 
-pub all-requires-sync-M-Event : goal.all-requires-sync-M-Event
-all-requires-sync-M-Event g c κs = search (event-sync, sendable, crosses) depth 30
+pub call_first-requires-sync-M-Event : goal.call_first-requires-sync-M-Event
+call_first-requires-sync-M-Event g c κs = search (event-sync, sendable, crosses) depth 30
 
 pub index-cells-requires : goal.index-cells-requires
 index-cells-requires g c =
@@ -30,8 +30,8 @@ index-cells-requires g c =
     let lt = slice_get_within c.args.self.now.cases.items c.args.type_no r.cells r.cells_there in
     omega (arith, c.args.self.now.cases.ok.0)
 
-pub all-requires-clause-cells : goal.all-requires-clause-cells
-all-requires-clause-cells g c = λ κs lives.
+pub call_first-requires-clause-cells : goal.call_first-requires-clause-cells
+call_first-requires-clause-cells g c = λ κs lives.
     let r = kind_row c.args.self.now c.args.desk.now c.args.type_no c.requires.desk c.requires.there in
     let cells = items_at c.args.self.now.cases.items c.args.type_no r.cells c.index-cells.result.now c.deref.result.now r.cells_there c.deref.ensures.value c.index-cells.ensures in
     let passes = items_at c.args.desk.now.cases.items c.args.type_no r.passes c.index_mut-passes.result.now c.deref_mut.result.now r.passes_there c.deref_mut.ensures.value c.index_mut-passes.ensures.value in
@@ -43,15 +43,16 @@ returns-clause-desk g c =
     let d = c.args.desk.now in
     let t = c.args.type_no in
     let r = kind_row s d t c.requires.desk c.requires.there in
-    let ps = c.all.new.passes in
+    let ps = c.call_first.new.passes in
     let row = with_items c.index_mut-passes.result.now ps in
-    let whole = with_items_is c.index_mut-passes.result.now ps (c.all.auto.passes ∙ c.deref_mut.ensures.len) in
+    let whole = with_items_is c.index_mut-passes.result.now ps (c.call_first.auto.passes ∙ c.deref_mut.ensures.len) in
     let cells = items_at s.cases.items t r.cells c.index-cells.result.now c.deref.result.now r.cells_there c.deref.ensures.value c.index-cells.ensures in
     let passes = items_at d.cases.items t r.passes c.index_mut-passes.result.now c.deref_mut.result.now r.passes_there c.deref_mut.ensures.value c.index_mut-passes.ensures.value in
-    let of = subst (λ qs. AreOf r.cells.items qs) (sym whole) (subst (λ cs. AreOf cs ps) cells c.all.ensures.cells) in
-    (batch_made (λ (a : _). a.items.items) c.all.result s d (record d { cases = with_item d.cases t row }) c.args.event.now t c.requires.desk r row refl refl refl refl refl refl of
-    (batch_ok case_after case_reply c.args.event.now (λ (a : _). a.items.items) c.all.result r.passes.items c.deref_mut.result.now ps row.items passes whole c.all.ensures.ok)
-    (batch_err c.all.result r.passes.items c.deref_mut.result.now ps row.items passes whole c.all.ensures.err)).0
+    let of = subst (λ qs. AreOf r.cells.items qs) (sym whole) (subst (λ cs. AreOf cs ps) cells c.call_first.ensures.cells) in
+    (batch_made (λ (a : _). a.items.items) c.call_first.result s d (record d { cases = with_item d.cases t row }) c.args.event.now t c.args.many c.requires.desk r row refl refl refl refl refl refl of
+    (batch_ok case_after case_reply c.args.event.now (λ (a : _). a.items.items) c.call_first.result c.args.many r.passes.items c.deref_mut.result.now ps row.items passes whole c.call_first.ensures.ok)
+    (ap (drop c.args.many) whole ∙ (c.call_first.ensures.others ∙ ap (drop c.args.many) passes))
+    (batch_err c.call_first.result r.passes.items c.deref_mut.result.now ps row.items passes whole c.call_first.ensures.err)).0
 
 pub returns-clause-ok : goal.returns-clause-ok
 returns-clause-ok g c =
@@ -59,15 +60,16 @@ returns-clause-ok g c =
     let d = c.args.desk.now in
     let t = c.args.type_no in
     let r = kind_row s d t c.requires.desk c.requires.there in
-    let ps = c.all.new.passes in
+    let ps = c.call_first.new.passes in
     let row = with_items c.index_mut-passes.result.now ps in
-    let whole = with_items_is c.index_mut-passes.result.now ps (c.all.auto.passes ∙ c.deref_mut.ensures.len) in
+    let whole = with_items_is c.index_mut-passes.result.now ps (c.call_first.auto.passes ∙ c.deref_mut.ensures.len) in
     let cells = items_at s.cases.items t r.cells c.index-cells.result.now c.deref.result.now r.cells_there c.deref.ensures.value c.index-cells.ensures in
     let passes = items_at d.cases.items t r.passes c.index_mut-passes.result.now c.deref_mut.result.now r.passes_there c.deref_mut.ensures.value c.index_mut-passes.ensures.value in
-    let of = subst (λ qs. AreOf r.cells.items qs) (sym whole) (subst (λ cs. AreOf cs ps) cells c.all.ensures.cells) in
-    (batch_made (λ (a : _). a.items.items) c.all.result s d (record d { cases = with_item d.cases t row }) c.args.event.now t c.requires.desk r row refl refl refl refl refl refl of
-    (batch_ok case_after case_reply c.args.event.now (λ (a : _). a.items.items) c.all.result r.passes.items c.deref_mut.result.now ps row.items passes whole c.all.ensures.ok)
-    (batch_err c.all.result r.passes.items c.deref_mut.result.now ps row.items passes whole c.all.ensures.err)).1
+    let of = subst (λ qs. AreOf r.cells.items qs) (sym whole) (subst (λ cs. AreOf cs ps) cells c.call_first.ensures.cells) in
+    (batch_made (λ (a : _). a.items.items) c.call_first.result s d (record d { cases = with_item d.cases t row }) c.args.event.now t c.args.many c.requires.desk r row refl refl refl refl refl refl of
+    (batch_ok case_after case_reply c.args.event.now (λ (a : _). a.items.items) c.call_first.result c.args.many r.passes.items c.deref_mut.result.now ps row.items passes whole c.call_first.ensures.ok)
+    (ap (drop c.args.many) whole ∙ (c.call_first.ensures.others ∙ ap (drop c.args.many) passes))
+    (batch_err c.call_first.result r.passes.items c.deref_mut.result.now ps row.items passes whole c.call_first.ensures.err)).1
 
 pub returns-clause-err : goal.returns-clause-err
 returns-clause-err g c =
@@ -75,12 +77,13 @@ returns-clause-err g c =
     let d = c.args.desk.now in
     let t = c.args.type_no in
     let r = kind_row s d t c.requires.desk c.requires.there in
-    let ps = c.all.new.passes in
+    let ps = c.call_first.new.passes in
     let row = with_items c.index_mut-passes.result.now ps in
-    let whole = with_items_is c.index_mut-passes.result.now ps (c.all.auto.passes ∙ c.deref_mut.ensures.len) in
+    let whole = with_items_is c.index_mut-passes.result.now ps (c.call_first.auto.passes ∙ c.deref_mut.ensures.len) in
     let cells = items_at s.cases.items t r.cells c.index-cells.result.now c.deref.result.now r.cells_there c.deref.ensures.value c.index-cells.ensures in
     let passes = items_at d.cases.items t r.passes c.index_mut-passes.result.now c.deref_mut.result.now r.passes_there c.deref_mut.ensures.value c.index_mut-passes.ensures.value in
-    let of = subst (λ qs. AreOf r.cells.items qs) (sym whole) (subst (λ cs. AreOf cs ps) cells c.all.ensures.cells) in
-    (batch_made (λ (a : _). a.items.items) c.all.result s d (record d { cases = with_item d.cases t row }) c.args.event.now t c.requires.desk r row refl refl refl refl refl refl of
-    (batch_ok case_after case_reply c.args.event.now (λ (a : _). a.items.items) c.all.result r.passes.items c.deref_mut.result.now ps row.items passes whole c.all.ensures.ok)
-    (batch_err c.all.result r.passes.items c.deref_mut.result.now ps row.items passes whole c.all.ensures.err)).2
+    let of = subst (λ qs. AreOf r.cells.items qs) (sym whole) (subst (λ cs. AreOf cs ps) cells c.call_first.ensures.cells) in
+    (batch_made (λ (a : _). a.items.items) c.call_first.result s d (record d { cases = with_item d.cases t row }) c.args.event.now t c.args.many c.requires.desk r row refl refl refl refl refl refl of
+    (batch_ok case_after case_reply c.args.event.now (λ (a : _). a.items.items) c.call_first.result c.args.many r.passes.items c.deref_mut.result.now ps row.items passes whole c.call_first.ensures.ok)
+    (ap (drop c.args.many) whole ∙ (c.call_first.ensures.others ∙ ap (drop c.args.many) passes))
+    (batch_err c.call_first.result r.passes.items c.deref_mut.result.now ps row.items passes whole c.call_first.ensures.err)).2
