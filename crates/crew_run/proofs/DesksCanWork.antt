@@ -8,9 +8,9 @@ use Rattle.std.specs.Prelude.{count_by}
 use mathlib.Core.List.{IsPrefix}
 use Rattle.adept_actor.proofs.Desks.{done-defined}
 use Rattle.adept_actor.specs.Growth.{DeskHasDone}
-use Rattle.adept_actor.specs.Work.{CanAct, CanWork, case_count}
+use Rattle.adept_actor.specs.Work.{CanAct, CanWork}
 use Rattle.adept_server.proofs.Keeping.{has_more}
-use Rattle.adept_server.specs.Desks.{DeskView, IsDefinedFor, KindPass, has_version}
+use Rattle.adept_server.specs.Desks.{DeskView, IsDefinedFor, KindPass, case_count, has_version}
 use Rattle.crew_run.proofs.CasePlaces.{has-declared, row_counted}
 use Rattle.crew_run.proofs.PassesOfDesks.{kind-heard, kind-same}
 use Rattle.crew_run.proofs.SideBySide.{zip-many, zip-rows}
@@ -21,7 +21,7 @@ use Rattle.crew_run.specs.Phases.{IsAble}
 use Rattle.file_facts.proofs.Cases.{declared-typed}
 use Rattle.file_facts.specs.Facts.{HasType, IsKnown, IsKnownAct, IsWorkable}
 use Rattle.legal_run.specs.LineCalls.{Call}
-use Rattle.legal_run.specs.Legal.{declared_cases}
+use Rattle.file_model.specs.CaseCounts.{cases_of_type}
 use Rattle.file_model.specs.declared.files.Act.{Act}
 use Rattle.file_model.specs.declared.files.Act.TheVariants as act
 use Rattle.file_model.specs.declared.files.CaseDecl.{CaseDecl}
@@ -60,20 +60,6 @@ able-done f calls v w d a = record {
 }
 
 module _ (f : File) (workable : IsWorkable f) (v : DeskView) (able : IsAble f v) where
-  can-act : (x : Act) → IsKnownAct (length f.types) f.cases x → CanAct v x
-  can-act (act.Create c) k = (has-declared f v.cases c workable able.counted k, able.knows c.type_no (omega arith) (declared-typed (length f.types) f.cases c workable.typed k))
-  can-act (act.Start c node) k = has-declared f v.cases c workable able.counted k
-  can-act (act.Withdraw c node) k = has-declared f v.cases c workable able.counted k
-  can-act (act.End c node choice writes) k = has-declared f v.cases c workable able.counted k
-  can-act (act.Change c ops) (k, few) = (has-declared f v.cases c workable able.counted k, few)
-  can-act (act.Install t ops) (k, few) = ((let e = able.types in omega (arith, k)), few)
-  can-act (act.Migrate t) k = ((let e = able.types in omega (arith, k)), able.knows t (omega arith) k)
-
-  -- it can work lines that are known
-  pub can-work : (lines : List Line) → AllRows (IsKnown (length f.types) (length f.actors) f.cases) lines → CanWork v lines
-  can-work [] all = tt
-  can-work (l ∷ lines) (k, all) = (λ own. can-act l.act k.act, can-work lines all)
-
   -- a case of another type is not counted
   counted-none : (t : ℕ) (d : CaseDecl) (ds : List CaseDecl) → d.id.type_no ≢ t → count_by (λ (d : CaseDecl). d.id.type_no == t) (d ∷ ds) ≡ count_by (λ (d : CaseDecl). d.id.type_no == t) ds
   counted-none t d ds not =
@@ -92,10 +78,10 @@ module _ (f : File) (workable : IsWorkable f) (v : DeskView) (able : IsAble f v)
   past-end (x ∷ xs) (suc i) is = let e = past-end xs i is in omega arith
 
   -- it has as many cases of each type as the file
-  pub many-cases : (t : ℕ) → case_count v t ≡ declared_cases f t
+  many-cases : (t : ℕ) → case_count v t ≡ cases_of_type t f.cases
   many-cases t = go (slice_get v.cases t) refl
     where
-      go : (o : Option (List _)) → slice_get v.cases t ≡ o → case_count v t ≡ declared_cases f t
+      go : (o : Option (List _)) → slice_get v.cases t ≡ o → case_count v t ≡ cases_of_type t f.cases
       go None is =
           let past = past-end v.cases t is in
           let many = length-map v.cases length in
@@ -104,9 +90,23 @@ module _ (f : File) (workable : IsWorkable f) (v : DeskView) (able : IsAble f v)
       go (Some row) is =
           let low = slice_get_within v.cases t row is in
           let many = length-map v.cases length in
-          let counted = row_counted v.cases t (declared_cases f t) (able.counted.each t (let e = able.counted.types in omega arith)) in
+          let counted = row_counted v.cases t (cases_of_type t f.cases) (able.counted.each t (let e = able.counted.types in omega arith)) in
           let same : counted.0 ≡ row = cc (counted.1, is) in
           ap length (get_or_from_slice_get v.cases t row [] is) ∙ (sym (ap length same) ∙ counted.2)
+
+  can-act : (x : Act) → IsKnownAct (length f.types) f.cases x → CanAct v x
+  can-act (act.Create c) k = (has-declared f v.cases c workable able.counted k, able.knows c.type_no (omega arith) (declared-typed (length f.types) f.cases c workable.typed k))
+  can-act (act.Start c node) k = has-declared f v.cases c workable able.counted k
+  can-act (act.Withdraw c node) k = has-declared f v.cases c workable able.counted k
+  can-act (act.End c node choice writes) k = has-declared f v.cases c workable able.counted k
+  can-act (act.Change c ops) (k, few) = (has-declared f v.cases c workable able.counted k, few)
+  can-act (act.Install t ops) (k, few) = ((let e = able.types in omega (arith, k)), few)
+  can-act (act.Migrate t many) (k, enough) = ((let e = able.types in omega (arith, k)), able.knows t (omega arith) k, (let same = many-cases t in omega (arith, enough)))
+
+  -- it can work lines that are known
+  pub can-work : (lines : List Line) → AllRows (IsKnown (length f.types) (length f.actors) f.cases) lines → CanWork v lines
+  can-work [] all = tt
+  can-work (l ∷ lines) (k, all) = (λ own. can-act l.act k.act, can-work lines all)
 
 pub all-can : (f : File) (workable : IsWorkable f) (lines : List Line) → AllRows (IsKnown (length f.types) (length f.actors) f.cases) lines → (vs : List DeskView) → AllByRecursion (IsAble f) vs → AllByRecursion (λ v. CanWork v lines) vs
 all-can f workable lines known [] a = tt

@@ -17,6 +17,7 @@ pub mod CrewReady
 pub mod EachWorker
 pub mod DesksCanWork
 pub mod PhaseWorked
+pub mod LineByLine
 pub mod CrewMet
 pub mod FullSeen
 pub mod CrewTakenIn

@@ -23,7 +23,6 @@ use Rattle.file_facts.specs.Facts.{IsWorkable, lines_in}
 use Rattle.legal_run.proofs.OncePerLine.{case_once_begun, case_once_per_line, kind_once_begun, kind_once_per_line}
 use Rattle.legal_run.proofs.Places.{there-as}
 use Rattle.legal_run.specs.LineCalls.{Call, lines_of, calls_of_case, calls_of_kind}
-use Rattle.legal_run.specs.Legal.{declared_cases}
 use Rattle.file_model.specs.declared.files.File.{File}
 use Rattle.file_model.specs.declared.files.Line.{Line}
 use Rattle.line_calls.specs.Files.{roles_of}
@@ -75,12 +74,12 @@ module _ {M E R W S : Type 0} {D : Type 0} (at : D → Option (PassView M E R W 
 
 -- each line makes at most one call of a type, and of a case
 kind-once : (f : File) (t a : ℕ) (lines : List Line) (calls : List Call) → Tries f lines a calls → length (calls_of_kind t calls) ≤ length (lines_of a lines)
-kind-once f t a lines calls (inl k) = kind_once_per_line (declared_cases f) (roles_of f a) a t (lines_of a lines) calls k
-kind-once f t a lines calls (inr k) = kind_once_begun (declared_cases f) (roles_of f a) a t (lines_of a lines) calls k
+kind-once f t a lines calls (inl k) = kind_once_per_line (roles_of f a) a t (lines_of a lines) calls k
+kind-once f t a lines calls (inr k) = kind_once_begun (roles_of f a) a t (lines_of a lines) calls k
 
 case-once : (f : File) (c : CaseId) (a : ℕ) (lines : List Line) (calls : List Call) → Tries f lines a calls → length (calls_of_case c calls) ≤ length (lines_of a lines)
-case-once f c a lines calls (inl k) = case_once_per_line (declared_cases f) (roles_of f a) a c (lines_of a lines) calls k
-case-once f c a lines calls (inr k) = case_once_begun (declared_cases f) (roles_of f a) a c (lines_of a lines) calls k
+case-once f c a lines calls (inl k) = case_once_per_line (roles_of f a) a c (lines_of a lines) calls k
+case-once f c a lines calls (inr k) = case_once_begun (roles_of f a) a c (lines_of a lines) calls k
 
 -- phases leave as many passes
 tried-shape : (f : File) (phases : List (List Line)) (v : DeskView) (vs : List DeskView) (w : DeskView) (ws : List DeskView) → PhasesTried f phases v vs w ws → (length v.kinds ≡ length w.kinds) × (map length v.cases ≡ map length w.cases)

@@ -2,21 +2,18 @@
 use Rattle.std.proofs.Common.{◌||◌, ◌∙◌, ◌≡◌, ℕ, List, [], ◌∷◌, length, Bool, Err, None, Ok, Option, Result, Some, arith, false, inl, inr, is_some, refl, subst, sym, true}
 use Rattle.std.specs.List.{AllByRecursion, AllZip, list_any}
 use Rattle.std.specs.Result.{result_err}
-use Rattle.adept_actor.proofs.Acts.{same-begun, same-lines}
-use Rattle.adept_actor.specs.Work.{Does, Leaves, WorksLines, case_count}
+use Rattle.adept_actor.specs.Work.{Does, Leaves, WorksLines}
 use Rattle.adept_server.specs.Desks.{DeskView, IsDesk, IsDeskOf, desk_view}
 use Rattle.adept_server.specs.declared.desks.Desk.{Desk}
 use Rattle.adept_server.specs.declared.servers.Server.{Server}
-use Rattle.crew_run.proofs.DesksCanWork.{able-heard, able-then, many-cases}
+use Rattle.crew_run.proofs.DesksCanWork.{able-heard, able-then}
 use Rattle.crew_run.proofs.LevelDesks.{done-same}
 use Rattle.crew_run.proofs.PhaseByCell.{numbered-then}
 use Rattle.crew_run.specs.Crew.{ActorDone, DeskHeard, DeskSame, AreCallsOfActor}
-use Rattle.crew_run.specs.Phases.{HasWorked, IsAble, IsCrew, Tries, ended}
+use Rattle.crew_run.specs.Phases.{HasWorked, IsCrew, Tries, ended}
 use Rattle.crew_run.specs.Workers.{AreDesksOf, desks_of, faults_of}
 use Rattle.crew_run.specs.declared.workers.Worker.{Worker}
-use Rattle.file_facts.specs.Facts.{IsWorkable}
-use Rattle.legal_run.specs.LineCalls.{AreCallsOfLines, Call, lines_of}
-use Rattle.legal_run.specs.Legal.{declared_cases}
+use Rattle.legal_run.specs.LineCalls.{Call}
 use Rattle.file_model.specs.declared.files.File.{File}
 use Rattle.file_model.specs.declared.files.Line.{Line}
 use Rattle.line_calls.specs.Files.{roles_of}
@@ -28,14 +25,8 @@ leaves-ended Whole Begun (Ok a) o v w is k = subst (λ x. Leaves Whole Begun (en
 leaves-ended Whole Begun (Err f) o v w is k = subst (λ x. Leaves Whole Begun (ended x) v w) (sym is) k
 
 -- a worker without a fault has made the calls of its lines
-pub worked-whole : (f : File) (lines : List Line) (w x : Worker) → IsWorkable f → IsAble f (desk_view w.desk) → HasWorked f lines w x → x.fault ≡ None → Does (AreCallsOfActor f lines (desk_view w.desk).number) (desk_view w.desk) (desk_view x.desk)
-worked-whole f lines w x workable able worked well =
-    let v = desk_view w.desk in
-    let (calls, fit, done) = whole worked in
-    (calls, same-lines (case_count v) (declared_cases f) (many-cases f workable v able) (roles_of f v.number) v.number (lines_of v.number lines) calls fit, done)
-  where
-    whole : HasWorked f lines w x → Does (AreCallsOfLines (case_count (desk_view w.desk)) (roles_of f (desk_view w.desk).number) (desk_view w.desk).number (lines_of (desk_view w.desk).number lines)) (desk_view w.desk) (desk_view x.desk)
-    whole k = subst (λ o. WorksLines (roles_of f (desk_view w.desk).number) lines (ended o) (desk_view w.desk) (desk_view x.desk)) well k
+pub worked-whole : (f : File) (lines : List Line) (w x : Worker) → HasWorked f lines w x → x.fault ≡ None → Does (AreCallsOfActor f lines (desk_view w.desk).number) (desk_view w.desk) (desk_view x.desk)
+worked-whole f lines w x worked well = subst (λ o. WorksLines (roles_of f (desk_view w.desk).number) lines (ended o) (desk_view w.desk) (desk_view x.desk)) well worked
 
 -- no worker met a fault
 abbrev pub AreWell : List Worker → Type 0
@@ -61,40 +52,36 @@ well-of (w ∷ new) (x ∷ mid) none same =
     (sym head ∙ no-fault w.fault both.0, well-of new mid both.1 (cc (same)))
 
 -- what a phase without faults comes to, once all have met
-pub phase-done : (f : File) (lines : List Line) (first : DeskView) (old mid new : List Worker) → IsWorkable f → AllByRecursion (IsAble f) (desks_of old) → AllZip (HasWorked f lines) old mid → AreWell mid
+pub phase-done : (f : File) (lines : List Line) (first : DeskView) (old mid new : List Worker) → AllZip (HasWorked f lines) old mid → AreWell mid
     → AllZip DeskHeard (desks_of mid) (desks_of new) → AllByRecursion (DeskSame first) (desks_of new) → AllByRecursion IsDesk (desks_of new) → AllZip (ActorDone (AreCallsOfActor f lines) first) (desks_of old) (desks_of new)
-phase-done f lines first [] [] [] workable able worked well heard same desks = tt
-phase-done f lines first [] [] (y ∷ new) workable able worked well heard same desks = absurd heard
-phase-done f lines first [] (x ∷ mid) new workable able worked well heard same desks = absurd worked
-phase-done f lines first (w ∷ old) [] new workable able worked well heard same desks = absurd worked
-phase-done f lines first (w ∷ old) (x ∷ mid) [] workable able worked well heard same desks = absurd heard
-phase-done f lines first (w ∷ old) (x ∷ mid) (y ∷ new) workable (a, able) (k, worked) (none, well) (h, heard) (s, same) (d, desks) =
-    let (calls, fit, done) = worked-whole f lines w x workable a k none in
-    (record { calls = calls; fit = fit; between = desk_view x.desk; done = done; heard = h; same = s; desk = d }, phase-done f lines first old mid new workable able worked well heard same desks)
+phase-done f lines first [] [] [] worked well heard same desks = tt
+phase-done f lines first [] [] (y ∷ new) worked well heard same desks = absurd heard
+phase-done f lines first [] (x ∷ mid) new worked well heard same desks = absurd worked
+phase-done f lines first (w ∷ old) [] new worked well heard same desks = absurd worked
+phase-done f lines first (w ∷ old) (x ∷ mid) [] worked well heard same desks = absurd heard
+phase-done f lines first (w ∷ old) (x ∷ mid) (y ∷ new) (k, worked) (none, well) (h, heard) (s, same) (d, desks) =
+    let (calls, fit, done) = worked-whole f lines w x k none in
+    (record { calls = calls; fit = fit; between = desk_view x.desk; done = done; heard = h; same = s; desk = d }, phase-done f lines first old mid new worked well heard same desks)
 
 -- a worker has made calls of its lines, perhaps up to a fault
-worked-some : (f : File) (lines : List Line) (w x : Worker) → IsWorkable f → IsAble f (desk_view w.desk) → HasWorked f lines w x → Does (Tries f lines (desk_view w.desk).number) (desk_view w.desk) (desk_view x.desk)
-worked-some f lines w x workable able worked = go x.fault worked
+worked-some : (f : File) (lines : List Line) (w x : Worker) → HasWorked f lines w x → Does (Tries f lines (desk_view w.desk).number) (desk_view w.desk) (desk_view x.desk)
+worked-some f lines w x worked = go x.fault worked
   where
     go : (o : Option CallFault) → WorksLines (roles_of f (desk_view w.desk).number) lines (ended o) (desk_view w.desk) (desk_view x.desk) → Does (Tries f lines (desk_view w.desk).number) (desk_view w.desk) (desk_view x.desk)
-    go None (calls, fit, done) =
-        let v = desk_view w.desk in
-        (calls, inl (same-lines (case_count v) (declared_cases f) (many-cases f workable v able) (roles_of f v.number) v.number (lines_of v.number lines) calls fit), done)
-    go (Some fault) ((calls, fit, done), full) =
-        let v = desk_view w.desk in
-        (calls, inr (same-begun (case_count v) (declared_cases f) (many-cases f workable v able) (roles_of f v.number) v.number (lines_of v.number lines) calls fit), done)
+    go None (calls, fit, done) = (calls, inl fit, done)
+    go (Some fault) ((calls, fit, done), full) = (calls, inr fit, done)
 
 -- what a phase comes to, once all have met
-pub phase-tried : (f : File) (lines : List Line) (first : DeskView) (old mid new : List Worker) → IsWorkable f → AllByRecursion (IsAble f) (desks_of old) → AllZip (HasWorked f lines) old mid
+pub phase-tried : (f : File) (lines : List Line) (first : DeskView) (old mid new : List Worker) → AllZip (HasWorked f lines) old mid
     → AllZip DeskHeard (desks_of mid) (desks_of new) → AllByRecursion (DeskSame first) (desks_of new) → AllByRecursion IsDesk (desks_of new) → AllZip (ActorDone (Tries f lines) first) (desks_of old) (desks_of new)
-phase-tried f lines first [] [] [] workable able worked heard same desks = tt
-phase-tried f lines first [] [] (y ∷ new) workable able worked heard same desks = absurd heard
-phase-tried f lines first [] (x ∷ mid) new workable able worked heard same desks = absurd worked
-phase-tried f lines first (w ∷ old) [] new workable able worked heard same desks = absurd worked
-phase-tried f lines first (w ∷ old) (x ∷ mid) [] workable able worked heard same desks = absurd heard
-phase-tried f lines first (w ∷ old) (x ∷ mid) (y ∷ new) workable (a, able) (k, worked) (h, heard) (s, same) (d, desks) =
-    let (calls, fit, done) = worked-some f lines w x workable a k in
-    (record { calls = calls; fit = fit; between = desk_view x.desk; done = done; heard = h; same = s; desk = d }, phase-tried f lines first old mid new workable able worked heard same desks)
+phase-tried f lines first [] [] [] worked heard same desks = tt
+phase-tried f lines first [] [] (y ∷ new) worked heard same desks = absurd heard
+phase-tried f lines first [] (x ∷ mid) new worked heard same desks = absurd worked
+phase-tried f lines first (w ∷ old) [] new worked heard same desks = absurd worked
+phase-tried f lines first (w ∷ old) (x ∷ mid) [] worked heard same desks = absurd heard
+phase-tried f lines first (w ∷ old) (x ∷ mid) (y ∷ new) (k, worked) (h, heard) (s, same) (d, desks) =
+    let (calls, fit, done) = worked-some f lines w x k in
+    (record { calls = calls; fit = fit; between = desk_view x.desk; done = done; heard = h; same = s; desk = d }, phase-tried f lines first old mid new worked heard same desks)
 
 -- A crew that has worked a phase is one still.
 pub crew-then : (s : Server) (f : File) (first then : Desk) (old new : List Worker) (Fit : ℕ → List Call → Type 0) → IsCrew s f first old → IsDeskOf s then → AreDesksOf s new → DeskHeard (desk_view first) (desk_view then)

@@ -4,7 +4,6 @@ use Rattle.std.specs.List.{AllZip}
 use Rattle.adept_server.specs.Desks.{KindPass, CasePass, DeskView, IsDesk, case_pass}
 use Rattle.crew_run.specs.Cells.{Heard, SeenSame}
 use Rattle.adept_actor.specs.Growth.{DeskHasDone}
-use Rattle.legal_run.specs.Legal.{declared_cases}
 use Rattle.legal_run.specs.LineCalls.{Call, AreCallsOfLines, lines_of}
 use Rattle.file_model.specs.declared.files.File.{File}
 use Rattle.file_model.specs.declared.files.Line.{Line}
@@ -57,7 +56,7 @@ pub record PhaseDone (Fit : ℕ → List Call → Type 0) (first : DeskView) (cr
 
 -- what an actor's calls are where it works its lines
 abbrev pub AreCallsOfActor : File → List Line → ℕ → List Call → Type 0
-AreCallsOfActor f lines a calls = AreCallsOfLines (declared_cases f) (roles_of f a) a (lines_of a lines) calls
+AreCallsOfActor f lines a calls = AreCallsOfLines (roles_of f a) a (lines_of a lines) calls
 
 -- phases one after another
 abbrev pub PhasesDone : File → List (List Line) → DeskView → List DeskView → DeskView → List DeskView → Type 0

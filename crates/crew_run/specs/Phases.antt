@@ -1,8 +1,8 @@
 -- The phases of a file, as a crew works them.
 use Rattle.std.specs.Prelude.{◌≡◌, ℕ, ◌+◌, ◌≤◌, ◌⊎◌, Bool, true, false, List, [], ◌∷◌, length, map, Option, Some, None, Result, Ok, Err}
 use Rattle.std.specs.List.{AllByRecursion}
-use Rattle.adept_actor.specs.Others.{LeavesUnnamed}
-use Rattle.adept_actor.specs.Work.{CanWork, WorksLines}
+use Rattle.adept_actor.specs.Others.{LeavesOthers, LeavesUnnamed}
+use Rattle.adept_actor.specs.Work.{Acts, CanWork, WorksLines}
 use Rattle.adept_server.specs.Desks.{KindPass, CasePass, DeskView, IsDesk, IsDeskOf, desk_view}
 use Rattle.adept_server.specs.Opening.{IsFirstDesk}
 use Rattle.adept_server.specs.declared.desks.Desk.{Desk}
@@ -16,7 +16,6 @@ use Rattle.crew_run.specs.Defining.{KnowsTypes}
 use Rattle.crew_run.specs.Ready.{IsReady}
 use Rattle.crew_run.specs.Workers.{AreDesksOf, desks_of}
 use Rattle.crew_run.specs.declared.workers.Worker.{Worker}
-use Rattle.legal_run.specs.Legal.{declared_cases}
 use Rattle.legal_run.specs.LineCalls.{Call, AreBegun, lines_of}
 use Rattle.file_limits.specs.declared.TheConstants.{MAX_ACTORS}
 use Rattle.file_model.specs.declared.files.File.{File}
@@ -74,6 +73,15 @@ HasWorked f lines w x = WorksLines (roles_of f (desk_view w.desk).number) lines 
 abbrev pub HasWorkedLines : Server → File → List Line → Worker → Worker → Type 0
 HasWorkedLines s f lines w x = IsDeskOf s x.desk × HasWorked f lines w x × LeavesUnnamed lines (desk_view w.desk) (desk_view x.desk)
 
+-- a worker takes a line in its turn, where it has met no fault
+abbrev pub TakesLine : List ℕ → Line → Worker → Worker → Option CallFault → Type 0
+TakesLine roles line w x None = Acts roles line.act (ended x.fault) (desk_view w.desk) (desk_view x.desk) × LeavesOthers line.act (desk_view w.desk) (desk_view x.desk)
+TakesLine roles line w x (Some f) = x ≡ w
+
+-- a worker as it was, but without the fault that it may have met
+abbrev pub HasForgotten : Worker → Worker → Type 0
+HasForgotten w x = (x.desk ≡ w.desk) × (x.fault ≡ None)
+
 -- the first desk of a new server has hired a crew for the actors of a file
 pub record IsBegun (f : File) (first : DeskView) (crew : List DeskView) : Type 0 where
   pub counts : List ℕ
@@ -93,7 +101,7 @@ pub record HasWorkedAll (f : File) (first : DeskView) (crew : List DeskView) : T
 
 -- what an actor's calls are where it works its lines, perhaps up to a fault
 abbrev pub Tries : File → List Line → ℕ → List Call → Type 0
-Tries f lines a calls = AreCallsOfActor f lines a calls ⊎ AreBegun (declared_cases f) (roles_of f a) a (lines_of a lines) calls
+Tries f lines a calls = AreCallsOfActor f lines a calls ⊎ AreBegun (roles_of f a) a (lines_of a lines) calls
 
 -- so some of the phases were worked, one after another
 abbrev pub PhasesTried : File → List (List Line) → DeskView → List DeskView → DeskView → List DeskView → Type 0

@@ -9,6 +9,7 @@ mod counting;
 mod crews;
 mod definitions;
 mod hiring;
+mod in_order;
 mod meeting;
 mod naming;
 mod phases;

@@ -31,7 +31,7 @@ fn note_act(called: &mut CallFlags, act: &Act)
             called.note_kind(type_no);
             called.note_case(id);
         }
-        Cells::KindAndEach(type_no) => {
+        Cells::KindAndEach(type_no, _) => {
             called.note_kind(type_no);
             called.note_cases(type_no);
         }

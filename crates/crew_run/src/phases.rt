@@ -10,6 +10,7 @@ ghost use Rattle.crew_run.specs.Workers.{desks_of};
 ghost use Rattle.file_facts.specs.Facts.{IsKnown, IsWorkable};
 ghost use Rattle.wsm_lists.specs.Rows.{AllRows};
 
+use crate::in_order::work_in_order;
 use crate::meeting::meet_all;
 use crate::naming::note_lines;
 use crate::workers::Worker;
@@ -21,10 +22,13 @@ use std::sync::Wait;
 use std::thread::{Threads, available_parallelism, for_each_mut};
 use turn_cell::{CallFault, Gate};
 
+/// A phase of fewer lines is worked before threads were started for it.
+const LINES_OF_A_START: usize = 64;
+
 /// A phase has a thread for each actor where it has at least so many lines for each of them.
 const LINES_OF_A_THREAD: usize = 1024;
 
-/// Works the phases one after another, each in threads among which the workers are shared. Behind each of them all have met, at
+/// Works the phases one after another, each in the order of its lines or in threads among which the workers are shared. Behind each of them all have met, at
 /// the cells that its lines name.
 pub fn work_phases<R: Threads + Wait + Sync, G: Gate + Sync>(
     rt: &R,
@@ -100,8 +104,7 @@ fn work_phase<R: Threads + Wait + Sync, G: Gate + Sync>(
     ensures full { IfErr result (λ fault. fault ≡ CallFault.Full → SeesMany (desk_view first.new)) }
     ensures done { OnOk result (PhaseDone (AreCallsOfActor file.now lines.now) (desk_view first.old) (desks_of crew.old) (desk_view first.new) (desks_of crew.new)) }
 {
-    let threads = thread_count(lines.len(), crew.len(), processors);
-    work_lines(rt, alloc, server, file, crew, lines, threads, gate);
+    work_lines(rt, alloc, server, file, crew, lines, processors, gate);
     note_lines(called, lines);
     meet_all(server, called, first, crew);
     outcome(crew)
@@ -136,8 +139,34 @@ fn has_fault(crew: &[Worker]) -> bool
     crew.iter().any(|worker| worker.fault.is_some())
 }
 
-// Each worker works its own lines of a phase, and keeps the fault that it met.
+// Each worker works its own lines of a phase, and keeps the fault that it met: a phase of few lines is worked in the order of the
+// file, and one of more in threads.
 fn work_lines<R: Threads + Wait + Sync, G: Gate + Sync>(
+    rt: &R,
+    alloc: Global,
+    server: &Server,
+    file: &File,
+    crew: &mut [Worker],
+    lines: &Lines,
+    processors: usize,
+    gate: &G,
+)
+    requires processors { 0 < processors }
+    requires actors { length crew.old ≡ length file.now.actors }
+    requires known { AllRows (IsKnown (length file.now.types) (length file.now.actors) file.now.cases) lines.now }
+    requires ready { (i : _) (d : _) → i < length crew.old → IsReadyAt server.now lines.now i (slice_index_or crew.old i d) }
+    ensures { (i : _) (d : _) → i < length crew.old → HasWorkedLines server.now file.now lines.now (slice_index_or crew.old i d) (slice_index_or crew.new i d) }
+{
+    if lines.len() < LINES_OF_A_START {
+        work_in_order(rt, alloc, server, file, crew, lines, gate);
+    } else {
+        let threads = thread_count(lines.len(), crew.len(), processors);
+        work_side_by_side(rt, alloc, server, file, crew, lines, threads, gate);
+    }
+}
+
+// Each worker works its own lines of a phase in one of so many threads, and keeps the fault that it met.
+fn work_side_by_side<R: Threads + Wait + Sync, G: Gate + Sync>(
     rt: &R,
     alloc: Global,
     server: &Server,

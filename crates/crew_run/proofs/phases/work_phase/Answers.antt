@@ -40,7 +40,7 @@ returns-clause-crew g c =
     let new = c.meet_all.new.crew in
     let first = desk_view c.meet_all.new.first in
     let worked : AllZip (HasWorked f lines) old mid = all-zip (HasWorked f lines) old mid c.work_lines.auto.crew (λ i d low. (c.work_lines.ensures i d low).1) in
-    let tried = phase-tried f lines first old mid new c.requires.file c.requires.crew.able worked c.meet_all.ensures.heard c.meet_all.ensures.same (desks-are c.args.server.now new c.meet_all.ensures.crew) in
+    let tried = phase-tried f lines first old mid new worked c.meet_all.ensures.heard c.meet_all.ensures.same (desks-are c.args.server.now new c.meet_all.ensures.crew) in
     crew-then c.args.server.now f c.args.first.now c.meet_all.new.first old new (Tries f lines) c.requires.crew c.meet_all.ensures.first.0 c.meet_all.ensures.crew c.meet_all.ensures.first.1 tried (c.meet_all.auto.crew ∙ c.work_lines.auto.crew)
 
 pub returns-clause-tried : goal.returns-clause-tried
@@ -54,7 +54,7 @@ returns-clause-tried g c =
     let worked : AllZip (HasWorked f lines) old mid = all-zip (HasWorked f lines) old mid c.work_lines.auto.crew (λ i d low. (c.work_lines.ensures i d low).1) in
     record {
       heard = c.meet_all.ensures.first.1;
-      crew_done = phase-tried f lines first old mid new c.requires.file c.requires.crew.able worked c.meet_all.ensures.heard c.meet_all.ensures.same (desks-are c.args.server.now new c.meet_all.ensures.crew);
+      crew_done = phase-tried f lines first old mid new worked c.meet_all.ensures.heard c.meet_all.ensures.same (desks-are c.args.server.now new c.meet_all.ensures.crew);
     }
 
 pub returns-clause-full : goal.returns-clause-full
@@ -81,6 +81,6 @@ returns-clause-done g c =
     (λ none. record {
       heard = c.meet_all.ensures.first.1;
       crew_done =
-          phase-done f lines first old mid new c.requires.file c.requires.crew.able worked (well-of new mid none c.meet_all.ensures.faults) c.meet_all.ensures.heard c.meet_all.ensures.same (desks-are c.args.server.now new c.meet_all.ensures.crew);
+          phase-done f lines first old mid new worked (well-of new mid none c.meet_all.ensures.faults) c.meet_all.ensures.heard c.meet_all.ensures.same (desks-are c.args.server.now new c.meet_all.ensures.crew);
     })
     c.outcome.ensures.well

@@ -9,7 +9,7 @@ use Rattle.case_core.proofs.replies.Reply.TheSendSync as reply
 use Rattle.crew_run.proofs.Sent.{closed-sync, kind-send, kind-sync, kind_event-send, kind_event-sync, kind_reply-send, kind_reply-sync, line-sync, schema-sync, worker-send}
 use Rattle.crew_run.specs.Phases.{HasWorked, HasWorkedLines}
 use Rattle.turn_cell.proofs.cell.Cell.TheSendSync as cell
-use Rattle.crew_run.proofs.phases.work_lines.Goals as goal
+use Rattle.crew_run.proofs.phases.work_side_by_side.Goals as goal
 
 pub for_each_mut-requires-send-T : goal.for_each_mut-requires-send-T
 for_each_mut-requires-send-T g c κs within = search (worker-send, sendable, crosses) depth 30

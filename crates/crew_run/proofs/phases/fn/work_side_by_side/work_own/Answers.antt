@@ -4,7 +4,7 @@ use Rattle.adept_server.specs.Desks.{desk_view}
 use Rattle.crew_run.proofs.EachWorker.{roles-at}
 use Rattle.crew_run.proofs.PhaseWorked.{leaves-ended}
 use Rattle.crew_run.specs.Phases.{ended}
-use Rattle.crew_run.proofs.phases.fn.work_lines.work_own.Goals as goal
+use Rattle.crew_run.proofs.phases.fn.work_side_by_side.work_own.Goals as goal
 
 pub returns : goal.returns
 returns g c =
