@@ -1,6 +1,6 @@
 -- What holds of each file that is read.
 use Rattle.std.proofs.Common.{◌≡◌, ℕ, ◌+◌, ◌==◌, Bool, true, false, List, [], ◌∷◌, length, refl, subst, Option, Some, None, Result, Ok, Err}
-use Rattle.std.specs.Prelude.{IfOk, IfSome, if◌then◌else◌}
+use Rattle.std.specs.Prelude.{IfOk, IfSome, nat_le, if◌then◌else◌}
 use Rattle.std.specs.Str.{is_utf8}
 use Rattle.file_words.specs.Lines.{Bytes, lines_of, without_return}
 use Rattle.file_words.specs.Words.{words_of, is_skipped}
@@ -13,12 +13,12 @@ use Rattle.file_forms.specs.Forms.{TypeLine}
 use Rattle.file_forms.specs.TypeForms.{type_line}
 use Rattle.file_forms.specs.ScriptForms.{script_line}
 use Rattle.file_forms.specs.OperationForms.{operation_line}
-use Rattle.file_model.specs.Steps.{State, Step, opening, refuse}
-use Rattle.file_model.specs.Declaring.{declared, outside}
+use Rattle.file_model.specs.Steps.{State, Step, opening}
+use Rattle.file_model.specs.Declaring.{declared}
 use Rattle.file_model.specs.Typing.{fits_in, typed}
 use Rattle.file_model.specs.Scripting.{scripted}
 use Rattle.file_model.specs.Operating.{operated}
-use Rattle.file_model.specs.Reading.{in_format, unless_long, formed, fitting, unless_not_text, step_in, step_words, step, finished_in, finished, at_line, read_from, file}
+use Rattle.file_model.specs.Reading.{in_format, unless_long, formed, fitting, unless_not_text, declares, step_outside, step_in, step_words, step, finished_in, finished, at_line, read_from, file}
 use Rattle.file_model.specs.declared.files.File.{File}
 use Rattle.file_model.specs.declared.refusals.Refused.{Refused}
 use Rattle.file_model.specs.declared.refusals.Why.{Why}
@@ -27,7 +27,7 @@ use Rattle.file_model.specs.declared.states.Contents.{Contents}
 use Rattle.file_model.specs.declared.states.Section.{Section}
 use Rattle.file_model.specs.declared.states.Section.TheVariants as section
 use Rattle.audit_facts.specs.Facts.{IsAuditable}
-use Rattle.audit_facts.proofs.Named.{NamedIn, NamedState, NamedStep, phase-named}
+use Rattle.audit_facts.proofs.Named.{Named, NamedState, NamedStep, phases-named}
 use Rattle.audit_facts.proofs.NamedByLines.{declared-named, operated-named, scripted-named, typed-named}
 use Rattle.audit_facts.proofs.NamedForms.{NamedTypeLine, declaration-named, operation-named, script_line-named, type_line-named}
 
@@ -56,31 +56,33 @@ fitting-named d (Some l) h = by (fits_in (around d.frames) l)
     by true = h
     by false = tt
 
-format-named : (o : Option ℕ) (c : Contents) → NamedIn section.Head c → NamedStep (in_format o c)
-format-named None c h = tt
-format-named (Some n) c h = record { nodes = h.nodes; elements = h.elements; actors = h.actors; names = h.names; apart = h.apart; writes = h.writes }
+format-named : (newest : ℕ) (o : Option ℕ) (c : Contents) → Named c → NamedStep (in_format newest o c)
+format-named newest None c h = tt
+format-named newest (Some n) c h = if-named (nat_le n newest) _ _ h tt
 
-step_in-named : (p : Section) (at : ℕ) (line : Bytes) (ws : List Bytes) (c : Contents) → NamedIn p c → NamedStep (step_in p at line ws c)
-step_in-named section.Head at line ws c h = format-named (header ws) c h
-step_in-named section.Outside at line ws c h =
-    text-named (is_utf8 line) c _ (formed-named _ (declaration_line ws) ws (λ d. declared d c) c (declaration-named ws) (λ d named. declared-named d c named h))
+outside-named : (at : ℕ) (ws : List Bytes) (c : Contents) → Named c → NamedStep (step_outside at ws c)
+outside-named at ws c h =
+    if-named (declares ws c) _ _
+    (formed-named _ (declaration_line c.format ws) ws (λ d. declared d c) c (declaration-named c.format ws) (λ d named. declared-named d c named h))
+    (formed-named _ (script_line c.format ws) ws (λ l. scripted l at c) c (script_line-named c.format ws) (λ l named. scripted-named l at c named h))
+
+step_in-named : (p : Section) (at : ℕ) (line : Bytes) (ws : List Bytes) (c : Contents) → Named c → NamedStep (step_in p at line ws c)
+step_in-named (section.Head newest) at line ws c h = format-named newest (header ws) c h
+step_in-named section.Outside at line ws c h = text-named (is_utf8 line) c _ (outside-named at ws c h)
 step_in-named (section.InType d) at line ws c h =
-    text-named (is_utf8 line) c _ (formed-named _ (fitting d (type_line ws)) ws (λ l. typed l d c) c (fitting-named d (type_line ws) (type_line-named ws)) (λ l named. typed-named l d c named h))
-step_in-named (section.InPhase lines) at line ws c h =
-    text-named (is_utf8 line) c _ (formed-named _ (script_line c.format ws) ws (λ l. scripted l lines at c) c (script_line-named c.format ws) (λ l named. scripted-named l lines at c named h.0 h.1))
-step_in-named (section.InGroup lines g) at line ws c h =
-    text-named (is_utf8 line) c _ (formed-named _ (operation_line ws) ws (λ l. operated l g lines c) c (operation-named ws) (λ l named. operated-named l g lines c named h.0 h.1))
+    text-named (is_utf8 line) c _ (formed-named _ (fitting d (type_line c.format ws)) ws (λ l. typed l d c) c (fitting-named d (type_line c.format ws) (type_line-named c.format ws)) (λ l named. typed-named l d c named h))
+step_in-named (section.InGroup g) at line ws c h =
+    text-named (is_utf8 line) c _ (formed-named _ (operation_line c.format ws) ws (λ l. operated l g c) c (operation-named c.format ws) (λ l named. operated-named l g c named h))
 
 step-named : (s : State) (at : ℕ) (line : Bytes) (ws : List Bytes) → NamedState s → NamedStep (step_words s at line ws)
 step-named s at line ws h = if-named (is_skipped ws) (Ok s) (step_in s.place at line ws s.contents) h (step_in-named s.place at line ws s.contents h)
 
 -- ---- the end of a file
-finished_in-auditable : (p : Section) (c : Contents) → NamedIn p c → IfOk (finished_in p c) IsAuditable
-finished_in-auditable section.Head c h = tt
-finished_in-auditable section.Outside c h = record { nodes = h.nodes; elements = h.elements; actors = h.actors; apart = h.apart; writes = h.writes }
+finished_in-auditable : (p : Section) (c : Contents) → Named c → IfOk (finished_in p c) IsAuditable
+finished_in-auditable (section.Head newest) c h = tt
+finished_in-auditable section.Outside c h = record { nodes = h.nodes; elements = h.elements; roles = h.roles; actors = h.actors; apart = h.apart; writes = phases-named c h }
 finished_in-auditable (section.InType d) c h = tt
-finished_in-auditable (section.InPhase lines) c (h, written) = record { nodes = h.nodes; elements = h.elements; actors = h.actors; apart = h.apart; writes = phase-named lines c h written }
-finished_in-auditable (section.InGroup lines g) c h = tt
+finished_in-auditable (section.InGroup g) c h = tt
 
 ended-auditable : (test : Bool) (s : State) → NamedState s → IfOk (if test then finished_in s.place s.contents else Err (why.Unended, s.contents)) IsAuditable
 ended-auditable true s h = finished_in-auditable s.place s.contents h
@@ -98,10 +100,10 @@ read_from-auditable (Ok s) at left (l ∷ ls) h =
     let line = without_return l in
     read_from-auditable (at_line at (step s at line)) (at + 1) left ls (at_line-named NamedState at (step s at line) (step-named s at line (words_of line) h))
 
-opening-named : NamedState opening
-opening-named = record { nodes = (refl, (refl, tt)); elements = tt; actors = tt; names = refl; apart = λ i j d e at_i at_j same. absurd (cc (at_i)); writes = tt }
+opening-named : NamedState (opening 3)
+opening-named = record { nodes = (refl, (refl, tt)); elements = tt; roles = tt; actors = tt; names = refl; apart = λ i j d e at_i at_j same. absurd (cc (at_i)); writes = tt; written = tt }
 
 -- reports of a file that is read can be judged
 pub file-auditable : (bytes : Bytes) (f : File) → file bytes ≡ Ok f → IsAuditable f
 file-auditable bytes f is =
-    subst (λ (o : Result File Refused). IfOk o IsAuditable) is (read_from-auditable (Ok opening) 1 (lines_of bytes).left (lines_of bytes).ended opening-named)
+    subst (λ (o : Result File Refused). IfOk o IsAuditable) is (read_from-auditable (Ok (opening 3)) 1 (lines_of bytes).left (lines_of bytes).ended opening-named)

@@ -7,38 +7,35 @@ use Rattle.std.proofs.lemmas.Slice.Eq.{bytes_eq-Decides}
 use Rattle.wsm_lists.proofs.Lists.{rows-append}
 use Rattle.wsm_lists.specs.Rows.{AllRows}
 use Rattle.file_facts.proofs.Lists.{at-push}
-use Rattle.file_model.specs.Declaring.{with_actor}
+use Rattle.file_forms.specs.Forms.{RoleWord, by_number, by_name}
+use Rattle.file_model.specs.Declaring.{roles_noted, with_actor, with_roles}
 use Rattle.file_model.specs.Scripting.{if_known}
-use Rattle.file_model.specs.Steps.{State, Step, unless, with_element, with_node}
+use Rattle.file_model.specs.Steps.{State, Step, all_phases, open_lines, phases_with, role_noted, unless, with_element, with_node, with_role, with_script_line}
 use Rattle.file_model.specs.declared.files.ActorDecl.{ActorDecl}
 use Rattle.file_model.specs.declared.files.Line.{Line}
 use Rattle.file_model.specs.declared.refusals.Why.{Why}
 use Rattle.file_model.specs.declared.states.Contents.{Contents}
-use Rattle.file_model.specs.declared.states.Section.{Section}
-use Rattle.file_model.specs.declared.states.Section.TheVariants as section
 use Rattle.file_names.specs.Names.{is_listed, noted}
 use Rattle.file_names.specs.declared.declared.DeclaredList.{DeclaredList}
 use Rattle.file_words.specs.Lines.{Bytes}
 use Rattle.audit_facts.specs.Facts.{AreApart, IsName, IsNamed, WritesOneLine}
+use Rattle.audit_facts.proofs.NamedForms.{NamedRole}
 
-pub record AreNamed (ns es : List Bytes) (ds : DeclaredList ActorDecl) (ps : List (List Line)) : Type 0 where
+pub record AreNamed (ns es rs : List Bytes) (ds : DeclaredList ActorDecl) (ps : List (List Line)) (lines : List Line) : Type 0 where
   pub nodes : AllRows IsName ns
   pub elements : AllRows IsName es
+  pub roles : AllRows IsName rs
   pub actors : AllRows IsNamed ds.items
   pub names : ds.names ≡ map (λ (d : ActorDecl). d.name) ds.items
   pub apart : AreApart ds.items
   pub writes : AllRows (AllRows WritesOneLine) ps
+  pub written : AllRows WritesOneLine lines
 
 abbrev pub Named : Contents → Type 0
-Named c = AreNamed c.nodes c.elements c.actors c.phases
-
-abbrev pub NamedIn : Section → Contents → Type 0
-NamedIn (section.InPhase lines) c = Named c × AllRows WritesOneLine lines
-NamedIn (section.InGroup lines g) c = Named c × AllRows WritesOneLine lines
-NamedIn _ c = Named c
+Named c = AreNamed c.nodes c.elements c.roles c.actors c.phases (open_lines c.current)
 
 abbrev pub NamedState : State → Type 0
-NamedState s = NamedIn s.place s.contents
+NamedState s = Named s.contents
 
 abbrev pub NamedStep : Step → Type 0
 NamedStep o = IfOk o NamedState
@@ -52,10 +49,54 @@ all-noted names n named all = by (is_listed n names)
     by false = rows-append IsName names (n ∷ []) all (named, tt)
 
 pub node-named : (n : Bytes) (c : Contents) → IsName n → Named c → Named (with_node n c)
-node-named n c named h = record { nodes = all-noted c.nodes n named h.nodes; elements = h.elements; actors = h.actors; names = h.names; apart = h.apart; writes = h.writes }
+node-named n c named h = record {
+  nodes = all-noted c.nodes n named h.nodes;
+  elements = h.elements;
+  roles = h.roles;
+  actors = h.actors;
+  names = h.names;
+  apart = h.apart;
+  writes = h.writes;
+  written = h.written;
+}
 
 pub element-named : (e : Bytes) (c : Contents) → IsName e → Named c → Named (with_element e c)
-element-named e c named h = record { nodes = h.nodes; elements = all-noted c.elements e named h.elements; actors = h.actors; names = h.names; apart = h.apart; writes = h.writes }
+element-named e c named h = record {
+  nodes = h.nodes;
+  elements = all-noted c.elements e named h.elements;
+  roles = h.roles;
+  actors = h.actors;
+  names = h.names;
+  apart = h.apart;
+  writes = h.writes;
+  written = h.written;
+}
+
+role-noted : (names : List Bytes) (r : RoleWord) → NamedRole r → AllRows IsName names → AllRows IsName (role_noted names r)
+role-noted names (by_number n) named all = all
+role-noted names (by_name n) named all = all-noted names n named all
+
+roles-noted : (names : List Bytes) (rs : List RoleWord) → AllRows NamedRole rs → AllRows IsName names → AllRows IsName (roles_noted names rs)
+roles-noted names [] named all = all
+roles-noted names (r ∷ rs) named all = roles-noted (role_noted names r) rs named.1 (role-noted names r named.0 all)
+
+with-roles : (names : List Bytes) (c : Contents) → AllRows IsName names → Named c → Named (record c { roles = names })
+with-roles names c named h = record {
+  nodes = h.nodes;
+  elements = h.elements;
+  roles = named;
+  actors = h.actors;
+  names = h.names;
+  apart = h.apart;
+  writes = h.writes;
+  written = h.written;
+}
+
+pub role-named : (r : RoleWord) (c : Contents) → NamedRole r → Named c → Named (with_role r c)
+role-named r c named h = with-roles (role_noted c.roles r) c (role-noted c.roles r named h.roles) h
+
+pub roles-named : (rs : List RoleWord) (c : Contents) → AllRows NamedRole rs → Named c → Named (with_roles rs c)
+roles-named rs c named h = with-roles (roles_noted c.roles rs) c (roles-noted c.roles rs named h.roles) h
 
 -- ---- one more actor
 -- one that is not listed has another name than those that are there
@@ -90,15 +131,33 @@ actor-named n roles c named absent h =
     record {
       nodes = h.nodes;
       elements = h.elements;
+      roles = h.roles;
       actors = rows-append IsNamed c.actors.items (x ∷ []) h.actors (named, tt);
       names = rw absent (ap (λ names. names ++ n ∷ []) h.names ∙ sym (map-append (λ (e : ActorDecl). e.name) c.actors.items (x ∷ [])));
       apart = apart-push c.actors.items x of_names h.apart;
       writes = h.writes;
+      written = h.written;
     }
 
--- ---- one more phase
-pub phase-named : (lines : List Line) (c : Contents) → Named c → AllRows WritesOneLine lines → AllRows (AllRows WritesOneLine) (c.phases ++ lines ∷ [])
-phase-named lines c h written = rows-append (AllRows WritesOneLine) c.phases (lines ∷ []) h.writes (written, tt)
+-- ---- one more line, and all phases
+pub script-named : (l : Line) (c : Contents) → WritesOneLine l → Named c → Named (with_script_line l c)
+script-named l c one h = record {
+  nodes = h.nodes;
+  elements = h.elements;
+  roles = h.roles;
+  actors = h.actors;
+  names = h.names;
+  apart = h.apart;
+  writes = h.writes;
+  written = rows-append WritesOneLine (open_lines c.current) (l ∷ []) h.written (one, tt);
+}
+
+all-written : (current : Option (List Line)) (phases : List (List Line)) → AllRows (AllRows WritesOneLine) phases → AllRows WritesOneLine (open_lines current) → AllRows (AllRows WritesOneLine) (phases_with current phases)
+all-written None phases writes written = writes
+all-written (Some lines) phases writes written = rows-append (AllRows WritesOneLine) phases (lines ∷ []) writes (written, tt)
+
+pub phases-named : (c : Contents) → Named c → AllRows (AllRows WritesOneLine) (all_phases c)
+phases-named c h = all-written c.current c.phases h.writes h.written
 
 -- ---- a state behind tests
 pub unless-named : (o : Option Why) (c : Contents) (s : State) → (o ≡ None → NamedState s) → NamedStep (unless o c s)

@@ -1,6 +1,5 @@
 -- What holds of names and texts behind lines of each kind.
-use Rattle.std.proofs.Common.{◌≡◌, ℕ, Bool, true, false, List, [], ◌∷◌, ◌++◌, refl, Option, Some, None}
-use Rattle.wsm_lists.proofs.Lists.{rows-append}
+use Rattle.std.proofs.Common.{◌≡◌, ℕ, Bool, true, false, List, [], ◌∷◌, refl, Option, Some, None}
 use Rattle.wsm_lists.specs.Rows.{AllRows}
 use Rattle.wsm_lists.specs.declared.values.Value.{Value}
 use Rattle.wsm_ops.specs.declared.operations.Op.{Op}
@@ -10,17 +9,16 @@ use Rattle.wsm_sound.specs.declared.faults.Fault.{Fault}
 use Rattle.file_drafts.specs.Drafts.{whole}
 use Rattle.file_drafts.specs.declared.drafts.Draft.{Draft}
 use Rattle.file_facts.proofs.Held.{neither}
-use Rattle.file_forms.specs.Forms.{Declaration, a_type, an_actor, a_case, first_phase, TypeLine, activity, opens_and, opens_xor, opens_branch, opens_loop, closes_block, a_sync, an_element, a_read, a_write, type_end}
+use Rattle.file_forms.specs.Forms.{RoleWord, Declaration, a_type, an_actor, a_case, first_phase, TypeLine, activity, opens_and, opens_xor, opens_branch, opens_loop, closes_block, a_sync, an_element, a_read, a_write, type_end}
 use Rattle.file_forms.specs.Forms.{Deed, to_create, to_start, to_withdraw, to_end, to_change, to_install, to_migrate, ScriptLine, next_phase, a_deed}
 use Rattle.file_forms.specs.Forms.{NamedGap, behind, at_head, OperationLine, insert, parallel, conditional, delete, move, sync, unsync, element, read, unread, write, unwrite, set_role, group_end}
-use Rattle.file_model.specs.Declaring.{case_declared, declared, outside, with_actor, with_case}
+use Rattle.file_model.specs.Declaring.{case_declared, declared, phase_begun, role_numbers, with_actor, with_case, with_roles}
 use Rattle.file_model.specs.Operating.{act_of, grouped, line_of_group, op_in, operated, with_names, with_op, with_place}
-use Rattle.file_model.specs.Scripting.{acted, actor_in, case_in, counted, line_of, migrating, migrations_with, numbered, one_install, scripted, with_elements, with_group, with_line, with_phase}
-use Rattle.file_model.specs.Steps.{at_place, node_in, twice, with_element, with_node}
+use Rattle.file_model.specs.Scripting.{acted, actor_in, case_in, counted, line_of, migrate_of, migrating, migrations_with, numbered, one_install, scripted, with_elements, with_group, with_line}
+use Rattle.file_model.specs.Steps.{at_place, node_in, outside, twice, with_element, with_node, with_role, with_script_line}
 use Rattle.file_model.specs.Typing.{ended, typed}
 use Rattle.file_model.specs.declared.files.Act.{Act}
 use Rattle.file_model.specs.declared.files.Act.TheVariants as act
-use Rattle.file_model.specs.declared.files.Line.{Line}
 use Rattle.file_model.specs.declared.states.Contents.{Contents}
 use Rattle.file_model.specs.declared.states.Group.{Group}
 use Rattle.file_model.specs.declared.states.Section.TheVariants as section
@@ -28,9 +26,9 @@ use Rattle.file_model.specs.declared.states.Target.{Target}
 use Rattle.file_model.specs.declared.states.Target.TheVariants as target
 use Rattle.file_names.specs.Names.{is_listed, place_of}
 use Rattle.file_words.specs.Lines.{Bytes}
-use Rattle.audit_facts.specs.Facts.{HasOneLineWrites, IsName, IsOneLineWrite, WritesOneLine}
-use Rattle.audit_facts.proofs.Named.{Named, NamedState, NamedStep, actor-named, element-named, found-named, node-named, phase-named, unless-named}
-use Rattle.audit_facts.proofs.NamedForms.{NamedDeclaration, NamedDeed, NamedOperation, NamedPlace, NamedScriptLine, NamedTypeLine}
+use Rattle.audit_facts.specs.Facts.{HasOneLineWrites, IsName, IsOneLineWrite}
+use Rattle.audit_facts.proofs.Named.{Named, NamedStep, actor-named, element-named, found-named, node-named, phases-named, role-named, roles-named, script-named, unless-named}
+use Rattle.audit_facts.proofs.NamedForms.{NamedRole, NamedDeclaration, NamedDeed, NamedOperation, NamedPlace, NamedScriptLine, NamedTypeLine}
 use Rattle.audit_facts.proofs.Words.{IsWrite}
 
 -- ---- declarations
@@ -40,33 +38,51 @@ not-twice false h = refl
 
 case-named : (n : Bytes) (t : Option ℕ) (c : Contents) → Named c → NamedStep (case_declared n t c)
 case-named n None c h = tt
-case-named n (Some t) c h =
-    unless-named _ c (outside (with_case n t c)) (λ none. record { nodes = h.nodes; elements = h.elements; actors = h.actors; names = h.names; apart = h.apart; writes = h.writes })
+case-named n (Some t) c h = unless-named _ c (outside (with_case n t c)) (λ none. h)
+
+begun-named : (c : Contents) → Named c → NamedStep (phase_begun c)
+begun-named c h = unless-named _ c _ (λ none. record {
+  nodes = h.nodes;
+  elements = h.elements;
+  roles = h.roles;
+  actors = h.actors;
+  names = h.names;
+  apart = h.apart;
+  writes = phases-named c h;
+  written = tt;
+})
 
 pub declared-named : (d : Declaration) (c : Contents) → NamedDeclaration d → Named c → NamedStep (declared d c)
 declared-named (a_type n) c named h = unless-named _ c _ (λ none. h)
 declared-named (an_actor n roles) c named h =
-    unless-named _ c (outside (with_actor n roles c)) (λ none. actor-named n roles c named (not-twice (is_listed n c.actors.names) (neither _ _ none).0) h)
+    unless-named _ c (outside (with_actor n (role_numbers c.roles roles) (with_roles roles c))) (λ none.
+    actor-named n (role_numbers c.roles roles) (with_roles roles c) named.0 (not-twice (is_listed n c.actors.names) (neither _ _ none).0) (roles-named roles c named.1 h))
 declared-named (a_case n kind) c named h = case-named n (place_of c.types.names kind) c h
-declared-named first_phase c named h = (h, tt)
+declared-named first_phase c named h = begun-named c h
 
 -- ---- lines of a type
 ended-named : (n : Bytes) (s : SchemaModel) (f : Option Fault) (c : Contents) → Named c → NamedStep (ended n s f c)
-ended-named n s None c h = record { nodes = h.nodes; elements = h.elements; actors = h.actors; names = h.names; apart = h.apart; writes = h.writes }
+ended-named n s None c h = h
 ended-named n s (Some f) c h = tt
 
 two-nodes : (a b : Bytes) (c : Contents) → IsName a × IsName b → Named c → Named (with_node b (with_node a c))
 two-nodes a b c named h = node-named b (with_node a c) named.1 (node-named a c named.0 h)
 
+nodes-role : (a b : Bytes) (role : RoleWord) (c : Contents) → IsName a × IsName b × NamedRole role → Named c → Named (with_role role (with_node b (with_node a c)))
+nodes-role a b role c named h = role-named role (with_node b (with_node a c)) named.2 (two-nodes a b c (named.0, named.1) h)
+
+node-role : (n : Bytes) (role : RoleWord) (c : Contents) → IsName n × NamedRole role → Named c → Named (with_role role (with_node n c))
+node-role n role c named h = role-named role (with_node n c) named.1 (node-named n c named.0 h)
+
 node-element : (n e : Bytes) (c : Contents) → IsName n × IsName e → Named c → Named (with_element e (with_node n c))
 node-element n e c named h = element-named e (with_node n c) named.1 (node-named n c named.0 h)
 
 pub typed-named : (l : TypeLine) (d : Draft) (c : Contents) → NamedTypeLine l → Named c → NamedStep (typed l d c)
-typed-named (activity n role) d c named h = node-named n c named h
+typed-named (activity n role) d c named h = node-role n role c named h
 typed-named (opens_and a b) d c named h = unless-named _ c _ (λ none. two-nodes a b c named h)
-typed-named (opens_xor a b role) d c named h = unless-named _ c _ (λ none. two-nodes a b c named h)
+typed-named (opens_xor a b role) d c named h = unless-named _ c _ (λ none. nodes-role a b role c named h)
 typed-named (opens_branch code) d c named h = h
-typed-named (opens_loop a b role) d c named h = unless-named _ c _ (λ none. two-nodes a b c named h)
+typed-named (opens_loop a b role) d c named h = unless-named _ c _ (λ none. nodes-role a b role c named h)
 typed-named closes_block d c named h = h
 typed-named (a_sync a b) d c named h = unless-named _ _ _ (λ none. two-nodes a b c named h)
 typed-named (an_element e k) d c named h = unless-named _ _ _ (λ none. element-named e c named h)
@@ -75,26 +91,14 @@ typed-named (a_write n e) d c named h = unless-named _ _ _ (λ none. node-elemen
 typed-named type_end d c named h = ended-named d.name (whole d) (fault_of (whole d)) c h
 
 -- ---- lines of a phase
-counted-named : (c : Contents) → Named c → Named (counted c)
-counted-named c h = record { nodes = h.nodes; elements = h.elements; actors = h.actors; names = h.names; apart = h.apart; writes = h.writes }
+line-named : (at actor : ℕ) (a : Act) (c : Contents) → HasOneLineWrites a → Named c → NamedStep (with_line at actor a c)
+line-named at actor a c one h =
+    unless-named _ c (outside (with_script_line (line_of at actor a c) (counted c))) (λ none. script-named (line_of at actor a c) (counted c) one h)
 
-one-line : (lines : List Line) (l : Line) → AllRows WritesOneLine lines → WritesOneLine l → AllRows WritesOneLine (lines ++ l ∷ [])
-one-line lines l written one = rows-append WritesOneLine lines (l ∷ []) written (one, tt)
-
-line-named : (lines : List Line) (at actor : ℕ) (a : Act) (c : Contents) → HasOneLineWrites a → Named c → AllRows WritesOneLine lines → NamedStep (with_line lines at actor a c)
-line-named lines at actor a c one h written =
-    unless-named _ c (at_place (section.InPhase (lines ++ line_of at actor a c ∷ [])) (counted c)) (λ none. (counted-named c h, one-line lines (line_of at actor a c) written one))
-
-group-named : (lines : List Line) (at actor : ℕ) (t : Target) (c : Contents) → Named c → AllRows WritesOneLine lines → NamedState (with_group lines at actor t c)
-group-named lines at actor t c h written = (counted-named c h, written)
-
-install-named : (c : Contents) → Named c → Named (one_install c)
-install-named c h = record { nodes = h.nodes; elements = h.elements; actors = h.actors; names = h.names; apart = h.apart; writes = h.writes }
-
-migrating-named : (lines : List Line) (at actor t : ℕ) (c : Contents) → Named c → AllRows WritesOneLine lines → NamedStep (migrating lines at actor t c)
-migrating-named lines at actor t c h written =
-    unless-named _ c (at_place (section.InPhase (lines ++ line_of at actor (act.Migrate t) c ∷ [])) (counted (record c { counts = record c.counts { migrations = migrations_with t c } }))) (λ none.
-    (record { nodes = h.nodes; elements = h.elements; actors = h.actors; names = h.names; apart = h.apart; writes = h.writes }, one-line lines (line_of at actor (act.Migrate t) c) written tt))
+migrating-named : (at actor t : ℕ) (c : Contents) → Named c → NamedStep (migrating at actor t c)
+migrating-named at actor t c h =
+    let after = counted (record c { counts = record c.counts { migrations = migrations_with t c } }) in
+    unless-named _ c (outside (with_script_line (line_of at actor (migrate_of t c) c) after)) (λ none. script-named (line_of at actor (migrate_of t c) c) after tt h)
 
 elements-named : (ws : List (Bytes × Value)) (c : Contents) → AllRows IsWrite ws → Named c → Named (with_elements ws c)
 elements-named [] c all h = h
@@ -104,27 +108,24 @@ numbered-one : (ws : List (Bytes × Value)) (c : Contents) → AllRows IsWrite w
 numbered-one [] c all = tt
 numbered-one (w ∷ ws) c all = (all.0.1, numbered-one ws (with_element w.0 c) all.1)
 
-acted-named : (d : Deed) (actor : ℕ) (lines : List Line) (at : ℕ) (c : Contents) → NamedDeed d → Named c → AllRows WritesOneLine lines → NamedStep (acted d actor lines at c)
-acted-named (to_create n) actor lines at c named h written = found-named (case_in n c) _ c (λ id. line-named lines at actor (act.Create id) c tt h written)
-acted-named (to_start n node) actor lines at c named h written =
-    found-named (case_in n c) _ c (λ id. line-named lines at actor (act.Start id (node_in node c)) (with_node node c) tt (node-named node c named h) written)
-acted-named (to_withdraw n node) actor lines at c named h written =
-    found-named (case_in n c) _ c (λ id. line-named lines at actor (act.Withdraw id (node_in node c)) (with_node node c) tt (node-named node c named h) written)
-acted-named (to_end n node choice writes) actor lines at c named h written =
+acted-named : (d : Deed) (actor at : ℕ) (c : Contents) → NamedDeed d → Named c → NamedStep (acted d actor at c)
+acted-named (to_create n) actor at c named h = found-named (case_in n c) _ c (λ id. line-named at actor (act.Create id) c tt h)
+acted-named (to_start n node) actor at c named h =
+    found-named (case_in n c) _ c (λ id. line-named at actor (act.Start id (node_in node c)) (with_node node c) tt (node-named node c named h))
+acted-named (to_withdraw n node) actor at c named h =
+    found-named (case_in n c) _ c (λ id. line-named at actor (act.Withdraw id (node_in node c)) (with_node node c) tt (node-named node c named h))
+acted-named (to_end n node choice writes) actor at c named h =
     let c1 = with_node node c in
     found-named (case_in n c) _ c (λ id.
-    line-named lines at actor (act.End id (node_in node c) choice (numbered writes c1)) (with_elements writes c1) (numbered-one writes c1 named.1) (elements-named writes c1 named.1 (node-named node c named.0 h)) written)
-acted-named (to_change n) actor lines at c named h written = found-named (case_in n c) _ c (λ id. unless-named _ c _ (λ none. group-named lines at actor (target.Case id) c h written))
-acted-named (to_install n) actor lines at c named h written =
-    found-named (place_of c.types.names n) _ c (λ t. unless-named _ c _ (λ none. group-named lines at actor (target.«Type» t) (one_install c) (install-named c h) written))
-acted-named (to_migrate n) actor lines at c named h written = found-named (place_of c.types.names n) _ c (λ t. migrating-named lines at actor t c h written)
+    line-named at actor (act.End id (node_in node c) choice (numbered writes c1)) (with_elements writes c1) (numbered-one writes c1 named.1) (elements-named writes c1 named.1 (node-named node c named.0 h)))
+acted-named (to_change n) actor at c named h = found-named (case_in n c) _ c (λ id. unless-named _ c (with_group at actor (target.Case id) c) (λ none. h))
+acted-named (to_install n) actor at c named h =
+    found-named (place_of c.types.names n) _ c (λ t. unless-named _ c (with_group at actor (target.«Type» t) (one_install c)) (λ none. h))
+acted-named (to_migrate n) actor at c named h = found-named (place_of c.types.names n) _ c (λ t. migrating-named at actor t c h)
 
-next-phase : (lines : List Line) (c : Contents) → Named c → AllRows WritesOneLine lines → Named (with_phase lines c)
-next-phase lines c h written = record { nodes = h.nodes; elements = h.elements; actors = h.actors; names = h.names; apart = h.apart; writes = phase-named lines c h written }
-
-pub scripted-named : (l : ScriptLine) (lines : List Line) (at : ℕ) (c : Contents) → NamedScriptLine l → Named c → AllRows WritesOneLine lines → NamedStep (scripted l lines at c)
-scripted-named next_phase lines at c named h written = unless-named _ c (at_place (section.InPhase []) (with_phase lines c)) (λ none. (next-phase lines c h written, tt))
-scripted-named (a_deed a d) lines at c named h written = found-named (actor_in a c) _ c (λ actor. acted-named d actor lines at c named h written)
+pub scripted-named : (l : ScriptLine) (at : ℕ) (c : Contents) → NamedScriptLine l → Named c → NamedStep (scripted l at c)
+scripted-named next_phase at c named h = begun-named c h
+scripted-named (a_deed a d) at c named h = found-named (actor_in a c) _ c (λ actor. acted-named d actor at c named h)
 
 -- ---- lines of a group
 place-named : (p : NamedGap) (c : Contents) → NamedPlace p → Named c → Named (with_place p c)
@@ -132,13 +133,17 @@ place-named (behind n) c named h = node-named n c named h
 place-named (at_head n code) c named h = node-named n c named h
 
 names-named : (l : OperationLine) (c : Contents) → NamedOperation l → Named c → Named (with_names l c)
-names-named (insert n r p) c named h = place-named p (with_node n c) named.1 (node-named n c named.0 h)
+names-named (insert n r p) c named h =
+    let (is_n, is_r, is_p) = named in
+    role-named r (with_place p (with_node n c)) is_r (place-named p (with_node n c) is_p (node-named n c is_n h))
 names-named (parallel n r s j a b) c named h =
-    let (is_n, is_s, is_j, is_a, is_b) = named in
-    two-nodes a b (with_node j (with_node s (with_node n c))) (is_a, is_b) (two-nodes s j (with_node n c) (is_s, is_j) (node-named n c is_n h))
+    let (is_n, is_r, is_s, is_j, is_a, is_b) = named in
+    let c3 = with_node j (with_node s (with_node n c)) in
+    role-named r (with_node b (with_node a c3)) is_r (two-nodes a b c3 (is_a, is_b) (two-nodes s j (with_node n c) (is_s, is_j) (node-named n c is_n h)))
 names-named (conditional n r s j p) c named h =
-    let (is_n, is_s, is_j, is_p) = named in
-    place-named p (with_node j (with_node s (with_node n c))) is_p (two-nodes s j (with_node n c) (is_s, is_j) (node-named n c is_n h))
+    let (is_n, is_r, is_s, is_j, is_p) = named in
+    let c3 = with_node j (with_node s (with_node n c)) in
+    role-named r (with_place p c3) is_r (place-named p c3 is_p (two-nodes s j (with_node n c) (is_s, is_j) (node-named n c is_n h)))
 names-named (delete n) c named h = node-named n c named h
 names-named (move n p) c named h = place-named p (with_node n c) named.1 (node-named n c named.0 h)
 names-named (sync a b) c named h = two-nodes a b c named h
@@ -148,7 +153,7 @@ names-named (read n e m) c named h = node-element n e c named h
 names-named (unread n e) c named h = node-element n e c named h
 names-named (write n e) c named h = node-element n e c named h
 names-named (unwrite n e) c named h = node-element n e c named h
-names-named (set_role n r) c named h = node-named n c named h
+names-named (set_role n r) c named h = node-role n r c named h
 names-named group_end c named h = h
 
 -- a group writes no value
@@ -156,9 +161,9 @@ act-writes : (t : Target) (ops : List Op) → HasOneLineWrites (act_of t ops)
 act-writes (target.Case id) ops = tt
 act-writes (target.«Type» t) ops = tt
 
-grouped-named : (o : Option Op) (g : Group) (lines : List Line) (c : Contents) → Named c → AllRows WritesOneLine lines → NamedStep (grouped o g lines c)
-grouped-named None g lines c h written = (h, one-line lines (line_of_group g) written (act-writes g.target g.ops))
-grouped-named (Some o) g lines c h written = unless-named _ c (at_place (section.InGroup lines (with_op o g)) c) (λ none. (h, written))
+grouped-named : (o : Option Op) (g : Group) (c : Contents) → Named c → NamedStep (grouped o g c)
+grouped-named None g c h = script-named (line_of_group g) c (act-writes g.target g.ops) h
+grouped-named (Some o) g c h = unless-named _ c (at_place (section.InGroup (with_op o g)) c) (λ none. h)
 
-pub operated-named : (l : OperationLine) (g : Group) (lines : List Line) (c : Contents) → NamedOperation l → Named c → AllRows WritesOneLine lines → NamedStep (operated l g lines c)
-operated-named l g lines c named h written = grouped-named (op_in l c) g lines (with_names l c) (names-named l c named h) written
+pub operated-named : (l : OperationLine) (g : Group) (c : Contents) → NamedOperation l → Named c → NamedStep (operated l g c)
+operated-named l g c named h = grouped-named (op_in l c) g (with_names l c) (names-named l c named h)

@@ -4,8 +4,8 @@ use Rattle.std.specs.Prelude.{IfSome}
 use Rattle.wsm_lists.specs.Rows.{AllRows}
 use Rattle.file_words.specs.Lines.{Bytes}
 use Rattle.file_forms.specs.DeclarationForms.{declaration_line}
-use Rattle.file_forms.specs.Forms.{Declaration, TypeLine, Deed, ScriptLine, NamedGap, OperationLine}
-use Rattle.file_forms.specs.NamesInForms.{DeclarationHas, TypeLineHas, DeedHas, ScriptLineHas, GapHas, OperationHas}
+use Rattle.file_forms.specs.Forms.{RoleWord, Declaration, TypeLine, Deed, ScriptLine, NamedGap, OperationLine}
+use Rattle.file_forms.specs.NamesInForms.{RoleHas, DeclarationHas, TypeLineHas, DeedHas, ScriptLineHas, GapHas, OperationHas}
 use Rattle.file_forms.specs.OperationForms.{operation_line}
 use Rattle.file_forms.specs.ScriptForms.{script_line}
 use Rattle.file_forms.specs.TypeForms.{type_line}
@@ -17,17 +17,20 @@ words-are : (ws : List Bytes) → AllRows (WordHas IsName IsWrite) ws
 words-are [] = tt
 words-are (w ∷ ws) = ((name-is w, pair-is w), words-are ws)
 
+abbrev pub NamedRole : RoleWord → Type 0
+NamedRole r = RoleHas IsName r
+
 abbrev pub NamedDeclaration : Declaration → Type 0
 NamedDeclaration d = DeclarationHas IsName d
 
-pub declaration-named : (ws : List Bytes) → IfSome (declaration_line ws) NamedDeclaration
-declaration-named ws = declaration-has IsName IsWrite ws (words-are ws)
+pub declaration-named : (format : ℕ) (ws : List Bytes) → IfSome (declaration_line format ws) NamedDeclaration
+declaration-named format ws = declaration-has IsName IsWrite format ws (words-are ws)
 
 abbrev pub NamedTypeLine : TypeLine → Type 0
 NamedTypeLine l = TypeLineHas IsName l
 
-pub type_line-named : (ws : List Bytes) → IfSome (type_line ws) NamedTypeLine
-type_line-named ws = type_line-has IsName IsWrite ws (words-are ws)
+pub type_line-named : (format : ℕ) (ws : List Bytes) → IfSome (type_line format ws) NamedTypeLine
+type_line-named format ws = type_line-has IsName IsWrite format ws (words-are ws)
 
 abbrev pub NamedDeed : Deed → Type 0
 NamedDeed d = DeedHas IsName IsWrite d
@@ -44,5 +47,5 @@ NamedPlace p = GapHas IsName p
 abbrev pub NamedOperation : OperationLine → Type 0
 NamedOperation l = OperationHas IsName l
 
-pub operation-named : (ws : List Bytes) → IfSome (operation_line ws) NamedOperation
-operation-named ws = operation-has IsName IsWrite ws (words-are ws)
+pub operation-named : (format : ℕ) (ws : List Bytes) → IfSome (operation_line format ws) NamedOperation
+operation-named format ws = operation-has IsName IsWrite format ws (words-are ws)

@@ -41,6 +41,7 @@ WritesOneLine l = HasOneLineWrites l.act
 pub record IsAuditable (f : File) : Type 0 where
   pub nodes : AllRows IsName f.nodes
   pub elements : AllRows IsName f.elements
+  pub roles : AllRows IsName f.roles
   pub actors : AllRows IsNamed f.actors
   pub apart : AreApart f.actors
   pub writes : AllRows (AllRows WritesOneLine) f.phases

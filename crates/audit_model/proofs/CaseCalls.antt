@@ -1,23 +1,23 @@
 -- The calls of one case that an actor's lines stand for are the answers to those of its lines that call the case, with the versions that it was told.
 use Rattle.std.proofs.Common.{◌≡◌, ◌≢◌, ℕ, ◌<◌, ◌==◌, eq-eqb, ne_eqb, eqb, Bool, true, false, ◌&&◌, inl, inr, List, [], ◌∷◌, ◌++◌, filter, length, map, Option, Some, None, refl, sym, ap, ◌∙◌, subst, arith, append_assoc, if◌then◌else◌}
-use Rattle.std.proofs.lemmas.Bool.{eqb-true}
+use Rattle.std.proofs.lemmas.Bool.{and_from, eqb-true, le-ltb, lt-ltb}
 use Rattle.std.proofs.lemmas.Option.{slice_get-map, slice_get_cases}
 use Rattle.std.specs.Option.{option_map}
+use Rattle.std.specs.Prelude.{nat_lt, slice_get}
 use mathlib.Core.Logic.{dite}
 use native.Mathlib.Decide.{ℕ_discrete}
 use Rattle.case_core.specs.Machine.{case_after, case_reply}
 use Rattle.case_core.specs.declared.events.Event.{Event}
 use Rattle.case_core.specs.declared.events.Event.TheVariants as event
 use Rattle.case_core.specs.declared.replies.Reply.{Reply}
-use Rattle.file_facts.proofs.Cases.{declared-placed}
-use Rattle.file_facts.specs.Facts.{IsDeclared, IsKnown, IsKnownAct, IsWorkable}
+use Rattle.file_facts.specs.Facts.{IsKnown, IsKnownAct, IsWorkable}
 use Rattle.file_model.specs.declared.files.Act.{Act}
 use Rattle.file_model.specs.declared.files.File.{File}
 use Rattle.file_model.specs.declared.files.Line.{Line}
 use Rattle.legal_run.proofs.OnMachines.{calls_of_case-append, calls_of_kind-append}
 use Rattle.legal_run.proofs.Told.{each-all, each-kind, entry_if, some-at, some-other}
-use Rattle.legal_run.specs.Legal.{AreTraces, IsActor, Trace, declared_cases, done_by}
-use Rattle.legal_run.specs.LineCalls.{AreOf, AreCallsOf, AreCallsOfLines, Call as Made, lines_of, calls_of_case, calls_of_kind, told, told_each}
+use Rattle.legal_run.specs.Legal.{AreTraces, IsActor, Trace, done_by}
+use Rattle.legal_run.specs.LineCalls.{AreOf, AreCallsOf, AreCallsOfLines, Call as Made, lines_of, calls_of_case, calls_of_kind, told_each}
 use Rattle.line_calls.proofs.Facts.{asked-known, cells-same, known-call, plain-call}
 use Rattle.line_calls.specs.Calls.{asked_among, call_of, case_event_in as event_in, cells_in, cells_of, has_case, is_case}
 use Rattle.line_calls.specs.Known.{IsPlain, is_install}
@@ -100,31 +100,30 @@ record OfCells (c : CaseId) (x : Cells) (o : Option Event) (first : List Made) (
 abbrev OfAct : File → CaseId → ℕ → Act → List Made → Option VersionModel → Type 0
 OfAct f c a x first ver = OfCells c (cells_of x) (case_event_in (roles_of f a) a ver x) first ver
 
-module _ (f : File) (workable : IsWorkable f) (a : ℕ) (c : CaseId) (declared : IsDeclared c f.cases) where
-  each-called : (t : ℕ) (v : VersionModel) (rs : List Reply) → length rs ≡ declared_cases f t → Called (calls_of_case c (told_each a t (event.Migrate v) 0 rs)) (t == c.type_no) (Some (event.Migrate v))
-  each-called t v rs many = dite (ℕ_discrete t c.type_no) of_type other
+module _ (f : File) (workable : IsWorkable f) (a : ℕ) (c : CaseId) where
+  each-called : (t many : ℕ) (v : VersionModel) (rs : List Reply) → length rs ≡ many → Called (calls_of_case c (told_each a t (event.Migrate v) 0 rs)) (t == c.type_no && nat_lt c.place many) (Some (event.Migrate v))
+  each-called t many v rs as_many = dite (ℕ_discrete t c.type_no) of_type other
     where
-      e : Event
-      e = event.Migrate v
+      -- the calls of the case by the reply at its place
+      of_place : (r : Option Reply) → t ≡ c.type_no → slice_get rs c.place ≡ r → calls_of_case c (told_each a t (event.Migrate v) 0 rs) ≡ entry_if a (event.Migrate v) (option_map (λ (x : Reply). Some x) r)
+      of_place r same at =
+          ap (calls_of_case c) (each-all a t (event.Migrate v) 0 rs)
+          ∙ (some-at a t (event.Migrate v) c 0 c.place (map (λ x. Some x) rs) same (omega arith) ∙ ap (entry_if a (event.Migrate v)) (slice_get-map (λ x. Some x) rs c.place ∙ ap (option_map (λ (x : Reply). Some x)) at))
 
-      other : t ≢ c.type_no → Called (calls_of_case c (told_each a t (event.Migrate v) 0 rs)) (t == c.type_no) (Some (event.Migrate v))
-      other not = never (ap (calls_of_case c) (each-all a t (event.Migrate v) 0 rs) ∙ some-other a t (event.Migrate v) c 0 (map (λ r. Some r) rs) (inl not)) (ne_eqb t c.type_no not)
+      other : t ≢ c.type_no → Called (calls_of_case c (told_each a t (event.Migrate v) 0 rs)) (t == c.type_no && nat_lt c.place many) (Some (event.Migrate v))
+      other not = never (ap (calls_of_case c) (each-all a t (event.Migrate v) 0 rs) ∙ some-other a t (event.Migrate v) c 0 (map (λ r. Some r) rs) (inl not)) (ap (λ b. b && nat_lt c.place many) (ne_eqb t c.type_no not))
 
-      of_type : t ≡ c.type_no → Called (calls_of_case c (told_each a t (event.Migrate v) 0 rs)) (t == c.type_no) (Some (event.Migrate v))
-      of_type same =
-          let placed = declared-placed f.cases c workable.placed declared in
-          let low : c.place < length rs = subst (λ n. c.place < n) (ap (declared_cases f) (sym same) ∙ sym many) placed in
-          elim (slice_get_cases rs c.place).1 [
-            | inl there ↦
-                let one : calls_of_case c (told_each a t (event.Migrate v) 0 rs) ≡ entry a (event.Migrate v) there.0 ∷ [] =
-                ap (calls_of_case c) (each-all a t (event.Migrate v) 0 rs)
-                ∙ (some-at a t (event.Migrate v) c 0 c.place (map (λ r. Some r) rs) same (omega arith)
-                ∙ ap (entry_if a (event.Migrate v)) (slice_get-map (λ r. Some r) rs c.place ∙ ap (option_map (λ (r : Reply). Some r)) there.2)) in
-                once (entry a (event.Migrate v) there.0) one (eq-eqb t c.type_no same) refl
-            | inr past ↦ absurd (omega (arith, past.0, low))
-          ]
+      of_type : t ≡ c.type_no → Called (calls_of_case c (told_each a t (event.Migrate v) 0 rs)) (t == c.type_no && nat_lt c.place many) (Some (event.Migrate v))
+      of_type same = elim (slice_get_cases rs c.place).1 [
+        | inl there ↦
+            once (entry a (event.Migrate v) there.0) (of_place (Some there.0) same there.2)
+            (and_from (t == c.type_no) (nat_lt c.place many) (eq-eqb t c.type_no same) (lt-ltb c.place many (let low = there.1 in omega (arith, low, as_many)))) refl
+        | inr past ↦
+            never (of_place None same past.1)
+            (ap (λ b. b && nat_lt c.place many) (eq-eqb t c.type_no same) ∙ le-ltb c.place many (let end = past.0 in omega (arith, end, as_many)))
+      ]
 
-  of-call : (k : Call) (first : List Made) → IsPlain k → AreOf (declared_cases f) a k first → (ver : Option VersionModel) × OfCells c (cells_in k) (event_in ver k) first ver
+  of-call : (k : Call) (first : List Made) → IsPlain k → AreOf a k first → (ver : Option VersionModel) × OfCells c (cells_in k) (event_in ver k) first ver
   of-call (call.Kind t e) first plain (r, is) = (
     None,
     record {
@@ -152,18 +151,18 @@ module _ (f : File) (workable : IsWorkable f) (a : ℕ) (c : CaseId) (declared :
       called = called-if (is_case c d) (calls_of_case c first) (is_case c d) (Some (event.Create v)) (entry a (event.Create v) r) (ap (calls_of_case c) is) refl refl;
     },
   )
-  of-call (call.Newest t tell.Migrate) first plain (v, rs, many, is) = (
+  of-call (call.Newest t (tell.Migrate many)) first plain (v, rs, as_many, is) = (
     Some v,
     record {
       some = λ u same. (v, refl);
       none = λ same. absurd (cc (same));
       tells = λ u. ap (λ cs. told_in (calls_of_kind u cs)) is
           ∙ (ap (λ (es : List KindEntry). told_in (if eqb t u then entry a kind_event.Newest (kind_answer.Is v) ∷ es else es)) (each-kind a t (event.Migrate v) u 0 rs) ∙ one-told (eqb t u) a v);
-      called = subst (λ es. Called es (t == c.type_no) (Some (event.Migrate v))) (sym (ap (calls_of_case c) is)) (each-called t v rs many);
+      called = subst (λ es. Called es (t == c.type_no && nat_lt c.place many) (Some (event.Migrate v))) (sym (ap (calls_of_case c) is)) (each-called t many v rs as_many);
     },
   )
 
-  of-act : (x : Act) (first : List Made) → AreCallsOf (declared_cases f) (roles_of f a) a x first → (ver : Option VersionModel) × OfAct f c a x first ver
+  of-act : (x : Act) (first : List Made) → AreCallsOf (roles_of f a) a x first → (ver : Option VersionModel) × OfAct f c a x first ver
   of-act x first made =
       let (ver, h) = of-call (call_of a (roles_of f a) x) first (plain-call a (roles_of f a) x) made in
       (ver, subst (λ cs. OfCells c cs (case_event_in (roles_of f a) a ver x) first ver) (cells-same a (roles_of f a) x) h)
@@ -249,7 +248,7 @@ module _ (f : File) (workable : IsWorkable f) (a : ℕ) (c : CaseId) (declared :
   fit-called x es rest first o event (never is calls) fit =
       subst (λ xs. FitCase f (xs ++ es) (if to_case c x then x ∷ rest else rest)) (sym is) (subst (λ test. FitCase f es (if test then x ∷ rest else rest)) (sym calls) fit)
 
-  has-told : (ls : List Line) (q : Telling) (calls later : List Made) → AllRows (λ l. IsKnown (length f.types) (length f.actors) f.cases l) ls → AreCallsOfLines (declared_cases f) (roles_of f a) a (lines_of a ls) calls → Told q (calls ++ later) → HasTold q ls calls later
+  has-told : (ls : List Line) (q : Telling) (calls later : List Made) → AllRows (λ l. IsKnown (length f.types) (length f.actors) f.cases l) ls → AreCallsOfLines (roles_of f a) a (lines_of a ls) calls → Told q (calls ++ later) → HasTold q ls calls later
   has-told [] q calls later known are to_tell = record {
     left = subst (λ cs. Told q (cs ++ later)) are to_tell;
     fit = subst (λ cs. FitCase f (calls_of_case c cs) []) (sym are) tt;
@@ -257,11 +256,11 @@ module _ (f : File) (workable : IsWorkable f) (a : ℕ) (c : CaseId) (declared :
   has-told (l ∷ ls) q calls later (k, known) are to_tell = by (l.actor == a) refl are (λ r cs t. has-told ls r cs later known t)
     where
       More : Type 0
-      More = (r : Telling) (cs : List Made) → AreCallsOfLines (declared_cases f) (roles_of f a) a (lines_of a ls) cs → Told r (cs ++ later) → HasTold r ls cs later
+      More = (r : Telling) (cs : List Made) → AreCallsOfLines (roles_of f a) a (lines_of a ls) cs → Told r (cs ++ later) → HasTold r ls cs later
 
-      by : (test : Bool) → (l.actor == a) ≡ test → AreCallsOfLines (declared_cases f) (roles_of f a) a (lines_of a (l ∷ ls)) calls → More → HasTold q (l ∷ ls) calls later
+      by : (test : Bool) → (l.actor == a) ≡ test → AreCallsOfLines (roles_of f a) a (lines_of a (l ∷ ls)) calls → More → HasTold q (l ∷ ls) calls later
       by false other are more =
-          let rest : AreCallsOfLines (declared_cases f) (roles_of f a) a (lines_of a ls) calls = subst (λ xs. AreCallsOfLines (declared_cases f) (roles_of f a) a xs calls) (drops (λ x. x.actor == a) l ls other) are in
+          let rest : AreCallsOfLines (roles_of f a) a (lines_of a ls) calls = subst (λ xs. AreCallsOfLines (roles_of f a) a xs calls) (drops (λ x. x.actor == a) l ls other) are in
           let not : a ≢ l.actor = λ same. cc (other, eq-eqb l.actor a (sym same)) in
           let h = more (told_at q l.actor (asks l.act)) calls rest (told-apart q l.actor (asks l.act) (calls ++ later) not to_tell) in
           let x : Asked = (l, version_for q l.actor (asks l.act)) in
@@ -270,7 +269,7 @@ module _ (f : File) (workable : IsWorkable f) (a : ℕ) (c : CaseId) (declared :
             fit = subst (λ xs. FitCase f (calls_of_case c calls) (filter (to_case c) xs)) (sym (drops (λ y. asked_actor y == a) x (asked_lines (told_at q l.actor (asks l.act)) ls) other)) h.fit;
           }
       by true own are more =
-          let (first, others, is, here, rest) = subst (λ xs. AreCallsOfLines (declared_cases f) (roles_of f a) a xs calls) (keeps (λ x. x.actor == a) l ls own) are in
+          let (first, others, is, here, rest) = subst (λ xs. AreCallsOfLines (roles_of f a) a xs calls) (keeps (λ x. x.actor == a) l ls own) are in
           let (ver, o) = of-act l.act first here in
           let same : l.actor ≡ a = eqb-true l.actor a own in
           let to_tell_then : Told q (first ++ (others ++ later)) = subst (Told q) (ap (λ cs. cs ++ later) is ∙ append_assoc first others later) to_tell in
@@ -293,17 +292,17 @@ fit-append f [] fs (x ∷ xs) ys one two = absurd one
 fit-append f (e ∷ es) fs [] ys one two = absurd one
 fit-append f (e ∷ es) fs (x ∷ xs) ys (here, more) two = (here, fit-append f es fs xs ys more two)
 
-module _ (f : File) (workable : IsWorkable f) (a : ℕ) (actor : IsActor f a) (c : CaseId) (declared : IsDeclared c f.cases) where
+module _ (f : File) (workable : IsWorkable f) (a : ℕ) (actor : IsActor f a) (c : CaseId) where
   abbrev known_in : List (List Line) → Type 0
   known_in phases = AllRows (AllRows (IsKnown (length f.types) (length f.actors) f.cases)) phases
 
-  pub fit-case_phases : (phases : List (List Line)) (traces : List Trace) (q : Telling) → known_in phases → AreTraces f phases traces → Told f workable a c declared q (done_by a traces)
+  pub fit-case_phases : (phases : List (List Line)) (traces : List Trace) (q : Telling) → known_in phases → AreTraces f phases traces → Told f workable a c q (done_by a traces)
       → FitCase f (calls_of_case c (done_by a traces)) (lines_by asked_actor a (all_owed (owed_case c (asked_phases q phases))))
   fit-case_phases [] [] q known all to_tell = tt
   fit-case_phases [] (trace ∷ traces) q known all to_tell = absurd all
   fit-case_phases (lines ∷ phases) [] q known all to_tell = absurd all
   fit-case_phases (lines ∷ phases) (trace ∷ traces) q (here, known) (made, all) to_tell =
-      let h = has-told f workable a c declared lines q (trace a) (done_by a traces) here (made a actor) to_tell in
+      let h = has-told f workable a c lines q (trace a) (done_by a traces) here (made a actor) to_tell in
       let more = fit-case_phases phases traces (left_to_tell q lines) known all h.left in
       let own_now = filter (λ (l : Asked). calls_case c l.0.act) (asked_lines q lines) in
       let later = all_owed (owed_case c (asked_phases (left_to_tell q lines) phases)) in

@@ -1,10 +1,8 @@
 -- The report of a legal run is taken by the reader, whole.
-use Rattle.std.proofs.Common.{◌≡◌, ℕ, suc, ◌+◌, List, [], ◌∷◌, ◌++◌, flat_map, length, Option, Some, None, slice_get, refl, sym, ap, ◌∙◌, subst, arith, append_assoc}
-use Rattle.std.specs.Prelude.{codes, decimal}
-use Rattle.std.specs.List.{sum_by}
-use Rattle.case_core.specs.CaseModel.{LiveModel, not_created}
+use Rattle.std.proofs.Common.{◌≡◌, ℕ, suc, ◌+◌, List, [], ◌∷◌, ◌++◌, length, Some, slice_get, refl, sym, ap, ◌∙◌, subst, arith, append_assoc}
+use Rattle.std.specs.Prelude.{codes}
+use Rattle.case_core.specs.CaseModel.{not_created}
 use Rattle.case_core.specs.Machine.{case_after, case_reply}
-use Rattle.case_core.specs.Shown.{items_of}
 use Rattle.file_facts.specs.Facts.{IsWorkable}
 use Rattle.file_model.specs.declared.files.CaseDecl.{CaseDecl}
 use Rattle.file_model.specs.declared.files.File.{File}
@@ -18,13 +16,9 @@ use Rattle.line_readers.specs.FirstWrong.{ended}
 use Rattle.line_readers.specs.Journals.{journal}
 use Rattle.line_readers.specs.Owed.{how_many}
 use Rattle.line_readers.specs.Readers.{and_then, ending, mapped}
-use Rattle.report_text.specs.Ends.{end_text, items_line, item_text, marking_line, state_line, values_line}
+use Rattle.report_text.specs.Ends.{end_text}
 use Rattle.report_text.specs.Journals.{case_line, event_text, numbered, reply_text}
 use Rattle.report_text.specs.Report.{first_line, case_head, case_text, cases_text, kinds_text, summary, text}
-use Rattle.report_words.specs.Migrations.{with_fate}
-use Rattle.report_words.specs.Totals.{case_totals}
-use Rattle.report_words.specs.Words.{type_text}
-use Rattle.report_words.specs.declared.totals.Fate.TheVariants as fate
 use Rattle.script_run.specs.Entries.{CaseEntry}
 use Rattle.script_run.specs.declared.runs.ClosedCase.{ClosedCase}
 use Rattle.script_run.specs.declared.runs.ClosedKind.{ClosedKind}
@@ -32,7 +26,7 @@ use Rattle.script_run.specs.declared.runs.Run.{Run}
 use Rattle.audit_model.proofs.CaseCalls.{asked_actor}
 use Rattle.audit_model.proofs.CaseRuns.{case-answers, case-callers}
 use Rattle.audit_model.proofs.KindReaders.{IsTaken, TellsCallers, kinds-taken}
-use Rattle.audit_model.proofs.Texts.{EndsLine, case-line, ending-append, ending-lines, ends-behind, line-feed, numbered-lines}
+use Rattle.audit_model.proofs.Texts.{case-line, ending-append, ending-lines, numbered-lines}
 use Rattle.audit_model.proofs.WholeLines.{end-ends, head-ends, header-ends, summary-ends}
 use Rattle.audit_model.specs.Asked.{Asked, asked_phases, case_event_of, owed_case}
 use Rattle.audit_model.specs.Printed.{caller_in, case_shown}
@@ -68,7 +62,7 @@ module _ (f : File) (workable : IsWorkable f) (tells : TellsCallers f) (traces :
   tells-case : (n : ℕ) (e : CaseEntry) → IsActor f e.caller → caller_in f n (case_shown f n e) ≡ Some e.caller
   tells-case n e actor = tells n e.caller (event_text f e.event ++ (codes " -> " ++ reply_text f e.reply)) actor
 
-  module _ (i : ℕ) (d : CaseDecl) (at_d : slice_get f.cases i ≡ Some d) (c : ClosedCase) (legal : IsLegalCase f traces d c) where
+  module _ (d : CaseDecl) (c : ClosedCase) (legal : IsLegalCase f traces d c) where
     abbrev head : List Bytes
     head = ended (case_head f d)
 
@@ -81,7 +75,7 @@ module _ (f : File) (workable : IsWorkable f) (tells : TellsCallers f) (traces :
     entries-taken : Takes (case_journal f phases d) entries c
     entries-taken =
         let taken = journal-takes case_after case_reply asked_actor (case_event_of f) (caller_in f) (case_shown f) (IsActor f) tells-case (how_many (owed_case d.id phases)) 1 (not_created d.id.type_no) (owed_case d.id phases) c.journal c.machine (omega arith)
-        (case-callers f workable traces of_lines kinds many legal_kinds i d at_d c legal) (case-answers f workable traces of_lines kinds many legal_kinds i d at_d c legal) in
+        (case-callers f workable traces of_lines kinds many legal_kinds d c legal) (case-answers f workable traces of_lines kinds many legal_kinds d c legal) in
         mapped-takes case_made (journal case_after case_reply asked_actor (case_event_of f) (caller_in f) (case_shown f) (how_many (owed_case d.id phases)) 1 (not_created d.id.type_no) (owed_case d.id phases)) entries (c.journal, c.machine) taken
 
     pub case-taken : IsTaken (Takes (case_reader f phases d)) (case_text f d c) c
@@ -92,18 +86,17 @@ module _ (f : File) (workable : IsWorkable f) (tells : TellsCallers f) (traces :
       whole = case-whole f d c;
     }
 
-  -- all cases from one on
-  abbrev AreLegal : ℕ → List CaseDecl → List ClosedCase → Type 0
-  AreLegal n ds cs = (i : ℕ) (d : CaseDecl) (c : ClosedCase) → slice_get ds i ≡ Some d → slice_get cs i ≡ Some c → (slice_get f.cases (n + i) ≡ Some d) × IsLegalCase f traces d c
+  -- cases one after another
+  abbrev AreLegal : List CaseDecl → List ClosedCase → Type 0
+  AreLegal ds cs = (i : ℕ) (d : CaseDecl) (c : ClosedCase) → slice_get ds i ≡ Some d → slice_get cs i ≡ Some c → IsLegalCase f traces d c
 
-  pub cases-taken : (n : ℕ) (ds : List CaseDecl) (cs : List ClosedCase) → length cs ≡ length ds → AreLegal n ds cs → IsTaken (Takes (cases_reader f phases ds)) (cases_text f ds cs) cs
-  cases-taken n [] [] as_many legal = record { lines = []; taken = refl; whole = refl }
-  cases-taken n [] (c ∷ cs) as_many legal = absurd (omega arith)
-  cases-taken n (d ∷ ds) [] as_many legal = absurd (omega arith)
-  cases-taken n (d ∷ ds) (c ∷ cs) as_many legal =
-      let (at_d, legal_here) = legal 0 d c refl refl in
-      let here = case-taken (n + 0) d at_d c legal_here in
-      let more = cases-taken (n + 1) ds cs (omega arith) (λ i x y at_x at_y. let next : n + suc i ≡ n + 1 + i = omega arith in subst (λ m. (slice_get f.cases m ≡ Some x) × IsLegalCase f traces x y) next (legal (suc i) x y at_x at_y)) in
+  pub cases-taken : (ds : List CaseDecl) (cs : List ClosedCase) → length cs ≡ length ds → AreLegal ds cs → IsTaken (Takes (cases_reader f phases ds)) (cases_text f ds cs) cs
+  cases-taken [] [] as_many legal = record { lines = []; taken = refl; whole = refl }
+  cases-taken [] (c ∷ cs) as_many legal = absurd (omega arith)
+  cases-taken (d ∷ ds) [] as_many legal = absurd (omega arith)
+  cases-taken (d ∷ ds) (c ∷ cs) as_many legal =
+      let here = case-taken d c (legal 0 d c refl refl) in
+      let more = cases-taken ds cs (omega arith) (λ i x y at_x at_y. legal (suc i) x y at_x at_y) in
       record {
         lines = here.lines ++ more.lines;
         taken = then-takes (λ (x : ClosedCase). mapped (λ (xs : List ClosedCase). x ∷ xs) (cases_reader f phases ds)) (case_reader f phases d) here.lines more.lines c (c ∷ cs) here.taken
@@ -131,8 +124,7 @@ run-taken f workable tells r legal =
     let header : List Bytes = ended (first_line f) in
     let last : List Bytes = ended (summary f r) in
     let ks = kinds-taken f workable tells legal.traces legal.of_lines 0 f.types r.kinds legal.as_many_kinds (λ i d k at_d at_k. let same : i ≡ 0 + i = omega arith in subst (λ m. IsLegalKind f legal.traces m d k) same (legal.kinds i d k at_d at_k)) in
-    let cs = cases-taken f workable tells legal.traces legal.of_lines r.kinds legal.as_many_kinds legal.kinds 0 f.cases r.cases legal.as_many_cases
-    (λ i d c at_d at_c. let same : i ≡ 0 + i = omega arith in (subst (λ m. slice_get f.cases m ≡ Some d) same at_d, legal.cases i d c at_d at_c)) in
+    let cs = cases-taken f workable tells legal.traces legal.of_lines r.kinds legal.as_many_kinds legal.kinds f.cases r.cases legal.as_many_cases legal.cases in
     let cases_taken = mapped-takes (λ (cases : List ClosedCase). record { kinds = r.kinds; cases = cases }) (cases_reader f (asked_phases (telling r.kinds) f.phases) f.cases) cs.lines r.cases cs.taken in
     let first_two = then-takes (λ (n : ℕ). kinds_reader f 0 f.types) (given (first_line f) 0) header ks.lines 0 r.kinds (expected-takes header 0) ks.taken in
     let first_three = then-takes (cases_behind f) (and_then (given (first_line f) 0) (λ (n : ℕ). kinds_reader f 0 f.types)) (header ++ ks.lines) cs.lines r.kinds r first_two cases_taken in

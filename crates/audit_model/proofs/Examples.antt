@@ -35,6 +35,7 @@ file_of phases = record {
   format = 1;
   nodes = codes "start" ∷ codes "finish" ∷ codes "A" ∷ codes "B" ∷ [];
   elements = [];
+  roles = [];
   types = type_decl ∷ [];
   actors = record { name = codes "ann"; roles = [] } ∷ record { name = codes "bob"; roles = [] } ∷ [];
   cases = case_decl ∷ [];

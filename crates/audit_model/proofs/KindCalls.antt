@@ -5,7 +5,7 @@ use Rattle.file_model.specs.declared.files.File.{File}
 use Rattle.file_model.specs.declared.files.Line.{Line}
 use Rattle.legal_run.proofs.OnMachines.{calls_of_kind-append}
 use Rattle.legal_run.proofs.Told.{each-kind}
-use Rattle.legal_run.specs.Legal.{AreTraces, IsActor, Trace, declared_cases, done_by}
+use Rattle.legal_run.specs.Legal.{AreTraces, IsActor, Trace, done_by}
 use Rattle.legal_run.specs.LineCalls.{AreOf, AreCallsOf, AreCallsOfLines, Call as Made, lines_of, calls_of_kind, told_each}
 use Rattle.line_calls.proofs.Facts.{cells-same, kind_event-same}
 use Rattle.line_calls.specs.Calls.{call_of, cells_in, has_kind, kind_event_in}
@@ -39,19 +39,19 @@ fit-one : (b : Bool) (e : KindEntry) (l : Line) (es : List KindEntry) (rest : Li
 fit-one true e l es rest event fit = (event, fit)
 fit-one false e l es rest event fit = fit
 
-module _ (many : ℕ → ℕ) (roles : List ℕ) (a t : ℕ) where
-  fit-call : (k : Call) (l : Line) (calls : List Made) (es : List KindEntry) (rest : List Line) → kind_event_of l ≡ kind_event_in k → AreOf many a k calls → FitKind es rest
+module _ (roles : List ℕ) (a t : ℕ) where
+  fit-call : (k : Call) (l : Line) (calls : List Made) (es : List KindEntry) (rest : List Line) → kind_event_of l ≡ kind_event_in k → AreOf a k calls → FitKind es rest
       → FitKind (calls_of_kind t calls ++ es) (if has_kind t (cells_in k) then l ∷ rest else rest)
   fit-call (call.Kind u e) l calls es rest event m fit = subst (λ xs. FitKind (calls_of_kind t xs ++ es) (if eqb u t then l ∷ rest else rest)) (sym m.1) (fit-one (eqb u t) _ l es rest event fit)
   fit-call (call.Case c e) l calls es rest event m fit = subst (λ xs. FitKind (calls_of_kind t xs ++ es) rest) (sym m.1) fit
   fit-call (call.Newest u (tell.Create c)) l calls es rest event m fit = subst (λ xs. FitKind (calls_of_kind t xs ++ es) (if eqb u t then l ∷ rest else rest)) (sym m.2) (fit-one (eqb u t) _ l es rest event fit)
-  fit-call (call.Newest u tell.Migrate) l calls es rest newest m fit =
+  fit-call (call.Newest u (tell.Migrate many)) l calls es rest newest m fit =
       let e : KindEntry = entry a kind_event.Newest (kind_answer.Is m.0) in
       let none : calls_of_kind t (told_each a u (event.Migrate m.0) 0 m.1) ≡ [] = each-kind a u (event.Migrate m.0) t 0 m.1 in
       subst (λ xs. FitKind (calls_of_kind t xs ++ es) (if eqb u t then l ∷ rest else rest)) (sym m.3)
       (subst (λ (xs : List KindEntry). FitKind ((if eqb u t then e ∷ xs else xs) ++ es) (if eqb u t then l ∷ rest else rest)) (sym none) (fit-one (eqb u t) e l es rest newest fit))
 
-  fit-line : (l : Line) (calls : List Made) (es : List KindEntry) (rest : List Line) → AreCallsOf many roles a l.act calls → FitKind es rest → FitKind (calls_of_kind t calls ++ es) (if to_kind t l then l ∷ rest else rest)
+  fit-line : (l : Line) (calls : List Made) (es : List KindEntry) (rest : List Line) → AreCallsOf roles a l.act calls → FitKind es rest → FitKind (calls_of_kind t calls ++ es) (if to_kind t l then l ∷ rest else rest)
   fit-line l calls es rest m fit =
       subst (λ x. FitKind (calls_of_kind t calls ++ es) (if has_kind t x then l ∷ rest else rest)) (cells-same a roles l.act)
       (fit-call (call_of a roles l.act) l calls es rest (sym (kind_event-same a roles l.act)) m fit)
@@ -60,7 +60,7 @@ module _ (many : ℕ → ℕ) (roles : List ℕ) (a t : ℕ) where
   if-append true l xs ys = refl
   if-append false l xs ys = refl
 
-  pub fit-lines : (ls : List Line) (calls : List Made) (es : List KindEntry) (rest : List Line) → AreCallsOfLines many roles a ls calls → FitKind es rest → FitKind (calls_of_kind t calls ++ es) (filter (to_kind t) ls ++ rest)
+  pub fit-lines : (ls : List Line) (calls : List Made) (es : List KindEntry) (rest : List Line) → AreCallsOfLines roles a ls calls → FitKind es rest → FitKind (calls_of_kind t calls ++ es) (filter (to_kind t) ls ++ rest)
   fit-lines [] calls es rest k fit = subst (λ xs. FitKind (calls_of_kind t xs ++ es) rest) (sym k) fit
   fit-lines (l ∷ ls) calls es rest (first, others, is, here, more) fit =
       let behind = fit-lines ls others es rest more fit in
@@ -106,7 +106,7 @@ fit-phases f a t actor (lines ∷ phases) [] k = absurd k
 fit-phases f a t actor (lines ∷ phases) (trace ∷ traces) (here, more) =
     let later = lines_by actor_of a (all_owed (owed_in t phases)) in
     let rest = fit-phases f a t actor phases traces more in
-    let both = fit-lines (declared_cases f) (roles_of f a) a t (lines_of a lines) (trace a) (calls_of_kind t (done_by a traces)) later (here a actor) rest in
+    let both = fit-lines (roles_of f a) a t (lines_of a lines) (trace a) (calls_of_kind t (done_by a traces)) later (here a actor) rest in
     let own : lines_by actor_of a (filter (to_kind t) lines ++ all_owed (owed_in t phases)) ≡ filter (to_kind t) (lines_of a lines) ++ later =
     by-append actor_of a (filter (to_kind t) lines) (all_owed (owed_in t phases)) ∙ ap (λ xs. xs ++ later) (filter-swap (λ l. l.actor == a) (to_kind t) lines) in
     subst (λ es. FitKind es (lines_by actor_of a (all_owed (owed_in t (lines ∷ phases))))) (sym (calls_of_kind-append t (trace a) (done_by a traces)))

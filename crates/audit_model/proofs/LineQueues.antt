@@ -1,7 +1,7 @@
 -- What stands first in an actor's queues are the calls of its next line.
 use Rattle.std.proofs.Common.{◌≡◌, ◌≢◌, ℕ, zero, suc, ◌+◌, ◌<◌, ◌≤◌, ◌==◌, eqb, eq-eqb, ne_eqb, Bool, true, false, List, [], ◌∷◌, ◌++◌, filter, length, take, Option, Some, None, refl, sym, ap, ◌∙◌, subst, arith, inl, inr, if◌then◌else◌}
-use Rattle.std.specs.Prelude.{get_or, slice_get}
-use Rattle.std.proofs.lemmas.Bool.{and_from, eqb-true}
+use Rattle.std.specs.Prelude.{get_or, nat_lt, slice_get}
+use Rattle.std.proofs.lemmas.Bool.{and_from, eqb-true, lt-ltb}
 use Rattle.std.proofs.lemmas.List.{take_all}
 use Rattle.std.proofs.lemmas.List.Sums.{count_by_more_no, count_by_more_yes}
 use Rattle.std.proofs.lemmas.Option.{get_or_from_slice_get, same_Some, slice_get_cases, slice_get_within}
@@ -14,11 +14,9 @@ use Rattle.file_facts.proofs.Cases.{declared-typed}
 use Rattle.file_facts.proofs.Lists.{any-at}
 use Rattle.file_facts.specs.Facts.{ArePlaced, IsDeclared, IsKnownAct, IsWorkable}
 use Rattle.file_model.specs.CaseCounts.{cases_of_type, has_id}
-use Rattle.file_model.specs.declared.files.Act.{Act}
 use Rattle.file_model.specs.declared.files.CaseDecl.{CaseDecl}
 use Rattle.file_model.specs.declared.files.File.{File}
 use Rattle.file_model.specs.declared.files.Line.{Line}
-use Rattle.legal_run.specs.Legal.{declared_cases}
 use Rattle.legal_run.specs.LineCalls.{AreOf, AreCallsOf, AreCallsOfLines, asked, told, told_each}
 use Rattle.line_calls.proofs.Facts.{cells-same, kind_event-same, known-call, plain-call}
 use Rattle.line_calls.specs.Calls.{asked_among, call_of, case_event_in as event_of_case, cells_in, has_case, has_kind, is_case, kind_event_in as event_of_kind}
@@ -32,7 +30,6 @@ use Rattle.turn_cell.specs.History.{entry}
 use Rattle.turn_cell.specs.declared.journal.Entry.{Entry}
 use Rattle.type_core.specs.declared.events.KindEvent.{KindEvent}
 use Rattle.type_core.specs.declared.events.KindEvent.TheVariants as kind_event
-use Rattle.type_core.specs.declared.replies.KindReply.{KindReply}
 use Rattle.type_core.specs.declared.replies.KindReply.TheVariants as kind_answer
 use Rattle.wsm_lists.specs.Rows.{AllRows}
 use Rattle.wsm_sound.specs.VersionModel.{VersionModel}
@@ -82,7 +79,7 @@ some-case cases placed t i (suc n) few low = elim (slice_get_cases cases n).1 [
             same_type : (d.id.type_no == t) ≡ true → d.id.type_no ≡ t
             same_type is = eqb-true d.id.type_no t is
 
-pub place-declared : (f : File) → IsWorkable f → (t i : ℕ) → i < declared_cases f t → IsDeclared (id_at t i) f.cases
+pub place-declared : (f : File) → IsWorkable f → (t i : ℕ) → i < cases_of_type t f.cases → IsDeclared (id_at t i) f.cases
 place-declared f workable t i low =
     some-case f.cases workable.placed t i (length f.cases) (omega arith) (subst (λ ds. i < cases_of_type t ds) (sym (take_all (length f.cases) f.cases (omega arith))) low)
 
@@ -192,14 +189,14 @@ module _ (f : File) (workable : IsWorkable f) (a : ℕ) where
         let is : h.first ≡ entry a e h.first.reply = entry-is h.first a e h.first.reply h.caller event refl in
         record { answer = h.first.reply; calls = ap (of_one c) (h.queue ∙ ap (λ y. y ∷ h.others) is) }
 
-    -- each case of a type
-    each-told : (t : ℕ) (v : VersionModel) → ((c : CaseId) → (t == c.type_no) ≡ true → has_case c (cells_in k) ≡ true) → event_of_case ver k ≡ Some (event.Migrate v)
-        → (n place : ℕ) → place + n ≡ declared_cases f t → (rs : List Reply) × (length rs ≡ n) × (of_each C t place n ≡ told_each a t (event.Migrate v) place rs)
-    each-told t v calls is_event zero place many = ([], refl, refl)
-    each-told t v calls is_event (suc n) place many =
+    -- each of the first cases of a type
+    each-told : (t many : ℕ) (v : VersionModel) → many ≤ cases_of_type t f.cases → ((place : ℕ) → place < many → has_case (id_at t place) (cells_in k) ≡ true) → event_of_case ver k ≡ Some (event.Migrate v)
+        → (n place : ℕ) → place + n ≡ many → (rs : List Reply) × (length rs ≡ n) × (of_each C t place n ≡ told_each a t (event.Migrate v) place rs)
+    each-told t many v few calls is_event zero place all = ([], refl, refl)
+    each-told t many v few calls is_event (suc n) place all =
         let c = id_at t place in
-        let here = tells-one c (event.Migrate v) (place-declared f workable t place (omega (arith, many))) (calls c (eq-eqb t t refl)) is_event in
-        let (rs, as_many, more) = each-told t v calls is_event n (place + 1) (omega (arith, many)) in (
+        let here = tells-one c (event.Migrate v) (place-declared f workable t place (omega (arith, all, few))) (calls place (omega (arith, all))) is_event in
+        let (rs, as_many, more) = each-told t many v few calls is_event n (place + 1) (omega (arith, all)) in (
           here.answer ∷ rs,
           ap suc as_many,
           ap (λ xs. xs ++ of_each C t (place + 1) n) here.calls ∙ ap (λ xs. told a c (event.Migrate v) here.answer ∷ xs) more,
@@ -213,7 +210,7 @@ module _ (f : File) (workable : IsWorkable f) (a : ℕ) where
   same-case : (c : CaseId) → is_case c c ≡ true
   same-case c = and_from (c.type_no == c.type_no) (c.place == c.place) (eq-eqb c.type_no c.type_no refl) (eq-eqb c.place c.place refl)
 
-  calls-are : (K : KindQueues) (C : CaseQueues) (ver : Option VersionModel) (k : Call) → IsKnownCall (length f.types) f.cases k → Given K C ver k → AreOf (declared_cases f) a k (calls_in (declared_cases f) K C (cells_in k))
+  calls-are : (K : KindQueues) (C : CaseQueues) (ver : Option VersionModel) (k : Call) → IsKnownCall (length f.types) f.cases k → Given K C ver k → AreOf a k (calls_in K C (cells_in k))
   calls-are K C ver (call.Kind t e) low (kinds, cases, version) =
       let h = kinds t low (eq-eqb t t refl) in
       let event : h.first.event ≡ e = same_Some h.first.event e (sym h.event) in
@@ -226,11 +223,12 @@ module _ (f : File) (workable : IsWorkable f) (a : ℕ) where
       let h = tells-first K C ver k kinds cases version t low (eq-eqb t t refl) refl refl in
       let one = tells-one K C ver k kinds cases version c (event.Create h.version) known (same-case c) (ap (λ o. event_of_case o k) h.is) in
       (h.version, one.answer, ap (λ xs. of_type t xs ++ of_one c (C c)) h.queue ∙ ap (λ xs. asked a t h.version ∷ xs) one.calls)
-  calls-are K C ver (call.Newest t tell.Migrate) low (kinds, cases, version) =
-      let k = call.Newest t tell.Migrate in
+  calls-are K C ver (call.Newest t (tell.Migrate many)) (low, few) (kinds, cases, version) =
+      let k = call.Newest t (tell.Migrate many) in
       let h = tells-first K C ver k kinds cases version t low (eq-eqb t t refl) refl refl in
-      let (rs, many, calls) = each-told K C ver k kinds cases version t h.version (λ c of_type. of_type) (ap (λ o. event_of_case o k) h.is) (declared_cases f t) 0 (omega arith) in
-      (h.version, rs, many, ap (λ xs. of_type t xs ++ of_each C t 0 (declared_cases f t)) h.queue ∙ ap (λ xs. asked a t h.version ∷ xs) calls)
+      let called = λ (place : ℕ) (below : place < many). and_from (t == t) (nat_lt place many) (eq-eqb t t refl) (lt-ltb place many below) in
+      let (rs, as_many, calls) = each-told K C ver k kinds cases version t many h.version few called (ap (λ o. event_of_case o k) h.is) many 0 (omega arith) in
+      (h.version, rs, as_many, ap (λ xs. of_type t xs ++ of_each C t 0 many) h.queue ∙ ap (λ xs. asked a t h.version ∷ xs) calls)
 
   -- ---- behind a line
   rest-fits : {X Y : Type 0} (P : List X → List Y → Type 0) (fits : (xs : List X) (y : Y) (ys : List Y) → P xs (y ∷ ys) → P (rest_of xs) ys) (test : Bool) (xs : List X) (y : Y) (ys : List Y) → P xs (if test then y ∷ ys else ys) → P (if test then rest_of xs else xs) ys
@@ -286,7 +284,7 @@ module _ (f : File) (workable : IsWorkable f) (a : ℕ) where
       by false not = same
   told-then K r (call.Case c e) t plain asked_now same = same
   told-then K r (call.Newest u (tell.Create c)) t plain asked_now same = told-asking K r (call.Newest u (tell.Create c)) u t refl refl asked_now same
-  told-then K r (call.Newest u tell.Migrate) t plain asked_now same = told-asking K r (call.Newest u tell.Migrate) u t refl refl asked_now same
+  told-then K r (call.Newest u (tell.Migrate many)) t plain asked_now same = told-asking K r (call.Newest u (tell.Migrate many)) u t refl refl asked_now same
 
   pub asks-then : (K : KindQueues) (r : OwnTelling) (l : Line) (ls : List Line) → AsksReady K r (l ∷ ls) → AsksReady (kinds_then K l.act) (own_then r (asks l.act)) ls
   asks-then K r l ls ready = record {
@@ -306,11 +304,11 @@ module _ (f : File) (workable : IsWorkable f) (a : ℕ) where
   version-first K r ls o t ready low is = ap (own_version r) is ∙ ap first_of (ready.told t low)
 
   pub line-calls : (K : KindQueues) (C : CaseQueues) (r : OwnTelling) (l : Line) (ls : List Line) → IsKnownAct (length f.types) f.cases l.act → l.actor ≡ a → AsksReady K r (l ∷ ls) → CasesReady C r (l ∷ ls)
-      → AreCallsOf (declared_cases f) (roles_of f a) a l.act (calls_at (declared_cases f) K C l.act)
+      → AreCallsOf (roles_of f a) a l.act (calls_at K C l.act)
   line-calls K C r l ls known own asking telling =
       let k = call_of a (roles_of f a) l.act in
       let cells = cells-same a (roles_of f a) l.act in
-      subst (λ x. AreOf (declared_cases f) a k (calls_in (declared_cases f) K C x)) cells
+      subst (λ x. AreOf a k (calls_in K C x)) cells
       (calls-are K C (own_version r (asks l.act)) k (known-call a (roles_of f a) (length f.types) f.cases l.act known) (
         λ t low calls. asked-kind K r l ls asking a (roles_of f a) t low (subst (λ x. has_kind t x ≡ true) cells calls),
         λ c declared calls. told-case C r l ls own telling c declared (subst (λ x. has_case c x ≡ true) cells calls),
@@ -332,9 +330,9 @@ module _ (f : File) (workable : IsWorkable f) (a : ℕ) where
   KnownOwn l = IsKnownAct (length f.types) f.cases l.act × (l.actor ≡ a)
 
   pub record LinesDone (K : KindQueues) (C : CaseQueues) (r : OwnTelling) (ls rest : List Line) : Type 0 where
-    pub calls : AreCallsOfLines (declared_cases f) (roles_of f a) a ls (calls_along (declared_cases f) K C ls)
-    pub asking : AsksReady (kinds_left (declared_cases f) K ls) (own_left r ls) rest
-    pub telling : CasesReady (cases_left (declared_cases f) C ls) (own_left r ls) rest
+    pub calls : AreCallsOfLines (roles_of f a) a ls (calls_along K C ls)
+    pub asking : AsksReady (kinds_left K ls) (own_left r ls) rest
+    pub telling : CasesReady (cases_left C ls) (own_left r ls) rest
 
   pub lines-done : (ls rest : List Line) (K : KindQueues) (C : CaseQueues) (r : OwnTelling) → AllRows KnownOwn ls → AsksReady K r (ls ++ rest) → CasesReady C r (ls ++ rest) → LinesDone K C r ls rest
   lines-done [] rest K C r known asking telling = record { calls = refl; asking = asking; telling = telling }
@@ -342,7 +340,7 @@ module _ (f : File) (workable : IsWorkable f) (a : ℕ) where
       let here = line-calls K C r l (ls ++ rest) act_known own asking telling in
       let more = lines-done ls rest (kinds_then K l.act) (cases_then C l.act) (own_then r (asks l.act)) known (asks-then K r l (ls ++ rest) asking) (cases-then C r l (ls ++ rest) telling) in
       record {
-        calls = (calls_at (declared_cases f) K C l.act, calls_along (declared_cases f) (kinds_then K l.act) (cases_then C l.act) ls, refl, here, more.calls);
+        calls = (calls_at K C l.act, calls_along (kinds_then K l.act) (cases_then C l.act) ls, refl, here, more.calls);
         asking = more.asking;
         telling = more.telling;
       }

@@ -134,7 +134,7 @@ module _ (f : File) (workable : IsWorkable f) (auditable : IsAuditable f) where
   case-event ver c (call.Kind t e) told one calls = absurd (cc (calls))
   case-event ver c (call.Case d e) told one calls = record { event = e; is = refl; good = one }
   case-event ver c (call.Newest t (tell.Create d)) told one calls = let (v, is) = told t refl in record { event = event.Create v; is = ap (option_map event.Create) is; good = tt }
-  case-event ver c (call.Newest t tell.Migrate) told one calls = let (v, is) = told t refl in record { event = event.Migrate v; is = ap (option_map event.Migrate) is; good = tt }
+  case-event ver c (call.Newest t (tell.Migrate many)) told one calls = let (v, is) = told t refl in record { event = event.Migrate v; is = ap (option_map event.Migrate) is; good = tt }
 
   -- what is known of a line that is asked
   abbrev KnownAsked : Asked → Type 0

@@ -1,19 +1,20 @@
 -- Events and replies are shown in one line.
 use Rattle.std.proofs.Common.{◌≡◌, ℕ, ◌-◌, ◌==◌, Bool, true, false, List, [], ◌∷◌, ◌++◌, flat_map, length, Option, Some, None, refl, if◌then◌else◌}
-use Rattle.std.specs.Prelude.{IfSome, codes, decimal, slice_get}
+use Rattle.std.specs.Prelude.{IfSome, codes, decimal, nat_lt, slice_get}
 use Rattle.case_core.specs.declared.events.Event.{Event}
 use Rattle.case_core.specs.declared.events.Event.TheVariants as event
 use Rattle.case_core.specs.declared.replies.Reply.{Reply}
 use Rattle.case_core.specs.declared.replies.Reply.TheVariants as reply
 use Rattle.fault_words.specs.FaultWords.{Word, said, number, node, element, after_space, block_words, data_words, fault_text, fault_words, limit_word, why_node, why_word, word_text}
 use Rattle.file_facts.proofs.Cases.{row-at}
+use Rattle.file_limits.specs.declared.TheConstants.{FIRST_NAMED_ROLE}
 use Rattle.file_model.specs.declared.files.ActorDecl.{ActorDecl}
 use Rattle.file_model.specs.declared.files.File.{File}
 use Rattle.file_words.specs.Lines.{Bytes}
 use Rattle.line_readers.specs.Readers.{IsOneLine}
 use Rattle.report_text.specs.Journals.{choice_text, entry_text, event_text, kind_event_text, kind_reply_text, line_start, position_text, reply_rest, reply_text, reply_word, wrong_choice}
 use Rattle.report_words.specs.Names.{name_text}
-use Rattle.report_words.specs.Words.{actor_name, assigned, caller_text, element_is, element_text, letter, listed_element, node_and_element, node_and_node, node_text, read_text, value_or_none, value_text}
+use Rattle.report_words.specs.Words.{actor_name, assigned, caller_text, element_is, element_text, letter, listed_element, node_and_element, node_and_node, node_text, read_text, role_name, role_text, value_or_none, value_text}
 use Rattle.type_core.specs.declared.events.KindEvent.{KindEvent}
 use Rattle.type_core.specs.declared.events.KindEvent.TheVariants as kind_event
 use Rattle.type_core.specs.declared.replies.KindReply.{KindReply}
@@ -38,7 +39,7 @@ use Rattle.wsm_schema.specs.declared.states.State.TheVariants as state
 use Rattle.wsm_sound.specs.declared.faults.Fault.{Fault}
 use Rattle.wsm_sound.specs.declared.faults.Fault.TheVariants as fault
 use Rattle.audit_model.specs.Printed.{shown_line}
-use Rattle.audit_facts.specs.Facts.{IsAuditable, IsNamed, IsOneLineValue, IsOneLineWrite}
+use Rattle.audit_facts.specs.Facts.{IsAuditable, IsName, IsNamed, IsOneLineValue, IsOneLineWrite}
 use Rattle.audit_model.specs.Kept.{IsOneLineRead, ShowsOneLine, WritesValues}
 use Rattle.audit_model.proofs.OneLine.{decimal-one, is-one, name-one, named-one, one-all, one-append, value-one}
 
@@ -114,6 +115,17 @@ module _ (f : File) (auditable : IsAuditable f) where
       by : (test : Bool) → IsOneLine (if test then codes "-" else actor_name (slice_get f.actors (a - 1)) a)
       by true = is-one (codes "-") refl
       by false = of_actor (slice_get f.actors (a - 1)) refl
+
+  role-one : (r : ℕ) → IsOneLine (role_text f r)
+  role-one r = by (nat_lt r FIRST_NAMED_ROLE)
+    where
+      of_role : (o : Option Bytes) → slice_get f.roles (r - FIRST_NAMED_ROLE) ≡ o → IsOneLine (role_name o r)
+      of_role None at = decimal-one r
+      of_role (Some n) at = name-one n (row-at IsName f.roles (r - FIRST_NAMED_ROLE) n auditable.roles at)
+
+      by : (test : Bool) → IsOneLine (if test then decimal r else role_name (slice_get f.roles (r - FIRST_NAMED_ROLE)) r)
+      by true = decimal-one r
+      by false = of_role (slice_get f.roles (r - FIRST_NAMED_ROLE)) refl
 
   -- ---- words of faults and names
   -- words that are said are of one line
@@ -242,7 +254,7 @@ module _ (f : File) (auditable : IsAuditable f) where
   rest-one reply.NoCase one = tt
   rest-one reply.NoNode one = tt
   rest-one (reply.NotReady s) one = (refl, letter-one s)
-  rest-one (reply.NotAllowed role) one = (refl, decimal-one role)
+  rest-one (reply.NotAllowed role) one = (refl, role-one role)
   rest-one (reply.NotRunning s) one = (refl, letter-one s)
   rest-one (reply.NotHolder user) one = (refl, caller-one user)
   rest-one (reply.WrongWrites elements) one = one-all (listed_element f) elements listed-one

@@ -1,6 +1,7 @@
 -- The calls of an actor's lines, taken from what types and cases have of the actor: each line takes the first of those that it calls.
-use Rattle.std.proofs.Common.{◌≡◌, ◌≢◌, ℕ, zero, suc, ◌+◌, ◌<◌, ◌≤◌, ◌==◌, eqb, eq-eqb, ne_eqb, Bool, true, false, ◌&&◌, ◌⊎◌, inl, inr, List, [], ◌∷◌, ◌++◌, append-nil, take, refl, sym, ap, ◌∙◌, subst, arith, append_assoc, if◌then◌else◌}
-use Rattle.std.proofs.lemmas.Bool.{and_from, and_parts, eqb-true}
+use Rattle.std.proofs.Common.{◌≡◌, ◌≢◌, ℕ, zero, suc, ◌+◌, ◌<◌, ◌≤◌, ◌==◌, eqb, eq-eqb, ne_eqb, Bool, true, false, ◌&&◌, List, [], ◌∷◌, ◌++◌, append-nil, take, refl, sym, ap, ◌∙◌, subst, arith, append_assoc, if◌then◌else◌}
+use Rattle.std.proofs.lemmas.Bool.{and_from, and_parts, eqb-true, ltb-false, ltb-true}
+use Rattle.std.specs.Prelude.{nat_lt}
 use mathlib.Core.Logic.{dite}
 use native.Mathlib.Decide.{ℕ_discrete}
 use Rattle.file_model.specs.declared.files.Act.{Act}
@@ -103,26 +104,25 @@ case-at C c d = by (is_case c d) refl
     by true is = let same = same-id c d is in subst (λ x. calls_of_case c (of_one x (C x)) ≡ ahead (C c)) (sym same) (case-own c (C c))
     by false not = case-other c d not (C d)
 
-no-place : (t p : ℕ) (c : CaseId) → (t ≢ c.type_no) ⊎ (c.place < p) → is_case c (id_at t p) ≡ false
-no-place t p c (inl not) = ap (λ test. test && p == c.place) (ne_eqb t c.type_no not)
-no-place t p c (inr past) = both (t == c.type_no) (p == c.place) (ne_eqb p c.place (λ same. omega (arith, same, past)))
+other-type : (t p : ℕ) (c : CaseId) → t ≢ c.type_no → is_case c (id_at t p) ≡ false
+other-type t p c not = ap (λ test. test && p == c.place) (ne_eqb t c.type_no not)
+
+other-place : (t p : ℕ) (c : CaseId) → p ≢ c.place → is_case c (id_at t p) ≡ false
+other-place t p c not = both (t == c.type_no) (p == c.place) (ne_eqb p c.place not)
   where
     both : (x y : Bool) → y ≡ false → (x && y) ≡ false
     both true y is = is
     both false y is = refl
 
-further : (t p : ℕ) (c : CaseId) → (t ≢ c.type_no) ⊎ (c.place < p) → (t ≢ c.type_no) ⊎ (c.place < p + 1)
-further t p c (inl not) = inl not
-further t p c (inr past) = inr (omega (arith, past))
-
 each-parts : (C : CaseQueues) (c : CaseId) (t place n : ℕ) → calls_of_case c (of_each C t place (suc n)) ≡ calls_of_case c (of_one (id_at t place) (C (id_at t place))) ++ calls_of_case c (of_each C t (place + 1) n)
 each-parts C c t place n = calls_of_case-append c (of_one (id_at t place) (C (id_at t place))) (of_each C t (place + 1) n)
 
-each-other : (C : CaseQueues) (c : CaseId) (t place n : ℕ) → (t ≢ c.type_no) ⊎ (c.place < place) → calls_of_case c (of_each C t place n) ≡ []
+each-other : (C : CaseQueues) (c : CaseId) (t place n : ℕ) → ((p : ℕ) → place ≤ p → p < place + n → is_case c (id_at t p) ≡ false) → calls_of_case c (of_each C t place n) ≡ []
 each-other C c t place zero other = refl
 each-other C c t place (suc n) other =
     each-parts C c t place n
-    ∙ (ap (λ xs. xs ++ calls_of_case c (of_each C t (place + 1) n)) (case-other c (id_at t place) (no-place t place c other) (C (id_at t place))) ∙ each-other C c t (place + 1) n (further t place c other))
+    ∙ (ap (λ xs. xs ++ calls_of_case c (of_each C t (place + 1) n)) (case-other c (id_at t place) (other place (omega arith) (omega arith)) (C (id_at t place)))
+    ∙ each-other C c t (place + 1) n (λ p low high. other p (omega (arith, low)) (omega (arith, high))))
 
 each-own : (C : CaseQueues) (c : CaseId) (t place n : ℕ) → t ≡ c.type_no → place ≤ c.place → c.place < place + n → calls_of_case c (of_each C t place n) ≡ ahead (C c)
 each-own C c t place zero same low high = absurd (omega (arith, low, high))
@@ -131,124 +131,128 @@ each-own C c t place (suc n) same low high =
     (λ (here : place ≡ c.place).
     let is : id_at t place ≡ c = ap (λ u. id_at u place) same ∙ ap (λ p. id_at c.type_no p) here in
     each-parts C c t place n
-    ∙ (ap (λ xs. calls_of_case c (of_one (id_at t place) (C (id_at t place))) ++ xs) (each-other C c t (place + 1) n (inr (omega (arith, here))))
+    ∙ (ap (λ xs. calls_of_case c (of_one (id_at t place) (C (id_at t place))) ++ xs) (each-other C c t (place + 1) n (λ p past end. other-place t p c (λ there. omega (arith, here, there, past))))
     ∙ (append-nil (calls_of_case c (of_one (id_at t place) (C (id_at t place)))) ∙ subst (λ x. calls_of_case c (of_one x (C x)) ≡ ahead (C c)) (sym is) (case-own c (C c)))))
     (λ (not : place ≢ c.place).
-    let other : is_case c (id_at t place) ≡ false = not-here not in
     each-parts C c t place n
-    ∙ (ap (λ xs. xs ++ calls_of_case c (of_each C t (place + 1) n)) (case-other c (id_at t place) other (C (id_at t place))) ∙ each-own C c t (place + 1) n same (omega (arith, low, not)) (omega (arith, high))))
+    ∙ (ap (λ xs. xs ++ calls_of_case c (of_each C t (place + 1) n)) (case-other c (id_at t place) (other-place t place c not) (C (id_at t place))) ∙ each-own C c t (place + 1) n same (omega (arith, low, not)) (omega (arith, high))))
+
+-- the case is called where it is one of the first so many
+each-taken : (C : CaseQueues) (c : CaseId) (t many : ℕ) → calls_of_case c (of_each C t 0 many) ≡ (if t == c.type_no && nat_lt c.place many then ahead (C c) else [])
+each-taken C c t many = dite (ℕ_discrete t c.type_no) (λ (same : t ≡ c.type_no). of_its_type same (nat_lt c.place many) refl) (λ (not : t ≢ c.type_no). of_another not)
   where
-    not-here : place ≢ c.place → is_case c (id_at t place) ≡ false
-    not-here not = ap (λ test. test && place == c.place) (eq-eqb t c.type_no same) ∙ ne_eqb place c.place not
+    of_its_type : t ≡ c.type_no → (low : Bool) → nat_lt c.place many ≡ low → calls_of_case c (of_each C t 0 many) ≡ (if t == c.type_no && low then ahead (C c) else [])
+    of_its_type same true is =
+        let low = ltb-true c.place many is in
+        each-own C c t 0 many same (omega arith) (omega (arith, low)) ∙ ap (λ b. if b && true then ahead (C c) else []) (sym (eq-eqb t c.type_no same))
+    of_its_type same false is =
+        let past = ltb-false c.place many is in
+        each-other C c t 0 many (λ p low high. other-place t p c (λ there. omega (arith, there, high, past))) ∙ ap (λ b. if b && false then ahead (C c) else []) (sym (eq-eqb t c.type_no same))
 
-module _ (many : ℕ → ℕ) where
-  -- the calls of cells, and of a line
-  abbrev pub calls_in : KindQueues → CaseQueues → Cells → List Call
-  calls_in K C (cells.Kind t) = of_type t (K t)
-  calls_in K C (cells.Case c) = of_one c (C c)
-  calls_in K C (cells.KindAndCase t c) = of_type t (K t) ++ of_one c (C c)
-  calls_in K C (cells.KindAndEach t) = of_type t (K t) ++ of_each C t 0 (many t)
+    of_another : t ≢ c.type_no → calls_of_case c (of_each C t 0 many) ≡ (if t == c.type_no && nat_lt c.place many then ahead (C c) else [])
+    of_another not = each-other C c t 0 many (λ p low high. other-type t p c not) ∙ ap (λ b. if b && nat_lt c.place many then ahead (C c) else []) (sym (ne_eqb t c.type_no not))
 
-  abbrev pub calls_at : KindQueues → CaseQueues → Act → List Call
-  calls_at K C x = calls_in K C (cells_of x)
+-- the calls of cells, and of a line
+abbrev pub calls_in : KindQueues → CaseQueues → Cells → List Call
+calls_in K C (cells.Kind t) = of_type t (K t)
+calls_in K C (cells.Case c) = of_one c (C c)
+calls_in K C (cells.KindAndCase t c) = of_type t (K t) ++ of_one c (C c)
+calls_in K C (cells.KindAndEach t many) = of_type t (K t) ++ of_each C t 0 many
 
-  kind-behind : (t u : ℕ) (K : KindQueues) (calls : List Call) → calls_of_kind t calls ≡ [] → calls_of_kind t (of_type u (K u) ++ calls) ≡ (if eqb u t then ahead (K t) else [])
-  kind-behind t u K calls none =
-      calls_of_kind-append t (of_type u (K u)) calls ∙ (ap (λ xs. calls_of_kind t (of_type u (K u)) ++ xs) none ∙ (append-nil (calls_of_kind t (of_type u (K u))) ∙ type-at K t u))
+abbrev pub calls_at : KindQueues → CaseQueues → Act → List Call
+calls_at K C x = calls_in K C (cells_of x)
 
-  kind-taken : (K : KindQueues) (C : CaseQueues) (t : ℕ) (x : Cells) → calls_of_kind t (calls_in K C x) ≡ (if has_kind t x then ahead (K t) else [])
-  kind-taken K C t (cells.Kind u) = type-at K t u
-  kind-taken K C t (cells.Case c) = one-no_kind t c (C c)
-  kind-taken K C t (cells.KindAndCase u c) = kind-behind t u K (of_one c (C c)) (one-no_kind t c (C c))
-  kind-taken K C t (cells.KindAndEach u) = kind-behind t u K (of_each C u 0 (many u)) (each-no_kind C u t 0 (many u))
+kind-behind : (t u : ℕ) (K : KindQueues) (calls : List Call) → calls_of_kind t calls ≡ [] → calls_of_kind t (of_type u (K u) ++ calls) ≡ (if eqb u t then ahead (K t) else [])
+kind-behind t u K calls none =
+    calls_of_kind-append t (of_type u (K u)) calls ∙ (ap (λ xs. calls_of_kind t (of_type u (K u)) ++ xs) none ∙ (append-nil (calls_of_kind t (of_type u (K u))) ∙ type-at K t u))
 
-  case-behind : (c : CaseId) (u : ℕ) (es : List KindEntry) (calls : List Call) → calls_of_case c (of_type u es ++ calls) ≡ calls_of_case c calls
-  case-behind c u es calls = calls_of_case-append c (of_type u es) calls ∙ ap (λ xs. xs ++ calls_of_case c calls) (type-no_case c u es)
+kind-taken : (K : KindQueues) (C : CaseQueues) (t : ℕ) (x : Cells) → calls_of_kind t (calls_in K C x) ≡ (if has_kind t x then ahead (K t) else [])
+kind-taken K C t (cells.Kind u) = type-at K t u
+kind-taken K C t (cells.Case c) = one-no_kind t c (C c)
+kind-taken K C t (cells.KindAndCase u c) = kind-behind t u K (of_one c (C c)) (one-no_kind t c (C c))
+kind-taken K C t (cells.KindAndEach u many) = kind-behind t u K (of_each C u 0 many) (each-no_kind C u t 0 many)
 
-  migrated : (C : CaseQueues) (c : CaseId) (t : ℕ) → c.place < many c.type_no → calls_of_case c (of_each C t 0 (many t)) ≡ (if eqb t c.type_no then ahead (C c) else [])
-  migrated C c t low =
-      dite (ℕ_discrete t c.type_no)
-      (λ (same : t ≡ c.type_no). each-own C c t 0 (many t) same (omega arith) (let there : c.place < many t = subst (λ n. c.place < many n) (sym same) low in omega (arith, there)) ∙ ap (λ test. if test then ahead (C c) else []) (sym (eq-eqb t c.type_no same)))
-      (λ (not : t ≢ c.type_no). each-other C c t 0 (many t) (inl not) ∙ ap (λ test. if test then ahead (C c) else []) (sym (ne_eqb t c.type_no not)))
+case-behind : (c : CaseId) (u : ℕ) (es : List KindEntry) (calls : List Call) → calls_of_case c (of_type u es ++ calls) ≡ calls_of_case c calls
+case-behind c u es calls = calls_of_case-append c (of_type u es) calls ∙ ap (λ xs. xs ++ calls_of_case c calls) (type-no_case c u es)
 
-  case-taken : (K : KindQueues) (C : CaseQueues) (c : CaseId) → c.place < many c.type_no → (x : Cells) → calls_of_case c (calls_in K C x) ≡ (if has_case c x then ahead (C c) else [])
-  case-taken K C c low (cells.Kind u) = type-no_case c u (K u)
-  case-taken K C c low (cells.Case d) = case-at C c d
-  case-taken K C c low (cells.KindAndCase u d) = case-behind c u (K u) (of_one d (C d)) ∙ case-at C c d
-  case-taken K C c low (cells.KindAndEach u) = case-behind c u (K u) (of_each C u 0 (many u)) ∙ migrated C c u low
+case-taken : (K : KindQueues) (C : CaseQueues) (c : CaseId) (x : Cells) → calls_of_case c (calls_in K C x) ≡ (if has_case c x then ahead (C c) else [])
+case-taken K C c (cells.Kind u) = type-no_case c u (K u)
+case-taken K C c (cells.Case d) = case-at C c d
+case-taken K C c (cells.KindAndCase u d) = case-behind c u (K u) (of_one d (C d)) ∙ case-at C c d
+case-taken K C c (cells.KindAndEach u many) = case-behind c u (K u) (of_each C u 0 many) ∙ each-taken C c u many
 
-  -- ---- lines one after another
-  abbrev pub calls_along : KindQueues → CaseQueues → List Line → List Call
-  calls_along K C [] = []
-  calls_along K C (l ∷ ls) = calls_at K C l.act ++ calls_along (kinds_then K l.act) (cases_then C l.act) ls
+-- ---- lines one after another
+abbrev pub calls_along : KindQueues → CaseQueues → List Line → List Call
+calls_along K C [] = []
+calls_along K C (l ∷ ls) = calls_at K C l.act ++ calls_along (kinds_then K l.act) (cases_then C l.act) ls
 
-  abbrev pub kinds_left : KindQueues → List Line → KindQueues
-  kinds_left K [] = K
-  kinds_left K (l ∷ ls) = kinds_left (kinds_then K l.act) ls
+abbrev pub kinds_left : KindQueues → List Line → KindQueues
+kinds_left K [] = K
+kinds_left K (l ∷ ls) = kinds_left (kinds_then K l.act) ls
 
-  abbrev pub cases_left : CaseQueues → List Line → CaseQueues
-  cases_left C [] = C
-  cases_left C (l ∷ ls) = cases_left (cases_then C l.act) ls
+abbrev pub cases_left : CaseQueues → List Line → CaseQueues
+cases_left C [] = C
+cases_left C (l ∷ ls) = cases_left (cases_then C l.act) ls
 
-  if-split : {X : Type 0} (test : Bool) (xs : List X) → (if test then ahead xs else []) ++ (if test then rest_of xs else xs) ≡ xs
-  if-split true xs = ahead-rest xs
-  if-split false xs = refl
+if-split : {X : Type 0} (test : Bool) (xs : List X) → (if test then ahead xs else []) ++ (if test then rest_of xs else xs) ≡ xs
+if-split true xs = ahead-rest xs
+if-split false xs = refl
 
-  kinds-split : (ls : List Line) (K : KindQueues) (C : CaseQueues) (t : ℕ) → calls_of_kind t (calls_along K C ls) ++ kinds_left K ls t ≡ K t
-  kinds-split [] K C t = refl
-  kinds-split (l ∷ ls) K C t =
-      let here = calls_at K C l.act in
-      let later = calls_along (kinds_then K l.act) (cases_then C l.act) ls in
-      let left = kinds_left (kinds_then K l.act) ls t in
-      ap (λ xs. xs ++ left) (calls_of_kind-append t here later)
-      ∙ (append_assoc (calls_of_kind t here) (calls_of_kind t later) left
-      ∙ (ap (λ xs. calls_of_kind t here ++ xs) (kinds-split ls (kinds_then K l.act) (cases_then C l.act) t)
-      ∙ (ap (λ xs. xs ++ kinds_then K l.act t) (kind-taken K C t (cells_of l.act)) ∙ if-split (calls_kind t l.act) (K t))))
+kinds-split : (ls : List Line) (K : KindQueues) (C : CaseQueues) (t : ℕ) → calls_of_kind t (calls_along K C ls) ++ kinds_left K ls t ≡ K t
+kinds-split [] K C t = refl
+kinds-split (l ∷ ls) K C t =
+    let here = calls_at K C l.act in
+    let later = calls_along (kinds_then K l.act) (cases_then C l.act) ls in
+    let left = kinds_left (kinds_then K l.act) ls t in
+    ap (λ xs. xs ++ left) (calls_of_kind-append t here later)
+    ∙ (append_assoc (calls_of_kind t here) (calls_of_kind t later) left
+    ∙ (ap (λ xs. calls_of_kind t here ++ xs) (kinds-split ls (kinds_then K l.act) (cases_then C l.act) t)
+    ∙ (ap (λ xs. xs ++ kinds_then K l.act t) (kind-taken K C t (cells_of l.act)) ∙ if-split (calls_kind t l.act) (K t))))
 
-  cases-split : (ls : List Line) (K : KindQueues) (C : CaseQueues) (c : CaseId) → c.place < many c.type_no → calls_of_case c (calls_along K C ls) ++ cases_left C ls c ≡ C c
-  cases-split [] K C c low = refl
-  cases-split (l ∷ ls) K C c low =
-      let here = calls_at K C l.act in
-      let later = calls_along (kinds_then K l.act) (cases_then C l.act) ls in
-      let left = cases_left (cases_then C l.act) ls c in
-      ap (λ xs. xs ++ left) (calls_of_case-append c here later)
-      ∙ (append_assoc (calls_of_case c here) (calls_of_case c later) left
-      ∙ (ap (λ xs. calls_of_case c here ++ xs) (cases-split ls (kinds_then K l.act) (cases_then C l.act) c low)
-      ∙ (ap (λ xs. xs ++ cases_then C l.act c) (case-taken K C c low (cells_of l.act)) ∙ if-split (calls_case c l.act) (C c))))
+cases-split : (ls : List Line) (K : KindQueues) (C : CaseQueues) (c : CaseId) → calls_of_case c (calls_along K C ls) ++ cases_left C ls c ≡ C c
+cases-split [] K C c = refl
+cases-split (l ∷ ls) K C c =
+    let here = calls_at K C l.act in
+    let later = calls_along (kinds_then K l.act) (cases_then C l.act) ls in
+    let left = cases_left (cases_then C l.act) ls c in
+    ap (λ xs. xs ++ left) (calls_of_case-append c here later)
+    ∙ (append_assoc (calls_of_case c here) (calls_of_case c later) left
+    ∙ (ap (λ xs. calls_of_case c here ++ xs) (cases-split ls (kinds_then K l.act) (cases_then C l.act) c)
+    ∙ (ap (λ xs. xs ++ cases_then C l.act c) (case-taken K C c (cells_of l.act)) ∙ if-split (calls_case c l.act) (C c))))
 
-  -- ---- phases one after another, for all actors
-  abbrev pub traces_of : List (List Line) → (ℕ → KindQueues) → (ℕ → CaseQueues) → List Trace
-  traces_of [] K C = []
-  traces_of (lines ∷ phases) K C =
-      (λ a. calls_along (K a) (C a) (lines_of a lines)) ∷ traces_of phases (λ a. kinds_left (K a) (lines_of a lines)) (λ a. cases_left (C a) (lines_of a lines))
+-- ---- phases one after another, for all actors
+abbrev pub traces_of : List (List Line) → (ℕ → KindQueues) → (ℕ → CaseQueues) → List Trace
+traces_of [] K C = []
+traces_of (lines ∷ phases) K C =
+    (λ a. calls_along (K a) (C a) (lines_of a lines)) ∷ traces_of phases (λ a. kinds_left (K a) (lines_of a lines)) (λ a. cases_left (C a) (lines_of a lines))
 
-  pub take-traces_of : (k : ℕ) (phases : List (List Line)) (K : ℕ → KindQueues) (C : ℕ → CaseQueues) → take k (traces_of phases K C) ≡ traces_of (take k phases) K C
-  take-traces_of zero phases K C = refl
-  take-traces_of (suc k) [] K C = refl
-  take-traces_of (suc k) (lines ∷ phases) K C =
-      ap (λ ts. (λ (a : ℕ). calls_along (K a) (C a) (lines_of a lines)) ∷ ts) (take-traces_of k phases (λ a. kinds_left (K a) (lines_of a lines)) (λ a. cases_left (C a) (lines_of a lines)))
+pub take-traces_of : (k : ℕ) (phases : List (List Line)) (K : ℕ → KindQueues) (C : ℕ → CaseQueues) → take k (traces_of phases K C) ≡ traces_of (take k phases) K C
+take-traces_of zero phases K C = refl
+take-traces_of (suc k) [] K C = refl
+take-traces_of (suc k) (lines ∷ phases) K C =
+    ap (λ ts. (λ (a : ℕ). calls_along (K a) (C a) (lines_of a lines)) ∷ ts) (take-traces_of k phases (λ a. kinds_left (K a) (lines_of a lines)) (λ a. cases_left (C a) (lines_of a lines)))
 
-  -- what an actor did is a beginning of what there is of it
-  pub kinds-begin : (phases : List (List Line)) (K : ℕ → KindQueues) (C : ℕ → CaseQueues) (a t : ℕ) → (left : List KindEntry) × (calls_of_kind t (done_by a (traces_of phases K C)) ++ left ≡ K a t)
-  kinds-begin [] K C a t = (K a t, refl)
-  kinds-begin (lines ∷ phases) K C a t =
-      let own = lines_of a lines in
-      let here = calls_along (K a) (C a) own in
-      let rest = traces_of phases (λ b. kinds_left (K b) (lines_of b lines)) (λ b. cases_left (C b) (lines_of b lines)) in
-      let (left, more) = kinds-begin phases (λ b. kinds_left (K b) (lines_of b lines)) (λ b. cases_left (C b) (lines_of b lines)) a t in (
-        left,
-        ap (λ xs. xs ++ left) (calls_of_kind-append t here (done_by a rest)) ∙ (append_assoc (calls_of_kind t here) (calls_of_kind t (done_by a rest)) left
-            ∙ (ap (λ xs. calls_of_kind t here ++ xs) more ∙ kinds-split own (K a) (C a) t)),
-      )
+-- what an actor did is a beginning of what there is of it
+pub kinds-begin : (phases : List (List Line)) (K : ℕ → KindQueues) (C : ℕ → CaseQueues) (a t : ℕ) → (left : List KindEntry) × (calls_of_kind t (done_by a (traces_of phases K C)) ++ left ≡ K a t)
+kinds-begin [] K C a t = (K a t, refl)
+kinds-begin (lines ∷ phases) K C a t =
+    let own = lines_of a lines in
+    let here = calls_along (K a) (C a) own in
+    let rest = traces_of phases (λ b. kinds_left (K b) (lines_of b lines)) (λ b. cases_left (C b) (lines_of b lines)) in
+    let (left, more) = kinds-begin phases (λ b. kinds_left (K b) (lines_of b lines)) (λ b. cases_left (C b) (lines_of b lines)) a t in (
+      left,
+      ap (λ xs. xs ++ left) (calls_of_kind-append t here (done_by a rest)) ∙ (append_assoc (calls_of_kind t here) (calls_of_kind t (done_by a rest)) left
+          ∙ (ap (λ xs. calls_of_kind t here ++ xs) more ∙ kinds-split own (K a) (C a) t)),
+    )
 
-  pub cases-begin : (phases : List (List Line)) (K : ℕ → KindQueues) (C : ℕ → CaseQueues) (a : ℕ) (c : CaseId) → c.place < many c.type_no → (left : List CaseEntry) × (calls_of_case c (done_by a (traces_of phases K C)) ++ left ≡ C a c)
-  cases-begin [] K C a c low = (C a c, refl)
-  cases-begin (lines ∷ phases) K C a c low =
-      let own = lines_of a lines in
-      let here = calls_along (K a) (C a) own in
-      let rest = traces_of phases (λ b. kinds_left (K b) (lines_of b lines)) (λ b. cases_left (C b) (lines_of b lines)) in
-      let (left, more) = cases-begin phases (λ b. kinds_left (K b) (lines_of b lines)) (λ b. cases_left (C b) (lines_of b lines)) a c low in (
-        left,
-        ap (λ xs. xs ++ left) (calls_of_case-append c here (done_by a rest)) ∙ (append_assoc (calls_of_case c here) (calls_of_case c (done_by a rest)) left
-            ∙ (ap (λ xs. calls_of_case c here ++ xs) more ∙ cases-split own (K a) (C a) c low)),
-      )
+pub cases-begin : (phases : List (List Line)) (K : ℕ → KindQueues) (C : ℕ → CaseQueues) (a : ℕ) (c : CaseId) → (left : List CaseEntry) × (calls_of_case c (done_by a (traces_of phases K C)) ++ left ≡ C a c)
+cases-begin [] K C a c = (C a c, refl)
+cases-begin (lines ∷ phases) K C a c =
+    let own = lines_of a lines in
+    let here = calls_along (K a) (C a) own in
+    let rest = traces_of phases (λ b. kinds_left (K b) (lines_of b lines)) (λ b. cases_left (C b) (lines_of b lines)) in
+    let (left, more) = cases-begin phases (λ b. kinds_left (K b) (lines_of b lines)) (λ b. cases_left (C b) (lines_of b lines)) a c in (
+      left,
+      ap (λ xs. xs ++ left) (calls_of_case-append c here (done_by a rest)) ∙ (append_assoc (calls_of_case c here) (calls_of_case c (done_by a rest)) left
+          ∙ (ap (λ xs. calls_of_case c here ++ xs) more ∙ cases-split own (K a) (C a) c)),
+    )

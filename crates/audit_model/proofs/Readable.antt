@@ -73,7 +73,7 @@ first-line-none a (x ∷ xs) is = by (actor_of x == a) (first_by actor_of a xs) 
 -- an event writes what its line writes
 told-writes : (w : Told) (v : VersionModel) → WritesValues (version_event w v)
 told-writes (tell.Create c) v = tt
-told-writes tell.Migrate v = tt
+told-writes (tell.Migrate many) v = tt
 
 event-writes : (o : Option VersionModel) (k : Call) → AllRows IsOneLineWrite (call_writes k) → IfSome (case_event_in o k) WritesValues
 event-writes o (call.Kind t e) one = tt

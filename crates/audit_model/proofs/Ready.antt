@@ -30,8 +30,8 @@ use Rattle.wsm_lists.specs.Rows.{AllRows}
 use Rattle.wsm_sound.specs.VersionModel.{VersionModel}
 use Rattle.audit_model.proofs.KindCalls.{FitKind, actor_of, keeps, drops, to_kind}
 use Rattle.audit_model.proofs.KindRuns.{not-own, owed-actors}
-use Rattle.audit_model.specs.Asked.{Asked, Telling, asked_lines, asked_phases, asks, kind_event_in, kind_event_of, left_to_tell, told_at, version_for}
-use Rattle.audit_model.specs.Owed.{calls_kind, owed_kind}
+use Rattle.audit_model.specs.Asked.{Asked, Telling, asked_lines, asked_phases, asks, kind_event_of, left_to_tell, told_at, version_for}
+use Rattle.audit_model.specs.Owed.{owed_kind}
 use Rattle.audit_model.specs.ReportReader.{journal_of, telling}
 use Rattle.audit_model.proofs.LineQueues.{AsksReady, IsOfActor, TellsVersion, asks-then, version-there}
 use Rattle.audit_model.proofs.OwnLines.{OwnTelling, Same, other-then, own-owed_kind, own-then, own-version, own_lines, own_then}
@@ -129,7 +129,7 @@ module _ (f : File) (workable : IsWorkable f) where
   asks-calls (call.Kind u e) t is = absurd (cc (is))
   asks-calls (call.Case c e) t is = absurd (cc (is))
   asks-calls (call.Newest u (tell.Create c)) t is = (eq-eqb u t (cc (is)), refl)
-  asks-calls (call.Newest u tell.Migrate) t is = (eq-eqb u t (cc (is)), refl)
+  asks-calls (call.Newest u (tell.Migrate many)) t is = (eq-eqb u t (cc (is)), refl)
 
   own-front : (a : ℕ) (l : Line) (ls later : List Line) → l.actor ≡ a → lines_of a (l ∷ ls) ++ later ≡ l ∷ (lines_of a ls ++ later)
   own-front a l ls later own = ap (λ xs. xs ++ later) (keeps (λ (x : Line). x.actor == a) l ls (eq-eqb l.actor a own))

@@ -1,5 +1,5 @@
 -- What is taken of the report is the report of a legal run.
-use Rattle.std.proofs.Common.{◌≡◌, ℕ, zero, suc, ◌<◌, ◌≤◌, ◌==◌, eq-eqb, Bool, true, false, All, List, [], ◌∷◌, ◌++◌, append-nil, filter, length, take, Option, Some, None, slice_get, inl, inr, refl, sym, ap, ◌∙◌, subst, arith, if◌then◌else◌}
+use Rattle.std.proofs.Common.{◌≡◌, ℕ, zero, suc, ◌≤◌, ◌==◌, eq-eqb, Bool, true, false, All, List, [], ◌∷◌, ◌++◌, append-nil, filter, length, take, Option, Some, None, slice_get, inl, inr, refl, sym, ap, ◌∙◌, subst, arith, if◌then◌else◌}
 use Rattle.std.specs.List.{list_any}
 use Rattle.std.proofs.lemmas.Bool.{and_from, eqb-true, or_cases}
 use Rattle.std.proofs.lemmas.List.{length-map, take-map}
@@ -7,14 +7,14 @@ use Rattle.std.proofs.lemmas.List.Elements.{All-cons, All-nil}
 use mathlib.Core.List.{IsPrefix}
 use Rattle.case_core.specs.CaseModel.{not_created}
 use Rattle.case_core.specs.Machine.{case_after, case_reply}
-use Rattle.file_facts.proofs.Cases.{declared-placed, ids-distinct, row-at}
+use Rattle.file_facts.proofs.Cases.{ids-distinct, row-at}
 use Rattle.file_facts.specs.Facts.{IsDeclared, IsKnown, IsSound, IsWorkable}
 use Rattle.file_model.specs.declared.files.CaseDecl.{CaseDecl}
 use Rattle.file_model.specs.declared.files.File.{File}
 use Rattle.file_model.specs.declared.files.Line.{Line}
 use Rattle.file_model.specs.declared.files.TypeDecl.{TypeDecl}
 use Rattle.file_words.specs.Lines.{Bytes}
-use Rattle.legal_run.specs.Legal.{AreTraces, HasCalls, IsActor, IsLegalCase, IsLegalKind, Legal, Trace, declared_cases, done_by}
+use Rattle.legal_run.specs.Legal.{AreTraces, HasCalls, IsActor, IsLegalCase, IsLegalKind, Legal, Trace, done_by}
 use Rattle.legal_run.specs.LineCalls.{calls_of_case, calls_of_kind, lines_of}
 use Rattle.line_readers.proofs.Answers.{Fit, IsWhole, answers-whole}
 use Rattle.line_readers.proofs.Taking.{Takes}
@@ -37,7 +37,7 @@ use Rattle.wsm_lists.specs.Rows.{AllRows}
 use Rattle.wsm_sound.specs.declared.versions.CaseId.{CaseId}
 use Rattle.audit_model.proofs.CaseCalls.{FitCase, asked_actor, fit-case_phases, to_case}
 use Rattle.audit_model.proofs.CaseReaders.{report-whole}
-use Rattle.audit_model.proofs.CaseRuns.{case-actors, is-declared, length-asked, take-asked, take-known, told-all, told-front}
+use Rattle.audit_model.proofs.CaseRuns.{case-actors, length-asked, take-asked, take-known, told-all, told-front}
 use Rattle.audit_model.proofs.KindCalls.{actor_of, fit-phases, owed_in, take-traces}
 use Rattle.audit_model.proofs.KindRuns.{not-own}
 use Rattle.audit_model.specs.Asked.{Asked, asked_phases, case_event_of, kind_event_of, owed_case}
@@ -129,12 +129,12 @@ module _ (f : File) (workable : IsWorkable f) where
   known-own a lines known = filter-rows (IsKnown (length f.types) (length f.actors) f.cases) (KnownOwn f workable a) (λ l. l.actor == a) (λ l k own. (k.act, eqb-true l.actor a own)) lines known
 
   traces-are : (phases : List (List Line)) (K : ℕ → KindQueues) (C : ℕ → CaseQueues) (R : ℕ → OwnTelling) → AllRows (AllRows (IsKnown (length f.types) (length f.actors) f.cases)) phases
-      → ((a : ℕ) → IsActor f a → AsksReady f workable a (K a) (R a) (own_lines a phases)) → ((a : ℕ) → IsActor f a → CasesReady f workable a (C a) (R a) (own_lines a phases)) → AreTraces f phases (traces_of (declared_cases f) phases K C)
+      → ((a : ℕ) → IsActor f a → AsksReady f workable a (K a) (R a) (own_lines a phases)) → ((a : ℕ) → IsActor f a → CasesReady f workable a (C a) (R a) (own_lines a phases)) → AreTraces f phases (traces_of phases K C)
   traces-are [] K C R known asking telling = tt
   traces-are (lines ∷ phases) K C R (k, known) asking telling =
       let done = λ (a : ℕ) (actor : IsActor f a). lines-done f workable a (lines_of a lines) (own_lines a phases) (K a) (C a) (R a) (known-own a lines k) (asking a actor) (telling a actor) in (
         λ a actor. (done a actor).calls,
-        traces-are phases (λ a. kinds_left (declared_cases f) (K a) (lines_of a lines)) (λ a. cases_left (declared_cases f) (C a) (lines_of a lines)) (λ a. own_left (R a) (lines_of a lines)) known
+        traces-are phases (λ a. kinds_left (K a) (lines_of a lines)) (λ a. cases_left (C a) (lines_of a lines)) (λ a. own_left (R a) (lines_of a lines)) known
             (λ a actor. (done a actor).asking) (λ a actor. (done a actor).telling),
       )
 
@@ -168,13 +168,13 @@ module _ (f : File) (workable : IsWorkable f) where
     }
 
     abbrev traces : List Trace
-    traces = traces_of (declared_cases f) f.phases of_kinds of_cases
+    traces = traces_of f.phases of_kinds of_cases
 
     are-traces : AreTraces f f.phases traces
     are-traces = traces-are f.phases of_kinds of_cases (λ a. telling r.kinds a) workable.known (λ a actor. kinds-ready f workable r.kinds kinds.many each-kind a actor) cases-ready
 
-    front-traces : (n : ℕ) → take n traces ≡ traces_of (declared_cases f) (take n f.phases) of_kinds of_cases
-    front-traces n = take-traces_of (declared_cases f) n f.phases of_kinds of_cases
+    front-traces : (n : ℕ) → take n traces ≡ traces_of (take n f.phases) of_kinds of_cases
+    front-traces n = take-traces_of n f.phases of_kinds of_cases
 
     -- ---- types
     module _ (t : ℕ) (d : TypeDecl) (k : ClosedKind) (at_d : slice_get f.types t ≡ Some d) (at_k : slice_get r.kinds t ≡ Some k) where
@@ -198,7 +198,7 @@ module _ (f : File) (workable : IsWorkable f) where
       kind-front : (n a : ℕ) → IsActor f a → (start rest : List KindEntry) → start ++ rest ≡ taken.others → Fit kind_after kind_reply actor_of kind_event_of (calls_of a start) (lines_by actor_of a (all_owed (owed_in t (take n f.phases))))
           → calls_of a start ≡ calls_of_kind t (done_by a (take n traces))
       kind-front n a actor start rest same fit =
-          let (left, begun) = kinds-begin (declared_cases f) (take n f.phases) of_kinds of_cases a t in
+          let (left, begun) = kinds-begin (take n f.phases) of_kinds of_cases a t in
           let made : calls_of_kind t (done_by a (take n traces)) ++ left ≡ calls_of a taken.others = ap (λ ts. calls_of_kind t (done_by a ts) ++ left) (front-traces n) ∙ (begun ∙ own-queue a actor) in
           let whole : calls_of a start ++ calls_of a rest ≡ calls_of a taken.others = sym (calls_of-append a start rest) ∙ ap (calls_of a) same in
           fit-same kind_after kind_reply actor_of kind_event_of (calls_of a start) (calls_of_kind t (done_by a (take n traces))) (calls_of a rest) left (calls_of a taken.others) (lines_by actor_of a (all_owed (owed_in t (take n f.phases)))) whole made fit
@@ -207,7 +207,7 @@ module _ (f : File) (workable : IsWorkable f) where
       kind-whole-calls : (a : ℕ) → IsActor f a → calls_of a k.journal ≡ calls_of_kind t (done_by a traces)
       kind-whole-calls a actor =
           let whole = whole-kind f workable t d part k taken in
-          let (left, begun) = kinds-begin (declared_cases f) f.phases of_kinds of_cases a t in
+          let (left, begun) = kinds-begin f.phases of_kinds of_cases a t in
           let made : calls_of_kind t (done_by a traces) ++ left ≡ calls_of a taken.others = begun ∙ own-queue a actor in
           ap (calls_of a) taken.journal ∙ (not-own f definition taken.others a refl actor
           ∙ fit-same kind_after kind_reply actor_of kind_event_of (calls_of a taken.others) (calls_of_kind t (done_by a traces)) [] left (calls_of a taken.others) (lines_by actor_of a (all_owed (owed_in t f.phases))) (append-nil (calls_of a taken.others)) made
@@ -241,12 +241,6 @@ module _ (f : File) (workable : IsWorkable f) where
 
     -- ---- cases
     module _ (i : ℕ) (d : CaseDecl) (c : ClosedCase) (at_d : slice_get f.cases i ≡ Some d) (at_c : slice_get r.cases i ≡ Some c) where
-      declared : IsDeclared d.id f.cases
-      declared = is-declared f i d at_d
-
-      low-place : d.id.place < declared_cases f d.id.type_no
-      low-place = declared-placed f.cases d.id workable.placed declared
-
       own-journal : journal_for d.id f.cases r.cases ≡ c.journal
       own-journal = journal-at f.cases r.cases i d c at_d at_c (λ j e at_e same. ids-distinct f.cases j i e d workable.placed at_e at_d same)
 
@@ -255,22 +249,22 @@ module _ (f : File) (workable : IsWorkable f) where
 
       case-whole-calls : (a : ℕ) → IsActor f a → calls_of a c.journal ≡ calls_of_case d.id (done_by a traces)
       case-whole-calls a actor =
-          let (left, begun) = cases-begin (declared_cases f) f.phases of_kinds of_cases a d.id low-place in
+          let (left, begun) = cases-begin f.phases of_kinds of_cases a d.id in
           let made : calls_of_case d.id (done_by a traces) ++ left ≡ calls_of a c.journal = begun ∙ ap (calls_of a) own-journal in
-          let told = told-all f workable traces are-traces r.kinds kinds.many legal-kind a actor d.id declared in
+          let told = told-all f workable traces are-traces r.kinds kinds.many legal-kind a actor d.id in
           fit-same case_after case_reply asked_actor (case_event_of f) (calls_of a c.journal) (calls_of_case d.id (done_by a traces)) [] left (calls_of a c.journal) (lines_by asked_actor a (all_owed (owed_case d.id asked))) (append-nil (calls_of a c.journal)) made
-          (whole-here.whole a actor) (fit-case_phases f workable a actor d.id declared f.phases traces (telling r.kinds) workable.known are-traces told)
+          (whole-here.whole a actor) (fit-case_phases f workable a actor d.id f.phases traces (telling r.kinds) workable.known are-traces told)
 
       case-front : (n a : ℕ) → IsActor f a → (start rest : List CaseEntry) → start ++ rest ≡ c.journal
           → Fit case_after case_reply asked_actor (case_event_of f) (calls_of a start) (lines_by asked_actor a (all_owed (owed_case d.id (asked_phases (telling r.kinds) (take n f.phases))))) → calls_of a start ≡ calls_of_case d.id (done_by a (take n traces))
       case-front n a actor start rest same fit =
-          let (left, begun) = cases-begin (declared_cases f) (take n f.phases) of_kinds of_cases a d.id low-place in
+          let (left, begun) = cases-begin (take n f.phases) of_kinds of_cases a d.id in
           let made : calls_of_case d.id (done_by a (take n traces)) ++ left ≡ calls_of a c.journal = ap (λ ts. calls_of_case d.id (done_by a ts) ++ left) (front-traces n) ∙ (begun ∙ ap (calls_of a) own-journal) in
           let whole : calls_of a start ++ calls_of a rest ≡ calls_of a c.journal = sym (calls_of-append a start rest) ∙ ap (calls_of a) same in
-          let told = told-front f workable traces are-traces r.kinds kinds.many legal-kind n a actor d.id declared in
+          let told = told-front f workable traces are-traces r.kinds kinds.many legal-kind n a actor d.id in
           fit-same case_after case_reply asked_actor (case_event_of f) (calls_of a start) (calls_of_case d.id (done_by a (take n traces))) (calls_of a rest) left (calls_of a c.journal)
           (lines_by asked_actor a (all_owed (owed_case d.id (asked_phases (telling r.kinds) (take n f.phases))))) whole made fit
-          (fit-case_phases f workable a actor d.id declared (take n f.phases) (take n traces) (telling r.kinds) (take-known (AllRows (IsKnown (length f.types) (length f.actors) f.cases)) n f.phases workable.known) (take-traces f n f.phases traces are-traces) told)
+          (fit-case_phases f workable a actor d.id (take n f.phases) (take n traces) (telling r.kinds) (take-known (AllRows (IsKnown (length f.types) (length f.actors) f.cases)) n f.phases workable.known) (take-traces f n f.phases traces are-traces) told)
 
       case-behind : (n : ℕ) → n ≤ length f.phases → (start : List CaseEntry) × IsPrefix start c.journal × HasCalls f (calls_of_case d.id) (take n traces) start
       case-behind n low =

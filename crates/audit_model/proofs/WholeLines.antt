@@ -1,5 +1,5 @@
 -- Texts of a report that are whole lines.
-use Rattle.std.proofs.Common.{◌≡◌, ◌++◌, flat_map, Option, Some, None, refl}
+use Rattle.std.proofs.Common.{◌++◌, flat_map, Option, Some, None, refl}
 use Rattle.std.specs.Prelude.{codes, decimal}
 use Rattle.std.specs.List.{sum_by}
 use Rattle.case_core.specs.CaseModel.{LiveModel}

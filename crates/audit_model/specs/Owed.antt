@@ -1,5 +1,5 @@
 -- What is owed to one type, and to one case: the script lines that call it, phase by phase. Each does so once.
-use Rattle.std.specs.Prelude.{ℕ, Bool, false, ◌==◌, List, filter, map}
+use Rattle.std.specs.Prelude.{ℕ, Bool, List, filter, map}
 use Rattle.file_model.specs.declared.files.Act.{Act}
 use Rattle.file_model.specs.declared.files.File.{File}
 use Rattle.file_model.specs.declared.files.Line.{Line}

@@ -1,5 +1,5 @@
 -- The report of a file as a reader.
-use Rattle.std.specs.Prelude.{ℕ, ◌+◌, List, [], ◌∷◌, ◌++◌, Option, Some, None, slice_get, codes}
+use Rattle.std.specs.Prelude.{ℕ, ◌+◌, List, [], ◌∷◌, ◌++◌, Option, Some, None, slice_get}
 use Rattle.case_core.specs.CaseModel.{CaseModel, not_created}
 use Rattle.case_core.specs.Machine.{case_after, case_reply}
 use Rattle.file_model.specs.declared.files.CaseDecl.{CaseDecl}

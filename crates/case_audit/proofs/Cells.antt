@@ -17,7 +17,7 @@ use Rattle.line_calls.proofs.Places.{position-from_0}
 use Rattle.script_run.specs.Calls.{changed_where}
 use Rattle.wsm_sound.specs.declared.versions.CaseId.{CaseId}
 use Rattle.case_audit.proofs.Sharing.{phase-put, put-at, put-map, put-none, put-one, put-same}
-use Rattle.case_audit.specs.Owing.{called_case, calls_decl, calls_number, case_put, declared_at, is_of_type, kind_put, moved_type}
+use Rattle.case_audit.specs.Owing.{called_case, calls_decl, calls_number, case_put, declared_at, kind_put, moved_type}
 use Rattle.case_audit.specs.Sharing.{given, put_line, put_where}
 
 -- ---- types
@@ -34,7 +34,7 @@ kind-put-line n p xs l few = by (cells_of l.0.act)
     by (cells.Kind t) = put-at (with_line p l) n t xs few
     by (cells.Case c) = sym (put-none (λ t. false) (with_line p l) (range_with_len 0 n) xs (λ i t at. refl))
     by (cells.KindAndCase t c) = put-at (with_line p l) n t xs few
-    by (cells.KindAndEach t) = put-at (with_line p l) n t xs few
+    by (cells.KindAndEach t many) = put-at (with_line p l) n t xs few
 
 kind-lines : (n p : ℕ) (lines : List Asked) (g : ℕ → Numbered) → fold (kind_put p) (map g (range_with_len 0 n)) lines ≡ fold (put_line calls_number (range_with_len 0 n) p) (map g (range_with_len 0 n)) lines
 kind-lines n p [] g = refl
@@ -93,7 +93,7 @@ case-called cases c f xs placed =
     ∙ (put-one (has_id c) f cases xs (λ i j d e at there one two. ids-distinct cases i j d e placed at there (of-id c d one ∙ sym (of-id c e two)))
     ∙ put-same (has_id c) (λ d. is_case d.id c) f cases xs (λ d. both-ways d.id.type_no c.type_no d.id.place c.place))
 
--- the lines that call one case, those that call each of a type, and those that call none
+-- the lines that call one case, and those that call none
 pub one-called : (cases : List CaseDecl) (p : ℕ) (xs : List Numbered) (l : Asked) (c : CaseId) → ArePlaced cases → called_case l.0.act ≡ Some c → changed_where (with_line p l) (declared_at cases c) xs ≡ case_put cases p xs l
 one-called cases p xs l c placed is = by (cells_of l.0.act) is
   where
@@ -101,7 +101,7 @@ one-called cases p xs l c placed is = by (cells_of l.0.act) is
     by (cells.Kind t) is = absurd (cc (is))
     by (cells.Case d) is = let same : d ≡ c = cc is in case-called cases c (with_line p l) xs placed ∙ ap (λ e. put_where (λ d. is_case d.id e) (with_line p l) cases xs) (sym same)
     by (cells.KindAndCase t d) is = let same : d ≡ c = cc is in case-called cases c (with_line p l) xs placed ∙ ap (λ e. put_where (λ d. is_case d.id e) (with_line p l) cases xs) (sym same)
-    by (cells.KindAndEach t) is = absurd (cc (is))
+    by (cells.KindAndEach t many) is = absurd (cc (is))
 
 pub none-called : (cases : List CaseDecl) (p : ℕ) (xs : List Numbered) (l : Asked) → called_case l.0.act ≡ None → moved_type l.0.act ≡ None → xs ≡ case_put cases p xs l
 none-called cases p xs l none still = by (cells_of l.0.act) none still
@@ -110,13 +110,4 @@ none-called cases p xs l none still = by (cells_of l.0.act) none still
     by (cells.Kind t) none still = sym (put-none (λ (d : CaseDecl). false) (with_line p l) cases xs (λ i d is. refl))
     by (cells.Case d) none still = absurd (cc (none))
     by (cells.KindAndCase t d) none still = absurd (cc (none))
-    by (cells.KindAndEach t) none still = absurd (cc (still))
-
-pub type-called : (cases : List CaseDecl) (p : ℕ) (xs : List Numbered) (l : Asked) (t : ℕ) → moved_type l.0.act ≡ Some t → put_where (is_of_type t) (with_line p l) cases xs ≡ case_put cases p xs l
-type-called cases p xs l t is = by (cells_of l.0.act) is
-  where
-    by : (x : Cells) → each_among x ≡ Some t → put_where (is_of_type t) (with_line p l) cases xs ≡ put_where (λ d. has_case d.id x) (with_line p l) cases xs
-    by (cells.Kind u) is = absurd (cc (is))
-    by (cells.Case d) is = absurd (cc (is))
-    by (cells.KindAndCase u d) is = absurd (cc (is))
-    by (cells.KindAndEach u) is = let same : u ≡ t = cc is in put-same (is_of_type t) (λ d. u == d.id.type_no) (with_line p l) cases xs (λ d. other-way d.id.type_no t ∙ ap (λ v. v == d.id.type_no) (sym same))
+    by (cells.KindAndEach t many) none still = absurd (cc (still))

@@ -42,18 +42,15 @@ abbrev pub kind_put : ℕ → List (List (ℕ × List Asked)) → Asked → List
 kind_put p owed l = changed_where (with_line p l) (called_kind l.0.act) owed
 
 -- ---- cases by their declarations
--- the one case that a line calls, and the type of which it calls each case
+-- the one case that a line calls, and the type of which it calls the first so many cases
 abbrev pub called_case : Act → Option CaseId
 called_case x = case_among (cells_of x)
 
-abbrev pub moved_type : Act → Option ℕ
+abbrev pub moved_type : Act → Option (ℕ × ℕ)
 moved_type x = each_among (cells_of x)
 
 abbrev pub calls_decl : CaseDecl → Asked → Bool
 calls_decl d l = calls_case d.id l.0.act
-
-abbrev pub is_of_type : ℕ → CaseDecl → Bool
-is_of_type t d = d.id.type_no == t
 
 abbrev pub declared_at : List CaseDecl → CaseId → Option ℕ
 declared_at cases c = position (has_id c) cases

@@ -5,7 +5,7 @@ use Rattle.file_words.specs.Lines.{Bytes, lines_of}
 
 -- whether a report begins with this line
 abbrev pub begins_report : Bytes → Bool
-begins_report line = bytes_eq line (codes "adept report 1") || bytes_eq line (codes "adept report 2")
+begins_report line = bytes_eq line (codes "adept report 1") || bytes_eq line (codes "adept report 2") || bytes_eq line (codes "adept report 3")
 
 -- how many bytes stand before the first line that begins a report: behind the lines, bytes that no line feed ends are one too
 abbrev pub before_report : List Bytes → Bytes → ℕ

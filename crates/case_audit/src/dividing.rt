@@ -36,5 +36,7 @@ fn file_length(bytes: &[u8]) -> usize
 fn begins_report(line: &[u8]) -> bool
     ensures { result ≡ begins_report line.now }
 {
-    line == b"adept report 1".as_slice() || line == b"adept report 2".as_slice()
+    line == b"adept report 1".as_slice()
+        || line == b"adept report 2".as_slice()
+        || line == b"adept report 3".as_slice()
 }

@@ -2,9 +2,10 @@
 ghost use Rattle.std.specs.Prelude.{◌≡◌, ◌++◌, ◌∷◌, [], length, fold, replicate, IfOk, OnOk};
 ghost use Rattle.std.specs.List.{range_with_len};
 ghost use Rattle.case_audit.specs.Asking.{asked_in, asked_of, script_of};
-ghost use Rattle.case_audit.specs.Owing.{calls_decl, calls_number, case_put, is_of_type, kind_put, numbered_of, numbers};
+ghost use Rattle.case_audit.specs.Owing.{calls_decl, calls_number, case_put, kind_put, numbered_of, numbers};
 ghost use Rattle.case_audit.specs.Sharing.{given, put_where};
 ghost use Rattle.file_facts.specs.Facts.{ArePlaced};
+ghost use Rattle.file_model.specs.CaseCounts.{is_among};
 ghost use Rattle.line_followers.specs.Numbered.{with_line};
 ghost use Rattle.script_run.specs.Calls.{changed_at};
 
@@ -162,9 +163,9 @@ fn add_case_line<'a>(
     ensures { OnOk result (numbers owed.new.items ≡ case_put script.now.file.now.cases phase (numbers owed.old.items) (asked_of call.entry)) }
 {
     let cells = cells_of(&call.line.act);
-    if let Some(type_no) = cells.each() {
+    if let Some((type_no, many)) = cells.each() {
         let cases = script.file.cases.as_slice();
-        return add_to_each(alloc, cases, owed, type_no, phase, call);
+        return add_to_each(alloc, cases, owed, type_no, many, phase, call);
     }
     let Some(id) = cells.case() else {
         return Ok(());
@@ -175,19 +176,20 @@ fn add_case_line<'a>(
     }
 }
 
-// A line, for each case of a type.
+// A line, for each of the first so many cases of a type.
 fn add_to_each<'a>(
     alloc: Global,
     cases: &[CaseDecl],
     owed: &mut Vec<Owed<'a>>,
     type_no: u32,
+    many: u32,
     phase: usize,
     call: AskedLine<'a>,
 ) -> Result<(), NoMemory>
-    ensures { OnOk result (numbers owed.new.items ≡ put_where (is_of_type type_no) (with_line phase (asked_of call.entry)) cases.now (numbers owed.old.items)) }
+    ensures { OnOk result (numbers owed.new.items ≡ put_where (is_among type_no many) (with_line phase (asked_of call.entry)) cases.now (numbers owed.old.items)) }
 {
     for (place, decl) in cases.iter().enumerate() {
-        if decl.id.type_no == type_no {
+        if decl.is_among(type_no, many) {
             add_at(alloc, owed, place, phase, call)?;
         }
     }

@@ -4,10 +4,11 @@ use Rattle.std.specs.Prelude.{IfErr, IfOk, IsErrOf, Result, Ok, Err, if◌then�
 use Rattle.std.proofs.lemmas.List.{append-nil, drop_all, length-map}
 use Rattle.std.proofs.lemmas.Slice.Eq.{bytes_eq-Decides}
 use Rattle.case_keep.specs.Playing.{HoldsBeginningOf, IsPlayFault}
-use Rattle.file_model.specs.Reading.{file}
+use Rattle.file_limits.specs.declared.TheConstants.{NEWEST_KEPT_FORMAT}
+use Rattle.file_model.specs.Reading.{file_up_to}
 use Rattle.file_model.specs.declared.files.File.{File}
 use Rattle.file_model.specs.declared.refusals.Refused.{Refused}
-use Rattle.store_calls.specs.Calls.{calls, payload_of, payloads}
+use Rattle.store_calls.specs.Calls.{calls, payloads}
 use Rattle.store_disk.specs.Disk.{IsSettled, LeavesOnly}
 use Rattle.store_disk.specs.Image.{frames, frames_of, HasList}
 use Rattle.store_disk.proofs.Moments.{and_then, started}
@@ -15,7 +16,8 @@ use Rattle.store_form.specs.Payload.{Bytes}
 use Rattle.store_form.specs.declared.stored.Recorded.{Recorded}
 use Rattle.store_keep.specs.Finding.{finds}
 use Rattle.store_keep.specs.Keeping.{held, HoldsBeginning, IsBegun, IsStored}
-use Rattle.store_keep.specs.Refusals.{Overflows, Tells}
+use Rattle.store_keep.specs.Refusals.{Tells}
+use Rattle.store_room.specs.Room.{Overflows, payload_of}
 use Rattle.store_keep.specs.declared.faults.KeepFault.{KeepFault}
 use Rattle.store_keep.specs.declared.faults.KeepFault.TheVariants as fault
 use Rattle.store_keep.specs.declared.finding.Found.{Found}
@@ -85,7 +87,7 @@ module _ {D : Type 0} (content : D → List ℕ) (may_leave : D → List ℕ →
     -- nothing was done to it
     nothing-of : (bytes : Option (List ℕ)) (c : List ℕ) → c ≡ [] → HoldsBeginningOf bytes c
     nothing-of None c is = tt
-    nothing-of (Some b) c is = go (file b)
+    nothing-of (Some b) c is = go (file_up_to NEWEST_KEPT_FORMAT b)
       where
         go : (r : Result File Refused) → IfOk r (λ f. HoldsBeginning (payloads f) [] c)
         go (Err refusal) = tt

@@ -7,8 +7,8 @@ use Rattle.adept_io.specs.declared.reading.ReadRefusal.{ReadRefusal}
 use Rattle.adept_io.specs.declared.reading.ReadRefusal.TheVariants as read
 use Rattle.case_keep.specs.declared.unkept.Unkept.{Unkept}
 use Rattle.case_keep.specs.declared.unkept.Unkept.TheVariants as unkept
-use Rattle.file_limits.specs.declared.TheConstants.{MAX_FILE_BYTES}
-use Rattle.file_model.specs.Reading.{file}
+use Rattle.file_limits.specs.declared.TheConstants.{MAX_FILE_BYTES, NEWEST_KEPT_FORMAT}
+use Rattle.file_model.specs.Reading.{file_up_to}
 use Rattle.file_model.specs.declared.files.File.{File}
 use Rattle.file_model.specs.declared.refusals.FileRefusal.{FileRefusal}
 use Rattle.file_model.specs.declared.refusals.FileRefusal.TheVariants as refusal
@@ -34,13 +34,13 @@ of_open (open_fault.Failed reason) = unkept.NoStore
 
 -- bytes, where they are known, are not too many and stand for a file
 abbrev pub StandFor : Option (List ℕ) → File → Type 0
-StandFor bytes f = IfSome bytes (λ b. (length b ≤ MAX_FILE_BYTES) × (file b ≡ Ok f))
+StandFor bytes f = IfSome bytes (λ b. (length b ≤ MAX_FILE_BYTES) × (file_up_to NEWEST_KEPT_FORMAT b ≡ Ok f))
 
 -- There is no file: a read failed where no more was read than a file may have, there was one byte too many, the bytes that
 -- were read to the end are refused at this place, or there was not enough memory.
 abbrev pub EndsUnread : {S : Type 0} → (S → Option (List ℕ)) → (S → ℕ) → S → S → Unkept → Type 0
 EndsUnread left faults from to unkept.Unread = Rose (faults from) (faults to) × ConsumesUpTo (left from) (left to) MAX_FILE_BYTES
 EndsUnread left faults from to unkept.TooLong = ConsumesMany (left from) (left to) (MAX_FILE_BYTES + 1)
-EndsUnread left faults from to (unkept.Refused place) = IfSome (left from) (λ b. (length b ≤ MAX_FILE_BYTES) × (file b ≡ Err place)) × IsAtEnd (left to)
+EndsUnread left faults from to (unkept.Refused place) = IfSome (left from) (λ b. (length b ≤ MAX_FILE_BYTES) × (file_up_to NEWEST_KEPT_FORMAT b ≡ Err place)) × IsAtEnd (left to)
 EndsUnread left faults from to unkept.NoMemory = Unit {0}
 EndsUnread left faults from to _ = ⊥

@@ -7,13 +7,14 @@ use Rattle.case_keep.specs.Input.{EndsUnread, StandFor}
 use Rattle.case_keep.specs.Statuses.{status_of}
 use Rattle.case_keep.specs.declared.playing.StoreOutcome.{StoreOutcome}
 use Rattle.case_keep.specs.declared.unkept.Unkept.{Unkept}
-use Rattle.file_model.specs.Reading.{file}
+use Rattle.file_limits.specs.declared.TheConstants.{NEWEST_KEPT_FORMAT}
+use Rattle.file_model.specs.Reading.{file_up_to}
 use Rattle.file_model.specs.declared.files.File.{File}
 use Rattle.report_text.specs.Report.{text}
 use Rattle.script_run.specs.Serial.{serial}
 use Rattle.store_calls.specs.Calls.{calls, payloads}
 use Rattle.store_keep.specs.Keeping.{HoldsBeginning, IsStored}
-use Rattle.store_keep.specs.Refusals.{Overflows}
+use Rattle.store_room.specs.Room.{Overflows}
 use Rattle.store_keep.specs.declared.faults.KeepFault.{KeepFault}
 use Rattle.store_keep.specs.declared.faults.KeepFault.TheVariants as fault
 
@@ -67,4 +68,4 @@ pub record Stores {D : Type 0} (content : D → List ℕ) (may_leave : D → Lis
 
 -- where the bytes stand for a file, an image holds a beginning of its calls
 abbrev pub HoldsBeginningOf : Option (List ℕ) → List ℕ → Type 0
-HoldsBeginningOf bytes image = IfSome bytes (λ b. IfOk (file b) (λ f. HoldsBeginning (payloads f) [] image))
+HoldsBeginningOf bytes image = IfSome bytes (λ b. IfOk (file_up_to NEWEST_KEPT_FORMAT b) (λ f. HoldsBeginning (payloads f) [] image))

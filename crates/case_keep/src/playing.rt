@@ -11,7 +11,7 @@ ghost use Rattle.script_run.specs.Serial.{serial};
 ghost use Rattle.store_calls.specs.Calls.{calls, payloads};
 ghost use Rattle.store_disk.specs.Disk.{IsSettled, LeavesOnly};
 ghost use Rattle.store_keep.specs.Keeping.{HoldsBeginning, IsStored};
-ghost use Rattle.store_keep.specs.Refusals.{Overflows};
+ghost use Rattle.store_room.specs.Room.{Overflows};
 
 use crate::keeping::{keep_file_within, store_calls_of};
 use crate::reading::read_process;

@@ -7,8 +7,8 @@ ghost use Rattle.file_model.specs.Sizes.{IsBounded};
 
 use crate::unkept::Unkept;
 use adept_io::{Source, read_to_limit};
-use file_limits::MAX_FILE_BYTES;
-use process_text::{File, read_workable};
+use file_limits::{MAX_FILE_BYTES, NEWEST_KEPT_FORMAT};
+use process_text::{File, read_workable_up_to};
 use std::alloc::Global;
 
 /// Reads the source to its end: the process file that its bytes stand for, or why there is none.
@@ -20,6 +20,6 @@ pub fn read_process<S: Source>(alloc: Global, source: &mut S) -> Result<File, Un
     ensures err { IfErr result (λ why. EndsUnread S.left S.faults source.old source.new why) }
 {
     let bytes = read_to_limit(alloc, source, MAX_FILE_BYTES)?;
-    let file = read_workable(alloc, bytes.as_slice())?;
+    let file = read_workable_up_to(alloc, NEWEST_KEPT_FORMAT, bytes.as_slice())?;
     Ok(file)
 }

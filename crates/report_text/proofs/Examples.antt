@@ -66,6 +66,7 @@ a_file = record {
   format = 1;
   nodes = codes "start" ∷ codes "finish" ∷ codes "A" ∷ [];
   elements = codes "d" ∷ [];
+  roles = [];
   types = record { name = codes "t"; schema = plain 0 1 nothing } ∷ [];
   actors = record { name = codes "ann"; roles = [] } ∷ [];
   cases = [];
@@ -82,6 +83,15 @@ end_with_values = refl
 pub start_with_reads : case_line a_file 1 (record { caller = 5; event = event.Start 9 5 []; reply = reply.Started ((1, Some (value.Int (negsuc 9))) ∷ (2, None) ∷ []) }) ≡ codes "1 5 start 9 -> started 1=-10 2=-\n"
 unfolding digits
 start_with_reads = refl
+
+abbrev roles_file : File
+roles_file = record a_file { roles = codes "nurse" ∷ codes "cook" ∷ [] }
+
+-- a role that has a name is shown by it
+pub named_roles : reply_text roles_file (reply.NotAllowed 2147483649) ++ reply_text roles_file (reply.NotAllowed 2147483647) ++ reply_text roles_file (reply.NotAllowed 2147483650) ++ reply_text a_file (reply.NotAllowed 2147483648) ≡
+    codes "not-allowed cooknot-allowed 2147483647not-allowed 2147483650not-allowed 2147483648"
+unfolding digits
+named_roles = refl
 
 pub no_branch : reply_text a_file (reply.NoBranch None) ++ reply_text a_file (reply.NotHolder 1) ++ reply_text a_file (reply.NotAllowed 3) ≡ codes "no-branch -not-holder annnot-allowed 3"
 unfolding digits

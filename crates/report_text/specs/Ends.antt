@@ -6,7 +6,7 @@ use Rattle.wsm_items.specs.declared.work_items.Item.{Item}
 use Rattle.wsm_items.specs.declared.work_items.Item.TheVariants as item
 use Rattle.file_words.specs.Lines.{Bytes}
 use Rattle.file_model.specs.declared.files.File.{File}
-use Rattle.report_words.specs.Words.{node_then, caller_text, assigned, letter}
+use Rattle.report_words.specs.Words.{node_then, caller_text, assigned, letter, role_text}
 use Rattle.wsm_lists.specs.declared.values.ElementKind.{ElementKind}
 use Rattle.wsm_lists.specs.declared.values.Value.{Value}
 use Rattle.wsm_schema.specs.Flat.{cards_of}
@@ -39,7 +39,7 @@ values_line f l = codes "values" ++ (flat_map (value_now_text f l) l.schema.elem
 
 -- the work items, ascending by node
 abbrev pub item_text : File → Item → Bytes
-item_text f (item.Offered node role) = node_then f node (codes "@") ++ decimal role
+item_text f (item.Offered node role) = node_then f node (codes "@") ++ role_text f role
 item_text f (item.Held node user) = node_then f node (codes ":") ++ caller_text f user
 
 abbrev pub items_line : File → LiveModel → Bytes

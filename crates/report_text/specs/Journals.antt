@@ -8,7 +8,7 @@ use Rattle.fault_words.specs.FaultWords.{fault_text}
 use Rattle.file_words.specs.Lines.{Bytes}
 use Rattle.file_model.specs.declared.files.File.{File}
 use Rattle.report_words.specs.Names.{name_text}
-use Rattle.report_words.specs.Words.{node_text, listed_element, caller_text, assigned, read_text, letter}
+use Rattle.report_words.specs.Words.{node_text, listed_element, caller_text, assigned, read_text, letter, role_text}
 use Rattle.script_run.specs.Entries.{CaseEntry, KindEntry}
 use Rattle.type_core.specs.declared.events.KindEvent.{KindEvent}
 use Rattle.type_core.specs.declared.events.KindEvent.TheVariants as kind_event
@@ -80,7 +80,7 @@ blocked_text f position e = position_text position ++ entry_text f e
 abbrev pub reply_rest : File → Reply → Bytes
 reply_rest f (reply.Started reads) = flat_map (read_text f) reads
 reply_rest f (reply.NotReady s) = codes " " ++ letter s
-reply_rest f (reply.NotAllowed role) = codes " " ++ decimal role
+reply_rest f (reply.NotAllowed role) = codes " " ++ role_text f role
 reply_rest f (reply.NotRunning s) = codes " " ++ letter s
 reply_rest f (reply.NotHolder user) = codes " " ++ caller_text f user
 reply_rest f (reply.WrongWrites elements) = flat_map (listed_element f) elements

@@ -3,7 +3,7 @@ ghost use Rattle.std.specs.Prelude.{◌≡◌, ◌++◌, flat_map, codes, decima
 ghost use Rattle.adept_io.specs.Written.{Gives};
 ghost use Rattle.report_text.specs.Journals.{blocked_text, case_line, choice_text, end_event_text, entry_text, event_text, numbered, position_text, reply_rest, reply_text, reply_word, wrong_choice};
 ghost use Rattle.report_words.specs.Names.{name_text};
-ghost use Rattle.report_words.specs.Words.{caller_text, letter, listed_element};
+ghost use Rattle.report_words.specs.Words.{caller_text, letter, listed_element, role_text};
 
 use crate::kind_lines::put_line_start;
 use adept_io::{Sink, put, put_pieces};
@@ -12,7 +12,7 @@ use file_model::File;
 use itoa::Buffer;
 use report_words::{
     caller_word, letter, put_element, put_fault, put_name, put_of_node, put_reads, put_spaced,
-    put_writes,
+    put_writes, role_word,
 };
 use script_run::CaseEntry;
 use wsm_foot::Name;
@@ -152,7 +152,7 @@ fn put_reply_rest<K: Sink>(sink: &mut K, ok: bool, file: &File, reply: &Reply) -
         Reply::Started(reads) => put_reads(sink, ok, file, reads.as_slice()),
         Reply::NotReady(state) => put_state(sink, ok, *state),
         Reply::NotRunning(state) => put_state(sink, ok, *state),
-        Reply::NotAllowed(role) => put_spaced(sink, ok, *role),
+        Reply::NotAllowed(role) => put_role(sink, ok, file, *role),
         Reply::Migrated(number) => put_spaced(sink, ok, *number),
         Reply::NotNewer(number) => put_spaced(sink, ok, *number),
         Reply::NotHolder(user) => put_user(sink, ok, file, *user),
@@ -172,6 +172,13 @@ fn put_reply_rest<K: Sink>(sink: &mut K, ok: bool, file: &File, reply: &Reply) -
         | Reply::Changed
         | Reply::Finished => ok,
     }
+}
+
+fn put_role<K: Sink>(sink: &mut K, ok: bool, file: &File, role: u32) -> bool
+    ensures { Gives K.written K.faults ok result sink.old sink.new (codes " " ++ role_text file.now role) }
+{
+    let mut buffer = Buffer::new();
+    put_pieces(sink, ok, &[b" ", role_word(file, role, &mut buffer)])
 }
 
 fn put_state<K: Sink>(sink: &mut K, ok: bool, state: State) -> bool

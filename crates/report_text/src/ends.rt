@@ -6,11 +6,11 @@ ghost use Rattle.case_core.specs.Shown.{is_finished};
 ghost use Rattle.report_text.specs.Ends.{end_text, item_text, items_line, live_text, mark_text, marking_line, progress, state_line, value_now_text, values_line};
 ghost use Rattle.wsm_schema.specs.Flat.{cards_of};
 
-use adept_io::{Sink, put, put_number, put_pieces};
+use adept_io::{Sink, put, put_pieces};
 use case_core::{Item, LiveCase};
 use file_model::File;
 use itoa::Buffer;
-use report_words::{caller_word, letter, put_assigned, put_node};
+use report_words::{caller_word, letter, put_assigned, put_node, role_word};
 use wsm_schema::{Card, ElementKind, State};
 
 /// The lines that say how a case ended: one where it was not created, and else four.
@@ -148,7 +148,8 @@ fn put_items<K: Sink>(sink: &mut K, ok: bool, file: &File, items: &[(u32, Item)]
     well
 }
 
-fn put_item<K: Sink>(sink: &mut K, ok: bool, file: &File, item: Item) -> bool
+/// A work item, behind a space.
+pub fn put_item<K: Sink>(sink: &mut K, ok: bool, file: &File, item: Item) -> bool
     ensures { Gives K.written K.faults ok result sink.old sink.new (item_text file.now item) }
 {
     match item {
@@ -161,8 +162,9 @@ fn put_item<K: Sink>(sink: &mut K, ok: bool, file: &File, item: Item) -> bool
 fn put_offered<K: Sink>(sink: &mut K, ok: bool, file: &File, node: u32, role: u32) -> bool
     ensures { Gives K.written K.faults ok result sink.old sink.new (item_text file.now (item.Offered node role)) }
 {
+    let mut buffer = Buffer::new();
     let ok = put_node(sink, ok, file, node, b"@");
-    put_number(sink, ok, u64::from(role))
+    put(sink, ok, role_word(file, role, &mut buffer))
 }
 
 #[tactic(auto, using(adept_io::proofs::Sent::gives_then))]

@@ -15,9 +15,12 @@ mod report;
 pub use adept_io::Failed;
 pub use case_lines::{put_case_line, put_reply};
 pub use checks::write_verdicts;
-pub use ends::put_end;
+pub use ends::{put_end, put_item};
 pub use kind_lines::put_kind_line;
-pub use report::{put_case_head, put_first_line, put_type_head, write_run, write_summary};
+pub use report::{
+    put_case, put_case_head, put_cases, put_first_line, put_kind, put_kinds, put_type_head,
+    write_run, write_summary,
+};
 pub use script_run::{
     CaseEntry, CaseJournal, ClosedCase, ClosedCases, ClosedKind, ClosedKinds, KindEntry,
     KindJournal, Run, Verdict, Verdicts,

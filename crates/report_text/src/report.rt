@@ -83,8 +83,8 @@ fn put_all_kinds<K: Sink>(sink: &mut K, ok: bool, file: &File, run: &Run) -> boo
     put_kinds(sink, ok, file, file.types.as_slice(), run.kinds.as_slice())
 }
 
-// The types, each with its calls.
-fn put_kinds<K: Sink>(
+/// The types, each with its calls.
+pub fn put_kinds<K: Sink>(
     sink: &mut K,
     ok: bool,
     file: &File,
@@ -100,7 +100,8 @@ fn put_kinds<K: Sink>(
     well
 }
 
-fn put_kind<K: Sink>(
+/// A type and its calls.
+pub fn put_kind<K: Sink>(
     sink: &mut K,
     ok: bool,
     file: &File,
@@ -126,8 +127,8 @@ fn put_all_cases<K: Sink>(sink: &mut K, ok: bool, file: &File, run: &Run) -> boo
     put_cases(sink, ok, file, file.cases.as_slice(), run.cases.as_slice())
 }
 
-// The cases, each with its calls and how it ended.
-fn put_cases<K: Sink>(
+/// The cases, each with its calls and how it ended.
+pub fn put_cases<K: Sink>(
     sink: &mut K,
     ok: bool,
     file: &File,
@@ -143,7 +144,8 @@ fn put_cases<K: Sink>(
     well
 }
 
-fn put_case<K: Sink>(
+/// A case, its calls, and how it ended.
+pub fn put_case<K: Sink>(
     sink: &mut K,
     ok: bool,
     file: &File,

@@ -1,7 +1,8 @@
 -- The words of a report.
-use Rattle.std.specs.Prelude.{◌≡◌, ℕ, ◌-◌, ◌<◌, ◌==◌, Bool, true, ◌||◌, [], ◌∷◌, ◌++◌, flat_map, length, take, slice_index, slice_get, Option, Some, None, if◌then◌else◌, codes, decimal}
+use Rattle.std.specs.Prelude.{◌≡◌, ℕ, ◌-◌, ◌<◌, ◌==◌, nat_lt, Bool, true, ◌||◌, [], ◌∷◌, ◌++◌, flat_map, length, take, slice_index, slice_get, Option, Some, None, if◌then◌else◌, codes, decimal}
 use Rattle.std.specs.Fmt.{signed_decimal}
 use Rattle.fault_words.specs.FaultWords.{named}
+use Rattle.file_limits.specs.declared.TheConstants.{FIRST_NAMED_ROLE}
 use Rattle.file_words.specs.Lines.{Bytes}
 use Rattle.file_model.specs.declared.files.ActorDecl.{ActorDecl}
 use Rattle.file_model.specs.declared.files.File.{File}
@@ -17,6 +18,14 @@ node_text f n = named f.nodes n
 
 abbrev pub element_text : File → ℕ → Bytes
 element_text f d = named f.elements d
+
+-- the name of a role, or the number of one that has none
+abbrev pub role_name : Option Bytes → ℕ → Bytes
+role_name None r = decimal r
+role_name (Some name) r = name
+
+abbrev pub role_text : File → ℕ → Bytes
+role_text f r = if nat_lt r FIRST_NAMED_ROLE then decimal r else role_name (slice_get f.roles (r - FIRST_NAMED_ROLE)) r
 
 -- the name of a type
 abbrev pub type_name : Option TypeDecl → ℕ → Bytes

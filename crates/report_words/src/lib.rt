@@ -14,4 +14,5 @@ pub use totals::{put_case_totals, put_migration_totals};
 pub use values::{put_assigned, put_reads, put_writes};
 pub use words::{
     caller_word, letter, put_element, put_format, put_node, put_of_node, put_spaced, put_type,
+    role_word,
 };

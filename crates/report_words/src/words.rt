@@ -1,9 +1,10 @@
 // The words of a report.
 ghost use Rattle.std.specs.Prelude.{◌≡◌, ◌++◌, codes, decimal};
 ghost use Rattle.adept_io.specs.Written.{Gives};
-ghost use Rattle.report_words.specs.Words.{caller_text, element_is, element_text, letter, listed_element, node_and_code, node_and_element, node_and_node, node_text, node_then, type_text};
+ghost use Rattle.report_words.specs.Words.{caller_text, element_is, element_text, letter, listed_element, node_and_code, node_and_element, node_and_node, node_text, node_then, role_text, type_text};
 
 use adept_io::{Sink, put, put_pieces};
+use file_limits::FIRST_NAMED_ROLE;
 use file_model::File;
 use itoa::Buffer;
 use wsm_schema::State;
@@ -60,6 +61,19 @@ pub fn caller_word<'a>(file: &'a File, caller: u32, buffer: &'a mut Buffer) -> &
     match file.actors.get(caller as usize - 1) {
         Some(decl) => decl.name.bytes(),
         None => buffer.format(caller).as_bytes(),
+    }
+}
+
+/// The name of a role, or its number where it has none.
+pub fn role_word<'a>(file: &'a File, role: u32, buffer: &'a mut Buffer) -> &'a [u8]
+    ensures { result.now ≡ role_text file.now role }
+{
+    if role < FIRST_NAMED_ROLE {
+        return buffer.format(role).as_bytes();
+    }
+    match file.roles.get((role - FIRST_NAMED_ROLE) as usize) {
+        Some(name) => name.bytes(),
+        None => buffer.format(role).as_bytes(),
     }
 }
 
