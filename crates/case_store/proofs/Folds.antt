@@ -2,57 +2,53 @@
 use Rattle.std.proofs.Common.{◌≡◌, ◌≢◌, inl, inr, ℕ, ◌+◌, ◌<◌, ◌≤◌, ◌^◌, Bool, false, true, List, [], ◌∷◌, ◌++◌, length, map, take, drop, refl, sym, ap, subst, ◌∙◌, append_assoc, arith, length-append}
 use Rattle.std.specs.Prelude.{IfOk, Ok, Err, Result, fold, if◌then◌else◌}
 use Rattle.std.specs.List.{AllByRecursion}
-use Rattle.std.proofs.lemmas.List.{append-nil, length-drop, length-take-le, map_push}
-use Rattle.std.proofs.lemmas.List.Sums.{fold_push}
+use Rattle.std.proofs.lemmas.Bool.{and_parts}
+use Rattle.std.proofs.lemmas.List.{length-drop, length-take-le, map-append, map_push}
+use Rattle.std.proofs.lemmas.List.Sums.{fold-append, sum_by-cons}
 use Rattle.script_run.specs.Oldest.{oldest}
 use Rattle.script_run.specs.declared.runs.Run.{Run}
 use Rattle.store_disk.specs.Disk.{IsSettled, LeavesOnly, Only}
 use Rattle.store_disk.specs.Image.{all_framed, closed, damaged, frame, frames, frames_from, frames_of, framed}
 use Rattle.store_disk.specs.Opening.{IsFrame, with_gate}
-use Rattle.store_disk.specs.Rest.{EndsAt, IsAtRest, IsBeforeOrAfter}
+use Rattle.store_disk.specs.Rest.{EndsAt, HasNoneOrAll, IsAtRest}
 use Rattle.store_disk.specs.declared.frames.Frame.TheVariants as front
-use Rattle.store_disk.proofs.Framing.{all_short, frames_at, one_framed}
+use Rattle.store_disk.proofs.Framing.{all_short, framed-more, frames_at, one_framed}
 use Rattle.store_form.specs.Payload.{Bytes, IsPayloadOf, payload}
-use Rattle.store_form.specs.Stored.{has_short_lists}
+use Rattle.store_form.specs.Stored.{is_shallow}
 use Rattle.store_form.specs.declared.stored.Recorded.{Recorded}
 use Rattle.store_form.specs.declared.stored.Stored.{Stored}
+use Rattle.store_room.specs.Room.{HasPayload, IsPayable, payload_of}
+use Rattle.store_room.proofs.Grouped.{own-payload}
 use Rattle.case_store.specs.Damage.{IsDamaged, IsDamagedFrom, IsRefused, IsTaken, Says, TakesIn, TellsDamage}
 use Rattle.case_store.specs.Faults.{refused}
-use Rattle.case_store.specs.Folding.{called, fresh, has, payload_of, starts_of, stored_weight}
-use Rattle.case_store.specs.Standing.{AreCalls, Held, IsFoldOf, IsStore, Opens, Passes, StoreState}
+use Rattle.case_store.specs.Folding.{called, fresh, has, has_names, starts_of, stored_weight, weight_of_all}
+use Rattle.case_store.specs.Standing.{AreCalls, AreKnown, Held, IsFoldOf, IsStore, Opens, StoreState}
 use Rattle.case_store.specs.declared.refusals.ImageFault.{ImageFault}
 use Rattle.case_store.specs.declared.refusals.ImageFault.TheVariants as fault
 use Rattle.case_store.proofs.Cells.{fresh-young}
 use Rattle.case_store.proofs.Weights.{weight-below}
 
--- one call more
-calls-more : (starts : List ℕ) (run : Run) (rs : List Recorded) (r : Recorded) → AreCalls starts run rs → has starts (fold (called starts) run rs) r.event ≡ true
-    → IsPayloadOf (payload_of r) r.caller r.event → AreCalls starts run (rs ++ r ∷ [])
-calls-more starts run [] r are there pays = (there, pays, tt)
-calls-more starts run (q ∷ rs) r are there pays = (are.0, are.1, calls-more starts (called starts run q) rs r are.2 there pays)
+-- calls behind others
+calls-append : (starts : List ℕ) (run : Run) (rs qs : List Recorded) → AreCalls starts run rs → AreCalls starts (fold (called starts) run rs) qs → AreCalls starts run (rs ++ qs)
+calls-append starts run [] qs are more = more
+calls-append starts run (r ∷ rs) qs are more = (are.0, are.1, calls-append starts (called starts run r) rs qs are.2 more)
 
--- of bytes that are the payload of a call
-own-payload : (bytes : Bytes) (r : Recorded) → IsPayloadOf bytes r.caller r.event → IsPayloadOf (payload_of r) r.caller r.event
-own-payload bytes r pays = record { number = pays.number; fits = pays.fits; same = refl }
-
-pub fold-more : (counts : List ℕ) (old new : Held) (rs : List Recorded) (r : Recorded) (bytes : Bytes) → IsFoldOf counts old rs → IsTaken old.starts old.run bytes r
-    → new ≡ record old { run = called old.starts old.run r } → IsFoldOf counts new (rs ++ r ∷ [])
-fold-more counts old new rs r bytes f taken made =
-    subst (λ h. IsFoldOf counts h (rs ++ r ∷ [])) (sym made)
+pub folds-more : (counts : List ℕ) (old new : Held) (rs qs : List Recorded) → IsFoldOf counts old rs → AreCalls old.starts old.run qs
+    → new ≡ record old { run = fold (called old.starts) old.run qs } → IsFoldOf counts new (rs ++ qs)
+folds-more counts old new rs qs f more made =
+    subst (λ h. IsFoldOf counts h (rs ++ qs)) (sym made)
     (record {
       starts = f.starts;
       run =
-          ap (λ s. called s old.run r) f.starts ∙ ap (λ run. called (starts_of counts) run r) f.run
-          ∙ sym (fold_push (called (starts_of counts)) (fresh counts) rs r);
-      calls = calls-more (starts_of counts) (fresh counts) rs r f.calls
-          (subst (λ run. has (starts_of counts) run r.event ≡ true) f.run (subst (λ s. has s old.run r.event ≡ true) f.starts taken.1))
-          (own-payload bytes r taken.0);
+          ap (λ s. fold (called s) old.run qs) f.starts ∙ ap (λ run. fold (called (starts_of counts)) run qs) f.run
+          ∙ sym (fold-append (called (starts_of counts)) (fresh counts) rs qs);
+      calls = calls-append (starts_of counts) (fresh counts) rs qs f.calls
+          (subst (λ run. AreCalls (starts_of counts) run qs) f.run (subst (λ s. AreCalls s old.run qs) f.starts more));
     })
 
--- the bytes of one record more
-pub framed-more : (ps : List Bytes) (p : Bytes) → all_framed (ps ++ p ∷ []) ≡ all_framed ps ++ framed p
-framed-more [] p = append-nil (framed p)
-framed-more (q ∷ ps) p = ap (λ l. framed q ++ l) (framed-more ps p) ∙ sym (append_assoc (framed q) (all_framed ps) (framed p))
+pub fold-more : (counts : List ℕ) (old new : Held) (rs : List Recorded) (r : Recorded) (bytes : Bytes) → IsFoldOf counts old rs → IsTaken old.starts old.run bytes r
+    → new ≡ record old { run = called old.starts old.run r } → IsFoldOf counts new (rs ++ r ∷ [])
+fold-more counts old new rs r bytes f taken made = folds-more counts old new rs (r ∷ []) f (taken.1, own-payload bytes r taken.0, tt) made
 
 -- how far an image has been taken in
 pub record Reached (counts image : List ℕ) (held : Held) (rest : List ℕ) (place : ℕ) : Type 0 where
@@ -164,11 +160,6 @@ refused-here counts image held new rest place len p so_far gate (long, short, sp
     is-refused counts image held rest place so_far p (drop (5 + len) rest) gate (omega (arith, size, short))
     (split ∙ ap (λ q. framed q ++ drop (5 + len) rest) (sym bytes)) refused
 
--- a call that finds room does not pass the limit
-pub not-passing : (limit gate caller : ℕ) (e : Stored) (p : Bytes) → has_short_lists e ≡ true → payload caller e ≡ p → gate + (6 + length p) ≤ limit → Passes limit gate caller e → ⊥
-not-passing limit gate caller e p short same fits (inl long) = absurd cc
-not-passing limit gate caller e p short same fits (inr over) = omega (arith, ap length same, fits, over)
-
 -- types and cases that nobody has called are the run of no records
 pub fresh-fold : (counts cases : List ℕ) (held : Held) → cases ≡ counts → held ≡ record { starts = starts_of cases; run = fresh cases } → IsFoldOf counts held []
 fresh-fold counts cases held same is = record {
@@ -201,21 +192,56 @@ pub none-older : {E : Type 0} (caller : ℕ) (e : Stored) (p : Bytes) (old new :
 none-older caller e p old new (Ok b) same le = no-older caller e p old new same le
 none-older caller e p old new (Err x) same le = tt
 
--- a step: one record more, on the disk and in the run
+-- there is room in each machine for calls that find room on the disk
+weights-below : (rs : List Recorded) → weight_of_all rs ≤ length (all_framed (map payload_of rs))
+weights-below [] = omega arith
+weights-below (r ∷ rs) =
+    omega (arith, sum_by-cons (λ (q : Recorded). stored_weight q.event) r rs, weight-below r.caller r.event, weights-below rs, length-append (framed (payload_of r)) (all_framed (map payload_of rs)))
+
+pub room-for-all : (calls : List Recorded) (ps : List Bytes) (gate old : ℕ) → ps ≡ map payload_of calls → old ≤ gate → gate + length (all_framed ps) < 2 ^ 30 → old + weight_of_all calls ≤ 4000000000
+room-for-all calls ps gate old are young short = omega (arith, weights-below calls, ap (λ qs. length (all_framed qs)) are, young, short)
+
+-- calls of what is there
+pub known-payable : (starts : List ℕ) (run : Run) (rs : List Recorded) → AreKnown starts run rs → AllByRecursion IsPayable rs
+known-payable starts run [] known = tt
+known-payable starts run (r ∷ rs) known = (((and_parts (has_names starts run r.event) (is_shallow r.event) known.0).1, known.1), known-payable starts (called starts run r) rs known.2)
+
+known-calls : (starts : List ℕ) (run : Run) (rs : List Recorded) → AreKnown starts run rs → AllByRecursion HasPayload rs → AreCalls starts run rs
+known-calls starts run [] known pay = tt
+known-calls starts run (r ∷ rs) known pay = (known.0, pay.0, known-calls starts (called starts run r) rs known.2 pay.1)
+
+-- records more, on the disk and in the run
 module _ {D : Type 0} (content : D → List ℕ) (may_leave : D → List ℕ → Type 0) (counts : List ℕ) where
+  steps : (old new : StoreState D) (rs qs : List Recorded) → IsStore content may_leave counts old rs → AreCalls old.held.starts old.held.run qs
+      → new.held ≡ record old.held { run = fold (called old.held.starts) old.held.run qs } → IsAtRest content may_leave new.disk (map payload_of rs ++ map payload_of qs) new.gate
+      → new.gate ≡ old.gate + length (all_framed (map payload_of qs)) → new.gate < 2 ^ 30 → oldest new.held.run.cases ≤ oldest old.held.run.cases + weight_of_all qs
+      → IsStore content may_leave counts new (rs ++ qs)
+  steps old new rs qs store calls made at_rest next short older = record {
+    rest = subst (λ ps. IsAtRest content may_leave new.disk ps new.gate) (sym (map-append payload_of rs qs)) at_rest;
+    fold = folds-more counts old.held new.held rs qs store.fold calls made;
+    short = short;
+    young = omega (arith, store.young, next, older, weights-below qs);
+  }
+
   pub one-step : (old new : StoreState D) (rs : List Recorded) (r : Recorded) (p : Bytes) → IsStore content may_leave counts old rs → IsTaken old.held.starts old.held.run p r
       → new.held ≡ record old.held { run = called old.held.starts old.held.run r } → IsAtRest content may_leave new.disk (map payload_of rs ++ p ∷ []) new.gate
       → new.gate ≡ old.gate + (5 + length p) → old.gate + (6 + length p) ≤ 2 ^ 30 → oldest new.held.run.cases ≤ oldest old.held.run.cases + stored_weight r.event
       → IsStore content may_leave counts new (rs ++ r ∷ [])
-  one-step old new rs r p store taken made at_rest next room older =
-      let more : map payload_of (rs ++ r ∷ []) ≡ map payload_of rs ++ p ∷ [] = map_push payload_of rs r ∙ ap (λ q. map payload_of rs ++ q ∷ []) taken.0.same in
-      let light : stored_weight r.event ≤ length p = subst (λ q. stored_weight r.event ≤ length q) taken.0.same (weight-below r.caller r.event) in
-      record {
-        rest = subst (λ ps. IsAtRest content may_leave new.disk ps new.gate) (sym more) at_rest;
-        fold = fold-more counts old.held new.held rs r p store.fold taken made;
-        short = omega (arith, next, room);
-        young = omega (arith, store.young, next, older, light);
-      }
+  one-step old new rs r p store taken made at_rest next fits older =
+      let size : length (all_framed (payload_of r ∷ [])) ≡ 5 + length p = omega (arith, ap length taken.0.same, length-append (framed (payload_of r)) []) in
+      let weight : weight_of_all (r ∷ []) ≡ stored_weight r.event = sum_by-cons (λ (q : Recorded). stored_weight q.event) r [] ∙ omega arith in
+      steps old new rs (r ∷ []) store (taken.1, own-payload p r taken.0, tt) made
+      (subst (λ q. IsAtRest content may_leave new.disk (map payload_of rs ++ q ∷ []) new.gate) (sym taken.0.same) at_rest)
+      (omega (arith, next, size)) (omega (arith, next, fits)) (omega (arith, older, weight))
+
+  pub all-steps : (old new : StoreState D) (rs qs : List Recorded) (group : List Bytes) → IsStore content may_leave counts old rs → AreKnown old.held.starts old.held.run qs → AllByRecursion HasPayload qs
+      → group ≡ map payload_of qs → new.held ≡ record old.held { run = fold (called old.held.starts) old.held.run qs } → IsAtRest content may_leave new.disk (map payload_of rs ++ group) new.gate
+      → new.gate ≡ old.gate + length (all_framed group) → old.gate + length (all_framed group) < 2 ^ 30 → oldest new.held.run.cases ≤ oldest old.held.run.cases + weight_of_all qs
+      → IsStore content may_leave counts new (rs ++ qs)
+  all-steps old new rs qs group store known pay are made at_rest next short older =
+      steps old new rs qs store (known-calls old.held.starts old.held.run qs known pay) made
+      (subst (λ ps. IsAtRest content may_leave new.disk (map payload_of rs ++ ps) new.gate) are at_rest)
+      (omega (arith, next, ap (λ ps. length (all_framed ps)) are)) (omega (arith, next, short)) older
 
 -- a gate that is put on a short disk
 gate-frames : (c : List ℕ) → frames (with_gate c) ≡ frames c
@@ -271,10 +297,10 @@ module _ {D : Type 0} (content : D → List ℕ) (may_leave : D → List ℕ →
         },
       )
 
--- a step that did not come to the disk
-pub stays : {D : Type 0} (content : D → List ℕ) (may_leave : D → List ℕ → Type 0) (moment : D → ℕ) (left_since : D → ℕ → List ℕ → Type 0) (disk : D) (ps : List Bytes) (p : Bytes) (place : ℕ)
-    → ((c : List ℕ) → left_since disk (moment disk) c → may_leave disk c) → IsAtRest content may_leave disk ps place → LeavesOnly moment left_since disk disk (IsBeforeOrAfter ps p)
-stays content may_leave moment left_since disk ps p place only_now rest =
+-- what did not come to the disk
+pub stays : {D : Type 0} (content : D → List ℕ) (may_leave : D → List ℕ → Type 0) (moment : D → ℕ) (left_since : D → ℕ → List ℕ → Type 0) (disk : D) (ps qs : List Bytes) (place : ℕ)
+    → ((c : List ℕ) → left_since disk (moment disk) c → may_leave disk c) → IsAtRest content may_leave disk ps place → LeavesOnly moment left_since disk disk (HasNoneOrAll ps qs)
+stays content may_leave moment left_since disk ps qs place only_now rest =
     let e = rest.ends in
     record {
       later = omega arith;

@@ -5,6 +5,10 @@ use Rattle.case_store.specs.declared.refusals.ImageFault.{ImageFault}
 use Rattle.case_store.specs.declared.refusals.ImageFault.TheVariants as fault
 use Rattle.case_store.specs.declared.refusals.OpenRefusal.{OpenRefusal}
 use Rattle.case_store.specs.declared.refusals.OpenRefusal.TheVariants as refusal
+use Rattle.case_store.specs.declared.refusals.StoreFault.{StoreFault}
+use Rattle.case_store.specs.declared.refusals.StoreFault.TheVariants as store_fault
+use Rattle.store_room.specs.declared.faults.RoomFault.{RoomFault}
+use Rattle.store_room.specs.declared.faults.RoomFault.TheVariants as room_fault
 
 abbrev pub image_fault : ReadRefusal → ImageFault
 image_fault read.Failed = fault.Disk
@@ -16,3 +20,7 @@ refused fault.Disk disk = refusal.Disk disk
 refused fault.TooLong disk = refusal.TooLong disk
 refused (fault.Damaged place) disk = refusal.Damaged disk place
 refused fault.NoMemory disk = refusal.NoMemory disk
+
+abbrev pub no_room : RoomFault → StoreFault
+no_room room_fault.Full = store_fault.Full
+no_room room_fault.NoMemory = store_fault.NoMemory

@@ -1,5 +1,6 @@
 -- What stored calls do to the types and cases of a store, by fold, and what they answer.
 use Rattle.std.specs.Prelude.{ℕ, ◌+◌, nat_lt, Bool, ◌&&◌, List, [], ◌∷◌, ◌++◌, length, slice_get, fold, Option, Some, None, if◌then◌else◌}
+use Rattle.std.specs.List.{sum_by}
 use Rattle.std.specs.Option.{is_some}
 use Rattle.std.specs.Prelude.{replicate}
 use Rattle.case_core.specs.Ages.{weight}
@@ -15,7 +16,6 @@ use Rattle.script_run.specs.Calls.{call_case, changed_where, on_kind}
 use Rattle.script_run.specs.declared.runs.ClosedCase.{ClosedCase}
 use Rattle.script_run.specs.declared.runs.ClosedKind.{ClosedKind}
 use Rattle.script_run.specs.declared.runs.Run.{Run}
-use Rattle.store_form.specs.Payload.{Bytes, payload}
 use Rattle.store_form.specs.Stored.{is_shallow}
 use Rattle.store_form.specs.declared.stored.Recorded.{Recorded}
 use Rattle.store_form.specs.declared.stored.Stored.{Stored}
@@ -24,9 +24,6 @@ use Rattle.wsm_sound.specs.VersionModel.{VersionModel}
 use Rattle.wsm_sound.specs.declared.versions.CaseId.{CaseId}
 use Rattle.case_store.specs.declared.replies.StoredReply.{StoredReply}
 use Rattle.case_store.specs.declared.replies.StoredReply.TheVariants as answer
-
-abbrev pub payload_of : Recorded → Bytes
-payload_of r = payload r.caller r.event
 
 -- where the cases of each type begin, and where those of the last one end, by how many each type has
 abbrev pub starts_from : ℕ → List ℕ → List ℕ
@@ -132,9 +129,18 @@ answer_of starts run (stored.Create c number) = version_answer starts c run even
 answer_of starts run (stored.Migrate c number) = version_answer starts c run event.Migrate (version_of run c.type_no number)
 answer_of starts run (stored.Case c e) = answer_of_case starts c run e
 
+-- what the machines answer to calls that are made one after another
+abbrev pub answers_of : List ℕ → Run → List Recorded → List (Option StoredReply)
+answers_of starts run [] = []
+answers_of starts run (r ∷ rs) = answer_of starts run r.event ∷ answers_of starts (called starts run r) rs
+
 -- by how much a stored call may age a machine
 abbrev pub stored_weight : Stored → ℕ
 stored_weight (stored.Define t s) = kind_weight (kind_event.Define s)
 stored_weight (stored.Install t ops) = kind_weight (kind_event.Install ops)
 stored_weight (stored.Case c e) = weight e
 stored_weight _ = 0
+
+-- and several
+abbrev pub weight_of_all : List Recorded → ℕ
+weight_of_all rs = sum_by (λ r. stored_weight r.event) rs

@@ -1,14 +1,13 @@
 -- A store as contracts see it, and what it holds.
-use Rattle.std.specs.Prelude.{◌≡◌, ◌⊎◌, ℕ, ◌+◌, ◌<◌, ◌≤◌, ◌^◌, Bool, true, false, List, [], ◌∷◌, length, map}
+use Rattle.std.specs.Prelude.{◌≡◌, ℕ, ◌<◌, ◌≤◌, ◌^◌, Bool, true, List, [], ◌∷◌, map}
 use Rattle.script_run.specs.Oldest.{oldest}
 use Rattle.script_run.specs.declared.runs.Run.{Run}
 use Rattle.store_disk.specs.Image.{HasList}
 use Rattle.store_disk.specs.Rest.{IsAtRest}
-use Rattle.store_form.specs.Payload.{IsPayloadOf, payload}
-use Rattle.store_form.specs.Stored.{has_short_lists}
-use Rattle.store_form.specs.declared.stored.Stored.{Stored}
+use Rattle.store_form.specs.Stored.{HasNoVersion}
 use Rattle.store_form.specs.declared.stored.Recorded.{Recorded}
-use Rattle.case_store.specs.Folding.{called, folded, has, payload_of, starts_of}
+use Rattle.store_room.specs.Room.{HasPayload, payload_of}
+use Rattle.case_store.specs.Folding.{called, folded, has, starts_of}
 
 -- the types and cases of a store, and where the cases of each type begin
 pub record Held : Type 0 where
@@ -30,7 +29,12 @@ pub record Past : Type 0 where
 -- each record names what is there when it comes, and has a payload
 abbrev pub AreCalls : List ℕ → Run → List Recorded → Type 0
 AreCalls starts run [] = Unit {0}
-AreCalls starts run (r ∷ rs) = (has starts run r.event ≡ true) × IsPayloadOf (payload_of r) r.caller r.event × AreCalls starts (called starts run r) rs
+AreCalls starts run (r ∷ rs) = (has starts run r.event ≡ true) × HasPayload r × AreCalls starts (called starts run r) rs
+
+-- each call names what is there when it comes, and has no version in it
+abbrev pub AreKnown : List ℕ → Run → List Recorded → Type 0
+AreKnown starts run [] = Unit {0}
+AreKnown starts run (r ∷ rs) = (has starts run r.event ≡ true) × HasNoVersion r.event × AreKnown starts (called starts run r) rs
 
 -- the run of these records, on types with so many cases
 pub record IsFoldOf (counts : List ℕ) (held : Held) (records : List Recorded) : Type 0 where
@@ -45,10 +49,6 @@ pub record IsStore {D : Type 0} (content : D → List ℕ) (may_leave : D → Li
   pub short : store.gate < 2 ^ 30
   -- no case is older than there are bytes
   pub young : oldest store.held.run.cases ≤ store.gate
-
--- with this call the image would pass a limit, as it does where a list has 2^32 items or more
-abbrev pub Passes : ℕ → ℕ → ℕ → Stored → Type 0
-Passes limit gate caller e = (has_short_lists e ≡ false) ⊎ (limit < gate + (6 + length (payload caller e)))
 
 -- what an opened store holds is what the disk held
 abbrev pub Opens : {D : Type 0} → (D → List ℕ) → (D → List ℕ → Type 0) → List ℕ → List ℕ → StoreState D → Type 0

@@ -1,19 +1,20 @@
 // The types and cases of a store, which the records make by fold.
-ghost use Rattle.std.specs.Prelude.{◌≡◌, ℕ, ◌+◌, ◌<◌, ◌≤◌, ◌^◌, List, ◌++◌, ◌∷◌, [], Some, true, length, map, slice_get, sum, IfOk, IfErr, OnErr, OnOk, if◌then◌else◌};
+ghost use Rattle.std.specs.Prelude.{◌≡◌, ℕ, ◌+◌, ◌<◌, ◌≤◌, ◌^◌, List, ◌++◌, ◌∷◌, [], Some, true, fold, length, map, slice_get, sum, IfOk, IfErr, OnErr, OnOk, if◌then◌else◌};
 ghost use Rattle.std.specs.Prelude.{replicate};
 ghost use Rattle.std.specs.Option.{is_some, option_copied};
 ghost use Rattle.case_core.specs.Ages.{age, weight};
 ghost use Rattle.case_core.specs.CaseModel.{not_created};
 ghost use Rattle.case_core.specs.Machine.{next_case};
 ghost use Rattle.case_store.specs.Damage.{TakesIn, TellsDamage};
-ghost use Rattle.case_store.specs.Folding.{answer_of, answer_of_case, called, fresh, fresh_cases, fresh_kinds, has, has_case, has_names, kind_answer, made, on_case, payload_of, place_of, starts_of, stored_weight, version_of};
-ghost use Rattle.case_store.specs.Standing.{IsFoldOf};
+ghost use Rattle.case_store.specs.Folding.{answer_of, answer_of_case, answers_of, called, fresh, fresh_cases, fresh_kinds, has, has_case, has_names, kind_answer, made, on_case, place_of, starts_of, stored_weight, version_of, weight_of_all};
+ghost use Rattle.case_store.specs.Standing.{AreKnown, IsFoldOf};
 ghost use Rattle.script_run.specs.Calls.{call_case, call_kind, on_kind};
 ghost use Rattle.script_run.specs.Oldest.{oldest};
 ghost use Rattle.store_disk.specs.Opening.{with_gate};
 ghost use Rattle.store_disk.specs.Rest.{EndsAt};
 ghost use Rattle.store_form.specs.Stored.{HasNoVersion};
 ghost use Rattle.store_form.specs.declared.stored.Recorded.{Recorded};
+ghost use Rattle.store_room.specs.Room.{payload_of};
 ghost use Rattle.turn_cell.specs.History.{entry};
 ghost use Rattle.type_core.specs.Machine.{next_kind, weight as kind_weight};
 
@@ -155,6 +156,27 @@ impl HeldCells {
             }
             Stored::Case(case, event) => self.on_case(alloc, caller, *case, event.copy(alloc)?),
         }
+    }
+
+    // Makes calls of what is there, one after another, and answers what each is told. After want of memory some of them may be
+    // made.
+    pub(crate) fn call_all(
+        &mut self,
+        alloc: Global,
+        calls: &[Recorded],
+    ) -> Result<Vec<StoredReply>, NoMemory>
+        requires known { AreKnown self.old.starts self.old.run calls.now }
+        requires young { oldest self.old.run.cases + weight_of_all calls.now ≤ 4000000000 }
+        ensures run { OnOk result (self.new ≡ record self.old { run = fold (called self.old.starts) self.old.run calls.now }) }
+        ensures replies { IfOk result (λ replies. map Some replies.items ≡ answers_of self.old.starts self.old.run calls.now) }
+        ensures young { OnOk result (oldest self.new.run.cases ≤ oldest self.old.run.cases + weight_of_all calls.now) }
+    {
+        let mut replies = Vec::new(alloc);
+        for call in calls {
+            let reply = self.call(alloc, call.caller, &call.event)?;
+            replies.push(reply)?;
+        }
+        Ok(replies)
     }
 
     // The version that is there, shared.

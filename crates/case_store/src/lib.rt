@@ -2,7 +2,8 @@
 // was acknowledged.
 //
 // A `Store` holds the types and cases that the records of its disk make by fold. `open` reads them; a `step` makes one
-// call, adds its record, and answers what the machine does; `close` gives the disk, the types and the cases back.
+// call, adds its record, and answers what the machine does; `step_all` makes several and adds their records as one group;
+// `close` gives the disk, the types and the cases back.
 #![tactic(auto)]
 
 mod held;

@@ -4,6 +4,7 @@ ghost use Rattle.case_store.specs.Faults.{refused};
 
 use adept_io::{Failed, NoMemory, ReadRefusal};
 use store_disk::Disk;
+use store_room::RoomFault;
 
 /// Why a disk was not opened as a store. The disk is given back.
 #[derive(Drop)]
@@ -18,16 +19,17 @@ pub enum OpenRefusal<D: Disk + Drop> {
     NoMemory(D),
 }
 
-/// Why a step was not made.
+/// Why a step, or those of a group, were not made.
 #[derive(Clone, Copy, Debug, PartialEq, Eq)]
 pub enum StoreFault {
-    /// An earlier step failed on the disk.
+    /// An earlier step failed on the disk, or memory was wanting in the middle of a group.
     Broken,
     /// The image would pass its limit, 1,073,741,824 bytes.
     Full,
-    /// The disk failed. The store is broken from now on; the disk holds the call or does not.
+    /// The disk failed. The store is broken from now on; the disk holds the call, or all of the group, or none.
     Disk,
-    /// There was not enough memory. Nothing has changed.
+    /// There was not enough memory. The disk is as it was, and nothing else has changed, unless some calls of a group were made:
+    /// then the store is broken from now on.
     NoMemory,
 }
 
@@ -50,6 +52,20 @@ impl From<NoMemory> for StoreFault {
 
     fn from(_error: NoMemory) -> StoreFault {
         StoreFault::NoMemory
+    }
+}
+
+impl From<RoomFault> for StoreFault {
+    ghost use Rattle.std.specs.Prelude.{◌≡◌};
+    ghost use Rattle.case_store.specs.Faults.{no_room};
+
+    ghost from_gives = { λ r e. e ≡ no_room r };
+
+    fn from(fault: RoomFault) -> StoreFault {
+        match fault {
+            RoomFault::Full => StoreFault::Full,
+            RoomFault::NoMemory => StoreFault::NoMemory,
+        }
     }
 }
 

@@ -4,13 +4,14 @@ ghost use Rattle.adept_io.specs.Counts.{Rose};
 ghost use Rattle.store_disk.specs.Disk.{LeavesOnly};
 ghost use Rattle.store_disk.specs.Image.{HasList};
 ghost use Rattle.store_disk.specs.Opening.{HoldsAsBefore, with_gate};
-ghost use Rattle.store_disk.specs.Rest.{IsBeforeOrAfter, appended};
+ghost use Rattle.store_disk.specs.Rest.{HasNoneOrAll, IsBeforeOrAfter, appended, group_appended};
 ghost use Rattle.store_form.specs.Payload.{IsPayloadOf, payload};
 ghost use Rattle.store_form.specs.Stored.{HasNoVersion, is_shallow};
 ghost use Rattle.store_form.specs.declared.stored.Recorded.{Recorded};
+ghost use Rattle.store_room.specs.Room.{Overflows, Passes, payload_of};
 ghost use Rattle.case_store.specs.Damage.{Says, disk_of};
-ghost use Rattle.case_store.specs.Folding.{answer_of, has, payload_of};
-ghost use Rattle.case_store.specs.Standing.{IsStore, Opens, Passes, Past};
+ghost use Rattle.case_store.specs.Folding.{answer_of, answers_of, has};
+ghost use Rattle.case_store.specs.Standing.{AreKnown, IsStore, Opens, Past};
 ghost use Rattle.case_store.specs.Faults.{refused};
 
 use crate::held::HeldCells;
@@ -19,8 +20,9 @@ use crate::replies::StoredReply;
 use script_run::{ClosedCases, ClosedKinds};
 use std::alloc::Global;
 use std::marker::Model;
-use store_disk::{Disk, Framed, MAX_IMAGE, append, open_image};
-use store_form::{Stored, has_short_lists, payload};
+use store_disk::{Disk, Framed, MAX_IMAGE, append, append_group, open_image};
+use store_form::{Recorded, Stored};
+use store_room::{RoomFault, group_within, payload_within};
 
 /// Types and cases whose calls are on a disk.
 #[derive(Drop)]
@@ -79,7 +81,7 @@ impl<D: Disk + Drop> Store<D> {
         self.held.has(event)
     }
 
-    /// Whether a step failed on the disk.
+    /// Whether a step failed on the disk, or the memory for a group was wanting when some of its calls were made.
     pub fn is_broken(&self) -> bool
         ensures { result ≡ self.now.is_broken }
     {
@@ -166,6 +168,83 @@ impl<D: Disk + Drop> Store<D> {
         }
     }
 
+    /// Makes calls one after another, stores them as one group, and answers what each is told. At `Ok` each image holds them
+    /// all. A stop at any moment leaves the records from before, or those and all of these calls'.
+    pub fn step_all(
+        &mut self,
+        alloc: Global,
+        calls: &[Recorded],
+    ) -> Result<Vec<StoredReply>, StoreFault>
+        ghost past: { Past }
+        requires store { self.old.is_broken ≡ false → IsStore D.content D.may_leave past.counts self.old past.records }
+        requires some { 0 < length calls.now }
+        requires known { AreKnown self.old.held.starts self.old.held.run calls.now }
+        ensures acknowledged { OnOk result (IsStore D.content D.may_leave past.counts self.new (past.records ++ calls.now)) }
+        ensures whole { OnOk result (self.new.is_broken ≡ false) }
+        ensures replies { IfOk result (λ replies. map Some replies.items ≡ answers_of self.old.held.starts self.old.held.run calls.now) }
+        ensures every_image { OnOk result ((image : List ℕ) → D.may_leave self.new.disk image → HasList (map payload_of past.records ++ map payload_of calls.now) image) }
+        ensures bytes { OnOk result (D.content self.new.disk ≡ group_appended self.old.gate (map payload_of calls.now) (D.content self.old.disk)) }
+        ensures next_gate { OnOk result (get_or (D.content self.new.disk) self.new.gate 1 ≡ 0) }
+        ensures any_moment { self.old.is_broken ≡ false → LeavesOnly D.moment D.left_since self.old.disk self.new.disk (HasNoneOrAll (map payload_of past.records) (map payload_of calls.now)) }
+        ensures broken { IsErrOf result StoreFault.Broken ↔ (self.old.is_broken ≡ true) }
+        ensures full { IsErrOf result StoreFault.Full → Overflows (2 ^ 30) self.old.gate calls.now }
+        ensures fits { OnOk result (Overflows (2 ^ 30) self.old.gate calls.now → ⊥) }
+        ensures fits_at_fault { IsErrOf result StoreFault.Disk → Overflows (2 ^ 30) self.old.gate calls.now → ⊥ }
+        ensures rose { IsErrOf result StoreFault.Disk → Rose (D.faults self.old.disk) (D.faults self.new.disk) }
+        ensures no_fault { OnOk result (D.faults self.new.disk ≡ D.faults self.old.disk) }
+        ensures breaks { IsErrOf result StoreFault.Disk → self.new.is_broken ≡ true }
+        ensures kept { IfErr result (λ e. e ≢ StoreFault.Disk → (self.new ≡ self.old) ⊎ (self.new.is_broken ≡ true)) }
+        ensures same { IfErr result (λ e. e ≢ StoreFault.Disk → e ≢ StoreFault.NoMemory → self.new ≡ self.old) }
+        ensures disk { IfErr result (λ e. e ≢ StoreFault.Disk → self.new.disk ≡ self.old.disk) }
+        ensures never_falls { D.faults self.old.disk ≤ D.faults self.new.disk }
+    {
+        self.step_all_within(alloc, calls, MAX_IMAGE)
+    }
+
+    /// The same in an image of at most so many bytes.
+    pub fn step_all_within(
+        &mut self,
+        alloc: Global,
+        calls: &[Recorded],
+        limit: u64,
+    ) -> Result<Vec<StoredReply>, StoreFault>
+        ghost past: { Past }
+        requires store { self.old.is_broken ≡ false → IsStore D.content D.may_leave past.counts self.old past.records }
+        requires some { 0 < length calls.now }
+        requires known { AreKnown self.old.held.starts self.old.held.run calls.now }
+        requires limit { limit ≤ 2 ^ 30 }
+        ensures acknowledged { OnOk result (IsStore D.content D.may_leave past.counts self.new (past.records ++ calls.now)) }
+        ensures whole { OnOk result (self.new.is_broken ≡ false) }
+        ensures replies { IfOk result (λ replies. map Some replies.items ≡ answers_of self.old.held.starts self.old.held.run calls.now) }
+        ensures every_image { OnOk result ((image : List ℕ) → D.may_leave self.new.disk image → HasList (map payload_of past.records ++ map payload_of calls.now) image) }
+        ensures bytes { OnOk result (D.content self.new.disk ≡ group_appended self.old.gate (map payload_of calls.now) (D.content self.old.disk)) }
+        ensures next_gate { OnOk result (get_or (D.content self.new.disk) self.new.gate 1 ≡ 0) }
+        ensures any_moment { self.old.is_broken ≡ false → LeavesOnly D.moment D.left_since self.old.disk self.new.disk (HasNoneOrAll (map payload_of past.records) (map payload_of calls.now)) }
+        ensures broken { IsErrOf result StoreFault.Broken ↔ (self.old.is_broken ≡ true) }
+        ensures full { IsErrOf result StoreFault.Full → Overflows limit self.old.gate calls.now }
+        ensures fits { OnOk result (Overflows limit self.old.gate calls.now → ⊥) }
+        ensures fits_at_fault { IsErrOf result StoreFault.Disk → Overflows limit self.old.gate calls.now → ⊥ }
+        ensures rose { IsErrOf result StoreFault.Disk → Rose (D.faults self.old.disk) (D.faults self.new.disk) }
+        ensures no_fault { OnOk result (D.faults self.new.disk ≡ D.faults self.old.disk) }
+        ensures breaks { IsErrOf result StoreFault.Disk → self.new.is_broken ≡ true }
+        ensures kept { IfErr result (λ e. e ≢ StoreFault.Disk → (self.new ≡ self.old) ⊎ (self.new.is_broken ≡ true)) }
+        ensures same { IfErr result (λ e. e ≢ StoreFault.Disk → e ≢ StoreFault.NoMemory → self.new ≡ self.old) }
+        ensures disk { IfErr result (λ e. e ≢ StoreFault.Disk → self.new.disk ≡ self.old.disk) }
+        ensures never_falls { D.faults self.old.disk ≤ D.faults self.new.disk }
+    {
+        if self.is_broken {
+            return Err(StoreFault::Broken);
+        }
+        let gate = self.gate;
+        let group = group_within(alloc, calls, gate, limit)?;
+        // From here on types and cases are ahead of the disk, until the group is there.
+        self.is_broken = true;
+        let replies = self.held.call_all(alloc, calls)?;
+        self.gate = append_group(&mut self.disk, gate, &group)?;
+        self.is_broken = false;
+        Ok(replies)
+    }
+
     /// The disk, the types, and the cases by type and place. Takes no memory.
     pub fn close(self) -> (D, ClosedKinds, ClosedCases)
         requires { self.is_broken ≡ false }
@@ -218,22 +297,16 @@ fn frame(
     caller: u32,
     event: &Stored,
     limit: u64,
-) -> Result<Framed, StoreFault>
+) -> Result<Framed, RoomFault>
     requires shallow { is_shallow event.now ≡ true }
     requires plain { HasNoVersion event.now }
     requires gate { gate < 2 ^ 30 }
     requires limit { limit ≤ 2 ^ 30 }
     ensures framed { IfOk result (λ framed. IsPayloadOf framed caller event.now × (gate + (6 + length framed) ≤ limit)) }
     ensures fits { OnOk result (Passes limit gate caller event.now → ⊥) }
-    ensures full { IsErrOf result StoreFault.Full → Passes limit gate caller event.now }
-    ensures others { IfErr result (λ e. (e ≡ StoreFault.Full) ⊎ (e ≡ StoreFault.NoMemory)) }
+    ensures full { IsErrOf result RoomFault.Full → Passes limit gate caller event.now }
 {
-    if !has_short_lists(event) {
-        return Err(StoreFault::Full);
-    }
-    let bytes = payload(alloc, caller, event)?;
-    if gate + (6 + bytes.len() as u64) > limit {
-        return Err(StoreFault::Full);
-    }
-    Ok(Framed::new(alloc, bytes.as_slice())?)
+    let bytes = payload_within(alloc, caller, event, gate, limit)?;
+    let framed = Framed::new(alloc, bytes.as_slice())?;
+    Ok(framed)
 }

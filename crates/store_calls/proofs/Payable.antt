@@ -1,5 +1,5 @@
 -- The calls of a file that is read can be written as payloads: no block of a sound type stands too deep.
-use Rattle.std.proofs.Common.{◌≡◌, ℕ, ◌+◌, ◌==◌, Bool, true, false, List, [], ◌∷◌, ◌++◌, fold, Option, Some, None, refl, arith}
+use Rattle.std.proofs.Common.{◌≡◌, ℕ, ◌+◌, Bool, true, false, List, [], ◌∷◌, ◌++◌, fold, Option, Some, None, refl, arith}
 use Rattle.std.specs.Prelude.{nat_le, nat_lt, option_map, if◌then◌else◌}
 use Rattle.std.specs.List.{AllByRecursion}
 use Rattle.std.specs.Option.{option_or}
@@ -7,6 +7,7 @@ use Rattle.std.proofs.lemmas.Bool.Decides.{nat_tests}
 use Rattle.case_core.specs.declared.events.Event.{Event}
 use Rattle.case_core.specs.declared.events.Event.TheVariants as event
 use Rattle.file_facts.specs.Facts.{IsSound, IsWorkable}
+use Rattle.file_model.specs.CaseCounts.{is_among}
 use Rattle.file_model.specs.declared.files.CaseDecl.{CaseDecl}
 use Rattle.file_model.specs.declared.files.File.{File}
 use Rattle.file_model.specs.declared.files.Line.{Line}
@@ -18,9 +19,10 @@ use Rattle.line_calls.specs.Known.{IsPlain, brings_version, is_install}
 use Rattle.line_calls.specs.declared.calls.Call.{Call}
 use Rattle.line_calls.specs.declared.calls.Call.TheVariants as call
 use Rattle.line_calls.specs.declared.calls.Told.TheVariants as told
-use Rattle.store_calls.specs.Calls.{IsPayable, Told, by, calls, create_calls, definitions, migrate_calls, migrations, newest_number, records, stored_kind, told_line, told_phase, told_types}
+use Rattle.store_calls.specs.Calls.{Told, by, calls, create_calls, definitions, migrate_calls, migrations, newest_number, records, stored_kind, told_line, told_phase, told_types}
 use Rattle.store_form.specs.declared.stored.Recorded.{Recorded}
 use Rattle.store_form.specs.declared.stored.Stored.TheVariants as stored
+use Rattle.store_room.specs.Room.{IsPayable}
 use Rattle.type_core.specs.KindModel.{KindModel}
 use Rattle.type_core.specs.declared.events.KindEvent.{KindEvent}
 use Rattle.type_core.specs.declared.events.KindEvent.TheVariants as kind_event
@@ -63,7 +65,7 @@ sound-shallow s sound =
     let shallow : nat_lt 64 (parts_depth s.body) ≡ false = not-when (nat_lt 64 (parts_depth s.body)) _ (no-first _ _ (no-second _ _ limits)) in
     grind (arith, nat_tests, shallow)
 
-definitions-payable : (t : ℕ) (ds : List TypeDecl) → AllRows IsSound ds → All (definitions t ds)
+pub definitions-payable : (t : ℕ) (ds : List TypeDecl) → AllRows IsSound ds → All (definitions t ds)
 definitions-payable t [] sound = tt
 definitions-payable t (d ∷ ds) sound = ((sound-shallow d.schema sound.0, tt), definitions-payable (t + 1) ds sound.1)
 
@@ -75,13 +77,13 @@ one-more : (b : Bool) (r : Recorded) (rs : List Recorded) → IsPayable r → Al
 one-more true r rs one all = (one, all)
 one-more false r rs one all = all
 
-migrations-payable : (a t n : ℕ) (ds : List CaseDecl) → All (migrations a t n ds)
-migrations-payable a t n [] = tt
-migrations-payable a t n (d ∷ ds) = one-more (d.id.type_no == t) (by a (stored.Migrate d.id n)) (migrations a t n ds) (refl, tt) (migrations-payable a t n ds)
+migrations-payable : (a t many n : ℕ) (ds : List CaseDecl) → All (migrations a t many n ds)
+migrations-payable a t many n [] = tt
+migrations-payable a t many n (d ∷ ds) = one-more (is_among t many d) (by a (stored.Migrate d.id n)) (migrations a t many n ds) (refl, tt) (migrations-payable a t many n ds)
 
-migrate-payable : (a t : ℕ) (ds : List CaseDecl) (o : Option ℕ) → All (migrate_calls a t ds o)
-migrate-payable a t ds None = tt
-migrate-payable a t ds (Some number) = migrations-payable a t number ds
+migrate-payable : (a t many : ℕ) (ds : List CaseDecl) (o : Option ℕ) → All (migrate_calls a t many ds o)
+migrate-payable a t many ds None = tt
+migrate-payable a t many ds (Some number) = migrations-payable a t many number ds
 
 kind-payable : (a t : ℕ) (e : KindEvent) → is_install e ≡ true → IsPayable (by a (stored_kind t e))
 kind-payable a t (kind_event.Define schema) plain = absurd (cc (plain))
@@ -96,11 +98,11 @@ case-payable a c (event.End n user choice writes) plain = (refl, tt)
 case-payable a c (event.Withdraw n user) plain = (refl, tt)
 case-payable a c (event.Change ops) plain = (refl, tt)
 
-call-payable : (ds : List CaseDecl) (a : ℕ) (kinds : List KindModel) (k : Call) → IsPlain k → All (records ds a kinds k)
+pub call-payable : (ds : List CaseDecl) (a : ℕ) (kinds : List KindModel) (k : Call) → IsPlain k → All (records ds a kinds k)
 call-payable ds a kinds (call.Kind t e) plain = (kind-payable a t e plain, tt)
 call-payable ds a kinds (call.Case c e) plain = (case-payable a c e plain, tt)
 call-payable ds a kinds (call.Newest t (told.Create c)) plain = ((refl, tt), create-payable a c (newest_number t kinds))
-call-payable ds a kinds (call.Newest t told.Migrate) plain = ((refl, tt), migrate-payable a t ds (newest_number t kinds))
+call-payable ds a kinds (call.Newest t (told.Migrate many)) plain = ((refl, tt), migrate-payable a t many ds (newest_number t kinds))
 
 lines-payable : (f : File) (lines : List Line) (s : Told) → All s.calls → All (told_phase f s lines).calls
 lines-payable f [] s all = all

@@ -1,6 +1,7 @@
 -- The calls that the lines of a file make, one after another, as a store keeps them. Which versions the types have decides which
 -- calls they are, and no case does.
-use Rattle.std.specs.Prelude.{◌≡◌, ℕ, ◌+◌, ◌==◌, true, List, [], ◌∷◌, ◌++◌, fold, length, map, slice_get, Option, Some, None, option_map, if◌then◌else◌}
+use Rattle.std.specs.Prelude.{ℕ, ◌+◌, List, [], ◌∷◌, ◌++◌, fold, length, map, slice_get, Option, Some, None, option_map, if◌then◌else◌}
+use Rattle.file_model.specs.CaseCounts.{is_among}
 use Rattle.file_model.specs.declared.files.CaseDecl.{CaseDecl}
 use Rattle.file_model.specs.declared.files.File.{File}
 use Rattle.file_model.specs.declared.files.Line.{Line}
@@ -13,11 +14,11 @@ use Rattle.line_calls.specs.declared.calls.Told.TheVariants as told
 use Rattle.script_run.specs.Calls.{changed_at}
 use Rattle.script_run.specs.Serial.{program}
 use Rattle.script_run.specs.Verdicts.{defined_from, stepped}
-use Rattle.store_form.specs.Payload.{Bytes, payload}
-use Rattle.store_form.specs.Stored.{HasNoVersion, is_shallow}
+use Rattle.store_form.specs.Payload.{Bytes}
 use Rattle.store_form.specs.declared.stored.Recorded.{Recorded}
 use Rattle.store_form.specs.declared.stored.Stored.{Stored}
 use Rattle.store_form.specs.declared.stored.Stored.TheVariants as stored
+use Rattle.store_room.specs.Room.{payload_of}
 use Rattle.type_core.specs.KindModel.{KindModel}
 use Rattle.type_core.specs.Machine.{newest_of}
 use Rattle.type_core.specs.declared.events.KindEvent.{KindEvent}
@@ -45,14 +46,14 @@ abbrev pub create_calls : ℕ → CaseId → Option ℕ → List Recorded
 create_calls a c None = []
 create_calls a c (Some number) = by a (stored.Create c number) ∷ []
 
--- one of each case of a type, in order of declaration
-abbrev pub migrations : ℕ → ℕ → ℕ → List CaseDecl → List Recorded
-migrations a t number [] = []
-migrations a t number (d ∷ ds) = if d.id.type_no == t then by a (stored.Migrate d.id number) ∷ migrations a t number ds else migrations a t number ds
+-- one of each of the first cases of a type, in order of declaration
+abbrev pub migrations : ℕ → ℕ → ℕ → ℕ → List CaseDecl → List Recorded
+migrations a t many number [] = []
+migrations a t many number (d ∷ ds) = if is_among t many d then by a (stored.Migrate d.id number) ∷ migrations a t many number ds else migrations a t many number ds
 
-abbrev pub migrate_calls : ℕ → ℕ → List CaseDecl → Option ℕ → List Recorded
-migrate_calls a t ds None = []
-migrate_calls a t ds (Some number) = migrations a t number ds
+abbrev pub migrate_calls : ℕ → ℕ → ℕ → List CaseDecl → Option ℕ → List Recorded
+migrate_calls a t many ds None = []
+migrate_calls a t many ds (Some number) = migrations a t many number ds
 
 -- a type's event as it is stored
 abbrev pub stored_kind : ℕ → KindEvent → Stored
@@ -65,7 +66,7 @@ abbrev pub records : List CaseDecl → ℕ → List KindModel → Call → List 
 records ds a kinds (call.Kind t e) = by a (stored_kind t e) ∷ []
 records ds a kinds (call.Case c e) = by a (stored.Case c e) ∷ []
 records ds a kinds (call.Newest t (told.Create c)) = by a (stored.Newest t) ∷ create_calls a c (newest_number t kinds)
-records ds a kinds (call.Newest t told.Migrate) = by a (stored.Newest t) ∷ migrate_calls a t ds (newest_number t kinds)
+records ds a kinds (call.Newest t (told.Migrate many)) = by a (stored.Newest t) ∷ migrate_calls a t many ds (newest_number t kinds)
 
 abbrev pub kinds_behind : Call → List KindModel → List KindModel
 kinds_behind (call.Kind t e) kinds = changed_at (stepped e) t kinds
@@ -104,12 +105,5 @@ abbrev pub phase_ends : File → List ℕ
 phase_ends f = ends_from f (told_types f.types) f.phases
 
 -- as they are stored
-abbrev pub payload_of : Recorded → Bytes
-payload_of r = payload r.caller r.event
-
 abbrev pub payloads : File → List Bytes
 payloads f = map payload_of (calls f)
-
--- a call that can be written as a payload, if its lists are not too long
-abbrev pub IsPayable : Recorded → Type 0
-IsPayable r = (is_shallow r.event ≡ true) × HasNoVersion r.event

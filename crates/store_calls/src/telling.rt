@@ -6,8 +6,9 @@ ghost use Rattle.file_model.specs.Sizes.{IsBounded, is_small, line_effort, phase
 ghost use Rattle.line_calls.specs.Calls.{call_weight};
 ghost use Rattle.script_run.specs.Serial.{program};
 ghost use Rattle.script_run.specs.Verdicts.{defined_kind};
-ghost use Rattle.store_calls.specs.Calls.{IsPayable, calls, create_calls, by, migrate_calls, migrations, newest_number, phase_ends, stored_kind, told_call, told_line, told_phase, told_types};
+ghost use Rattle.store_calls.specs.Calls.{calls, create_calls, by, migrate_calls, migrations, newest_number, phase_ends, stored_kind, told_call, told_line, told_phase, told_types};
 ghost use Rattle.store_calls.specs.Told.{told_of, with_call, with_calls};
+ghost use Rattle.store_room.specs.Room.{IsPayable};
 ghost use Rattle.type_core.specs.Machine.{weight as kind_weight};
 ghost use Rattle.wsm_schema.specs.Flat.{cards_of};
 
@@ -130,7 +131,7 @@ impl Telling {
             Call::Case { id, event } => self.note(caller, Stored::Case(id, event)),
             Call::Newest { type_no, then } => match then {
                 Told::Create(id) => self.create(caller, type_no, id),
-                Told::Migrate => self.migrate(caller, type_no, file.cases.as_slice()),
+                Told::Migrate(many) => self.migrate(caller, type_no, many, file.cases.as_slice()),
             },
         }
     }
@@ -164,30 +165,37 @@ impl Telling {
         }
     }
 
-    // The type is asked for its newest version, and each of its cases is to move to it.
-    fn migrate(&mut self, caller: u32, type_no: u32, cases: &[CaseDecl]) -> Result<(), NoMemory>
-        ensures { OnOk result (told_of self.new ≡ with_calls (by caller (Stored.Newest type_no) ∷ migrate_calls caller type_no cases.now (newest_number type_no self.old.kinds.items)) (told_of self.old)) }
+    // The type is asked for its newest version, and each of its first so many cases is to move to it.
+    fn migrate(
+        &mut self,
+        caller: u32,
+        type_no: u32,
+        many: u32,
+        cases: &[CaseDecl],
+    ) -> Result<(), NoMemory>
+        ensures { OnOk result (told_of self.new ≡ with_calls (by caller (Stored.Newest type_no) ∷ migrate_calls caller type_no many cases.now (newest_number type_no self.old.kinds.items)) (told_of self.old)) }
     {
         let newest = self.newest_number(type_no);
         self.note(caller, Stored::Newest(type_no))?;
         match newest {
             None => Ok(()),
-            Some(number) => self.migrate_to(caller, type_no, number, cases),
+            Some(number) => self.migrate_to(caller, type_no, many, number, cases),
         }
     }
 
-    // Each case of the type is to move to a version.
+    // Each of the type's first so many cases is to move to a version.
     fn migrate_to(
         &mut self,
         caller: u32,
         type_no: u32,
+        many: u32,
         number: u32,
         cases: &[CaseDecl],
     ) -> Result<(), NoMemory>
-        ensures { OnOk result (told_of self.new ≡ with_calls (migrations caller type_no number cases.now) (told_of self.old)) }
+        ensures { OnOk result (told_of self.new ≡ with_calls (migrations caller type_no many number cases.now) (told_of self.old)) }
     {
         for decl in cases {
-            if decl.id.type_no == type_no {
+            if decl.is_among(type_no, many) {
                 self.note(caller, Stored::Migrate(decl.id, number))?;
             }
         }

@@ -4,7 +4,7 @@ use Rattle.std.specs.Prelude.{bytes_eq, if◌then◌else◌, slice_get}
 use Rattle.std.specs.List.{AllByRecursion}
 use Rattle.std.proofs.lemmas.List.{length-drop, length-take-le, map_push}
 use Rattle.std.proofs.lemmas.Slice.Eq.{bytes_eq-Decides}
-use Rattle.store_calls.specs.Calls.{payload_of}
+use Rattle.store_room.specs.Room.{payload_of}
 use Rattle.store_disk.specs.Image.{all_framed, closed, frame, frames, frames_from, framed}
 use Rattle.store_disk.specs.Opening.{IsFrame, with_gate}
 use Rattle.store_disk.specs.Rest.{EndsAt}

@@ -2,7 +2,7 @@
 use Rattle.std.proofs.Common.{◌≡◌, inl, inr, ℕ, zero, suc, ◌≤◌, List, [], ◌∷◌, ◌++◌, length, map, take, drop, refl, sym, ap, subst, ◌∙◌}
 use Rattle.std.specs.Prelude.{IfErr, IsErrOf, Result, Ok, Err}
 use Rattle.std.proofs.lemmas.List.{length-map, length-take-le}
-use Rattle.store_calls.specs.Calls.{payload_of}
+use Rattle.store_room.specs.Room.{Overflows, payload_of}
 use Rattle.store_disk.specs.Disk.{IsSettled, LeavesOnly, Only}
 use Rattle.store_disk.specs.Image.{all_framed, frames, HasList, payloads_in}
 use Rattle.store_disk.specs.Opening.{HoldsAsBefore, with_gate}
@@ -13,7 +13,7 @@ use Rattle.store_form.specs.Payload.{Bytes}
 use Rattle.store_form.specs.declared.stored.Recorded.{Recorded}
 use Rattle.store_keep.specs.Finding.{finds}
 use Rattle.store_keep.specs.Keeping.{held, HoldsBeginning, IsBegun, IsLeft, IsStored}
-use Rattle.store_keep.specs.Refusals.{IsAddFault, Overflows, Tells}
+use Rattle.store_keep.specs.Refusals.{IsAddFault, Tells}
 use Rattle.store_keep.specs.declared.faults.KeepFault.{KeepFault}
 use Rattle.store_keep.specs.declared.faults.KeepFault.TheVariants as fault
 use Rattle.store_keep.specs.declared.finding.Found.TheVariants as found

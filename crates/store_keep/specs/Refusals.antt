@@ -1,30 +1,26 @@
 -- Why the calls of a file are not all stored, and what that says of the disk.
-use Rattle.std.specs.Prelude.{◌≡◌, ◌⊎◌, ℕ, ◌+◌, ◌<◌, ◌^◌, false, List, [], ◌∷◌, length, map, drop}
+use Rattle.std.specs.Prelude.{◌≡◌, ◌⊎◌, ℕ, ◌<◌, ◌^◌, List, length, map, drop}
 use Rattle.adept_io.specs.declared.reading.ReadRefusal.{ReadRefusal}
 use Rattle.adept_io.specs.declared.reading.ReadRefusal.TheVariants as read
-use Rattle.store_calls.specs.Calls.{payload_of}
 use Rattle.store_disk.specs.Image.{all_framed, frames}
-use Rattle.store_form.specs.Stored.{has_short_lists}
 use Rattle.store_form.specs.declared.stored.Recorded.{Recorded}
 use Rattle.store_keep.specs.Finding.{finds}
 use Rattle.store_keep.specs.Keeping.{held}
 use Rattle.store_keep.specs.declared.faults.KeepFault.{KeepFault}
 use Rattle.store_keep.specs.declared.faults.KeepFault.TheVariants as fault
 use Rattle.store_keep.specs.declared.finding.Found.TheVariants as found
+use Rattle.store_room.specs.Room.{Overflows, payload_of}
+use Rattle.store_room.specs.declared.faults.RoomFault.{RoomFault}
+use Rattle.store_room.specs.declared.faults.RoomFault.TheVariants as room
 
 abbrev pub unopened : ReadRefusal → KeepFault
 unopened read.Failed = fault.Disk
 unopened read.TooLong = fault.TooLong
 unopened read.NoMemory = fault.NoMemory
 
--- with this call, and a gate behind it, the image would pass a limit, as it does where a list has 2^32 items or more
-abbrev pub Passes : ℕ → ℕ → Recorded → Type 0
-Passes limit gate r = (has_short_lists r.event ≡ false) ⊎ (limit < gate + (6 + length (payload_of r)))
-
--- so it would with one of these calls, one after another
-abbrev pub Overflows : ℕ → ℕ → List Recorded → Type 0
-Overflows limit gate [] = ⊥
-Overflows limit gate (r ∷ rs) = Passes limit gate r ⊎ Overflows limit (gate + (5 + length (payload_of r))) rs
+abbrev pub no_room : RoomFault → KeepFault
+no_room room.Full = fault.Full
+no_room room.NoMemory = fault.NoMemory
 
 abbrev pub IsAddFault : KeepFault → Type 0
 IsAddFault e = (e ≡ fault.Full) ⊎ (e ≡ fault.NoMemory) ⊎ (e ≡ fault.Disk)

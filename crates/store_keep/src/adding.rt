@@ -1,70 +1,24 @@
 // Calls that are stored behind others, in groups.
-ghost use Rattle.std.specs.Prelude.{◌≡◌, ◌≢◌, ◌+◌, ◌<◌, ◌≤◌, ◌^◌, ◌++◌, ◌∷◌, ◌⊎◌, length, map, drop, IfOk, IfErr, OnOk, IsErrOf};
+ghost use Rattle.std.specs.Prelude.{◌≡◌, ◌≢◌, ◌<◌, ◌≤◌, ◌^◌, ◌++◌, length, map, drop, IfErr, OnOk, IsErrOf};
 ghost use Rattle.std.specs.List.{AllByRecursion};
 ghost use Rattle.adept_io.specs.Counts.{Rose};
-ghost use Rattle.store_calls.specs.Calls.{IsPayable, payload_of};
 ghost use Rattle.store_disk.specs.Rest.{IsAtRest};
-ghost use Rattle.store_keep.specs.Grouping.{IsFirstGroup};
+ghost use Rattle.store_keep.specs.Grouping.{end_behind};
 ghost use Rattle.store_keep.specs.Keeping.{AddsOnly, IsStored, held};
-ghost use Rattle.store_keep.specs.Refusals.{IsAddFault, Overflows, Passes};
+ghost use Rattle.store_keep.specs.Refusals.{IsAddFault};
+ghost use Rattle.store_room.specs.Room.{IsPayable, Overflows, payload_of};
 
 use crate::faults::KeepFault;
-use adept_io::Bytes;
 use std::alloc::Global;
-use store_disk::{Disk, Group, MAX_GROUP, append_group};
-use store_form::{Recorded, has_short_lists, payload};
-
-// The payload of a call, where it finds room behind the gate in an image of at most so many bytes.
-fn payload_within(alloc: Global, call: &Recorded, gate: u64, limit: u64) -> Result<Bytes, KeepFault>
-    requires payable { IsPayable call.now }
-    requires gate { gate < 2 ^ 30 }
-    requires limit { limit ≤ 2 ^ 30 }
-    ensures payload { IfOk result (λ bytes. (payload_of call.now ≡ bytes) × (gate + (6 + length bytes) ≤ limit)) }
-    ensures fits { OnOk result (Passes limit gate call.now → ⊥) }
-    ensures full { IsErrOf result KeepFault.Full → Passes limit gate call.now }
-    ensures others { IfErr result (λ e. (e ≡ KeepFault.Full) ⊎ (e ≡ KeepFault.NoMemory)) }
-{
-    if !has_short_lists(&call.event) {
-        return Err(KeepFault::Full);
-    }
-    let bytes = payload(alloc, call.caller, &call.event)?;
-    if gate + (6 + bytes.len() as u64) > limit {
-        return Err(KeepFault::Full);
-    }
-    Ok(bytes)
-}
-
-// The first of these calls as a group, and how many they are: no more than make 1,048,576 bytes, but one in any case.
-fn first_group(
-    alloc: Global,
-    calls: &[Recorded],
-    gate: u64,
-    limit: u64,
-) -> Result<(Group, usize), KeepFault>
-    requires some { 0 < length calls.now }
-    requires payable { AllByRecursion IsPayable calls.now }
-    requires gate { gate < 2 ^ 30 }
-    requires limit { limit ≤ 2 ^ 30 }
-    ensures first { IfOk result (λ x. IsFirstGroup limit gate calls.now x.1 x.0) }
-    ensures full { IsErrOf result KeepFault.Full → Overflows limit gate calls.now }
-    ensures others { IfErr result (λ e. (e ≡ KeepFault.Full) ⊎ (e ≡ KeepFault.NoMemory)) }
-{
-    let mut group = Group::new(alloc)?;
-    for (count, call) in calls.iter().enumerate() {
-        let span = group.span();
-        let bytes = payload_within(alloc, call, gate + span, limit)?;
-        if count > 0 && span + (5 + bytes.len() as u64) > MAX_GROUP {
-            return Ok((group, count));
-        }
-        group.push(bytes.as_slice())?;
-    }
-    Ok((group, calls.len()))
-}
+use store_disk::{Disk, append_group};
+use store_form::Recorded;
+use store_room::first_group;
 
 // The end of the phase of the call with an index, no further than so far: the first of the ends that is behind it. With the
 // ends from that one on.
 fn next_end(ends: &[usize], index: usize, last: usize) -> (usize, &[usize])
     requires { index < last }
+    ensures exact { result.0 ≡ end_behind index last ends.now }
     ensures behind { index < result.0 }
     ensures within { result.0 ≤ last }
 {

@@ -2,6 +2,7 @@
 ghost use Rattle.std.specs.Prelude.{◌≡◌};
 
 use adept_io::{Failed, NoMemory, ReadRefusal};
+use store_room::RoomFault;
 
 /// Why a file was not worked to its end over a store.
 #[derive(Clone, Copy, Debug, PartialEq, Eq)]
@@ -41,6 +42,20 @@ impl From<NoMemory> for KeepFault {
 
     fn from(_error: NoMemory) -> KeepFault {
         KeepFault::NoMemory
+    }
+}
+
+impl From<RoomFault> for KeepFault {
+    ghost use Rattle.std.specs.Prelude.{◌≡◌};
+    ghost use Rattle.store_keep.specs.Refusals.{no_room};
+
+    ghost from_gives = { λ r e. e ≡ no_room r };
+
+    fn from(fault: RoomFault) -> KeepFault {
+        match fault {
+            RoomFault::Full => KeepFault::Full,
+            RoomFault::NoMemory => KeepFault::NoMemory,
+        }
     }
 }
 

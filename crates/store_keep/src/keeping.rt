@@ -2,7 +2,7 @@
 ghost use Rattle.std.specs.Prelude.{◌≡◌, ◌≢◌, ◌≤◌, ◌^◌, length, map, IfErr, OnOk, IsErrOf};
 ghost use Rattle.std.specs.List.{AllByRecursion};
 ghost use Rattle.adept_io.specs.Counts.{Rose};
-ghost use Rattle.store_calls.specs.Calls.{IsPayable, payload_of};
+ghost use Rattle.store_room.specs.Room.{IsPayable, payload_of};
 ghost use Rattle.store_disk.specs.Disk.{LeavesOnly, Only};
 ghost use Rattle.store_disk.specs.Opening.{HoldsAsBefore};
 ghost use Rattle.store_keep.specs.Keeping.{IsBegun, IsLeft, IsStored, KeepsBeginning};

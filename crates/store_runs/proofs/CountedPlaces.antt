@@ -13,7 +13,7 @@ use Rattle.file_model.specs.declared.files.CaseDecl.{CaseDecl}
 use Rattle.file_model.specs.declared.files.File.{File}
 use Rattle.file_model.specs.declared.files.TypeDecl.{TypeDecl}
 use Rattle.script_run.specs.declared.runs.ClosedCase.{ClosedCase}
-use Rattle.store_runs.proofs.Changes.{get-behind, get-replica}
+use Rattle.case_store.proofs.Changes.{get-behind, get-replica}
 use Rattle.store_runs.specs.Stored.{case_counts, counts_from}
 use Rattle.wsm_sound.specs.declared.versions.CaseId.{CaseId}
 

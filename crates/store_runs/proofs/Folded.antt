@@ -1,5 +1,5 @@
 -- What a store makes of a file's calls is the serial run.
-use Rattle.std.proofs.Common.{◌≡◌, ◌≢◌, inl, inr, ℕ, zero, suc, ◌+◌, ◌==◌, Bool, true, false, cond, List, [], ◌∷◌, ◌++◌, drop, fold, get_or, length, take, Option, Some, None, refl, ap, sym, subst, ◌∙◌, arith, append_assoc, length-append}
+use Rattle.std.proofs.Common.{◌≡◌, inl, inr, ℕ, zero, suc, ◌+◌, Bool, true, false, cond, List, [], ◌∷◌, ◌++◌, drop, fold, get_or, length, take, Option, Some, None, refl, ap, sym, subst, ◌∙◌, arith, append_assoc, length-append}
 use Rattle.std.specs.Prelude.{option_map, position, slice_get, if◌then◌else◌}
 use Rattle.std.specs.List.{list_any, position_from}
 use Rattle.std.proofs.lemmas.Bool.{and_parts, cases_order, eq-eqb, eqb-true, or_cases}
@@ -12,7 +12,7 @@ use Rattle.case_store.specs.Folding.{called, case_at, folded, fresh, fresh_cases
 use Rattle.case_store.specs.Folding.{on_case as on_stored}
 use Rattle.file_facts.proofs.Cases.{ids-distinct}
 use Rattle.file_facts.specs.Facts.{IsDeclared, IsKnown, IsWorkable}
-use Rattle.file_model.specs.CaseCounts.{has_id}
+use Rattle.file_model.specs.CaseCounts.{has_id, is_among}
 use Rattle.file_model.specs.declared.files.CaseDecl.{CaseDecl}
 use Rattle.file_model.specs.declared.files.File.{File}
 use Rattle.file_model.specs.declared.files.Line.{Line}
@@ -34,7 +34,7 @@ use Rattle.script_run.specs.declared.runs.Run.{Run}
 use Rattle.store_calls.specs.Calls.{Told, by, create_calls, definitions, kinds_behind, migrate_calls, migrations, records, stored_kind, told_line, told_phase, told_types}
 use Rattle.store_form.specs.declared.stored.Recorded.{Recorded}
 use Rattle.store_form.specs.declared.stored.Stored.TheVariants as stored
-use Rattle.store_runs.proofs.Changes.{changed-seam, get-changed, get-other}
+use Rattle.case_store.proofs.Changes.{changed-seam, get-changed, get-other}
 use Rattle.store_runs.proofs.CountedPlaces.{counts-size, declared-place, fresh-at, place-number, same-place}
 use Rattle.script_run.specs.Verdicts.{defined_from, defined_kind}
 use Rattle.store_runs.proofs.Machines.{kinds-changed, kinds-same, machines, newest-is, number}
@@ -70,9 +70,6 @@ record Found (c : CaseId) (ds : List CaseDecl) (start : ℕ) : Type 0 where
 
 true-not : true ≡ false → ⊥
 true-not is = absurd cc
-
-unlike : (x y : ℕ) → (x == y) ≡ false → x ≢ y
-unlike x y differ same = true-not (sym (eq-eqb x y same) ∙ differ)
 
 later : (c : CaseId) (d : CaseDecl) (ds : List CaseDecl) → has_id c d ≡ false → IsDeclared c (d ∷ ds) → IsDeclared c ds
 later c d ds differ any =
@@ -120,16 +117,16 @@ module _ (f : File) (workable : IsWorkable f) where
   abbrev starts : List ℕ
   starts = starts_of (case_counts f)
 
-  declared-at : (k : ℕ) (d : CaseDecl) → slice_get f.cases k ≡ Some d → IsDeclared d.id f.cases
+  pub declared-at : (k : ℕ) (d : CaseDecl) → slice_get f.cases k ≡ Some d → IsDeclared d.id f.cases
   declared-at k d at = any_passes_from_place (has_id d.id) f.cases k d at (own-id d)
 
   -- the cases of a run in order of declaration are those by type and place
   abbrev Alike : List ClosedCase → List ClosedCase → Type 0
   Alike cs held = (k : ℕ) (d : CaseDecl) → slice_get f.cases k ≡ Some d → slice_get held (place-number f d.id) ≡ slice_get cs k
 
-  record Same (run held : Run) : Type 0 where
-    kinds : held.kinds ≡ run.kinds
-    cases : Alike run.cases held.cases
+  pub record Same (run held : Run) : Type 0 where
+    pub kinds : held.kinds ≡ run.kinds
+    pub cases : Alike run.cases held.cases
 
   called-at : (g : ClosedCase → ClosedCase) (j : ℕ) (d : CaseDecl) (cs held : List ClosedCase) → slice_get f.cases j ≡ Some d → Alike cs held
       → Alike (changed_at g j cs) (changed_at g (place-number f d.id) held)
@@ -164,13 +161,13 @@ module _ (f : File) (workable : IsWorkable f) where
       (subst (λ o. Alike (changed_at g at.at cs) (changed_where g o held)) (sym place) (called-at g at.at at.decl cs held at.there alike))
 
   -- ---- a call of each
-  on-kind : (a t : ℕ) (e : KindEvent) (run held : Run) → Same run held → Same (on_kind a t e run) (on_kind a t e held)
+  pub on-kind : (a t : ℕ) (e : KindEvent) (run held : Run) → Same run held → Same (on_kind a t e run) (on_kind a t e held)
   on-kind a t e run held same = record { kinds = ap (changed_at (call_kind a e) t) same.kinds; cases = same.cases }
 
   on-case : (a : ℕ) (c : CaseId) (e : Event) (run held : Run) → IsDeclared c f.cases → Same run held → Same (on_case f a c e run) (on_stored starts a c e held)
   on-case a c e run held declared same = record { kinds = same.kinds; cases = called-id (call_case a e) c run.cases held.cases declared same.cases }
 
-  has-version : (run held : Run) (t : ℕ) (v : VersionModel) → Same run held → version_of run t v.number ≡ Some v → version_of held t v.number ≡ Some v
+  pub has-version : (run held : Run) (t : ℕ) (v : VersionModel) → Same run held → version_of run t v.number ≡ Some v → version_of held t v.number ≡ Some v
   has-version run held t v same has = ap (λ ks. version_of_kind v.number (slice_get ks t)) same.kinds ∙ has
 
   abbrev all : Run → List Recorded → Run
@@ -184,31 +181,32 @@ module _ (f : File) (workable : IsWorkable f) where
       subst (λ o. Same (on_case f a c (event.Create v) run) (on_version starts a c event.Create o held)) (sym (has-version run held c.type_no v same (has v refl)))
       (on-case a c (event.Create v) run held declared same)
 
-  -- each case of a type moves, one after another
-  module _ (a t : ℕ) (v : VersionModel) (kinds : List ClosedKind) (has : version_of_kind v.number (slice_get kinds t) ≡ Some v) (cs : List ClosedCase) where
+  -- each of the first so many cases of a type moves, one after another
+  module _ (a t many : ℕ) (v : VersionModel) (kinds : List ClosedKind) (has : version_of_kind v.number (slice_get kinds t) ≡ Some v) (cs : List ClosedCase) where
     abbrev moved : ClosedCase → ClosedCase
     moved = call_case a (event.Migrate v)
 
     abbrev upto : ℕ → Run
-    upto i = record { kinds = kinds; cases = each_of t moved (take i f.cases) cs }
+    upto i = record { kinds = kinds; cases = each_of t many moved (take i f.cases) cs }
 
-    one-moves : (i : ℕ) (d : CaseDecl) (held : Run) → slice_get f.cases i ≡ Some d → d.id.type_no ≡ t → Same (upto i) held → Same (upto (i + 1)) (called starts held (by a (stored.Migrate d.id v.number)))
-    one-moves i d held at of_type same =
+    one-moves : (i : ℕ) (d : CaseDecl) (held : Run) → slice_get f.cases i ≡ Some d → is_among t many d ≡ true → Same (upto i) held → Same (upto (i + 1)) (called starts held (by a (stored.Migrate d.id v.number)))
+    one-moves i d held at among same =
+        let of_type : d.id.type_no ≡ t = eqb-true d.id.type_no t (and_parts _ _ among).0 in
         let within = slice_get_within f.cases i d at in
         let is : d ≡ get_or f.cases i d = sym (get_or_from_slice_get f.cases i d d at) in
         let found : version_of held d.id.type_no v.number ≡ Some v = ap (λ u. version_of held u v.number) of_type ∙ ap (λ ks. version_of_kind v.number (slice_get ks t)) same.kinds ∙ has in
         let place : place_of starts d.id ≡ Some (place-number f d.id) = declared-place f workable d.id (declared-at i d at) in
-        let cases : Alike (each_of t moved (take (i + 1) f.cases) cs) (changed_where moved (place_of starts d.id) held.cases) =
-        subst (λ o. Alike (each_of t moved (take (i + 1) f.cases) cs) (changed_where moved o held.cases)) (sym place)
-        (subst (λ xs. Alike xs (changed_at moved (place-number f d.id) held.cases)) (sym (each-called t moved f.cases cs i d within is of_type))
-        (called-at moved i d (each_of t moved (take i f.cases) cs) held.cases at same.cases)) in
+        let cases : Alike (each_of t many moved (take (i + 1) f.cases) cs) (changed_where moved (place_of starts d.id) held.cases) =
+        subst (λ o. Alike (each_of t many moved (take (i + 1) f.cases) cs) (changed_where moved o held.cases)) (sym place)
+        (subst (λ xs. Alike xs (changed_at moved (place-number f d.id) held.cases)) (sym (each-called t many moved f.cases cs i d within is among))
+        (called-at moved i d (each_of t many moved (take i f.cases) cs) held.cases at same.cases)) in
         subst (λ o. Same (upto (i + 1)) (on_version starts a d.id event.Migrate o held)) (sym found) (record { kinds = same.kinds; cases = cases })
 
-    one-stays : (i : ℕ) (d : CaseDecl) (held : Run) → slice_get f.cases i ≡ Some d → d.id.type_no ≢ t → Same (upto i) held → Same (upto (i + 1)) held
+    one-stays : (i : ℕ) (d : CaseDecl) (held : Run) → slice_get f.cases i ≡ Some d → is_among t many d ≡ false → Same (upto i) held → Same (upto (i + 1)) held
     one-stays i d held at other same =
         let within = slice_get_within f.cases i d at in
         let is : d ≡ get_or f.cases i d = sym (get_or_from_slice_get f.cases i d d at) in
-        subst (λ xs. Same (record { kinds = kinds; cases = xs }) held) (sym (each-passed t moved f.cases cs i d within is other)) same
+        subst (λ xs. Same (record { kinds = kinds; cases = xs }) held) (sym (each-passed t many moved f.cases cs i d within is other)) same
 
     behind : (i : ℕ) (d : CaseDecl) (ds : List CaseDecl) → drop i f.cases ≡ d ∷ ds → (slice_get f.cases i ≡ Some d) × (drop (i + 1) f.cases ≡ ds)
     behind i d ds is =
@@ -220,25 +218,25 @@ module _ (f : File) (workable : IsWorkable f) where
     none-left i is = all-taken f.cases i is
 
     abbrev Done : Run → Type 0
-    Done held = Same (record { kinds = kinds; cases = each_of t moved f.cases cs }) held
+    Done held = Same (record { kinds = kinds; cases = each_of t many moved f.cases cs }) held
 
     abbrev more : CaseDecl → List CaseDecl → Bool → List Recorded
-    more d ds b = if b then by a (stored.Migrate d.id v.number) ∷ migrations a t v.number ds else migrations a t v.number ds
+    more d ds b = if b then by a (stored.Migrate d.id v.number) ∷ migrations a t many v.number ds else migrations a t many v.number ds
 
     moves : (ds : List CaseDecl) (i : ℕ) (held : Run) → drop i f.cases ≡ ds → Same (upto i) held
-        → Done (all held (migrations a t v.number ds))
-    moves [] i held left same = subst (λ xs. Same (record { kinds = kinds; cases = each_of t moved xs cs }) held) (none-left i left) same
+        → Done (all held (migrations a t many v.number ds))
+    moves [] i held left same = subst (λ xs. Same (record { kinds = kinds; cases = each_of t many moved xs cs }) held) (none-left i left) same
     moves (d ∷ ds) i held left same =
         let next = behind i d ds left in
-        chosen (d.id.type_no == t)
+        chosen (is_among t many d)
         (λ is. subst (λ b. Done (all held (more d ds b))) (sym is)
-        (moves ds (i + 1) (called starts held (by a (stored.Migrate d.id v.number))) next.1 (one-moves i d held next.0 (eqb-true d.id.type_no t is) same)))
-        (λ is. subst (λ b. Done (all held (more d ds b))) (sym is) (moves ds (i + 1) held next.1 (one-stays i d held next.0 (unlike d.id.type_no t is) same)))
+        (moves ds (i + 1) (called starts held (by a (stored.Migrate d.id v.number))) next.1 (one-moves i d held next.0 is same)))
+        (λ is. subst (λ b. Done (all held (more d ds b))) (sym is) (moves ds (i + 1) held next.1 (one-stays i d held next.0 is same)))
 
-  migrates : (a t : ℕ) (o : Option VersionModel) (run held : Run) → ((v : VersionModel) → o ≡ Some v → version_of run t v.number ≡ Some v) → Same run held
-      → Same (migrated f a t o run) (all held (migrate_calls a t f.cases (number o)))
-  migrates a t None run held has same = same
-  migrates a t (Some v) run held has same = moves a t v run.kinds (has v refl) run.cases f.cases 0 held refl same
+  migrates : (a t many : ℕ) (o : Option VersionModel) (run held : Run) → ((v : VersionModel) → o ≡ Some v → version_of run t v.number ≡ Some v) → Same run held
+      → Same (migrated f a t many o run) (all held (migrate_calls a t many f.cases (number o)))
+  migrates a t many None run held has same = same
+  migrates a t many (Some v) run held has same = moves a t many v run.kinds (has v refl) run.cases f.cases 0 held refl same
 
   -- ---- a line, a phase, the file
   kind-stored : (a t : ℕ) (e : KindEvent) (held : Run) → called starts held (by a (stored_kind t e)) ≡ on_kind a t e held
@@ -254,24 +252,24 @@ module _ (f : File) (workable : IsWorkable f) where
       (subst (λ o. Same (run_called f a (call.Newest c.type_no (told.Create c)) run) (all (on_kind a c.type_no kind_event.Newest held) (create_calls a c o))) (sym (newest-is c.type_no run))
       (creates a c (newest c.type_no run) (on_kind a c.type_no kind_event.Newest run) (on_kind a c.type_no kind_event.Newest held) known
       (λ v is. found-when-asked a c.type_no v.number run ∙ found-by-number run c.type_no v counted is) (on-kind a c.type_no kind_event.Newest run held same)))
-  makes a (call.Newest t told.Migrate) run held known counted same =
-      subst (λ o. Same (run_called f a (call.Newest t told.Migrate) run) (all (on_kind a t kind_event.Newest held) (migrate_calls a t f.cases o))) (sym (newest-is t run))
-      (migrates a t (newest t run) (on_kind a t kind_event.Newest run) (on_kind a t kind_event.Newest held)
+  makes a (call.Newest t (told.Migrate many)) run held known counted same =
+      subst (λ o. Same (run_called f a (call.Newest t (told.Migrate many)) run) (all (on_kind a t kind_event.Newest held) (migrate_calls a t many f.cases o))) (sym (newest-is t run))
+      (migrates a t many (newest t run) (on_kind a t kind_event.Newest run) (on_kind a t kind_event.Newest held)
       (λ v is. found-when-asked a t v.number run ∙ found-by-number run t v counted is) (on-kind a t kind_event.Newest run held same))
 
   created-counted : (a : ℕ) (c : CaseId) (o : Option VersionModel) (run : Run) → AllCounted run.kinds → AllCounted (created f a c o run).kinds
   created-counted a c None run all = all
   created-counted a c (Some v) run all = all
 
-  migrated-counted : (a t : ℕ) (o : Option VersionModel) (run : Run) → AllCounted run.kinds → AllCounted (migrated f a t o run).kinds
-  migrated-counted a t None run all = all
-  migrated-counted a t (Some v) run all = all
+  migrated-counted : (a t many : ℕ) (o : Option VersionModel) (run : Run) → AllCounted run.kinds → AllCounted (migrated f a t many o run).kinds
+  migrated-counted a t many None run all = all
+  migrated-counted a t many (Some v) run all = all
 
   counted : (a : ℕ) (k : Call) (run : Run) → AllCounted run.kinds → AllCounted (run_called f a k run).kinds
   counted a (call.Kind t e) run all = counted-changed a t e run.kinds all
   counted a (call.Case c e) run all = all
   counted a (call.Newest t (told.Create c)) run all = created-counted a c (newest t run) (on_kind a t kind_event.Newest run) (counted-changed a t kind_event.Newest run.kinds all)
-  counted a (call.Newest t told.Migrate) run all = migrated-counted a t (newest t run) (on_kind a t kind_event.Newest run) (counted-changed a t kind_event.Newest run.kinds all)
+  counted a (call.Newest t (told.Migrate many)) run all = migrated-counted a t many (newest t run) (on_kind a t kind_event.Newest run) (counted-changed a t kind_event.Newest run.kinds all)
 
   -- the types that the calls are told by are those of the run
   kinds-told : (a : ℕ) (k : Call) (run : Run) → kinds_behind k (machines run.kinds) ≡ machines (run_called f a k run).kinds
@@ -282,21 +280,21 @@ module _ (f : File) (workable : IsWorkable f) where
       by_answer : (o : Option VersionModel) → machines run.kinds ≡ machines (created f a c o (on_kind a t kind_event.Newest run)).kinds
       by_answer None = sym (kinds-same a t run)
       by_answer (Some v) = sym (kinds-same a t run)
-  kinds-told a (call.Newest t told.Migrate) run = by_answer (newest t run)
+  kinds-told a (call.Newest t (told.Migrate many)) run = by_answer (newest t run)
     where
-      by_answer : (o : Option VersionModel) → machines run.kinds ≡ machines (migrated f a t o (on_kind a t kind_event.Newest run)).kinds
+      by_answer : (o : Option VersionModel) → machines run.kinds ≡ machines (migrated f a t many o (on_kind a t kind_event.Newest run)).kinds
       by_answer None = sym (kinds-same a t run)
       by_answer (Some v) = sym (kinds-same a t run)
 
-  record IsMade (run : Run) (s : Told) : Type 0 where
-    same : Same run (folded (case_counts f) s.calls)
-    counts : AllCounted run.kinds
-    kinds : s.kinds ≡ machines run.kinds
+  pub record IsMade (run : Run) (s : Told) : Type 0 where
+    pub same : Same run (folded (case_counts f) s.calls)
+    pub counts : AllCounted run.kinds
+    pub kinds : s.kinds ≡ machines run.kinds
 
-  abbrev Known : Line → Type 0
+  abbrev pub Known : Line → Type 0
   Known l = IsKnown (length f.types) (length f.actors) f.cases l
 
-  line-made : (l : Line) (run : Run) (s : Told) → Known l → IsMade run s → IsMade (worked f run l) (told_line f s l)
+  pub line-made : (l : Line) (run : Run) (s : Told) → Known l → IsMade run s → IsMade (worked f run l) (told_line f s l)
   line-made l run s known made =
       let a = l.actor in
       let k = call_of a (roles_of f a) l.act in
@@ -338,7 +336,7 @@ module _ (f : File) (workable : IsWorkable f) where
   types-same t [] = refl
   types-same t (d ∷ ds) = ap (λ ks. defined_kind t d ∷ ks) (types-same (t + 1) ds)
 
-  opens : IsMade (opening f) (told_types f.types)
+  pub opens : IsMade (opening f) (told_types f.types)
   opens =
       let is = defines [] 0 f.types (case_counts f) (fresh_cases 0 (case_counts f)) refl (counts-size 0 f.types f.cases) in
       record {

@@ -1,5 +1,5 @@
-mod Changes
 mod CountedPlaces
 pub mod Folded
+pub mod Known
 mod Numbers
 pub mod Machines

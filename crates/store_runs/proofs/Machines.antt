@@ -6,7 +6,7 @@ use Rattle.script_run.specs.Verdicts.{stepped}
 use Rattle.script_run.specs.declared.runs.ClosedKind.{ClosedKind}
 use Rattle.script_run.specs.declared.runs.Run.{Run}
 use Rattle.store_calls.specs.Calls.{newest_number, number_in}
-use Rattle.store_runs.proofs.Changes.{changed-later}
+use Rattle.case_store.proofs.Changes.{changed-later}
 use Rattle.store_runs.proofs.Numbers.{asked}
 use Rattle.type_core.specs.KindModel.{KindModel}
 use Rattle.type_core.specs.Machine.{event_on, newest_of}

@@ -7,7 +7,7 @@ use Rattle.case_store.specs.Folding.{version_of, version_of_kind}
 use Rattle.script_run.specs.Calls.{answered_version, call_kind, changed_at, newest, newest_in, on_kind}
 use Rattle.script_run.specs.declared.runs.ClosedKind.{ClosedKind}
 use Rattle.script_run.specs.declared.runs.Run.{Run}
-use Rattle.store_runs.proofs.Changes.{changed-later, get-changed}
+use Rattle.case_store.proofs.Changes.{changed-later, get-changed}
 use Rattle.type_core.proofs.Numbering.{none_newest}
 use Rattle.type_core.specs.KindModel.{KindModel}
 use Rattle.type_core.specs.Machine.{defined_by, event_on, installed_by, newest_of, next_kind, version_in, with_version}

@@ -1,8 +1,9 @@
 use Rattle.std.proofs.Common.{◌≡◌, ◌∙◌, ap, fold, subst, sym}
 use Rattle.std.specs.List.{AllByRecursion}
 use Rattle.std.proofs.lemmas.List.{at_drop_all}
-use Rattle.store_calls.specs.Calls.{IsPayable, told_file, told_phase}
+use Rattle.store_calls.specs.Calls.{told_file, told_phase}
 use Rattle.store_calls.specs.Told.{told_of}
+use Rattle.store_room.specs.Room.{IsPayable}
 use Rattle.store_calls.proofs.Payable.{payable_calls}
 use Rattle.store_calls.proofs.telling.calls.Goals as goal
 

@@ -1,14 +1,14 @@
 use Rattle.std.proofs.Common.{◌≡◌, ◌+◌, ◌-◌, ◌++◌, ◌∙◌, Err, ap, arith, drop, length, map, refl, subst, sym, take}
-use Rattle.std.proofs.lemmas.List.{length-map, length-take-le}
+use Rattle.std.proofs.lemmas.List.{length-map, length-take-le, take-append-drop}
 use Rattle.std.proofs.lemmas.Result.{err_from_is_err_and}
-use Rattle.store_calls.specs.Calls.{payload_of}
+use Rattle.store_room.specs.Room.{Overflows, payload_of}
 use Rattle.store_disk.specs.Disk.{LeavesOnly}
 use Rattle.store_disk.specs.Image.{all_framed}
 use Rattle.store_disk.specs.Rest.{HasNoneOrAll, IsAtRest}
 use Rattle.store_keep.specs.Keeping.{held}
-use Rattle.store_keep.specs.Refusals.{Overflows}
-use Rattle.store_keep.specs.declared.faults.KeepFault.TheVariants as fault
-use Rattle.store_keep.proofs.Additions.{Progress, behind, group-more, moments, nothing-yet, over-behind, over-first, over-here, split-group, split-phase, stays}
+use Rattle.store_room.specs.declared.faults.RoomFault.TheVariants as room
+use Rattle.store_keep.proofs.Additions.{Progress, group-more, moments, nothing-yet, room-full, split-group, stays}
+use Rattle.store_room.proofs.Grouped.{behind, over-behind, over-first, over-here}
 use Rattle.store_keep.proofs.Held.{begins-self, rest-again}
 use Rattle.store_keep.proofs.adding.add_all.Goals as goal
 
@@ -37,8 +37,8 @@ returns-in_err-group-clause-full g c =
     let n = c.next_end-end.result.0 - l.stored in
     let told = err_from_is_err_and c.from_residual.result c.from_residual.ensures.1 in
     λ full.
-    let same : c.in_err-group.field-0.0 ≡ fault.Full = cc (full, told.1, told.2) in
-    l.invariant.over (subst (Overflows c.args.limit l.gate) (sym (split-phase n left)) (over-first c.args.limit l.gate (take n left) (drop n left) (c.in_err-group.ensures.full (ap Err same))))
+    let same : c.in_err-group.field-0.0 ≡ room.Full = room-full c.in_err-group.field-0.0 (cc (full, told.1, told.2)) in
+    l.invariant.over (subst (Overflows c.args.limit l.gate) (take-append-drop n left) (over-first c.args.limit l.gate (take n left) (drop n left) (c.in_err-group.ensures.full (ap Err same))))
 
 pub append_group-requires : goal.append_group-requires
 append_group-requires g c κs within =

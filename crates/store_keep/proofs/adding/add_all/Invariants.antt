@@ -1,8 +1,7 @@
 use Rattle.std.proofs.Common.{◌≡◌, ◌-◌, ◌<◌, ◌≤◌, ◌^◌, ◌++◌, drop, length, map}
-use Rattle.store_calls.specs.Calls.{payload_of}
+use Rattle.store_room.specs.Room.{Overflows, payload_of}
 use Rattle.store_disk.specs.Disk.{LeavesOnly}
 use Rattle.store_keep.specs.Keeping.{HoldsBeginning, held}
-use Rattle.store_keep.specs.Refusals.{Overflows}
 use Rattle.store_keep.proofs.Additions.{Progress}
 use Rattle.store_keep.proofs.adding.add_all.Given as goal
 

@@ -1,7 +1,8 @@
-use Rattle.std.proofs.Common.{arith, ◌≡◌, ◌≤◌, ◌∙◌, false, true, map, ap, subst, sym}
+use Rattle.std.proofs.Common.{arith, ◌≡◌, ◌≤◌, ◌∙◌, [], ◌∷◌, false, true, map, ap, subst, sym}
 use Rattle.case_store.proofs.Folds.{one-step, room, stays}
-use Rattle.case_store.specs.Folding.{has, payload_of}
-use Rattle.case_store.specs.Standing.{IsStore, Passes}
+use Rattle.case_store.specs.Folding.{has}
+use Rattle.case_store.specs.Standing.{IsStore}
+use Rattle.store_room.specs.Room.{Passes, payload_of}
 use Rattle.script_run.specs.Oldest.{oldest}
 use Rattle.store_disk.specs.Disk.{LeavesOnly}
 use Rattle.store_disk.specs.Rest.{IsBeforeOrAfter, appended}
@@ -12,7 +13,7 @@ pub returns-in_err-framed-clause-any_moment : goal.returns-in_err-framed-clause-
 returns-in_err-framed-clause-any_moment g c =
     let k = g.D.Disk in
     let now = c.args.self.now in
-    λ whole. stays k.content k.may_leave k.moment k.left_since now.disk (map payload_of g.past.records) (payload c.args.caller c.args.event.now) now.gate (g.met.D.Disk.only_now now.disk) (c.requires.1.0 whole).rest
+    λ whole. stays k.content k.may_leave k.moment k.left_since now.disk (map payload_of g.past.records) (payload c.args.caller c.args.event.now ∷ []) now.gate (g.met.D.Disk.only_now now.disk) (c.requires.1.0 whole).rest
 
 pub call-requires-clause-young : goal.call-requires-clause-young
 call-requires-clause-young g c =
@@ -31,7 +32,7 @@ returns-in_err-reply-clause-any_moment g c =
     let P = IsBeforeOrAfter (map payload_of g.past.records) (payload c.args.caller c.args.event.now) in
     λ whole.
     subst (λ s. LeavesOnly k.moment k.left_since now.disk s.disk P) (sym c.self.view_is)
-    (stays k.content k.may_leave k.moment k.left_since now.disk (map payload_of g.past.records) (payload c.args.caller c.args.event.now) now.gate (g.met.D.Disk.only_now now.disk)
+    (stays k.content k.may_leave k.moment k.left_since now.disk (map payload_of g.past.records) (payload c.args.caller c.args.event.now ∷ []) now.gate (g.met.D.Disk.only_now now.disk)
     (c.requires.1.0 whole).rest)
 
 pub returns-in-Ok-clause-acknowledged : goal.returns-in-Ok-clause-acknowledged

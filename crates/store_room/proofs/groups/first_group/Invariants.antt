@@ -1,10 +1,9 @@
 use Rattle.std.proofs.Common.{◌≡◌, ◌⊎◌, ◌+◌, ◌<◌, ◌≤◌, ◌^◌, drop, length, map, take}
 use Rattle.std.specs.List.{AllByRecursion}
-use Rattle.store_calls.specs.Calls.{IsPayable, payload_of}
 use Rattle.store_disk.specs.Image.{all_framed}
-use Rattle.store_keep.specs.Refusals.{Overflows}
 use Rattle.store_disk.specs.declared.group.TheConstants.{MAX_GROUP}
-use Rattle.store_keep.proofs.adding.first_group.Given as goal
+use Rattle.store_room.specs.Room.{IsPayable, Overflows, payload_of}
+use Rattle.store_room.proofs.groups.first_group.Given as goal
 
 abbrev pub invariant-loop-count : goal.invariant-loop-count
 invariant-loop-count l = record {

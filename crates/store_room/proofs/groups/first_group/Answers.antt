@@ -1,10 +1,10 @@
 use Rattle.std.proofs.Common.{◌≡◌, inl, inr, ◌+◌, Err, ap, length, arith}
 use Rattle.std.proofs.lemmas.Result.{err_from_is_err_and}
 use Rattle.store_disk.specs.Image.{all_framed}
-use Rattle.store_keep.specs.declared.faults.KeepFault.TheVariants as fault
-use Rattle.store_keep.proofs.Additions.{group-are, group-fits, group-over, group-payable, group-span}
-use Rattle.store_keep.proofs.adding.first_group.Goals.{else-count-gt0-via-then-count-gt0+else-span-len-gt-MAX_GROUP, else-count-gt0-via-else-count-gt0}
-use Rattle.store_keep.proofs.adding.first_group.Goals as goal
+use Rattle.store_room.specs.declared.faults.RoomFault.TheVariants as fault
+use Rattle.store_room.proofs.Grouped.{group-are, group-fits, group-over, group-payable, group-span}
+use Rattle.store_room.proofs.groups.first_group.Goals.{else-count-gt0-via-then-count-gt0+else-span-len-gt-MAX_GROUP, else-count-gt0-via-else-count-gt0}
+use Rattle.store_room.proofs.groups.first_group.Goals as goal
 
 pub returns-in_err-bytes-clause-full : goal.returns-in_err-bytes-clause-full
 returns-in_err-bytes-clause-full c =
@@ -32,7 +32,7 @@ loop-count-preserved c =
     let q = c.as_slice.result.now in
     let longer : length (all_framed new) ≡ span + (5 + length p) = group-span limit gate span l.count calls l.group r l.invariant.are stands low item new p q c.as_slice.ensures c.in_ok-push.ensures.pushed in
     record {
-      are = group-are limit gate span l.count calls l.group r l.invariant.are stands low item new p q found.payload.0 c.as_slice.ensures c.in_ok-push.ensures.pushed;
+      are = group-are limit gate span l.count calls l.group r l.invariant.are stands low item new p q found.payload.0.same c.as_slice.ensures c.in_ok-push.ensures.pushed;
       short = omega (arith, longer, found.payload.1, c.requires.limit);
       fits = group-fits limit gate span l.count calls l.group r l.invariant.are stands low item l.invariant.fits found.fits;
       cut = elim c.else-count-gt0.branch [

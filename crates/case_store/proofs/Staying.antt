@@ -1,0 +1,154 @@
+-- What is there stays there, whatever is called. So calls of which each names what is there may be made one after another.
+use Rattle.std.proofs.Common.{◌≡◌, ℕ, zero, suc, ◌+◌, ◌-◌, ◌==◌, Bool, ◌&&◌, true, false, List, [], ◌∷◌, ◌++◌, length, Option, Some, None, refl, ap, ◌∙◌}
+use Rattle.std.specs.Prelude.{Ok, Err, Result, fold, nat_lt, slice_get, if◌then◌else◌}
+use Rattle.std.specs.List.{AllByRecursion}
+use Rattle.std.specs.Option.{is_some}
+use Rattle.std.proofs.lemmas.Bool.{and_from, and_parts}
+use Rattle.std.proofs.lemmas.List.{length-set}
+use Rattle.case_core.specs.declared.events.Event.{Event}
+use Rattle.case_core.specs.declared.events.Event.TheVariants as event
+use Rattle.script_run.specs.Calls.{call_kind, changed_at, put_back}
+use Rattle.script_run.specs.declared.runs.ClosedKind.{ClosedKind}
+use Rattle.script_run.specs.declared.runs.Run.{Run}
+use Rattle.store_form.specs.Stored.{HasNoVersion, is_shallow}
+use Rattle.store_form.specs.declared.stored.Recorded.{Recorded}
+use Rattle.store_form.specs.declared.stored.Stored.{Stored}
+use Rattle.store_form.specs.declared.stored.Stored.TheVariants as stored
+use Rattle.type_core.specs.KindModel.{KindModel}
+use Rattle.type_core.specs.Machine.{defined_by, event_on, install_on, installed_by, newest_of, version_in, with_version}
+use Rattle.type_core.specs.declared.events.KindEvent.{KindEvent}
+use Rattle.type_core.specs.declared.events.KindEvent.TheVariants as kind_event
+use Rattle.type_core.specs.declared.replies.KindReply.TheVariants as reply
+use Rattle.wsm_ops.specs.declared.operations.Op.{Op}
+use Rattle.wsm_sound.specs.VersionModel.{VersionModel}
+use Rattle.wsm_sound.specs.Versions.{evolved, first_of}
+use Rattle.wsm_sound.specs.declared.faults.Fault.{Fault}
+use Rattle.wsm_sound.specs.declared.versions.CaseId.{CaseId}
+use Rattle.case_store.proofs.Changes.{changed-later}
+use Rattle.case_store.specs.Folding.{called, has, has_case, has_names, made, on_version, version_of, version_of_kind}
+use Rattle.case_store.specs.Standing.{AreKnown}
+
+-- so many items as before
+changed-length : {X : Type 0} (f : X → X) (i : ℕ) (xs : List X) → length (changed_at f i xs) ≡ length xs
+changed-length {X = X} f i xs = go (slice_get xs i)
+  where
+    go : (o : Option X) → length (put_back f i xs o) ≡ length xs
+    go None = refl
+    go (Some x) = length-set xs i (f x)
+
+-- a version more behind the others
+item-stays : {X : Type 0} (xs : List X) (x : X) (i : ℕ) → is_some (slice_get xs i) ≡ true → is_some (slice_get (xs ++ x ∷ []) i) ≡ true
+item-stays [] x i there = absurd cc
+item-stays (y ∷ xs) x zero there = refl
+item-stays (y ∷ xs) x (suc i) there = item-stays xs x i there
+
+unfoldable Has : ℕ → KindModel → Type 0
+Has n k = is_some (version_in k.versions n) ≡ true
+
+more-has : (n : ℕ) (k : KindModel) (v : VersionModel) → Has n k → Has n (with_version k v)
+unfolding Has
+more-has n k v there = go (n == 0) there
+  where
+    go : (b : Bool) → is_some (if b then None else slice_get k.versions (n - 1)) ≡ true → is_some (if b then None else slice_get (k.versions ++ v ∷ []) (n - 1)) ≡ true
+    go true there = absurd cc
+    go false there = item-stays k.versions v (n - 1) there
+
+defined-has : (n : ℕ) (k : KindModel) (r : Result VersionModel Fault) → Has n k → Has n (defined_by k r).0
+defined-has n k (Ok v) there = more-has n k v there
+defined-has n k (Err f) there = there
+
+installed-has : (n : ℕ) (k : KindModel) (r : Result VersionModel Fault) → Has n k → Has n (installed_by k r).0
+installed-has n k (Ok v) there = more-has n k v there
+installed-has n k (Err f) there = there
+
+install-has : (n : ℕ) (k : KindModel) (newest : VersionModel) (ops : List Op) → Has n k → Has n (install_on k newest ops).0
+install-has n k newest ops there = go (nat_lt 255 (length k.versions))
+  where
+    go : (b : Bool) → Has n (if b then (k, reply.VersionLimit) else installed_by k (evolved newest ops)).0
+    go true = there
+    go false = installed-has n k (evolved newest ops) there
+
+event-has : (n : ℕ) (k : KindModel) (o : Option VersionModel) (e : KindEvent) → Has n k → Has n (event_on k o e).0
+event-has n k None (kind_event.Define schema) there = defined-has n k (first_of k.type_no schema) there
+event-has n k None (kind_event.Install ops) there = there
+event-has n k None kind_event.Newest there = there
+event-has n k (Some newest) (kind_event.Define schema) there = there
+event-has n k (Some newest) (kind_event.Install ops) there = install-has n k newest ops there
+event-has n k (Some newest) kind_event.Newest there = there
+
+kind-has : (caller n : ℕ) (e : KindEvent) (k : ClosedKind) → is_some (version_in k.machine.versions n) ≡ true → is_some (version_in (call_kind caller e k).machine.versions n) ≡ true
+unfolding Has
+kind-has caller n e k there = event-has n k.machine (newest_of k.machine.versions) e there
+
+kinds-have : (caller n u t : ℕ) (e : KindEvent) (kinds : List ClosedKind) → is_some (version_of_kind n (slice_get kinds t)) ≡ true
+    → is_some (version_of_kind n (slice_get (changed_at (call_kind caller e) u kinds) t)) ≡ true
+kinds-have caller n zero t e [] there = there
+kinds-have caller n (suc u) t e [] there = there
+kinds-have caller n zero zero e (k ∷ kinds) there = kind-has caller n e k there
+kinds-have caller n zero (suc t) e (k ∷ kinds) there = there
+kinds-have caller n (suc u) zero e (k ∷ kinds) there = ap (λ ks. is_some (version_of_kind n (slice_get ks zero))) (changed-later (call_kind caller e) u k kinds) ∙ there
+kinds-have caller n (suc u) (suc t) e (k ∷ kinds) there =
+    ap (λ ks. is_some (version_of_kind n (slice_get ks (suc t)))) (changed-later (call_kind caller e) u k kinds) ∙ kinds-have caller n u t e kinds there
+
+-- a call of a case leaves the types
+version-same : (starts : List ℕ) (caller : ℕ) (c : CaseId) (make : VersionModel → Event) (o : Option VersionModel) (run : Run) → (on_version starts caller c make o run).kinds ≡ run.kinds
+version-same starts caller c make None run = refl
+version-same starts caller c make (Some v) run = refl
+
+version-stays : (starts : List ℕ) (caller t n : ℕ) (e : Stored) (run : Run) → is_some (version_of run t n) ≡ true → is_some (version_of (made starts caller e run) t n) ≡ true
+version-stays starts caller t n (stored.Define u s) run there = kinds-have caller n u t (kind_event.Define s) run.kinds there
+version-stays starts caller t n (stored.Install u ops) run there = kinds-have caller n u t (kind_event.Install ops) run.kinds there
+version-stays starts caller t n (stored.Newest u) run there = kinds-have caller n u t kind_event.Newest run.kinds there
+version-stays starts caller t n (stored.Create c number) run there =
+    ap (λ ks. is_some (version_of_kind n (slice_get ks t))) (version-same starts caller c event.Create (version_of run c.type_no number) run) ∙ there
+version-stays starts caller t n (stored.Migrate c number) run there =
+    ap (λ ks. is_some (version_of_kind n (slice_get ks t))) (version-same starts caller c event.Migrate (version_of run c.type_no number) run) ∙ there
+version-stays starts caller t n (stored.Case c e) run there = there
+
+types-stay : (starts : List ℕ) (caller : ℕ) (e : Stored) (run : Run) → length (made starts caller e run).kinds ≡ length run.kinds
+types-stay starts caller (stored.Define u s) run = changed-length (call_kind caller (kind_event.Define s)) u run.kinds
+types-stay starts caller (stored.Install u ops) run = changed-length (call_kind caller (kind_event.Install ops)) u run.kinds
+types-stay starts caller (stored.Newest u) run = changed-length (call_kind caller kind_event.Newest) u run.kinds
+types-stay starts caller (stored.Create c number) run = ap length (version-same starts caller c event.Create (version_of run c.type_no number) run)
+types-stay starts caller (stored.Migrate c number) run = ap length (version-same starts caller c event.Migrate (version_of run c.type_no number) run)
+types-stay starts caller (stored.Case c e) run = refl
+
+module _ (starts : List ℕ) (run : Run) (r : Recorded) where
+  number-stays : (c : CaseId) (number : ℕ) → (has_case starts c && is_some (version_of run c.type_no number)) ≡ true → (has_case starts c && is_some (version_of (called starts run r) c.type_no number)) ≡ true
+  number-stays c number there =
+      let parts = and_parts (has_case starts c) (is_some (version_of run c.type_no number)) there in
+      and_from (has_case starts c) _ parts.0 (version-stays starts r.caller c.type_no number r.event run parts.1)
+
+  names-stay : (e : Stored) → has_names starts run e ≡ true → has_names starts (called starts run r) e ≡ true
+  names-stay (stored.Define t s) there = ap (nat_lt t) (types-stay starts r.caller r.event run) ∙ there
+  names-stay (stored.Install t ops) there = ap (nat_lt t) (types-stay starts r.caller r.event run) ∙ there
+  names-stay (stored.Newest t) there = ap (nat_lt t) (types-stay starts r.caller r.event run) ∙ there
+  names-stay (stored.Create c number) there = number-stays c number there
+  names-stay (stored.Migrate c number) there = number-stays c number there
+  names-stay (stored.Case c e) there = there
+
+  pub has-stays : (e : Stored) → has starts run e ≡ true → has starts (called starts run r) e ≡ true
+  has-stays e there =
+      let parts = and_parts (has_names starts run e) (is_shallow e) there in
+      and_from (has_names starts (called starts run r) e) (is_shallow e) (names-stay e parts.0) parts.1
+
+-- each of these names what is there now
+abbrev pub AreThere : List ℕ → Run → List Recorded → Type 0
+AreThere starts run rs = AllByRecursion (λ r. (has starts run r.event ≡ true) × HasNoVersion r.event) rs
+
+all-stay : (starts : List ℕ) (run : Run) (r : Recorded) (rs : List Recorded) → AreThere starts run rs → AreThere starts (called starts run r) rs
+all-stay starts run r [] all = tt
+all-stay starts run r (q ∷ rs) all = ((has-stays starts run r q.event all.0.0, all.0.1), all-stay starts run r rs all.1)
+
+pub known-there : (starts : List ℕ) (run : Run) (rs : List Recorded) → AreThere starts run rs → AreKnown starts run rs
+known-there starts run [] all = tt
+known-there starts run (r ∷ rs) all = (all.0.0, all.0.1, known-there starts (called starts run r) rs (all-stay starts run r rs all.1))
+
+-- calls behind others
+pub known-append : (starts : List ℕ) (run : Run) (rs qs : List Recorded) → AreKnown starts run rs → AreKnown starts (fold (called starts) run rs) qs → AreKnown starts run (rs ++ qs)
+known-append starts run [] qs known more = more
+known-append starts run (r ∷ rs) qs known more = (known.0, known.1, known-append starts (called starts run r) rs qs known.2 more)
+
+pub all-types-stay : (starts : List ℕ) (run : Run) (rs : List Recorded) → length (fold (called starts) run rs).kinds ≡ length run.kinds
+all-types-stay starts run [] = refl
+all-types-stay starts run (r ∷ rs) = all-types-stay starts (called starts run r) rs ∙ types-stay starts r.caller r.event run
