@@ -1,9 +1,11 @@
 -- A line as it is cut into words, byte by byte.
-use Rattle.std.specs.Prelude.{ℕ, List, [], ◌∷◌, ◌++◌, filter, if◌then◌else◌}
+use Rattle.std.specs.Prelude.{◌≡◌, ℕ, List, [], ◌∷◌, ◌++◌, filter, map, take, if◌then◌else◌}
 use Rattle.file_words.specs.Lines.{Bytes}
 use Rattle.file_words.specs.Words.{behind, cuts, is_word}
 use Rattle.file_words.specs.declared.words.Quote.{Quote}
 use Rattle.file_words.specs.declared.words.Quote.TheVariants as quotes
+use Rattle.talk_items.specs.Keywords.{keyword}
+use Rattle.talk_items.specs.declared.keywords.Keyword.{Keyword}
 use Rattle.talk_items.specs.declared.words.Stand.{Stand}
 use Rattle.talk_items.specs.declared.words.Stand.TheVariants as stands
 
@@ -34,3 +36,14 @@ cut_from c (b ∷ bs) = cut_from (cut_more c b) bs
 
 abbrev pub cut : Bytes → Cut
 cut line = cut_from (record { words = []; word = []; quote = quotes.Outside }) line
+
+-- as much of words, and of one word, as is kept
+abbrev pub first_words : List Bytes → List Keyword
+first_words ws = take 4 (map keyword ws)
+
+abbrev pub first_letters : Bytes → Bytes
+first_letters w = take 8 w
+
+-- so much of a line that was cut so far is kept
+abbrev pub IsKept : Cut → List Keyword → Bytes → Type 0
+IsKept c words word = (words ≡ first_words c.words) × (word ≡ first_letters c.word)

@@ -1,6 +1,7 @@
 -- Where the items of a conversation end, and what they are.
 use Rattle.std.specs.Prelude.{◌==◌, ◌&&◌, ℕ, suc, Bool, true, false, not, List, [], ◌∷◌, ◌++◌, length, take, map, Option, Some, None, option_map, if◌then◌else◌}
 use Rattle.std.specs.List.{filter}
+use Rattle.std.specs.Option.{is_none}
 use Rattle.file_words.specs.Lines.{Bytes, lines_of, without_return}
 use Rattle.file_words.specs.Words.{words_of}
 use Rattle.talk_items.specs.Keywords.{keyword}
@@ -107,3 +108,7 @@ or_unit (Some kind) = kind
 
 abbrev pub kind : Bytes → ItemKind
 kind item = or_unit (first_kind (lines_of item).ended)
+
+-- bytes are lines that say nothing, and no more
+abbrev pub is_blank : Bytes → Bool
+is_blank bytes = let lines = lines_of bytes in is_none (first_kind lines.ended) && length lines.left == 0

@@ -1,5 +1,5 @@
 // A line that is read byte by byte.
-ghost use Rattle.std.specs.Prelude.{◌≡◌, ◌∷◌, ◌++◌, [], take};
+ghost use Rattle.std.specs.Prelude.{◌≡◌, ◌==◌, ◌∷◌, ◌++◌, [], length, take};
 ghost use Rattle.talk_items.specs.Items.{words};
 
 use crate::keywords::Keyword;
@@ -13,17 +13,18 @@ use std::marker::Model;
 pub(crate) struct Line {
     words: Words,
     returned: bool,
+    some: bool,
 }
 
 impl Model for Line {
-    ghost use Rattle.std.specs.Prelude.{◌≡◌, ◌∷◌, ◌++◌, [], ℕ, List, false, if◌then◌else◌};
+    ghost use Rattle.std.specs.Prelude.{◌≡◌, ◌∷◌, ◌++◌, [], ℕ, List, false, not, length, ◌==◌, ◌||◌, if◌then◌else◌};
     ghost use Rattle.file_words.specs.Lines.{without_return};
 
     ghost Value = { List ℕ };
 
     ghost view = { λ a. if a.returned then a.words ++ 13 ∷ [] else a.words };
 
-    ghost invariant = { λ a. a.returned ≡ false → without_return a.words ≡ a.words };
+    ghost invariant = { λ a. (a.returned ≡ false → without_return a.words ≡ a.words) × (a.some ≡ (a.returned || not (length a.words == 0))) };
 }
 
 impl Line {
@@ -34,6 +35,7 @@ impl Line {
         Line {
             words: Words::new(),
             returned: false,
+            some: false,
         }
     }
 
@@ -44,17 +46,29 @@ impl Line {
         if self.returned {
             self.words.push(b'\r');
         }
+        self.some = true;
         self.returned = byte == b'\r';
         if !self.returned {
             self.words.push(byte);
         }
     }
 
+    // Whether there is no byte.
+    pub(crate) fn is_empty(&self) -> bool
+        ensures { result ≡ (length self.now == 0) }
+    {
+        !self.some
+    }
+
     // What the first words of the line are.
     pub(crate) fn into_first(self) -> ArrayVec<Keyword, WORDS>
         ensures { result.items ≡ take 4 (words self) }
     {
-        let Line { words, returned: _ } = self;
+        let Line {
+            words,
+            returned: _,
+            some: _,
+        } = self;
         words.into_first()
     }
 }

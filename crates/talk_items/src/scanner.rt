@@ -1,6 +1,6 @@
 // Where an item ends that is read byte by byte.
 ghost use Rattle.std.specs.Prelude.{◌≡◌, ◌<◌, ◌≤◌, ◌∷◌, ◌++◌, ◌↔◌, [], length, take, IsTrue};
-ghost use Rattle.talk_items.specs.Items.{counted, ends, item_end, kind, taken};
+ghost use Rattle.talk_items.specs.Items.{counted, ends, is_blank, item_end, kind, taken};
 ghost use Rattle.talk_items.specs.Scans.{counted_with, first_with};
 
 use crate::items::{ItemKind, Place, ends_line, is_skipped, kind_of, place_behind};
@@ -103,6 +103,13 @@ impl Scanner {
         ensures { IsTrue result ↔ (MAX_ITEM < length self.now) }
     {
         self.len > MAX_ITEM
+    }
+
+    /// Whether the bytes are lines that say nothing, and no more.
+    pub fn is_blank(&self) -> bool
+        ensures { result ≡ is_blank self.now }
+    {
+        self.first.is_none() && self.line.is_empty()
     }
 
     // Takes one byte, and answers whether the item ends with it.

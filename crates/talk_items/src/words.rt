@@ -1,8 +1,7 @@
 // The first words of a line that is read byte by byte.
-ghost use Rattle.std.specs.Prelude.{◌≡◌, ◌∷◌, ◌++◌, [], ℕ, List, filter, map, take};
+ghost use Rattle.std.specs.Prelude.{◌≡◌, ◌∷◌, ◌++◌, [], ℕ, List, filter};
 ghost use Rattle.file_words.specs.Words.{behind, cuts, is_word, words_of};
-ghost use Rattle.talk_items.specs.Cuts.{Cut, cut_more, quoted};
-ghost use Rattle.talk_items.specs.Keywords.{keyword};
+ghost use Rattle.talk_items.specs.Cuts.{Cut, IsKept, cut_more, first_letters, first_words, quoted};
 
 use crate::keywords::{Keyword, keyword_of};
 use crate::limits::{LETTERS, WORDS};
@@ -40,7 +39,7 @@ fn cuts(stand: Stand, byte: u8) -> bool
 
 // One word more, where there is room.
 fn add(words: &mut ArrayVec<Keyword, WORDS>, word: &[u8])
-    ensures { (ws : List (List ℕ)) (w : List ℕ) → words.old.items ≡ take 4 (map keyword ws) → word.now ≡ take 8 w → words.new.items ≡ take 4 (map keyword (ws ++ filter is_word (w ∷ []))) }
+    ensures { (ws : List (List ℕ)) (w : List ℕ) → words.old.items ≡ first_words ws → word.now ≡ first_letters w → words.new.items ≡ first_words (ws ++ filter is_word (w ∷ [])) }
 {
     if word.is_empty() {
         return;
@@ -55,7 +54,7 @@ fn put(
     stand: Stand,
     byte: u8,
 )
-    ensures { (c : Cut) → words.old.items ≡ take 4 (map keyword c.words) → word.old.items ≡ take 8 c.word → quoted stand ≡ c.quote → (words.new.items ≡ take 4 (map keyword (cut_more c byte).words)) × (word.new.items ≡ take 8 (cut_more c byte).word) }
+    ensures { (c : Cut) → words.old.items ≡ first_words c.words → word.old.items ≡ first_letters c.word → quoted stand ≡ c.quote → IsKept (cut_more c byte) words.new.items word.new.items }
 {
     if cuts(stand, byte) {
         add(words, word.as_slice());
@@ -75,15 +74,14 @@ pub(crate) struct Words {
 }
 
 impl Model for Words {
-    ghost use Rattle.std.specs.Prelude.{◌≡◌, ℕ, List, map, take};
-    ghost use Rattle.talk_items.specs.Cuts.{cut, quoted};
-    ghost use Rattle.talk_items.specs.Keywords.{keyword};
+    ghost use Rattle.std.specs.Prelude.{◌≡◌, ℕ, List, map};
+    ghost use Rattle.talk_items.specs.Cuts.{cut, first_letters, first_words, quoted};
 
     ghost Value = { List ℕ };
 
     ghost view = { λ a. map (λ p. p.0) a.bytes.items };
 
-    ghost invariant = { λ a. let c = cut (map (λ p. p.0) a.bytes.items) in (a.words.items ≡ take 4 (map keyword c.words)) × (a.word.items ≡ take 8 c.word) × (quoted a.stand ≡ c.quote) };
+    ghost invariant = { λ a. let c = cut (map (λ p. p.0) a.bytes.items) in (a.words.items ≡ first_words c.words) × (a.word.items ≡ first_letters c.word) × (quoted a.stand ≡ c.quote) };
 }
 
 impl Words {
@@ -110,7 +108,7 @@ impl Words {
 
     // What the first words of the line are.
     pub(crate) fn into_first(self) -> ArrayVec<Keyword, WORDS>
-        ensures { result.items ≡ take 4 (map keyword (words_of self)) }
+        ensures { result.items ≡ first_words (words_of self) }
     {
         let Words {
             mut words,

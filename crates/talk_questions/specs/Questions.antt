@@ -1,5 +1,5 @@
 -- What the words of a line ask for.
-use Rattle.std.specs.Prelude.{Bool, ◌&&◌, nat_le, List, [], ◌∷◌, length, Option, Some, None, option_map, if◌then◌else◌, codes}
+use Rattle.std.specs.Prelude.{nat_le, List, [], ◌∷◌, length, Option, Some, None, option_map, if◌then◌else◌, codes}
 use Rattle.std.specs.Str.{is_utf8}
 use Rattle.file_limits.specs.declared.TheConstants.{MAX_NAME}
 use Rattle.file_words.specs.Lines.{Bytes, without_return}

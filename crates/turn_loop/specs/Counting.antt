@@ -2,8 +2,9 @@
 use Rattle.std.specs.Prelude.{◌≡◌, ◌==◌, ◌&&◌, ℕ, ◌+◌, ◌<◌, ◌^◌, true, false, Bool, List, [], ◌∷◌, ◌++◌, length, nat_lt}
 use Rattle.std.proofs.Common.{ap, arith}
 use Rattle.std.proofs.lemmas.Bool.{ltb-true}
-use Rattle.std.proofs.lemmas.List.{append-nil, length-append}
+use Rattle.std.proofs.lemmas.List.{length-append}
 use Rattle.store_disk.specs.Image.{all_framed, framed, u32}
+use Rattle.store_disk.proofs.Framing.{framed-more}
 use Rattle.turn_loop.specs.Talk.{Bytes, Rules}
 
 -- a line ends at a line feed
@@ -36,11 +37,6 @@ line_rules = record {
   ending = λ ps rest. last_word rest;
 }
 
--- one payload more is as long as its record
-pub framed-more : (ps : List Bytes) (p : Bytes) → length (all_framed (ps ++ p ∷ [])) ≡ length (all_framed ps) + (5 + length p)
-framed-more [] p = omega (arith, ap length (append-nil (framed p)), length-append (1 ∷ u32 (length p)) p)
-framed-more (q ∷ ps) p = omega (arith, length-append (framed q) (all_framed (ps ++ p ∷ [])), framed-more ps p, length-append (framed q) (all_framed ps))
-
 and-right : (a b : Bool) → a && b ≡ true → b ≡ true
 and-right true b e = e
 and-right false b e = absurd cc
@@ -49,4 +45,4 @@ pub line-fits : (ps : List Bytes) (line : Bytes) → keeps_line ps line ≡ true
 line-fits ps line keeps =
     let n : ℕ = length (all_framed ps) + (5 + length line) in
     let less : n < 2 ^ 30 = ltb-true n (2 ^ 30) (and-right (begins_with_plus line) (nat_lt n (2 ^ 30)) keeps) in
-    omega (arith, framed-more ps line, less)
+    omega (arith, ap length (framed-more ps line), length-append (all_framed ps) (framed line), length-append (1 ∷ u32 (length line)) line, less)

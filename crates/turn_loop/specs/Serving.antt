@@ -1,5 +1,5 @@
 -- How a talk in turns goes on, and how it ends.
-use Rattle.std.specs.Prelude.{◌≡◌, ◌⊎◌, ℕ, ◌<◌, ◌≤◌, ◌^◌, Bool, true, List, [], ◌++◌, length, drop, Option, IfSome, Result, Ok, Err}
+use Rattle.std.specs.Prelude.{◌≡◌, ◌⊎◌, ℕ, ◌<◌, ◌≤◌, ◌^◌, Bool, true, List, [], ◌++◌, length, drop, Option, IfSome, IfOk, IfErr, Result, Ok, Err}
 use Rattle.std.specs.List.{AllByRecursion}
 use Rattle.std.specs.Io.KnownBytes.{Appends, Consumes, IsAtEnd, Keeps}
 use Rattle.adept_io.specs.Written.{AppendsPrefix}
@@ -58,6 +58,15 @@ pub record Cut {D : Type 0} (rules : Rules) (may_leave : D → List ℕ → Type
   pub one_turn : Begins (as_turn items) (turns rules first ps (split rules.ends (begun ++ bytes)).items)
   pub moments : LeavesOnly moment left_since old new (HoldsNoneOrAll rules ps items)
   pub tells : CutTells rules (may_leave new) before after first ps items why
+
+-- a turn was worked, or cut, whatever item has begun where these payloads are held
+abbrev pub TurnedFrom : {E D : Type 0} → (rules : Rules) → (holds : E → Bool → List Bytes → Bytes → Type 0) → (content : D → List ℕ) → (may_leave : D → List ℕ → Type 0) → (moment : D → ℕ) → (left_since : D → ℕ → List ℕ → Type 0) → List Bytes → (desk next : E) → (old new : D) → (before after : Option Bytes) → Bytes → Result Turn TalkFault → Type 0
+TurnedFrom rules holds content may_leave moment left_since ps desk next old new before after bytes result =
+    (first : Bool) (begun : Bytes) → holds desk first ps begun → IsRest rules.ends begun → IfOk result (λ t. Turned rules holds content may_leave moment left_since old new before after first ps begun bytes next t)
+
+abbrev pub CutFrom : {E D : Type 0} → (rules : Rules) → (holds : E → Bool → List Bytes → Bytes → Type 0) → (may_leave : D → List ℕ → Type 0) → (moment : D → ℕ) → (left_since : D → ℕ → List ℕ → Type 0) → List Bytes → (desk : E) → (old new : D) → (before after : Option Bytes) → Bytes → Result Turn TalkFault → Type 0
+CutFrom rules holds may_leave moment left_since ps desk old new before after bytes result =
+    (first : Bool) (begun : Bytes) → holds desk first ps begun → IsRest rules.ends begun → IfErr result (λ e. Cut rules may_leave moment left_since old new before after first ps begun bytes e)
 
 -- What was written by the end, where all of these turns were answered, and these items were worked in the turn that was
 -- cut.

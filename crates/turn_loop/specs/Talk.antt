@@ -39,6 +39,13 @@ IsItem ends bytes = split ends bytes ≡ record { items = bytes ∷ []; rest = [
 abbrev pub IsRest : (Bytes → ℕ → Bool) → Bytes → Type 0
 IsRest ends bytes = split ends bytes ≡ record { items = []; rest = bytes }
 
+-- whatever is held where bytes of an item have begun, and where they are all of it
+abbrev pub WhereBegun : {E : Type 0} → (E → Bool → List Bytes → Bytes → Type 0) → (Bytes → ℕ → Bool) → E → (Bool → List Bytes → Bytes → Type 0) → Type 0
+WhereBegun holds ends desk tells = (first : Bool) (ps : List Bytes) (begun : Bytes) → holds desk first ps begun → IsRest ends begun → tells first ps begun
+
+abbrev pub WhereTaken : {E : Type 0} → (E → Bool → List Bytes → Bytes → Type 0) → (Bytes → ℕ → Bool) → E → (Bool → List Bytes → Bytes → Type 0) → Type 0
+WhereTaken holds ends desk tells = (first : Bool) (ps : List Bytes) (item : Bytes) → holds desk first ps item → IsItem ends item → tells first ps item
+
 -- which bytes were taken: all, or so many
 abbrev pub taken_of : Option ℕ → Bytes → Bytes
 taken_of None bytes = bytes

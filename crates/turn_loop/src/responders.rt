@@ -1,7 +1,7 @@
 // What answers items.
 ghost use Rattle.std.specs.Prelude.{◌≡◌, ◌<◌, ◌≤◌, ◌^◌, ◌++◌, ◌∷◌, [], ℕ, List, Bool, true, false, length, IfOk, IfSome, OnOk};
 ghost use Rattle.store_disk.specs.Image.{all_framed};
-ghost use Rattle.turn_loop.specs.Talk.{IsItem, Rules, Takes, held_behind, payload_of, taken_of};
+ghost use Rattle.turn_loop.specs.Talk.{Rules, Takes, WhereTaken, held_behind, payload_of, taken_of};
 
 use adept_io::NoMemory;
 use store_disk::Group;
@@ -25,9 +25,9 @@ pub trait Responder {
 
     /// Works the item that was taken: puts the answer behind the text, and the payload into the group where it is accepted.
     fn work(&mut self, text: &mut Vec<u8>, group: &mut Group) -> Result<(), NoMemory>
-        ensures holds { (first : Bool) (ps : List (List ℕ)) (item : List ℕ) → holds self.old first ps item → IsItem rules.ends item → OnOk result (holds self.new false (held_behind rules ps item) []) }
-        ensures answer { (first : Bool) (ps : List (List ℕ)) (item : List ℕ) → holds self.old first ps item → IsItem rules.ends item → OnOk result (text.new.items ≡ text.old.items ++ rules.answer first ps item) }
-        ensures payload { (first : Bool) (ps : List (List ℕ)) (item : List ℕ) → holds self.old first ps item → IsItem rules.ends item → OnOk result (group.new ≡ group.old ++ payload_of rules ps item) };
+        ensures holds { WhereTaken holds rules.ends self.old (λ first ps item. OnOk result (holds self.new false (held_behind rules ps item) [])) }
+        ensures answer { WhereTaken holds rules.ends self.old (λ first ps item. OnOk result (text.new.items ≡ text.old.items ++ rules.answer first ps item)) }
+        ensures payload { WhereTaken holds rules.ends self.old (λ first ps item. OnOk result (group.new ≡ group.old ++ payload_of rules ps item)) };
 
     /// What is said to a rest behind which there are no more bytes.
     fn close(&mut self, text: &mut Vec<u8>) -> Result<(), NoMemory>

@@ -6,7 +6,7 @@ ghost use Rattle.adept_io.specs.Written.{AppendsPrefix};
 ghost use Rattle.store_disk.specs.Disk.{LeavesOnly};
 ghost use Rattle.store_disk.specs.Image.{all_framed};
 ghost use Rattle.store_disk.specs.Rest.{HasNoneOrAll, IsAtRest};
-ghost use Rattle.turn_loop.specs.Serving.{Cut, Turned};
+ghost use Rattle.turn_loop.specs.Serving.{CutFrom, TurnedFrom};
 ghost use Rattle.turn_loop.specs.Talk.{IsRest};
 
 use crate::faults::TalkFault;
@@ -76,8 +76,8 @@ pub(crate) fn take_turn<K: Sink, D: Disk, E: Responder>(
     requires short { gate < 2 ^ 30 }
     ensures within { IfOk result (λ t. t.done ≤ length bytes.now) }
     ensures some { IfOk result (λ t. 0 < length bytes.now → 0 < t.done) }
-    ensures done { (first : Bool) (begun : List ℕ) → E.holds responder.old first ps begun → IsRest E.rules.ends begun → IfOk result (λ t. Turned E.rules E.holds D.content D.may_leave D.moment D.left_since disk.old disk.new (K.written sink.old) (K.written sink.new) first ps begun bytes.now responder.new t) }
-    ensures cut { (first : Bool) (begun : List ℕ) → E.holds responder.old first ps begun → IsRest E.rules.ends begun → IfErr result (λ e. Cut E.rules D.may_leave D.moment D.left_since disk.old disk.new (K.written sink.old) (K.written sink.new) first ps begun bytes.now e) }
+    ensures done { TurnedFrom E.rules E.holds D.content D.may_leave D.moment D.left_since ps responder.old responder.new disk.old disk.new (K.written sink.old) (K.written sink.new) bytes.now result }
+    ensures cut { CutFrom E.rules E.holds D.may_leave D.moment D.left_since ps responder.old disk.old disk.new (K.written sink.old) (K.written sink.new) bytes.now result }
     ensures no_read { IsErrOf result TalkFault.Unread → ⊥ }
     ensures disk_failed { IsErrOf result TalkFault.Disk → Rose (D.faults disk.old) (D.faults disk.new) }
     ensures sink_failed { IsErrOf result TalkFault.Unwritten → Rose (K.faults sink.old) (K.faults sink.new) }

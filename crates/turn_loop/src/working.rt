@@ -1,7 +1,7 @@
 // The items at the front of bytes, worked one after another.
-ghost use Rattle.std.specs.Prelude.{◌≡◌, ◌⊎◌, ◌<◌, ◌≤◌, [], ℕ, List, Bool, length, IfOk};
+ghost use Rattle.std.specs.Prelude.{◌≡◌, ◌⊎◌, ◌<◌, ◌≤◌, [], length, IfOk};
 ghost use Rattle.turn_loop.specs.Serving.{Works};
-ghost use Rattle.turn_loop.specs.Talk.{IsRest};
+ghost use Rattle.turn_loop.specs.Talk.{WhereBegun};
 
 use crate::limits::MAX_ANSWERS;
 use crate::responders::Responder;
@@ -21,7 +21,7 @@ pub(crate) fn work_items<E: Responder>(
     ensures within { IfOk result (λ n. n ≤ length bytes.now) }
     ensures some { IfOk result (λ n. 0 < length bytes.now → 0 < n) }
     ensures full { IfOk result (λ n. (n ≡ length bytes.now) ⊎ (MAX_ANSWERS < length text.new.items)) }
-    ensures works { (first : Bool) (ps : List (List ℕ)) (begun : List ℕ) → E.holds responder.old first ps begun → IsRest E.rules.ends begun → IfOk result (λ n. Works E.rules E.holds first ps begun bytes.now responder.new text.new.items group.new n) }
+    ensures works { WhereBegun E.holds E.rules.ends responder.old (λ first ps begun. IfOk result (λ n. Works E.rules E.holds first ps begun bytes.now responder.new text.new.items group.new n)) }
 {
     let mut done = 0;
     'items: while done < bytes.len() && text.len() <= MAX_ANSWERS {

@@ -1,0 +1,27 @@
+use Rattle.std.proofs.Common.{◌++◌, ap, sym, ◌∙◌, append-nil}
+use Rattle.std.specs.Iterator.Adapters.{zip_first, zip_second}
+use Rattle.std.specs.Slice.Iter.{iter_rest}
+use Rattle.std.proofs.lemmas.Slice.Zip.{Zip-more, either_empty_from_Zip}
+use Rattle.adept_io.proofs.Sent.{gives_then}
+use Rattle.report_words.proofs.Rows.{gives_as}
+use Rattle.report_text.proofs.NumberedRows.{side_by_side-ended, side_by_side-next}
+use Rattle.talk_answers.specs.Standings.{case_items}
+use Rattle.talk_answers.proofs.items.put_items.Goals as goal
+
+pub loop-decl-preserved : goal.loop-decl-preserved
+loop-decl-preserved g c =
+    let part = case_items c.args.file.now c.args.actor in
+    let sent = c.loop-decl.invariant.sent in
+    let more = Zip-more c.loop-decl.decl-iterator c.next.new.self c.next.result (c.in-Some.decl, c.in-Some.case) c.in-Some.is c.next.ensures.steps in
+    record {
+      sent = sent ++ part c.in-Some.decl.now c.in-Some.case.now;
+      gives = gives_then _ _ _ _ _ _ _ _ _ _ c.loop-decl.invariant.gives c.put_case_items-well.ensures;
+      whole = side_by_side-next part _ _ _ _ c.in-Some.decl.now c.in-Some.case.now sent _ more.0 more.1 c.loop-decl.invariant.whole;
+    }
+
+pub returns : goal.returns
+returns g c =
+    let sent = c.loop-decl.invariant.sent in
+    let ended = either_empty_from_Zip c.loop-decl.decl-iterator c.next.new.self c.next.result c.in-None.is c.next.ensures.steps in
+    let left = side_by_side-ended (case_items c.args.file.now c.args.actor) (iter_rest (zip_first c.loop-decl.decl-iterator)) (iter_rest (zip_second c.loop-decl.decl-iterator)) ended in
+    gives_as _ _ _ _ _ _ _ _ c.loop-decl.invariant.gives (sym (append-nil sent) ∙ ap (λ t. sent ++ t) (sym left) ∙ c.loop-decl.invariant.whole)

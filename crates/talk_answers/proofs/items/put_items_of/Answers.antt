@@ -1,0 +1,21 @@
+use Rattle.std.proofs.Common.{◌≡◌, ℕ, List, [], ◌∷◌, ◌++◌, refl, ap, ◌∙◌, sym}
+use Rattle.std.specs.List.{flat_map}
+use Rattle.file_words.specs.Lines.{Bytes}
+use Rattle.report_words.proofs.Rows.{gives_as}
+use Rattle.talk_answers.specs.Standings.{item_lines, line_if_concerned}
+use Rattle.wsm_items.specs.WorkItems.{items_in}
+use Rattle.wsm_items.specs.declared.work_items.Item.{Item}
+use Rattle.talk_answers.proofs.items.put_items_of.Goals as goal
+
+-- what a function writes of rows is what it writes of their items
+of-rows : (f : Item → Bytes) (rows : List (ℕ × Item)) → flat_map (λ (r : ℕ × Item). f r.1) rows ≡ flat_map f (items_in rows)
+of-rows f [] = refl
+of-rows f (r ∷ rs) = ap (λ bytes. f r.1 ++ bytes) (of-rows f rs)
+
+pub returns-in-Some : goal.returns-in-Some
+returns-in-Some g c =
+    let line = line_if_concerned c.args.file.now c.args.actor c.args.decl.now in
+    gives_as _ _ _ _ _ _ _ _ c.put_item_lines.ensures
+    (of-rows line c.as_slice.result.now
+    ∙ (ap (λ (rows : List (ℕ × Item)). flat_map line (items_in rows)) c.as_slice.ensures.rows
+    ∙ (ap (flat_map line) c.items.ensures.items ∙ sym (ap (item_lines c.args.file.now c.args.actor c.args.decl.now) c.in-Some.is))))

@@ -1,0 +1,7 @@
+//! The types and cases of a file that grows: the calls of each line are made at once, and their entries join the journals.
+#![tactic(auto)]
+
+mod runs;
+
+pub use runs::UnitRun;
+pub use wsm_lists::NoMemory;
