@@ -3,11 +3,11 @@
 
 use adept_io::{StdSink, StdSource};
 use adept_top::{Outcome, adept};
+use command_words::{WordFault, words};
 use process_text::Refused;
 use standard_streams::hold_streams;
-use std::io::{self, ErrorKind};
 use std::process::ExitCode;
-use std::{env, mem, str};
+use std::{io, mem, str};
 use turn_cell::OpenGate;
 
 fn main(rt: HostRuntime) -> ExitCode {
@@ -27,32 +27,16 @@ fn main(rt: HostRuntime) -> ExitCode {
     status
 }
 
-// The words, once each standard stream is one; or the status with which the program ends at once.
+// The words, once each standard stream is one; or the status with which the program ends at once: words that are no text
+// are no command.
 fn asked(rt: &HostRuntime) -> Result<Vec<String>, u8> {
     if hold_streams(rt).is_err() {
         return Err(3);
     }
     match words(rt) {
         Ok(words) => Ok(words),
-        Err(error) => Err(status_of(&error)),
-    }
-}
-
-// The words behind the program's name.
-fn words(rt: &HostRuntime) -> io::Result<Vec<String>> {
-    let mut words = Vec::new(rt.alloc());
-    for word in env::args(rt)?.skip(1) {
-        words.push(word)?;
-    }
-    Ok(words)
-}
-
-// The status where the words cannot be read: words that are no text are no command.
-fn status_of(error: &io::Error) -> u8 {
-    if error.kind() == ErrorKind::OutOfMemory {
-        5
-    } else {
-        2
+        Err(WordFault::NoText) => Err(2),
+        Err(WordFault::NoMemory) => Err(5),
     }
 }
 

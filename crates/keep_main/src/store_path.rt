@@ -4,13 +4,10 @@ ghost use Rattle.store_disk.specs.Disk.{Only};
 ghost use Rattle.store_disk.specs.History.{content, MayLeave};
 
 use case_keep::Unkept;
-use std::env::{Env, FillError};
-use std::{io, str};
+use command_words::{WordFault, word};
+use std::io;
 use store_disk::{FileDisk, OpenFault};
 use store_file::open_disk;
-
-// The system opens no path that is longer.
-const LONGEST_PATH: usize = 4096;
 
 /// The path of the store, unless no file can be opened by it, and the system's number for why it failed, where it did and
 /// there is one.
@@ -38,18 +35,11 @@ impl Store {
 
 /// The path that is the one word behind the program's name, or none where it is too long or no UTF-8.
 pub fn path(rt: &HostRuntime) -> Result<Option<String>, Unkept> {
-    let mut word = [0; LONGEST_PATH];
-    let length = match (rt.arg(1, &mut word), rt.arg(2, &mut [])) {
-        (Ok(length), Err(FillError::NotPresent)) => length,
-        (Err(FillError::TooLong), Err(FillError::NotPresent)) => return Ok(None),
-        _ => return Err(Unkept::Words),
-    };
-    let Ok(path) = str::from_utf8(&word[..length]) else {
-        return Ok(None);
-    };
-    match String::from_str(rt.alloc(), path) {
-        Ok(path) => Ok(Some(path)),
-        Err(_) => Err(Unkept::NoMemory),
+    match (word(rt, 1), word(rt, 2)) {
+        (Ok(Some(path)), Ok(None)) => Ok(Some(path)),
+        (Err(WordFault::NoText), Ok(None)) => Ok(None),
+        (Err(WordFault::NoMemory), Ok(None)) => Err(Unkept::NoMemory),
+        _ => Err(Unkept::Words),
     }
 }
 
