@@ -7,8 +7,8 @@ use adept_io::{Bytes, Calls};
 use case_store::{OpenRefusal, Store, StoreFault, StoredReply};
 use std::alloc::Global;
 use std::test::Fail;
-use store_disk::MemoryDisk;
-use store_form::Stored;
+use store_disk::{MAX_IMAGE, MemoryDisk};
+use store_form::{Recorded, Stored};
 use type_core::KindReply;
 
 #[test]
@@ -44,6 +44,37 @@ fn full_store_takes_no_call(rt: HostRuntime) -> Result<(), Fail> {
     assert!(rt; matches!(full, Err(StoreFault::Full)));
     let taken = asked_within(rt.alloc(), 15).ok_or("a call is answered")?;
     assert!(rt; matches!(taken, Ok(true)));
+    Ok(())
+}
+
+#[test]
+fn group_is_stored(rt: HostRuntime) -> Result<(), Fail> {
+    let (replies, image) = image_after_a_group(rt.alloc()).ok_or("two calls are made")?;
+    assert_eq!(rt; replies, 2);
+    assert_eq!(rt;
+        image.as_slice(),
+        [
+            1, 0, 0, 0, 9, 3, 0, 0, 0, 0, 0, 0, 0, 0, 1, 0, 0, 0, 9, 3, 0, 0, 0, 7, 0, 0, 0, 0, 0,
+        ]
+        .as_slice()
+    );
+    Ok(())
+}
+
+// Two such records and the gate behind them are 29 bytes.
+#[test]
+fn full_store_takes_no_call_of_a_group(rt: HostRuntime) -> Result<(), Fail> {
+    let full = both_within(rt.alloc(), 28).ok_or("two calls are answered")?;
+    assert!(rt; matches!(full, Err(StoreFault::Full)));
+    let taken = both_within(rt.alloc(), 29).ok_or("two calls are answered")?;
+    assert!(rt; matches!(taken, Ok(2)));
+    Ok(())
+}
+
+#[test]
+fn group_at_a_fault_is_there_or_not(rt: HostRuntime) -> Result<(), Fail> {
+    let entries = entries_at_a_fault(rt.alloc()).ok_or("a group fails")?;
+    assert!(rt; entries == 0 || entries == 2);
     Ok(())
 }
 
@@ -92,6 +123,48 @@ fn asked_within(alloc: Global, limit: u64) -> Option<Result<bool, StoreFault>>
         Ok(reply) => Some(Ok(is_no_type(&reply))),
         Err(fault) => Some(Err(fault)),
     }
+}
+
+// The program, and actor 7, ask the type 0 for its newest version.
+fn both(alloc: Global) -> Option<Vec<Recorded>>
+    ensures { IfSome result (λ calls. calls.items ≡ record { caller = 0; event = Stored.Newest 0 } ∷ record { caller = 7; event = Stored.Newest 0 } ∷ []) }
+{
+    let mut calls = Vec::new(alloc);
+    calls.push(asks(0)).ok()?;
+    calls.push(asks(7)).ok()?;
+    Some(calls)
+}
+
+fn asks(caller: u32) -> Recorded
+    ensures { result ≡ record { caller = caller; event = Stored.Newest 0 } }
+{
+    Recorded {
+        caller,
+        event: Stored::Newest(0),
+    }
+}
+
+// Both as one group, in an image of at most so many bytes: how many replies there are.
+fn asked_both(
+    alloc: Global,
+    store: &mut Store<MemoryDisk>,
+    limit: u64,
+) -> Option<Result<usize, StoreFault>>
+    requires store { IsStore (λ d. content d.first d.past) (λ d. MayLeave d.first d.past) (1 ∷ []) store.old [] }
+    requires limit { limit ≤ 2 ^ 30 }
+{
+    let calls = both(alloc)?;
+    match store.step_all_within(alloc, &calls, limit) {
+        Ok(replies) => Some(Ok(replies.len())),
+        Err(fault) => Some(Err(fault)),
+    }
+}
+
+fn both_within(alloc: Global, limit: u64) -> Option<Result<usize, StoreFault>>
+    requires { limit ≤ 2 ^ 30 }
+{
+    let mut store = begun(alloc, Calls::new(alloc))?;
+    asked_both(alloc, &mut store, limit)
 }
 
 // Where an image is damaged.
@@ -149,4 +222,25 @@ fn calls_at_a_fault(alloc: Global) -> Option<(StoreFault, usize)> {
     let again = Store::open(alloc, store.abandon(), &[1]).ok()?;
     let (_, kinds, _) = again.close();
     Some((second, kinds.get(0)?.journal.len()))
+}
+
+// How many replies there are to a group, and what the disk holds behind it.
+fn image_after_a_group(alloc: Global) -> Option<(usize, Vec<u8>)> {
+    let mut store = begun(alloc, Calls::new(alloc))?;
+    let replies = asked_both(alloc, &mut store, MAX_IMAGE)?.ok()?;
+    let image = store.abandon().bytes().to_vec(alloc).ok()?;
+    Some((replies, image))
+}
+
+// A group whose gate is not written: how many entries the type has when the disk is opened again.
+fn entries_at_a_fault(alloc: Global) -> Option<usize> {
+    let mut fails = Calls::new(alloc);
+    fails.push(8).ok()?;
+    let mut store = begun(alloc, fails)?;
+    if asked_both(alloc, &mut store, MAX_IMAGE)?.err()? != StoreFault::Disk {
+        return None;
+    }
+    let again = Store::open(alloc, store.abandon(), &[1]).ok()?;
+    let (_, kinds, _) = again.close();
+    Some(kinds.get(0)?.journal.len())
 }

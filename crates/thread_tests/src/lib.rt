@@ -18,6 +18,8 @@ mod gates;
 #[cfg(test)]
 mod loads;
 #[cfg(test)]
+mod migrations;
+#[cfg(test)]
 mod rows;
 #[cfg(test)]
 mod side_by_side;

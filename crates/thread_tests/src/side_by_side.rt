@@ -8,8 +8,9 @@ use std::test::Fail;
 use std::thread::Threads;
 use turn_cell::{Gate, HoldGate, Place, Side};
 
-// Lines 1 and 2 are actor 1's, on the case whose cell has the label 1; lines 3 and 4 are actor 2's, on another case.
-const FILE: &[u8] = b"\
+// Two actors with a case each. The lines of their one phase stand behind this, in rounds in which each of them has one: line 1 is
+// actor 1's, on the case whose cell has the label 1, and line 2 is actor 2's, on another case.
+const TWO: &[u8] = b"\
 adept 1
 type t
 act A
@@ -19,10 +20,11 @@ actor bob
 case c t
 case d t
 phase
+";
+
+const ROUND_OF_TWO: &[u8] = b"\
 ann create c
-ann start c A
 bob create d
-bob start d A
 ";
 
 const FIRST_LINE_BEHIND: Place = Place {
@@ -39,11 +41,11 @@ const FIRST_LINE_INSIDE: Place = Place {
 
 const OTHER_LINE_BEHIND: Place = Place {
     actor: 2,
-    line: 3,
+    line: 2,
     side: Side::After,
 };
 
-// Four actors with a case each. The lines of their one phase stand behind this, in rounds in which each of them has one.
+// Four actors with a case each, and a phase whose lines stand behind this as well.
 const FOUR: &[u8] = b"\
 adept 1
 type t
@@ -60,15 +62,23 @@ case f t
 phase
 ";
 
-const ROUND: &[u8] = b"\
+const ROUND_OF_FOUR: &[u8] = b"\
 ann create c
 bob create d
 cyd create e
 dan create f
 ";
 
-// So many lines has each of the four, and so each of them has a thread.
+// So many lines has each actor, and so each of them has a thread.
 const ROUNDS: u32 = 1024;
+
+fn file_of(alloc: Global, head: &[u8], round: &[u8]) -> Result<Vec<u8>, NoMemory> {
+    let mut file = Vec::from_slice(alloc, head)?;
+    for _ in 0..ROUNDS {
+        file.extend_from_slice(round)?;
+    }
+    Ok(file)
+}
 
 // The status of `run`. The proof of a test need not compute what the bytes stand for.
 fn ran<R: Threads + Wait + Sync, G: Gate + Sync>(
@@ -88,9 +98,9 @@ fn ran<R: Threads + Wait + Sync, G: Gate + Sync>(
 fn actors_run_side_by_side(rt: HostRuntime) -> Result<(), Fail> {
     let gates = TwoGates {
         first: HoldGate::new(1, 1, Side::After, OTHER_LINE_BEHIND),
-        second: HoldGate::new(2, 3, Side::After, FIRST_LINE_BEHIND),
+        second: HoldGate::new(2, 2, Side::After, FIRST_LINE_BEHIND),
     };
-    let file = Vec::from_slice(rt.alloc(), FILE)?;
+    let file = file_of(rt.alloc(), TWO, ROUND_OF_TWO)?;
     assert_eq!(rt; ran(&rt, rt.alloc(), file, &gates)?, 0);
     assert!(rt; gates.held());
     Ok(())
@@ -99,21 +109,13 @@ fn actors_run_side_by_side(rt: HostRuntime) -> Result<(), Fail> {
 #[test]
 fn cells_have_own_turns(rt: HostRuntime) -> Result<(), Fail> {
     let gates = TwoGates {
-        first: HoldGate::new(2, 3, Side::Before, FIRST_LINE_INSIDE),
+        first: HoldGate::new(2, 2, Side::Before, FIRST_LINE_INSIDE),
         second: HoldGate::new(1, 1, Side::Inside(1), OTHER_LINE_BEHIND),
     };
-    let file = Vec::from_slice(rt.alloc(), FILE)?;
+    let file = file_of(rt.alloc(), TWO, ROUND_OF_TWO)?;
     assert_eq!(rt; ran(&rt, rt.alloc(), file, &gates)?, 0);
     assert!(rt; gates.held());
     Ok(())
-}
-
-fn four_at_work(alloc: Global) -> Result<Vec<u8>, NoMemory> {
-    let mut file = Vec::from_slice(alloc, FOUR)?;
-    for _ in 0..ROUNDS {
-        file.extend_from_slice(ROUND)?;
-    }
-    Ok(file)
 }
 
 fn behind_first_line(actor: u32) -> Place {
@@ -141,7 +143,10 @@ fn all_at_once(alloc: Global) -> Result<Gates, NoMemory> {
 fn four_actors_of_a_phase_are_all_at_work(rt: HostRuntime) -> Result<(), Fail> {
     let alloc = rt.alloc();
     let gates = all_at_once(alloc)?;
-    assert_eq!(rt; ran(&rt, alloc, four_at_work(alloc)?, &gates)?, 0);
+    assert_eq!(rt;
+        ran(&rt, alloc, file_of(alloc, FOUR, ROUND_OF_FOUR)?, &gates)?,
+        0
+    );
     assert!(rt; gates.held());
     Ok(())
 }
