@@ -44,7 +44,7 @@ def documents(command):
     for path in sorted(glob.glob(os.path.join(os.path.dirname(HERE), "docs", "*.md"))):
         given = b""
         for block in re.findall(rb"^```\n(.*?)^```$", content(path), re.M | re.S):
-            if re.match(rb"adept [12]\n", block):
+            if re.match(rb"adept [123]\n", block):
                 given = block
             elif re.match(rb"line \d+: ", block):
                 found = "\n".join(explained(command, given)[0]) + "\n"

@@ -24,8 +24,12 @@ WORD = re.compile(r'(?:[^ \t"]|"(?:[^"\\]|\\.)*")+')
 TEXT = re.compile(r'"(?:[^"\\]|\\.)*"')
 ACCEPTED = {"created", "started", "ended", "repeated", "withdrawn", "changed", "migrated"}
 
-# A script line: its phase, its actor, what is done to what, and the line itself with those of its group.
-Script = collections.namedtuple("Script", "phase actor verb target lines")
+# In format 3 a line that begins so declares something or begins a phase.
+RESERVED = ("type", "actor", "case", "phase")
+
+# A script line: its phase, its actor, what is done to what, the line itself with those of its group, and how many cases were
+# declared before it.
+Script = collections.namedtuple("Script", "phase actor verb target lines many")
 # An entry of a journal: the caller, the event's first word, its second, the reply's words, and the line without its number.
 Entry = collections.namedtuple("Entry", "caller verb second reply text")
 
@@ -47,7 +51,8 @@ class File:
         for words, line in rows:
             if words[0] == "phase" and len(words) == 1:
                 phase += 1
-            elif phase:
+            elif words[0] not in RESERVED if self.format == "3" else phase:
+                phase = max(phase, 1)
                 self.put_script(phase, words, line, rows)
             elif words[0] == "type":
                 self.types[words[1]] = self.group(line, rows, self.see_type_line)
@@ -63,7 +68,7 @@ class File:
             self.see(self.elements, *(word.split("=")[0] for word in words[4:] if "=" in word))
         grouped = verb in ("change", "install")
         lines = self.group(line, rows, self.see_operation) if grouped else [line]
-        self.script.append(Script(phase, actor, verb, target, lines))
+        self.script.append(Script(phase, actor, verb, target, lines, len(self.cases)))
 
     @staticmethod
     def group(line, rows, see):
@@ -119,7 +124,7 @@ class File:
             if script.verb == "install":
                 yield number, ("type", script.target), "install"
             elif script.verb == "migrate":
-                for case in (name for name, kind in self.cases.items() if kind == script.target):
+                for case in (name for name, kind in list(self.cases.items())[:script.many] if kind == script.target):
                     yield number, ("case", case), "migrate"
             else:
                 yield number, ("case", script.target), script.verb

@@ -10,7 +10,7 @@ import re
 LONG = 40
 PLACES = ["after NODE", "head SPLIT CODE"]
 FORMS = {
-    "header": ["adept 1", "adept 2"],
+    "header": ["adept 1", "adept 2", "adept 3"],
     "declaration": ["type TYPE", "actor ACTOR", "actor ACTOR roles ROLE..", "case CASE TYPE", "phase"],
     "type": ["act NODE", "act NODE role ROLE", "and SPLIT JOIN", "xor SPLIT JOIN", "xor SPLIT JOIN role ROLE", "branch CODE",
              "loop START END", "loop START END role ROLE", "done", "sync SOURCE TARGET", "element ELEMENT int",
@@ -43,7 +43,16 @@ TEXT = ("a text", "stands between two `\"`, in which `\"` is written `\\\"` and 
 INTEGER = ("an integer", "has 1 to 20 digits, perhaps behind a `-`, and is from -9223372036854775808 to 9223372036854775807; "
            "there are no decimals")
 LOOKS = {"ROLE": r"\d{1,10}$", "CODE": r"\d{1,5}$", "PAIR": r'[A-Za-z_][\w.-]*=(-?\d{1,20}|"([^"\\]|\\["\\])*")$'}
+# A role of format 3.
+NAMED_ROLE = ("a role", "is a name, or has 1 to 10 digits and is below 2,147,483,648")
 KEYWORDS = {word for forms in [*FORMS.values(), PLACES] for form in forms for word in re.findall(r"\b[a-z]+\b", form)}
+
+
+def of_format(format):
+    """From now on lines are those of a file of that format."""
+    if format == "3":
+        KINDS["ROLE"] = NAMED_ROLE
+        LOOKS["ROLE"] = r"(\d{1,10}|[A-Za-z_][\w.-]*)$"
 
 
 def is_kind(token):

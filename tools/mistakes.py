@@ -10,14 +10,14 @@ import time
 import faults
 import line_forms
 from line_forms import KINDS, is_kind, nearest
-from processes import GROUPS, WORD, words_of
+from processes import GROUPS, RESERVED, WORD, words_of
 
 MOST_MISTAKES, MOST_SECONDS, MOST_NAMES = 100, 60, 12
 LISTED = ("sync", "element", "read", "write", "end")
 LIMITS = {
     "types": (64, "a type"), "actors": (32, "an actor"), "cases": (4096, "a case"), "phases": (256, "a phase"),
     "lines": (60000, "a script line"), "installs": (1024, "an install"), "ops": (256, "an operation of this group"),
-    "migrations": (65536, "a migration: each migrate line counts each declared case of its type"),
+    "migrations": (65536, "a migration: each migrate line counts the cases of its type that stand before it"),
     "roles": (32, "a role of this actor"), "depth": (64, "a block inside blocks"),
 }
 WAYS = {
@@ -64,6 +64,7 @@ class Here:
     def __init__(self, rows):
         self.names = {"type": {}, "actor": {}, "case": {}}
         self.first_phase = self.type = self.group = self.header = None
+        self.format = "1"
         self.blocks, self.seen, self.ops, self.last = [], {}, 0, []
         for row in rows:
             words = words_of(text_of(row))
@@ -73,14 +74,14 @@ class Here:
 
     def take(self, row, words):
         if self.header is None:
-            self.header = row
+            self.header, self.format = row, words[-1]
         elif self.type:
             self.take_type_line(row, words)
         elif self.group:
             self.group = None if words == ["end"] else self.group
         elif words == ["phase"]:
             self.first_phase = self.first_phase or row
-        elif self.first_phase:
+        elif words[0] not in RESERVED if self.format == "3" else self.first_phase:
             self.group = row if words[1:2] and words[1] in GROUPS else None
         elif words[0] in self.names and len(words) > 1:
             self.names[words[0]].setdefault(words[1], row)
@@ -99,14 +100,16 @@ class Here:
         elif words[0] in LISTED:
             self.seen.setdefault((words[0], *words[1:2 if words[0] == "element" else 3]), row)
 
-    def place(self):
+    def place(self, words):
+        """Of which place the forms of a line with these words are."""
         if self.header is None:
             return "header"
         if self.type:
             return "type"
         if self.group:
             return "operation"
-        return "script" if self.first_phase else "declaration"
+        is_script = words[0] not in RESERVED if self.format == "3" else self.first_phase
+        return "script" if is_script else "declaration"
 
 
 class Draft:
@@ -117,6 +120,8 @@ class Draft:
         self.is_ended = pieces[-1] == b""
         self.rows = [Row(number, text) for number, text in enumerate(pieces[:-1] if self.is_ended else pieces, 1)]
         self.program, self.fresh, self.began = program, 0, time.monotonic()
+        self.format = next((words[-1] for words in map(words_of, map(text_of, self.rows)) if words), "1")
+        line_forms.of_format(self.format)
 
     def ask(self, rows=None, is_ended=None):
         """Where and why the program refuses the rows: a place among them and the text, or None."""
@@ -159,8 +164,8 @@ class Draft:
         return next((at for at, row in enumerate(self.rows) if words_of(text_of(row)) == ["phase"]), len(self.rows))
 
     def declaring(self, at):
-        """Where something is declared that the row at a place names: before it, and before the first phase."""
-        return min(at, self.before_phases())
+        """Where something is declared that the row at a place names: before it, and but for format 3 before the first phase."""
+        return at if self.format == "3" else min(at, self.before_phases())
 
     def move(self, at, place):
         """Moves a declaration to a place before it; a type with its lines."""
@@ -182,7 +187,7 @@ class Draft:
 def header(draft, at, why):
     row = draft.rows[at] if at < len(draft.rows) else Row(at + 1, b"")
     words = words_of(text_of(row))
-    says = ["The first line that is not skipped says the format: `adept 1`, or `adept 2` where nodes are given back (`withdraw`)."]
+    says = ["The first line that is not skipped says the format: `adept 1`, or `adept 2` where nodes are given back (`withdraw`), or `adept 3` where declarations stand among script lines or roles have names."]
     if row.text.startswith(b"\xef\xbb\xbf"):
         says.append("A byte order mark stands before it: save the file as UTF-8 without one.")
     if any(line_forms.has_form(words, place) for place in ("declaration", "type")) and words[0] != "adept":
@@ -222,7 +227,7 @@ def not_text(draft, at, why):
 
 def out_of_place(draft, at, words, here):
     """What to say where the line has a right form, of another place, and the mend; None where it has none."""
-    place = here.place()
+    place = here.place(words)
     others = [other for other in ("declaration", "script", "operation", "type") if other != place]
     at_other = [other for other in others if line_forms.belongs(words, other, place)]
     if place == "type" and line_forms.has_form(words, "type"):
@@ -253,7 +258,7 @@ def format_1(words, here):
     if words[1:2] != ["withdraw"] or words_of(text_of(here.header))[-1] != "1":
         return None
     here.header.text = b"adept 2"
-    return "`withdraw` is in format 2 alone: the file begins with `adept 1`; write `adept 2`.", [here.header], None
+    return "`withdraw` is a line from format 2 on: the file begins with `adept 1`; write `adept 2`.", [here.header], None
 
 
 def inside_a_type(draft, at, words, here):
@@ -304,17 +309,21 @@ def form(draft, at, why):
     words = words_of(text_of(row))
     if not words:
         raise Stopped("The program refuses a line that was left out: the rest was not looked at.")
+    if here.format == "3" and here.place(words) == "declaration" and words[0] == "actor" and words[1:2] and words[1] in RESERVED:
+        draft.write(row, words[0], draft.name(), *words[2:])
+        says = "In format 3 a line that begins with `%s` declares something or begins a phase, so no actor has that name."
+        return Mistake(row, why, words[1:2], [says % words[1]])
     misplaced = out_of_place(draft, at, words, here)
     if misplaced:
         says, beside, key = misplaced
         return Mistake(row, why, words[:1], [says], beside, key)
-    candidates = nearest(words, here.place())
+    candidates = nearest(words, here.place(words))
     for _, text, steps in candidates:
         fit = fitted(draft, at, words, steps, here)
         if fit:
             return misformed(draft, at, why, fit, text, candidates)
     draft.drop(at)
-    begin = line_forms.beginning(words[0], here.place()) or line_forms.FORMS[here.place()]
+    begin = line_forms.beginning(words[0], here.place(words)) or line_forms.FORMS[here.place(words)]
     says = "The line has none of the forms for its place. They are: %s."
     return Mistake(row, why, [], [says % ", ".join("`%s`" % one for one in begin)])
 
@@ -429,7 +438,7 @@ def too_long(draft, row, why, kind, words):
 def unknown(draft, at, why):
     row, here = draft.rows[at], Here(draft.rows[:at])
     words = words_of(text_of(row))
-    if here.place() == "declaration":
+    if here.place(words) == "declaration":
         wanted = [(words[2], "type")]
     else:
         wanted = [(words[0], "actor"), (words[2], "type" if words[1] in ("install", "migrate") else "case")]

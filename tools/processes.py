@@ -10,6 +10,8 @@ import re
 
 WORD = re.compile(r'(?:[^ \t"]|"(?:[^"\\]|\\.)*"?)+')
 GROUPS = ("change", "install")
+# In format 3 a line that begins so declares something or begins a phase.
+RESERVED = ("type", "actor", "case", "phase")
 # A script line: its number, its phase, who does what to which case or type, its further words, and the lines of its group.
 Line = collections.namedtuple("Line", "number phase actor verb target rest ops")
 Act = collections.namedtuple("Act", "node")
@@ -21,6 +23,16 @@ def words_of(text):
     """The words of a line; none where it is skipped."""
     found = WORD.findall(text)
     return [] if found and found[0].startswith("#") else found
+
+
+def role_of(word):
+    """A role: its number, or its name."""
+    return int(word) if word.isdigit() else word
+
+
+def in_order(roles):
+    """Roles: those that are numbers first."""
+    return sorted(roles, key=lambda role: (isinstance(role, str), role))
 
 
 class Schema:
@@ -121,7 +133,7 @@ class Schema:
         elif verb == "move":
             self.put(self.take(rest[0]), rest[1:])
         elif verb == "role":
-            self.roles[rest[0]] = int(rest[1])
+            self.roles[rest[0]] = role_of(rest[1])
         else:
             self.list_line(number, verb, rest)
 
@@ -129,7 +141,7 @@ class Schema:
         node, rest = rest[0], rest[1:]
         role = 0
         if rest[0] == "role":
-            role, rest = int(rest[1]), rest[2:]
+            role, rest = role_of(rest[1]), rest[2:]
         self.name(number, node, role)
         if verb == "insert":
             self.put(Act(node), rest)
@@ -195,7 +207,7 @@ class TypeReader:
 
     def take(self, number, words):
         verb, rest = words[0], words[1:]
-        role = int(rest[-1]) if "role" in rest[1:-1] else 0
+        role = role_of(rest[-1]) if "role" in rest[1:-1] else 0
         if verb == "act":
             self.made.name(number, rest[0], role)
             self.bodies[-1].append(Act(rest[0]))
@@ -233,7 +245,8 @@ class File:
         for number, words in rows:
             if words == ["phase"]:
                 self.phases += 1
-            elif self.phases:
+            elif words[0] not in RESERVED if self.format == "3" else self.phases:
+                self.phases = max(self.phases, 1)
                 ops = list(until_end(rows)) if words[1] in GROUPS else []
                 self.script.append(Line(number, self.phases, *words[:3], words[3:], ops))
             else:
@@ -247,7 +260,7 @@ class File:
                 reader.take(*row)
             self.types[words[1]] = reader.made
         elif words[0] == "actor":
-            self.actors[words[1]] = [int(role) for role in words[3:]]
+            self.actors[words[1]] = [role_of(role) for role in words[3:]]
         else:
             self.cases[words[1]] = words[2]
 
@@ -261,7 +274,8 @@ class File:
             if line.verb in ("create", "migrate", "install"):
                 yield line, ("type", self.cases[line.target] if line.verb == "create" else line.target)
             if line.verb == "migrate":
-                yield from ((line, ("case", name)) for name, kind in self.cases.items() if kind == line.target)
+                yield from ((line, ("case", name)) for name, kind in self.cases.items()
+                            if kind == line.target and self.numbers["case", name] < line.number)
             elif line.verb != "install":
                 yield line, ("case", line.target)
 

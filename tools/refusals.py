@@ -7,7 +7,7 @@ import collections
 import subprocess
 
 import faults
-from processes import File, Report, along
+from processes import File, Report, along, role_of
 
 MOST_TOLD, MOST_ASKED, MOST_NAMES = 100, 60, 12
 
@@ -73,7 +73,7 @@ def offered(call, item):
         return "`%s`, which `%s` is at work on" % (node, who)
     if who == "0":
         return "`%s`, which everybody may start" % node
-    return "`%s`, which is for role %s (%s)" % (node, who, named(call.asked.file.holders(int(who)), "or"))
+    return "`%s`, which is for role %s (%s)" % (node, who, named(call.asked.file.holders(role_of(who)), "or"))
 
 
 def waited_for(schema, marking, node):
@@ -133,7 +133,7 @@ def not_running(call):
 
 def not_allowed(call):
     role, actor, roles = call.reply[1], call.line.actor, call.asked.file.actors[call.line.actor]
-    holders = call.asked.file.holders(int(role))
+    holders = call.asked.file.holders(role_of(role))
     who = "which %s ha%s" % (named(holders), "s" if len(holders) == 1 else "ve") if holders else "which no actor has"
     has = "role " + ", ".join(map(str, roles)) if roles else "no role"
     return ["`%s` is for role %s, %s; `%s` has %s." % (call.node(), role, who, actor, has),
@@ -142,7 +142,7 @@ def not_allowed(call):
 
 def not_holder(call):
     started = call.last(("start",), call.node())
-    back = ", or gives it back (`withdraw`)" if call.asked.file.format == "2" else ""
+    back = ", or gives it back (`withdraw`)" if call.asked.file.format != "1" else ""
     says = "`%s` is at work on `%s`, since %s, and alone may end it: `%s` ends it%s."
     return [says % (call.reply[1], call.node(), at_line(started), call.reply[1], back)]
 

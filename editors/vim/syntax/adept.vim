@@ -4,7 +4,7 @@ if exists("b:current_syntax")
 endif
 syntax iskeyword @,48-57,_,-,.
 syntax keyword adeptWord act actor after and around branch case change choice conditional create delete done element end head insert install int loop migrate move optional parallel phase read role roles start sync text type unread unsync unwrite with withdraw write xor
-syntax match adeptHeader "^\s*adept\s\+[12]\>"
+syntax match adeptHeader "^\s*adept\s\+[123]\>"
 syntax match adeptComment "^\s*#.*$"
 syntax region adeptText start=+"+ skip=+\\[\\"]+ end=+"+ oneline
 syntax match adeptNumber "\(^\|[ \t=]\)\@<=-\?\d\+\>"
