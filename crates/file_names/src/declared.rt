@@ -1,11 +1,12 @@
 // What a file declares, by name.
-ghost use Rattle.std.specs.Prelude.{◌≡◌, ◌<◌, ◌^◌, ◌+◌, [], ◌∷◌, ◌++◌, length, true, OnOk, IfOk};
+ghost use Rattle.std.specs.Prelude.{◌≡◌, ◌<◌, ◌^◌, ◌+◌, [], ◌∷◌, ◌++◌, length, take, true, OnOk, IfOk};
 ghost use Rattle.file_names.specs.Names.{noted};
 ghost use Rattle.file_names.specs.ShortNames.{is_short_name};
 
 use crate::name_tables::NameTable;
 use file_words::{NameWord, NoMemory};
 use std::alloc::Global;
+use std::mem::replace;
 use wsm_lists::Listing;
 
 /// Names with what they were declared as, both in order of declaration.
@@ -34,5 +35,15 @@ impl<T: Drop> DeclaredList<T> {
     {
         self.names.note(alloc, name)?;
         self.items.push(item)
+    }
+
+    /// Keeps the first so many declarations alone.
+    pub fn truncate(&mut self, alloc: Global, len: usize)
+        ensures { self.new ≡ record { names = take len self.old.names; items = take len self.old.items } }
+    {
+        self.names.truncate(len);
+        let mut items = replace(&mut self.items, Listing::new(alloc)).into_vec();
+        items.truncate(len);
+        self.items = Listing::from_vec(items);
     }
 }

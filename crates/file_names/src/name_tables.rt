@@ -1,5 +1,5 @@
 // Names with their numbers.
-ghost use Rattle.std.specs.Prelude.{◌≡◌, ◌<◌, ◌^◌, ◌+◌, [], ◌∷◌, ◌++◌, length, slice_get, true, false, OnOk, IfOk, IfSome, codes};
+ghost use Rattle.std.specs.Prelude.{◌≡◌, ◌<◌, ◌^◌, ◌+◌, [], ◌∷◌, ◌++◌, length, take, slice_get, true, false, OnOk, IfOk, IfSome, codes};
 ghost use Rattle.std.specs.Option.{option_copied};
 ghost use Rattle.file_names.specs.Names.{is_listed, noted, number_of, place_of};
 ghost use Rattle.file_names.specs.ShortNames.{is_short_name};
@@ -109,6 +109,13 @@ impl NameTable {
             None => None,
             Some(bytes) => Some(bytes.as_slice()),
         }
+    }
+
+    /// Keeps the first so many names alone, each with its number.
+    pub fn truncate(&mut self, len: usize)
+        ensures { self.new ≡ take len self.old }
+    {
+        self.set.truncate(len);
     }
 
     /// The names in order.

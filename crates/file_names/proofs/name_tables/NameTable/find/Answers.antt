@@ -1,4 +1,4 @@
-use Rattle.std.proofs.Common.{◌≡◌, Some, None, sym, ◌∙◌, rules}
+use Rattle.std.proofs.Common.{sym, ◌∙◌}
 use Rattle.file_names.proofs.Noted.{found_place}
 use Rattle.file_names.proofs.name_tables.NameTable.find.Goals as goal
 

@@ -1,6 +1,6 @@
 use Rattle.std.proofs.Common.{◌≡◌, List, ℕ, sym, subst, rules, IfOk, OnOk, false}
 use Rattle.file_names.specs.Names.{is_listed}
-use Rattle.file_names.proofs.Noted.{found_noted, found_number, absent_listed, absent_noted, absent_number, on_ok}
+use Rattle.file_names.proofs.Noted.{found_noted, found_number, absent_listed, absent_noted, absent_number}
 use Rattle.file_names.proofs.name_tables.NameTable.note.Goals as goal
 
 pub returns-in-Some-clause-noted : goal.returns-in-Some-clause-noted
