@@ -1,5 +1,5 @@
 -- How large a file that is read can be.
-use Rattle.std.proofs.Common.{◌≡◌, ℕ, ◌+◌, ◌==◌, Bool, true, false, List, [], ◌∷◌, ◌++◌, length, refl, subst, arith, Option, Some, None, Result, Ok, Err}
+use Rattle.std.proofs.Common.{◌≡◌, ℕ, ◌+◌, ◌==◌, Bool, true, false, List, [], ◌∷◌, length, refl, subst, ap, arith, Option, Some, None, Result, Ok, Err}
 use Rattle.std.specs.Prelude.{IfOk, nat_le, if◌then◌else◌}
 use Rattle.std.specs.Str.{is_utf8}
 use Rattle.file_words.specs.Lines.{Bytes, lines_of, without_return}
@@ -10,7 +10,7 @@ use Rattle.file_forms.specs.DeclarationForms.{header, declaration_line}
 use Rattle.file_forms.specs.TypeForms.{type_line}
 use Rattle.file_forms.specs.ScriptForms.{script_line}
 use Rattle.file_forms.specs.OperationForms.{operation_line}
-use Rattle.file_model.specs.Steps.{State, Step, opening, outside, refuse}
+use Rattle.file_model.specs.Steps.{State, Step, file_limits, opening}
 use Rattle.file_model.specs.Declaring.{declared}
 use Rattle.file_model.specs.Typing.{typed}
 use Rattle.file_model.specs.Scripting.{scripted}
@@ -22,9 +22,11 @@ use Rattle.file_model.specs.declared.refusals.Refused.{Refused}
 use Rattle.file_model.specs.declared.refusals.Why.{Why}
 use Rattle.file_model.specs.declared.refusals.Why.TheVariants as why
 use Rattle.file_model.specs.declared.states.Contents.{Contents}
+use Rattle.file_model.specs.declared.states.Limits.{Limits}
 use Rattle.file_model.specs.declared.states.Section.{Section}
 use Rattle.file_model.specs.declared.states.Section.TheVariants as section
 use Rattle.file_model.proofs.Kept.{CountsKept, KeptIn, KeptState, KeptStep, all_effort}
+use Rattle.file_model.proofs.LimitsStay.{step-with}
 use Rattle.file_model.proofs.KeptByLines.{declared-kept, typed-kept, scripted-kept, operated-kept}
 
 -- ---- a line
@@ -65,17 +67,23 @@ step-kept : (s : State) (at : ℕ) (line : Bytes) (ws : List Bytes) → KeptStat
 step-kept s at line ws h = if-kept (is_skipped ws) (Ok s) (step_in s.place at line ws s.contents) h (step_in-kept s.place at line ws s.contents h)
 
 -- ---- the end of a file
-bounded : (c : Contents) → CountsKept c 0 → IsBounded (file_of c)
-bounded c h = record { types = h.few; small = h.small; effort = omega (arith, h.within, h.effort, all_effort c.current c.phases) }
+-- where no more may be declared than in a file
+abbrev OfFile : State → Type 0
+OfFile s = KeptState s × (s.contents.limits ≡ file_limits)
 
-finished_in-bounded : (p : Section) (c : Contents) → KeptIn p c → IfOk (finished_in p c) IsBounded
-finished_in-bounded (section.Head newest) c h = tt
-finished_in-bounded section.Outside c h = bounded c h
-finished_in-bounded (section.InType d) c h = tt
-finished_in-bounded (section.InGroup g) c h = tt
+bounded : (c : Contents) → CountsKept c 0 → c.limits ≡ file_limits → IsBounded (file_of c)
+bounded c h is =
+    let most : c.limits.types ≡ 64 = ap (λ (l : Limits). l.types) is in
+    record { types = omega (arith, h.few, most); small = h.small; effort = omega (arith, h.within, h.effort, all_effort c.current c.phases) }
 
-ended-bounded : (test : Bool) (s : State) → KeptState s → IfOk (if test then finished_in s.place s.contents else Err (why.Unended, s.contents)) IsBounded
-ended-bounded true s h = finished_in-bounded s.place s.contents h
+finished_in-bounded : (p : Section) (c : Contents) → KeptIn p c → c.limits ≡ file_limits → IfOk (finished_in p c) IsBounded
+finished_in-bounded (section.Head newest) c h is = tt
+finished_in-bounded section.Outside c h is = bounded c h is
+finished_in-bounded (section.InType d) c h is = tt
+finished_in-bounded (section.InGroup g) c h is = tt
+
+ended-bounded : (test : Bool) (s : State) → OfFile s → IfOk (if test then finished_in s.place s.contents else Err (why.Unended, s.contents)) IsBounded
+ended-bounded true s h = finished_in-bounded s.place s.contents h.0 h.1
 ended-bounded false s h = tt
 
 -- ---- all lines
@@ -83,15 +91,16 @@ at_line-holds : {T : Type 0} (P : T → Type 0) (at : ℕ) (o : Result T (Why ×
 at_line-holds P at (Ok x) h = h
 at_line-holds P at (Err p) h = tt
 
-read_from-bounded : (o : Result State Refused) (at : ℕ) (left : Bytes) (ls : List Bytes) → IfOk o KeptState → IfOk (read_from o at left ls) IsBounded
+read_from-bounded : (o : Result State Refused) (at : ℕ) (left : Bytes) (ls : List Bytes) → IfOk o OfFile → IfOk (read_from o at left ls) IsBounded
 read_from-bounded (Err r) at left ls h = tt
 read_from-bounded (Ok s) at left [] h = at_line-holds IsBounded at (finished s left) (ended-bounded (length left == 0) s h)
 read_from-bounded (Ok s) at left (l ∷ ls) h =
     let line = without_return l in
-    read_from-bounded (at_line at (step s at line)) (at + 1) left ls (at_line-holds KeptState at (step s at line) (step-kept s at line (words_of line) h))
+    read_from-bounded (at_line at (step s at line)) (at + 1) left ls
+    (at_line-holds OfFile at (step s at line) (step-with KeptState file_limits s at line (words_of line) (step-kept s at line (words_of line) h.0) h.1))
 
 -- a file that is read is bounded
 pub file-bounded : (newest : ℕ) (bytes : Bytes) (f : File) → file_up_to newest bytes ≡ Ok f → IsBounded f
 file-bounded newest bytes f is =
     subst (λ (o : Result File Refused). IfOk o IsBounded) is
-    (read_from-bounded (Ok (opening newest)) 1 (lines_of bytes).left (lines_of bytes).ended (record { few = omega arith; small = refl; within = omega arith; effort = omega arith }))
+    (read_from-bounded (Ok (opening newest)) 1 (lines_of bytes).left (lines_of bytes).ended (record { few = omega arith; small = refl; within = omega arith; effort = omega arith }, refl))

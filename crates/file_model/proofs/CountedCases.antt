@@ -1,7 +1,7 @@
 -- The counts of cases by their types.
-use Rattle.std.proofs.Common.{◌≡◌, ◌≤◌, ℕ, zero, suc, ◌+◌, ◌<◌, ◌==◌, Bool, true, false, List, [], ◌∷◌, ◌++◌, length, refl, sym, subst, ap, ◌∙◌, arith}
+use Rattle.std.proofs.Common.{◌≡◌, ◌≤◌, ℕ, zero, suc, ◌+◌, ◌-◌, ◌<◌, ◌==◌, Bool, true, false, List, [], ◌∷◌, ◌++◌, length, take, refl, sym, subst, ap, ◌∙◌, arith}
 use Rattle.std.proofs.lemmas.Bool.{eqb-true, eqb-false, eq-eqb}
-use Rattle.std.proofs.lemmas.List.{get_or-set_same, get_or-set_other}
+use Rattle.std.proofs.lemmas.List.{get_or-set_same, get_or-set_other, take_more}
 use Rattle.std.proofs.lemmas.List.Sums.{count_by-le-length, sum_by_push}
 use Rattle.std.specs.Prelude.{get_or, set, cond, slice_index}
 use Rattle.file_model.specs.CaseCounts.{cases_of_type, AreCounted}
@@ -42,3 +42,31 @@ one_counted counts cases d n h within is t = go (d.id.type_no == t) refl
     go : (test : Bool) → (d.id.type_no == t) ≡ test → cases_of_type t (cases ++ d ∷ []) ≡ get_or (set counts d.id.type_no n) t 0
     go true e = subst (λ (u : ℕ). cases_of_type u (cases ++ d ∷ []) ≡ get_or (set counts d.id.type_no n) u 0) (eqb-true d.id.type_no t e) (own counts cases d n within is)
     go false e = other counts cases d n t h e
+
+-- ---- the last case is taken back
+pub last_counted : (counts : List ℕ) (cases : List CaseDecl) (d : CaseDecl) → AreCounted counts (cases ++ d ∷ []) → cases_of_type d.id.type_no cases + 1 ≡ slice_index counts d.id.type_no
+last_counted counts cases d h =
+    sym (pushed cases d d.id.type_no ∙ ap (λ (test : Bool). cases_of_type d.id.type_no cases + cond test 1 0) (eq-eqb d.id.type_no d.id.type_no refl))
+    ∙ h d.id.type_no
+
+pub has_count : (counts : List ℕ) (t : ℕ) → 0 < slice_index counts t → t < length counts
+has_count [] zero some = absurd (omega (arith, some))
+has_count [] (suc t) some = absurd (omega (arith, some))
+has_count (c ∷ counts) zero some = omega arith
+has_count (c ∷ counts) (suc t) some = omega (arith, has_count counts t some)
+
+-- the last of the first so many cases has a count
+pub last_of_front : (counts : List ℕ) (cases : List CaseDecl) (left : ℕ) (d : CaseDecl) → 0 < left → left ≤ length cases → AreCounted counts (take left cases)
+    → AreCounted counts (take (left - 1) cases ++ get_or cases (left - 1) d ∷ [])
+last_of_front counts cases left d some within h =
+    let on : left ≡ left - 1 + 1 = omega arith in
+    subst (λ (l : List CaseDecl). AreCounted counts l) (ap (λ n. take n cases) on ∙ take_more cases (left - 1) d (omega arith)) h
+
+pub front_counted : (counts : List ℕ) (cases : List CaseDecl) (left : ℕ) (d : CaseDecl) → 0 < left → left ≤ length cases → AreCounted counts (take left cases)
+    → cases_of_type (get_or cases (left - 1) d).id.type_no (take (left - 1) cases) + 1 ≡ slice_index counts (get_or cases (left - 1) d).id.type_no
+front_counted counts cases left d some within h = last_counted counts (take (left - 1) cases) (get_or cases (left - 1) d) (last_of_front counts cases left d some within h)
+
+pub front_within : (counts : List ℕ) (cases : List CaseDecl) (left : ℕ) (d : CaseDecl) → 0 < left → left ≤ length cases → AreCounted counts (take left cases)
+    → (get_or cases (left - 1) d).id.type_no < length counts
+front_within counts cases left d some within h =
+    has_count counts (get_or cases (left - 1) d).id.type_no (omega (arith, front_counted counts cases left d some within h))

@@ -1,8 +1,7 @@
 -- How many names a line adds: at most six, and one for each of its words.
-use Rattle.std.proofs.Common.{◌≡◌, ◌≤◌, ℕ, ◌+◌, Bool, true, false, List, [], ◌∷◌, ◌++◌, length, arith, Option, Some, None, Result, Ok, Err}
+use Rattle.std.proofs.Common.{◌≤◌, ℕ, ◌+◌, Bool, true, false, List, [], ◌∷◌, ◌++◌, length, arith, Option, Some, None, Ok, Err}
 use Rattle.std.proofs.lemmas.List.{length-append}
-use Rattle.std.specs.Prelude.{IfOk, IfSome, nat_le, nat_lt, if◌then◌else◌}
-use Rattle.std.specs.Option.{option_or}
+use Rattle.std.specs.Prelude.{IfOk, IfSome, nat_le, if◌then◌else◌}
 use Rattle.std.specs.Str.{is_utf8}
 use Rattle.wsm_lists.specs.declared.values.Value.{Value}
 use Rattle.wsm_ops.specs.declared.operations.Op.{Op}
@@ -24,7 +23,7 @@ use Rattle.file_forms.specs.TypeForms.{type_line}
 use Rattle.file_forms.proofs.FewWrites.{declaration-few, script_line-few}
 use Rattle.file_drafts.specs.Drafts.{whole}
 use Rattle.file_drafts.specs.declared.drafts.Draft.{Draft}
-use Rattle.file_model.specs.Declaring.{case_declared, declared, phase_begun, role_numbers, roles_noted, with_actor, with_case, with_roles, with_type}
+use Rattle.file_model.specs.Declaring.{case_declared, declared, phase_begun, role_numbers, roles_noted, with_actor, with_case, with_roles}
 use Rattle.file_model.specs.Operating.{grouped, op_in, operated, with_names, with_place}
 use Rattle.file_model.specs.Reading.{declares, fitting, formed, in_format, step_in, step_outside, unless_long, unless_not_text}
 use Rattle.file_model.specs.Room.{count_of_names}

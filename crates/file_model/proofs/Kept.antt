@@ -28,21 +28,21 @@ use Rattle.file_model.specs.declared.states.Section.{Section}
 use Rattle.file_model.specs.declared.states.Section.TheVariants as section
 
 -- a line asks for 769 at most: one, and three for each of 256 operations
-pub record IsKept (types : List TypeDecl) (phases : List (List Line)) (lines begun : ℕ) : Type 0 where
-  pub few : length types ≤ 64
+pub record IsKept (most : ℕ) (types : List TypeDecl) (phases : List (List Line)) (lines begun : ℕ) : Type 0 where
+  pub few : length types ≤ most
   pub small : list_all is_small types ≡ true
   pub within : lines ≤ 60000
   pub effort : begun + sum_by phase_effort phases ≤ 769 * lines
 
 -- the open phase asks for what its lines do, and for so much more
 abbrev pub CountsKept : Contents → ℕ → Type 0
-CountsKept c more = IsKept c.types.items c.phases c.counts.lines (phase_effort (open_lines c.current) + more)
+CountsKept c more = IsKept c.limits.types c.types.items c.phases c.counts.lines (phase_effort (open_lines c.current) + more)
 
 -- an open group asks for as much as a group may
 abbrev pub KeptIn : Section → Contents → Type 0
 KeptIn (section.Head newest) c = CountsKept c 0
 KeptIn section.Outside c = CountsKept c 0
-KeptIn (section.InType d) c = CountsKept c 0 × (length c.types.items < 64)
+KeptIn (section.InType d) c = CountsKept c 0 × (length c.types.items < c.limits.types)
 KeptIn (section.InGroup g) c = CountsKept c 769 × (length g.ops ≤ 256)
 
 abbrev pub KeptState : State → Type 0
@@ -87,7 +87,7 @@ small_type n s h = le-leb (length (cards_of s)) 1024 (ltb-false 1024 (length (ca
 all_small : (ts : List TypeDecl) (t : TypeDecl) → list_all is_small ts ≡ true → is_small t ≡ true → list_all is_small (ts ++ t ∷ []) ≡ true
 all_small ts t all one = rw (list_all-append, all, one) refl
 
-pub type-kept : (n : Bytes) (s : SchemaModel) (c : Contents) → fault_of s ≡ None → CountsKept c 0 → length c.types.items < 64 → CountsKept (with_type n s c) 0
+pub type-kept : (n : Bytes) (s : SchemaModel) (c : Contents) → fault_of s ≡ None → CountsKept c 0 → length c.types.items < c.limits.types → CountsKept (with_type n s c) 0
 type-kept n s c none h below = record {
   few = omega (arith, below, length-append c.types.items (record { name = n; schema = s } ∷ []));
   small = all_small c.types.items (record { name = n; schema = s }) h.small (small_type n s none);

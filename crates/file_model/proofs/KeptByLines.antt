@@ -1,5 +1,5 @@
 -- What holds of the state behind each form of a line.
-use Rattle.std.proofs.Common.{◌≡◌, ◌≤◌, ◌<◌, ℕ, ◌+◌, ◌*◌, Bool, true, false, List, [], ◌∷◌, ◌++◌, length, refl, arith, Option, Some, None, length-append}
+use Rattle.std.proofs.Common.{◌≡◌, ◌≤◌, ◌<◌, ℕ, ◌*◌, Bool, true, false, List, [], ◌∷◌, length, refl, arith, Option, Some, None, length-append}
 use Rattle.std.proofs.lemmas.Bool.{leb-false}
 use Rattle.std.specs.Prelude.{nat_le, nat_lt}
 use Rattle.std.specs.Option.{option_or}
@@ -24,7 +24,6 @@ use Rattle.file_model.specs.Operating.{with_place, op_in, with_names, act_of, li
 use Rattle.file_model.specs.Sizes.{act_effort}
 use Rattle.file_model.specs.declared.files.Act.{Act}
 use Rattle.file_model.specs.declared.files.Act.TheVariants as act
-use Rattle.file_model.specs.declared.files.Line.{Line}
 use Rattle.file_model.specs.declared.refusals.FileLimit.TheVariants as limit
 use Rattle.file_model.specs.declared.states.Contents.{Contents}
 use Rattle.file_model.specs.declared.states.Group.{Group}
@@ -42,9 +41,9 @@ case_declared-kept n None c h = tt
 case_declared-kept n (Some t) c h = unless-kept _ c _ h
 
 begun-kept : (n : Bytes) (listed : Bool) (c : Contents) → CountsKept c 0 →
-    KeptStep (unless (option_or (twice listed) (over (nat_le 64 (length c.types.items)) limit.Types)) c (at_place (section.InType (new_draft n)) c))
+    KeptStep (unless (option_or (twice listed) (over (nat_le c.limits.types (length c.types.items)) limit.Types)) c (at_place (section.InType (new_draft n)) c))
 begun-kept n true c h = tt
-begun-kept n false c h = within-kept (nat_le 64 (length c.types.items)) limit.Types c (at_place (section.InType (new_draft n)) c) (λ below. (h, leb-false 64 (length c.types.items) below))
+begun-kept n false c h = within-kept (nat_le c.limits.types (length c.types.items)) limit.Types c (at_place (section.InType (new_draft n)) c) (λ below. (h, leb-false c.limits.types (length c.types.items) below))
 
 pub declared-kept : (d : Declaration) (c : Contents) → CountsKept c 0 → KeptStep (declared d c)
 declared-kept (a_type n) c h = begun-kept n (is_listed n c.types.names) c h
@@ -53,7 +52,7 @@ declared-kept (a_case n kind) c h = case_declared-kept n (place_of c.types.names
 declared-kept first_phase c h = begun_phase-kept c h
 
 -- ---- lines of a type
-ended-kept : (n : Bytes) (s : SchemaModel) (f : Option Fault) (c : Contents) → fault_of s ≡ f → CountsKept c 0 → length c.types.items < 64 → KeptStep (ended n s f c)
+ended-kept : (n : Bytes) (s : SchemaModel) (f : Option Fault) (c : Contents) → fault_of s ≡ f → CountsKept c 0 → length c.types.items < c.limits.types → KeptStep (ended n s f c)
 ended-kept n s None c e h below = type-kept n s c e h below
 ended-kept n s (Some f) c e h below = tt
 
@@ -93,7 +92,7 @@ installing-kept at actor t c h =
 
 migrating-kept : (at actor t : ℕ) (c : Contents) → CountsKept c 0 → KeptStep (migrating at actor t c)
 migrating-kept at actor t c h =
-    within_both-kept (nat_le 60000 c.counts.lines) limit.Lines (over (nat_lt 65536 (migrations_with t c)) limit.Migrations) c
+    within_both-kept (nat_le 60000 c.counts.lines) limit.Lines (over (nat_lt c.limits.migrations (migrations_with t c)) limit.Migrations) c
     (outside (with_script_line (line_of at actor (migrate_of t c) c) (counted (record c { counts = record c.counts { migrations = migrations_with t c } }))))
     (λ below. one_line at actor (migrate_of t c) c refl below h)
 

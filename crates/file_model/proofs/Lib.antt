@@ -2,6 +2,7 @@ pub mod CountedCases
 pub mod AtEnd
 pub mod Kept
 pub mod KeptByLines
+pub mod LimitsStay
 pub mod Bounds
 pub mod ShortWords
 pub mod Grown

@@ -2,7 +2,7 @@
 use Rattle.std.specs.Prelude.{ℕ, List, [], ◌∷◌, ◌++◌, length, nat_lt, nat_le, Option, Some, None}
 use Rattle.std.specs.Option.{option_or}
 use Rattle.wsm_schema.specs.SchemaModel.{SchemaModel}
-use Rattle.file_limits.specs.declared.TheConstants.{MAX_ACTORS, MAX_CASES, MAX_PHASES, MAX_ROLES, MAX_TYPES}
+use Rattle.file_limits.specs.declared.TheConstants.{MAX_PHASES, MAX_ROLES}
 use Rattle.file_words.specs.Lines.{Bytes}
 use Rattle.file_names.specs.Names.{is_listed, noted, place_of}
 use Rattle.file_names.specs.declared.declared.DeclaredList.{DeclaredList}
@@ -45,7 +45,7 @@ with_case n t c = record c {
 abbrev pub case_declared : Bytes → Option ℕ → Contents → Step
 case_declared n None c = refuse c why.Unknown
 case_declared n (Some t) c =
-    unless (option_or (twice (is_listed n c.cases.names)) (over (nat_le MAX_CASES (length c.cases.items)) limit.Cases)) c (outside (with_case n t c))
+    unless (option_or (twice (is_listed n c.cases.names)) (over (nat_le c.limits.cases (length c.cases.items)) limit.Cases)) c (outside (with_case n t c))
 
 -- the open phase ends, and one begins
 abbrev pub phase_begun : Contents → Step
@@ -55,11 +55,11 @@ phase_begun c =
 
 abbrev pub declared : Declaration → Contents → Step
 declared (a_type n) c =
-    unless (option_or (twice (is_listed n c.types.names)) (over (nat_le MAX_TYPES (length c.types.items)) limit.Types)) c
+    unless (option_or (twice (is_listed n c.types.names)) (over (nat_le c.limits.types (length c.types.items)) limit.Types)) c
     (at_place (section.InType (new_draft n)) c)
 declared (an_actor n roles) c =
     unless (option_or (twice (is_listed n c.actors.names))
-    (option_or (over (nat_le MAX_ACTORS (length c.actors.items)) limit.Actors) (over (nat_lt MAX_ROLES (length roles)) limit.Roles))) c
+    (option_or (over (nat_le c.limits.actors (length c.actors.items)) limit.Actors) (over (nat_lt MAX_ROLES (length roles)) limit.Roles))) c
     (outside (with_actor n (role_numbers c.roles roles) (with_roles roles c)))
 declared (a_case n kind) c = case_declared n (place_of c.types.names kind) c
 declared first_phase c = phase_begun c

@@ -1,9 +1,9 @@
 -- Lines of a phase.
-use Rattle.std.specs.Prelude.{ℕ, ◌+◌, List, [], ◌∷◌, length, nat_lt, nat_le, slice_get, Option, Some, None, option_map}
+use Rattle.std.specs.Prelude.{ℕ, ◌+◌, List, [], ◌∷◌, nat_lt, nat_le, slice_get, Option, Some, None, option_map}
 use Rattle.std.specs.Option.{option_or}
 use Rattle.wsm_lists.specs.declared.values.Value.{Value}
 use Rattle.wsm_sound.specs.declared.versions.CaseId.{CaseId}
-use Rattle.file_limits.specs.declared.TheConstants.{MAX_INSTALLS, MAX_LINES, MAX_MIGRATIONS}
+use Rattle.file_limits.specs.declared.TheConstants.{MAX_INSTALLS, MAX_LINES}
 use Rattle.file_words.specs.Lines.{Bytes}
 use Rattle.file_names.specs.Names.{place_of}
 use Rattle.file_forms.specs.PieceForms.{◌>>=◌}
@@ -64,7 +64,7 @@ migrate_of t c = act.Migrate t (cases_of_type t c.cases.items)
 
 abbrev pub migrating : ℕ → ℕ → ℕ → Contents → Step
 migrating at actor t c =
-    unless (option_or (over (nat_le MAX_LINES c.counts.lines) limit.Lines) (over (nat_lt MAX_MIGRATIONS (migrations_with t c)) limit.Migrations)) c
+    unless (option_or (over (nat_le MAX_LINES c.counts.lines) limit.Lines) (over (nat_lt c.limits.migrations (migrations_with t c)) limit.Migrations)) c
     (outside (with_script_line (line_of at actor (migrate_of t c) c) (counted (record c { counts = record c.counts { migrations = migrations_with t c } }))))
 
 -- writes with the numbers of their elements, and the contents with their names

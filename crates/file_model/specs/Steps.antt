@@ -1,6 +1,6 @@
 -- What was read so far, where the next line stands, and what a line makes of it.
 use Rattle.std.specs.Prelude.{ℕ, ◌+◌, Bool, List, [], ◌∷◌, ◌++◌, Option, Some, None, Result, Ok, Err, if◌then◌else◌, codes}
-use Rattle.file_limits.specs.declared.TheConstants.{FIRST_NAMED_ROLE}
+use Rattle.file_limits.specs.declared.TheConstants.{FIRST_NAMED_ROLE, MAX_ACTORS, MAX_CASES, MAX_MIGRATIONS, MAX_TYPES}
 use Rattle.file_words.specs.Lines.{Bytes}
 use Rattle.file_names.specs.Names.{noted, number_of}
 use Rattle.file_forms.specs.Forms.{RoleWord, by_number, by_name}
@@ -9,12 +9,18 @@ use Rattle.file_model.specs.declared.refusals.FileLimit.{FileLimit}
 use Rattle.file_model.specs.declared.refusals.Why.{Why}
 use Rattle.file_model.specs.declared.refusals.Why.TheVariants as why
 use Rattle.file_model.specs.declared.states.Contents.{Contents}
+use Rattle.file_model.specs.declared.states.Limits.{Limits}
 use Rattle.file_model.specs.declared.states.Section.{Section}
 use Rattle.file_model.specs.declared.states.Section.TheVariants as section
+
+-- how much a file may declare
+abbrev pub file_limits : Limits
+file_limits = record { types = MAX_TYPES; actors = MAX_ACTORS; cases = MAX_CASES; migrations = MAX_MIGRATIONS }
 
 -- before the first line, `start` is node 0 and `finish` is node 1
 abbrev pub no_contents : Contents
 no_contents = record {
+  limits = file_limits;
   format = 1;
   nodes = codes "start" ∷ codes "finish" ∷ [];
   elements = [];

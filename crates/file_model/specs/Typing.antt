@@ -1,5 +1,5 @@
 -- Lines of a type. Names get their numbers in the order of the line.
-use Rattle.std.specs.Prelude.{ℕ, Bool, true, false, not, length, nat_le, Option, Some, None, Ok}
+use Rattle.std.specs.Prelude.{Bool, true, false, not, length, nat_le, Option, Some, None, Ok}
 use Rattle.std.specs.Option.{is_some}
 use Rattle.wsm_lists.specs.Rows.{row_at}
 use Rattle.wsm_lists.specs.Keys.{both, first, first_two}

@@ -1,7 +1,7 @@
 // Cases while they are declared.
-ghost use Rattle.std.specs.Prelude.{◌≡◌, ◌<◌, ◌^◌, [], ◌∷◌, ◌++◌, ◌+◌, ℕ, length, slice_index, OnOk};
+ghost use Rattle.std.specs.Prelude.{◌≡◌, ◌<◌, ◌^◌, [], ◌∷◌, ◌++◌, ◌+◌, ℕ, length, take, slice_index, OnOk};
 ghost use Rattle.file_names.specs.Names.{noted};
-ghost use Rattle.file_model.specs.CaseCounts.{cases_of_type};
+ghost use Rattle.file_model.specs.CaseCounts.{cases_of_type, AreCounted};
 ghost use Rattle.file_model.specs.ShortForms.{IsShort};
 
 use crate::files::{CaseDecl, CaseDecls};
@@ -40,6 +40,19 @@ fn count_up_to(counts: &mut Vec<u32>, type_no: u32) -> Result<(), NoMemory>
         counts.push(0)?;
     }
     Ok(())
+}
+
+// The counts without the cases behind the first so many.
+fn uncount(counts: &mut Vec<u32>, cases: &[CaseDecl], len: usize)
+    requires { AreCounted counts.old.items cases.now }
+    ensures { AreCounted counts.new.items (take len cases.now) }
+{
+    let mut left = cases.len();
+    while left > len {
+        left -= 1;
+        let type_no = cases[left].id.type_no as usize;
+        counts[type_no] -= 1;
+    }
 }
 
 impl CaseTable {
@@ -104,5 +117,13 @@ impl CaseTable {
         self.list.items.push(case)?;
         self.counts[index] = count;
         Ok(())
+    }
+
+    /// Keeps the first so many cases alone.
+    pub fn truncate(&mut self, alloc: Global, len: usize)
+        ensures { self.new ≡ record { names = take len self.old.names; items = take len self.old.items } }
+    {
+        uncount(&mut self.counts, self.list.items.as_slice(), len);
+        self.list.truncate(alloc, len);
     }
 }

@@ -17,5 +17,5 @@ pub use files::{
     Act, ActorDecl, ActorDecls, CaseDecl, CaseDecls, File, Line, Lines, Phases, TypeDecl, TypeDecls,
 };
 pub use refusals::{FileLimit, FileRefusal, Refused, Why};
-pub use states::{Contents, Counts, Group, Section, Stop, Target};
+pub use states::{Contents, Counts, Group, Limits, Section, Stop, Target};
 pub use wsm_lists::NoMemory;

@@ -46,9 +46,20 @@ pub struct Counts {
     pub migrations: u32,
 }
 
+/// How many types, actors and cases may be declared, and how many migrations of a case the script lines may ask for.
+#[derive(Clone, Copy, PartialEq, Eq, Debug)]
+pub struct Limits {
+    pub types: u32,
+    pub actors: u32,
+    pub cases: u32,
+    pub migrations: u32,
+}
+
 /// What was read so far.
 #[derive(Drop)]
 pub struct Contents {
+    /// How much may be declared.
+    pub limits: Limits,
     /// The format that the header named, 1 before it.
     pub format: u32,
     pub nodes: NameTable,
