@@ -1,5 +1,5 @@
 -- What holds behind each line that is read.
-use Rattle.std.proofs.Common.{◌≡◌, ◌≤◌, ◌<◌, ℕ, ◌+◌, Bool, true, false, List, [], length, refl, Option, Some, None}
+use Rattle.std.proofs.Common.{◌≡◌, ◌≤◌, ◌<◌, ℕ, ◌+◌, Bool, true, false, List, length, refl, Option, Some, None}
 use Rattle.std.specs.Prelude.{IfOk}
 use Rattle.std.specs.Option.{option_or}
 use Rattle.wsm_lists.specs.Rows.{AllRows}
@@ -14,41 +14,42 @@ use Rattle.file_model.specs.declared.files.TypeDecl.{TypeDecl}
 use Rattle.file_model.specs.declared.refusals.FileLimit.{FileLimit}
 use Rattle.file_model.specs.declared.refusals.Why.{Why}
 use Rattle.file_model.specs.declared.states.Contents.{Contents}
+use Rattle.file_model.specs.declared.states.Limits.{Limits}
 use Rattle.file_model.specs.declared.states.Section.{Section}
 use Rattle.file_model.specs.declared.states.Section.TheVariants as section
 use Rattle.file_facts.specs.Facts.{lines_in, IsSound, HasType, ArePlaced, IsKnown}
 
--- of declarations: nothing has more names than items, and what a file promises of them
-pub record AreDeclared (types : DeclaredList TypeDecl) (actors : DeclaredList ActorDecl) (cases : DeclaredList CaseDecl) : Type 0 where
+-- of declarations: nothing has more names than items, there are no more than may be, and what a file promises of them
+pub record AreDeclared (limits : Limits) (types : DeclaredList TypeDecl) (actors : DeclaredList ActorDecl) (cases : DeclaredList CaseDecl) : Type 0 where
   pub type_names : length types.names ≤ length types.items
   pub actor_names : length actors.names ≤ length actors.items
-  pub few_types : length types.items ≤ 64
-  pub few_actors : length actors.items ≤ 32
-  pub few_cases : length cases.items ≤ 4096
+  pub few_types : length types.items ≤ limits.types
+  pub few_actors : length actors.items ≤ limits.actors
+  pub few_cases : length cases.items ≤ limits.cases
   pub sound : AllRows IsSound types.items
   pub typed : AllRows (HasType (length types.items)) cases.items
   pub placed : ArePlaced cases.items
 
 abbrev pub HasDeclared : Contents → Type 0
-HasDeclared c = AreDeclared c.types c.actors c.cases
+HasDeclared c = AreDeclared c.limits c.types c.actors c.cases
 
 abbrev pub KnownIn : Contents → Line → Type 0
 KnownIn c l = IsKnown (length c.types.items) (length c.actors.items) c.cases.items l
 
 -- the lines of earlier phases, those of the open one and as many as were begun are counted, and all are known
-pub record IsScript (types : DeclaredList TypeDecl) (actors : DeclaredList ActorDecl) (cases : DeclaredList CaseDecl) (phases : List (List Line)) (counted : ℕ) (lines : List Line) (begun : ℕ) : Type 0 where
-  pub declared : AreDeclared types actors cases
+pub record IsScript (limits : Limits) (types : DeclaredList TypeDecl) (actors : DeclaredList ActorDecl) (cases : DeclaredList CaseDecl) (phases : List (List Line)) (counted : ℕ) (lines : List Line) (begun : ℕ) : Type 0 where
+  pub declared : AreDeclared limits types actors cases
   pub within : counted ≤ 60000
   pub all_counted : lines_in phases + length lines + begun ≤ counted
   pub known_phases : AllRows (AllRows (IsKnown (length types.items) (length actors.items) cases.items)) phases
   pub known_lines : AllRows (IsKnown (length types.items) (length actors.items) cases.items) lines
 
 abbrev pub Script : Contents → ℕ → Type 0
-Script c begun = IsScript c.types c.actors c.cases c.phases c.counts.lines (open_lines c.current) begun
+Script c begun = IsScript c.limits c.types c.actors c.cases c.phases c.counts.lines (open_lines c.current) begun
 
 -- a type that is open has room
 abbrev pub Typing : Contents → Type 0
-Typing c = Script c 0 × (length c.types.items < 64)
+Typing c = Script c 0 × (length c.types.items < c.limits.types)
 
 -- an open group would be a known line if it ended here
 abbrev pub HeldIn : Section → Contents → Type 0

@@ -29,6 +29,7 @@ use Rattle.file_model.specs.declared.files.Line.{Line}
 use Rattle.file_model.specs.declared.files.TypeDecl.{TypeDecl}
 use Rattle.file_model.specs.declared.refusals.FileLimit.TheVariants as limit
 use Rattle.file_model.specs.declared.states.Contents.{Contents}
+use Rattle.file_model.specs.declared.states.Limits.{Limits}
 use Rattle.file_model.specs.declared.states.Section.TheVariants as section
 use Rattle.file_facts.specs.Facts.{IsSound, HasType, ArePlaced, IsDeclared, IsKnown, IsKnownAct}
 use Rattle.file_facts.proofs.Held.{AreDeclared, IsScript, Typing, Script, HasDeclared, HeldStep, unless-held, same-held, not_over, neither}
@@ -38,7 +39,7 @@ use Rattle.file_facts.proofs.Lists.{any-more, at-push, length-noted, place_withi
 more_types : (n m : ℕ) → n ≤ m → (cases : List CaseDecl) → AllRows (HasType n) cases → AllRows (HasType m) cases
 more_types n m le cases h = all-rows-map (HasType n) (HasType m) (λ d below. omega (arith, below, le)) cases h
 
-type-declared : (n : Bytes) (s : SchemaModel) (c : Contents) → fault_of s ≡ None → length c.types.items < 64 → HasDeclared c → HasDeclared (with_type n s c)
+type-declared : (n : Bytes) (s : SchemaModel) (c : Contents) → fault_of s ≡ None → length c.types.items < c.limits.types → HasDeclared c → HasDeclared (with_type n s c)
 type-declared n s c sound room h =
     let t : TypeDecl = record { name = n; schema = s } in
     let longer = length_push c.types.items t in
@@ -53,7 +54,7 @@ type-declared n s c sound room h =
       placed = h.placed;
     }
 
-actor-declared : (n : Bytes) (roles : List ℕ) (c : Contents) → length c.actors.items < 32 → HasDeclared c → HasDeclared (with_actor n roles c)
+actor-declared : (n : Bytes) (roles : List ℕ) (c : Contents) → length c.actors.items < c.limits.actors → HasDeclared c → HasDeclared (with_actor n roles c)
 actor-declared n roles c room h =
     let longer = length_push c.actors.items (record { name = n; roles = roles }) in
     record {
@@ -77,7 +78,7 @@ placed-push cases d own h k e at =
       | inr new ↦ rw (← new.1, new.0, take-append_seam) own
     ]
 
-case-declared : (n : Bytes) (t : ℕ) (c : Contents) → t < length c.types.items → length c.cases.items < 4096 → HasDeclared c → HasDeclared (with_case n t c)
+case-declared : (n : Bytes) (t : ℕ) (c : Contents) → t < length c.types.items → length c.cases.items < c.limits.cases → HasDeclared c → HasDeclared (with_case n t c)
 case-declared n t c there room h =
     let d : CaseDecl = record { name = n; id = record { type_no = t; place = cases_of_type t c.cases.items } } in
     let longer = length_push c.cases.items d in
@@ -125,10 +126,10 @@ known-line n m a b cases more types actors among l h = record {
 known-lines : (n m a b : ℕ) (cases more : List CaseDecl) → n ≤ m → a ≤ b → AreAmong cases more → (lines : List Line) → AllRows (IsKnown n a cases) lines → AllRows (IsKnown m b more) lines
 known-lines n m a b cases more types actors among lines h = all-rows-map (IsKnown n a cases) (IsKnown m b more) (known-line n m a b cases more types actors among) lines h
 
-wider : (types more_types : DeclaredList TypeDecl) (actors more_actors : DeclaredList ActorDecl) (cases more_cases : DeclaredList CaseDecl) (phases : List (List Line)) (counted : ℕ) (lines : List Line) (begun : ℕ) →
-    length types.items ≤ length more_types.items → length actors.items ≤ length more_actors.items → AreAmong cases.items more_cases.items → AreDeclared more_types more_actors more_cases →
-    IsScript types actors cases phases counted lines begun → IsScript more_types more_actors more_cases phases counted lines begun
-wider types more_types actors more_actors cases more_cases phases counted lines begun t a among declared h =
+wider : (limits : Limits) (types more_types : DeclaredList TypeDecl) (actors more_actors : DeclaredList ActorDecl) (cases more_cases : DeclaredList CaseDecl) (phases : List (List Line)) (counted : ℕ) (lines : List Line) (begun : ℕ) →
+    length types.items ≤ length more_types.items → length actors.items ≤ length more_actors.items → AreAmong cases.items more_cases.items → AreDeclared limits more_types more_actors more_cases →
+    IsScript limits types actors cases phases counted lines begun → IsScript limits more_types more_actors more_cases phases counted lines begun
+wider limits types more_types actors more_actors cases more_cases phases counted lines begun t a among declared h =
     let known = known-lines (length types.items) (length more_types.items) (length actors.items) (length more_actors.items) cases.items more_cases.items t a among in
     record {
       declared = declared;
@@ -141,10 +142,10 @@ wider types more_types actors more_actors cases more_cases phases counted lines 
     }
 
 -- ---- the open phase ends
-pub phase-ended : (types : DeclaredList TypeDecl) (actors : DeclaredList ActorDecl) (cases : DeclaredList CaseDecl) (phases : List (List Line)) (counted : ℕ) (current : Option (List Line)) →
-    IsScript types actors cases phases counted (open_lines current) 0 → IsScript types actors cases (phases_with current phases) counted [] 0
-phase-ended types actors cases phases counted None h = h
-phase-ended types actors cases phases counted (Some lines) h = record {
+pub phase-ended : (limits : Limits) (types : DeclaredList TypeDecl) (actors : DeclaredList ActorDecl) (cases : DeclaredList CaseDecl) (phases : List (List Line)) (counted : ℕ) (current : Option (List Line)) →
+    IsScript limits types actors cases phases counted (open_lines current) 0 → IsScript limits types actors cases (phases_with current phases) counted [] 0
+phase-ended limits types actors cases phases counted None h = h
+phase-ended limits types actors cases phases counted (Some lines) h = record {
   declared = h.declared;
   within = h.within;
   all_counted = let before = h.all_counted in omega (arith, before, sum_by_push (λ (ls : List Line). length ls) phases lines);
@@ -153,41 +154,41 @@ phase-ended types actors cases phases counted (Some lines) h = record {
 }
 
 pub begun-held : (c : Contents) → Script c 0 → HeldStep (phase_begun c)
-begun-held c h = same-held _ c _ (phase-ended c.types c.actors c.cases c.phases c.counts.lines c.current h)
+begun-held c h = same-held _ c _ (phase-ended c.limits c.types c.actors c.cases c.phases c.counts.lines c.current h)
 
 -- ---- declarations
-type-script : (n : Bytes) (s : SchemaModel) (c : Contents) → fault_of s ≡ None → length c.types.items < 64 → Script c 0 → Script (with_type n s c) 0
+type-script : (n : Bytes) (s : SchemaModel) (c : Contents) → fault_of s ≡ None → length c.types.items < c.limits.types → Script c 0 → Script (with_type n s c) 0
 type-script n s c sound room h =
     let after = with_type n s c in
-    wider c.types after.types c.actors c.actors c.cases c.cases c.phases c.counts.lines (open_lines c.current) 0 (omega (arith, length_push c.types.items (record { name = n; schema = s }))) (omega arith)
+    wider c.limits c.types after.types c.actors c.actors c.cases c.cases c.phases c.counts.lines (open_lines c.current) 0 (omega (arith, length_push c.types.items (record { name = n; schema = s }))) (omega arith)
     (same-cases c.cases.items) (type-declared n s c sound room h.declared) h
 
-actor-script : (n : Bytes) (roles : List ℕ) (c : Contents) → length c.actors.items < 32 → Script c 0 → Script (with_actor n roles c) 0
+actor-script : (n : Bytes) (roles : List ℕ) (c : Contents) → length c.actors.items < c.limits.actors → Script c 0 → Script (with_actor n roles c) 0
 actor-script n roles c room h =
     let after = with_actor n roles c in
-    wider c.types c.types c.actors after.actors c.cases c.cases c.phases c.counts.lines (open_lines c.current) 0 (omega arith) (omega (arith, length_push c.actors.items (record { name = n; roles = roles })))
+    wider c.limits c.types c.types c.actors after.actors c.cases c.cases c.phases c.counts.lines (open_lines c.current) 0 (omega arith) (omega (arith, length_push c.actors.items (record { name = n; roles = roles })))
     (same-cases c.cases.items) (actor-declared n roles c room h.declared) h
 
-case-script : (n : Bytes) (t : ℕ) (c : Contents) → t < length c.types.items → length c.cases.items < 4096 → Script c 0 → Script (with_case n t c) 0
+case-script : (n : Bytes) (t : ℕ) (c : Contents) → t < length c.types.items → length c.cases.items < c.limits.cases → Script c 0 → Script (with_case n t c) 0
 case-script n t c there room h =
     let after = with_case n t c in
     let d : CaseDecl = record { name = n; id = record { type_no = t; place = cases_of_type t c.cases.items } } in
-    wider c.types c.types c.actors c.actors c.cases after.cases c.phases c.counts.lines (open_lines c.current) 0 (omega arith) (omega arith)
+    wider c.limits c.types c.types c.actors c.actors c.cases after.cases c.phases c.counts.lines (open_lines c.current) 0 (omega arith) (omega arith)
     (one-case c.cases.items d) (case-declared n t c there room h.declared) h
 
 case_declared-held : (n : Bytes) (t : Option ℕ) (c : Contents) → ((i : ℕ) → t ≡ Some i → i < length c.types.items) → Script c 0 → HeldStep (case_declared n t c)
 case_declared-held n None c there h = tt
 case_declared-held n (Some t) c there h =
     unless-held _ c (outside (with_case n t c)) (λ none.
-    let below = leb-false 4096 (length c.cases.items) (not_over _ limit.Cases (neither _ _ none).1) in
+    let below = leb-false c.limits.cases (length c.cases.items) (not_over _ limit.Cases (neither _ _ none).1) in
     case-script n t c (there t refl) below h)
 
 pub declared-held : (d : Declaration) (c : Contents) → Script c 0 → HeldStep (declared d c)
 declared-held (a_type n) c h =
-    unless-held _ c (at_place (section.InType (new_draft n)) c) (λ none. (h, leb-false 64 (length c.types.items) (not_over _ limit.Types (neither _ _ none).1)))
+    unless-held _ c (at_place (section.InType (new_draft n)) c) (λ none. (h, leb-false c.limits.types (length c.types.items) (not_over _ limit.Types (neither _ _ none).1)))
 declared-held (an_actor n roles) c h =
     unless-held _ c (outside (with_actor n (role_numbers c.roles roles) (with_roles roles c))) (λ none.
-    let below = leb-false 32 (length c.actors.items) (not_over _ limit.Actors (neither _ _ (neither _ _ none).1).0) in
+    let below = leb-false c.limits.actors (length c.actors.items) (not_over _ limit.Actors (neither _ _ (neither _ _ none).1).0) in
     actor-script n (role_numbers c.roles roles) (with_roles roles c) below h)
 declared-held (a_case n kind) c h =
     case_declared-held n (place_of c.types.names kind) c

@@ -1,7 +1,7 @@
 -- In formats 1 and 2 nothing is declared once a phase has begun, so a migrate calls all cases of its type.
 use Rattle.std.proofs.Common.{◌≡◌, ℕ, ◌+◌, ◌==◌, Bool, true, false, List, [], ◌∷◌, length, refl, subst, sym, Option, Some, None, Result, Ok, Err}
 use Rattle.std.specs.Prelude.{IfOk, nat_le, not, if◌then◌else◌}
-use Rattle.std.specs.Option.{is_some, option_or}
+use Rattle.std.specs.Option.{is_some}
 use Rattle.std.specs.Str.{is_utf8}
 use Rattle.wsm_lists.proofs.Lists.{rows-append}
 use Rattle.wsm_lists.specs.Rows.{AllRows}
@@ -24,12 +24,12 @@ use Rattle.file_forms.specs.ScriptForms.{script_line}
 use Rattle.file_forms.specs.OperationForms.{operation_line}
 use Rattle.file_drafts.specs.Drafts.{whole}
 use Rattle.file_drafts.specs.declared.drafts.Draft.{Draft}
-use Rattle.file_model.specs.Steps.{State, Step, all_phases, at_place, open_lines, opening, outside, phases_with, refuse, unless, node_in, with_node, with_element, with_script_line}
+use Rattle.file_model.specs.Steps.{State, Step, all_phases, at_place, open_lines, opening, outside, phases_with, unless, node_in, with_node, with_element, with_script_line}
 use Rattle.file_model.specs.Declaring.{case_declared, declared, phase_begun, with_case}
 use Rattle.file_model.specs.Typing.{ended, typed}
 use Rattle.file_model.specs.Scripting.{acted, actor_in, case_in, counted, if_known, line_of, migrate_of, migrating, migrations_with, numbered, one_install, scripted, with_elements, with_group, with_line}
 use Rattle.file_model.specs.Operating.{act_of, grouped, line_of_group, op_in, operated, with_names, with_op, with_place}
-use Rattle.file_model.specs.Reading.{in_format, unless_long, formed, fitting, unless_not_text, declares, step_outside, step_in, step_words, step, file_of, finished_in, finished, at_line, read_from, file_up_to}
+use Rattle.file_model.specs.Reading.{in_format, unless_long, formed, fitting, unless_not_text, declares, step_outside, step_in, step_words, step, finished_in, finished, at_line, read_from, file_up_to}
 use Rattle.file_model.specs.declared.files.Act.{Act}
 use Rattle.file_model.specs.declared.files.Act.TheVariants as act
 use Rattle.file_model.specs.declared.files.CaseDecl.{CaseDecl}

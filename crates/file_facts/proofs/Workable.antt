@@ -1,5 +1,5 @@
 -- What holds of each file that is read.
-use Rattle.std.proofs.Common.{◌≡◌, ℕ, ◌+◌, ◌==◌, Bool, true, false, List, [], ◌∷◌, ◌++◌, length, refl, subst, arith, Option, Some, None, Result, Ok, Err}
+use Rattle.std.proofs.Common.{◌≡◌, ℕ, ◌+◌, ◌==◌, Bool, true, false, List, [], ◌∷◌, length, refl, subst, ap, arith, Option, Some, None, Result, Ok, Err}
 use Rattle.std.proofs.lemmas.Option.{slice_get_within}
 use Rattle.std.specs.Prelude.{IfOk, nat_le, if◌then◌else◌}
 use Rattle.std.specs.Str.{is_utf8}
@@ -11,7 +11,7 @@ use Rattle.file_forms.specs.DeclarationForms.{header, declaration_line}
 use Rattle.file_forms.specs.TypeForms.{type_line}
 use Rattle.file_forms.specs.ScriptForms.{script_line}
 use Rattle.file_forms.specs.OperationForms.{operation_line}
-use Rattle.file_model.specs.Steps.{State, Step, opening, outside, refuse}
+use Rattle.file_model.specs.Steps.{State, Step, file_limits, opening}
 use Rattle.file_model.specs.Declaring.{declared}
 use Rattle.file_model.specs.Typing.{typed}
 use Rattle.file_model.specs.Scripting.{scripted}
@@ -23,9 +23,11 @@ use Rattle.file_model.specs.declared.refusals.Refused.{Refused}
 use Rattle.file_model.specs.declared.refusals.Why.{Why}
 use Rattle.file_model.specs.declared.refusals.Why.TheVariants as why
 use Rattle.file_model.specs.declared.states.Contents.{Contents}
+use Rattle.file_model.specs.declared.states.Limits.{Limits}
 use Rattle.file_model.specs.declared.states.Section.{Section}
 use Rattle.file_model.specs.declared.states.Section.TheVariants as section
 use Rattle.file_model.proofs.Bounds.{file-bounded}
+use Rattle.file_model.proofs.LimitsStay.{step-with}
 use Rattle.file_facts.specs.Facts.{IsWorkable}
 use Rattle.file_facts.proofs.Held.{Script, HeldIn, HeldState, HeldStep}
 use Rattle.file_facts.proofs.HeldByDeclarations.{declared-held, phase-ended, typed-held}
@@ -73,29 +75,37 @@ step-held s at line ws h = if-held (is_skipped ws) (Ok s) (step_in s.place at li
 abbrev IsReady : File → Type 0
 IsReady f = IsBounded f → IsWorkable f
 
-all-ready : (c : Contents) → Script c 0 → IsReady (file_of c)
-all-ready c h b =
-    let all = phase-ended c.types c.actors c.cases c.phases c.counts.lines c.current h in
+-- where no more may be declared than in a file
+abbrev OfFile : State → Type 0
+OfFile s = HeldState s × (s.contents.limits ≡ file_limits)
+
+all-ready : (c : Contents) → Script c 0 → c.limits ≡ file_limits → IsReady (file_of c)
+all-ready c h is b =
+    let all = phase-ended c.limits c.types c.actors c.cases c.phases c.counts.lines c.current h in
+    let declared = h.declared in
+    let types : c.limits.types ≡ 64 = ap (λ (l : Limits). l.types) is in
+    let actors : c.limits.actors ≡ 32 = ap (λ (l : Limits). l.actors) is in
+    let cases : c.limits.cases ≡ 4096 = ap (λ (l : Limits). l.cases) is in
     record {
-      types = h.declared.few_types;
-      actors = h.declared.few_actors;
-      cases = h.declared.few_cases;
+      types = omega (arith, declared.few_types, types);
+      actors = omega (arith, declared.few_actors, actors);
+      cases = omega (arith, declared.few_cases, cases);
       lines = let counted = all.all_counted in omega (arith, counted, all.within);
       small = b.small;
-      sound = h.declared.sound;
-      typed = h.declared.typed;
-      placed = h.declared.placed;
+      sound = declared.sound;
+      typed = declared.typed;
+      placed = declared.placed;
       known = all.known_phases;
     }
 
-finished_in-ready : (p : Section) (c : Contents) → HeldIn p c → IfOk (finished_in p c) IsReady
-finished_in-ready (section.Head newest) c h = tt
-finished_in-ready section.Outside c h = all-ready c h
-finished_in-ready (section.InType d) c h = tt
-finished_in-ready (section.InGroup g) c h = tt
+finished_in-ready : (p : Section) (c : Contents) → HeldIn p c → c.limits ≡ file_limits → IfOk (finished_in p c) IsReady
+finished_in-ready (section.Head newest) c h is = tt
+finished_in-ready section.Outside c h is = all-ready c h is
+finished_in-ready (section.InType d) c h is = tt
+finished_in-ready (section.InGroup g) c h is = tt
 
-ended-ready : (test : Bool) (s : State) → HeldState s → IfOk (if test then finished_in s.place s.contents else Err (why.Unended, s.contents)) IsReady
-ended-ready true s h = finished_in-ready s.place s.contents h
+ended-ready : (test : Bool) (s : State) → OfFile s → IfOk (if test then finished_in s.place s.contents else Err (why.Unended, s.contents)) IsReady
+ended-ready true s h = finished_in-ready s.place s.contents h.0 h.1
 ended-ready false s h = tt
 
 -- ---- all lines
@@ -103,12 +113,13 @@ at_line-holds : {T : Type 0} (P : T → Type 0) (at : ℕ) (o : Result T (Why ×
 at_line-holds P at (Ok x) h = h
 at_line-holds P at (Err p) h = tt
 
-read_from-ready : (o : Result State Refused) (at : ℕ) (left : Bytes) (ls : List Bytes) → IfOk o HeldState → IfOk (read_from o at left ls) IsReady
+read_from-ready : (o : Result State Refused) (at : ℕ) (left : Bytes) (ls : List Bytes) → IfOk o OfFile → IfOk (read_from o at left ls) IsReady
 read_from-ready (Err r) at left ls h = tt
 read_from-ready (Ok s) at left [] h = at_line-holds IsReady at (finished s left) (ended-ready (length left == 0) s h)
 read_from-ready (Ok s) at left (l ∷ ls) h =
     let line = without_return l in
-    read_from-ready (at_line at (step s at line)) (at + 1) left ls (at_line-holds HeldState at (step s at line) (step-held s at line (words_of line) h))
+    read_from-ready (at_line at (step s at line)) (at + 1) left ls
+    (at_line-holds OfFile at (step s at line) (step-with HeldState file_limits s at line (words_of line) (step-held s at line (words_of line) h.0) h.1))
 
 opening-held : (newest : ℕ) → HeldState (opening newest)
 opening-held newest = record {
@@ -130,7 +141,7 @@ opening-held newest = record {
 
 file-ready : (newest : ℕ) (bytes : Bytes) (f : File) → file_up_to newest bytes ≡ Ok f → IsReady f
 file-ready newest bytes f is =
-    subst (λ (o : Result File Refused). IfOk o IsReady) is (read_from-ready (Ok (opening newest)) 1 (lines_of bytes).left (lines_of bytes).ended (opening-held newest))
+    subst (λ (o : Result File Refused). IfOk o IsReady) is (read_from-ready (Ok (opening newest)) 1 (lines_of bytes).left (lines_of bytes).ended (opening-held newest, refl))
 
 -- the lines of a file that is read can be worked
 pub file_up_to-workable : (newest : ℕ) (bytes : Bytes) (f : File) → file_up_to newest bytes ≡ Ok f → IsWorkable f
