@@ -12,8 +12,8 @@ ghost use Rattle.file_model.specs.Steps.{no_contents, node_in, with_node, elemen
 
 use crate::texts::text_of;
 use file_forms::RoleWord;
-use file_limits::FIRST_NAMED_ROLE;
-use file_model::{CaseTable, Contents, Counts, FileRefusal, Phases, Refused, Why};
+use file_limits::{FIRST_NAMED_ROLE, MAX_ACTORS, MAX_CASES, MAX_MIGRATIONS, MAX_TYPES};
+use file_model::{CaseTable, Contents, Counts, FileRefusal, Limits, Phases, Refused, Why};
 use file_names::{DeclaredList, NameTable};
 use file_words::NameWord;
 use std::alloc::Global;
@@ -25,6 +25,12 @@ pub fn no_contents(alloc: Global) -> Result<Contents, NoMemory>
 {
     let nodes = NameTable::start_and_finish(alloc)?;
     Ok(Contents {
+        limits: Limits {
+            types: MAX_TYPES as u32,
+            actors: MAX_ACTORS as u32,
+            cases: MAX_CASES as u32,
+            migrations: MAX_MIGRATIONS as u32,
+        },
         format: 1,
         nodes,
         elements: NameTable::new(alloc),

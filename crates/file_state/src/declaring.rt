@@ -1,5 +1,5 @@
 // The header, and declarations.
-ghost use Rattle.std.specs.Prelude.{◌≡◌, ◌<◌, ◌+◌, length, map, nat_le, None, Ok, Some, IfOk, IfErr, OnOk};
+ghost use Rattle.std.specs.Prelude.{◌≡◌, ◌<◌, ◌+◌, ◌^◌, length, map, nat_le, None, Ok, Some, IfOk, IfErr, OnOk};
 ghost use Rattle.wsm_lists.specs.Rows.{AllRows};
 ghost use Rattle.file_words.specs.Shown.{shown};
 ghost use Rattle.file_forms.specs.NamesInForms.{RoleHas, roles_in};
@@ -15,7 +15,7 @@ ghost use Rattle.file_model.specs.Reading.{headed, in_format};
 use crate::contents::role_numbers;
 use file_drafts::Draft;
 use file_forms::{Declaration, RoleWords, header};
-use file_limits::{MAX_ACTORS, MAX_CASES, MAX_PHASES, MAX_ROLES, MAX_TYPES};
+use file_limits::{MAX_PHASES, MAX_ROLES};
 use file_model::{ActorDecl, CaseDecl, Contents, FileLimit, Lines, Section, Stop, Why};
 use file_names::Name64;
 use file_words::NameWord;
@@ -116,7 +116,7 @@ fn with_type(contents: &mut Contents, alloc: Global, name: NameWord<'_>) -> Resu
     if contents.types.names.has(name) {
         return Err(Stop::Refused(Why::Twice));
     }
-    if contents.types.items.len() >= MAX_TYPES {
+    if contents.types.items.len() >= contents.limits.types as usize {
         return Err(Stop::Refused(Why::Limit(FileLimit::Types)));
     }
     let draft = Draft::new(alloc, Name64::of_word(alloc, name)?)?;
@@ -137,7 +137,7 @@ fn with_actor(
     if contents.actors.names.has(name) {
         return Err(Stop::Refused(Why::Twice));
     }
-    if contents.actors.items.len() >= MAX_ACTORS {
+    if contents.actors.items.len() >= contents.limits.actors as usize {
         return Err(Stop::Refused(Why::Limit(FileLimit::Actors)));
     }
     if roles.len() > MAX_ROLES {
@@ -211,7 +211,7 @@ fn with_known_type(
     if contents.cases.names().has(name) {
         return Err(Stop::Refused(Why::Twice));
     }
-    if contents.cases.items().len() >= MAX_CASES {
+    if contents.cases.items().len() >= contents.limits.cases as usize {
         return Err(Stop::Refused(Why::Limit(FileLimit::Cases)));
     }
     add_case(contents, alloc, name, type_no)?;
@@ -226,7 +226,7 @@ fn add_case(
 ) -> Result<(), NoMemory>
     requires short { IsShort name.bytes.now }
     requires room { HasRoom 1 contents.old }
-    requires cases { length contents.old.cases.items < MAX_CASES }
+    requires cases { length contents.old.cases.items + 1 < 2 ^ 32 }
     ensures { OnOk result (contents.new ≡ with_case name.entry.bytes.now type_no contents.old) }
 {
     let place = contents.cases.count(type_no);

@@ -15,7 +15,7 @@ ghost use Rattle.file_model.specs.Scripting.{actor_in, if_known, case_in, with_l
 use crate::contents::{element_number, node_number};
 use crate::declaring::phase_begun;
 use file_forms::{Deed, ScriptLine, WriteWords};
-use file_limits::{MAX_INSTALLS, MAX_LINES, MAX_MIGRATIONS};
+use file_limits::{MAX_INSTALLS, MAX_LINES};
 use file_model::{Act, Contents, FileLimit, Group, Line, Lines, Section, Stop, Target, Why};
 use file_words::{Literal, NameWord};
 use std::alloc::Global;
@@ -380,8 +380,9 @@ fn migrating(
         return Err(Stop::Refused(Why::Limit(FileLimit::Lines)));
     }
     let many = contents.cases.count(type_no);
+    let most = contents.limits.migrations;
     let migrations = contents.counts.migrations as u64 + many as u64;
-    if migrations > MAX_MIGRATIONS {
+    if migrations > most as u64 {
         return Err(Stop::Refused(Why::Limit(FileLimit::Migrations)));
     }
     contents.counts.migrations = migrations as u32;
