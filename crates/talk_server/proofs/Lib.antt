@@ -1,0 +1,5 @@
+pub mod Answering
+pub mod Fronting
+pub mod Opens
+pub mod Serves
+pub mod Taken

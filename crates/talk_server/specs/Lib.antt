@@ -1,0 +1,9 @@
+pub mod Fronts
+pub mod Opening
+pub mod Room
+pub mod Served
+pub mod Serving
+pub mod Statuses
+pub mod Taking
+pub mod Talks
+pub mod Unopened
