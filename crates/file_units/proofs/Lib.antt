@@ -1,0 +1,14 @@
+pub mod FewNames
+pub mod AddedNames
+pub mod ByForms
+pub mod CutBack
+pub mod Ending
+pub mod Evens
+pub mod Grows
+pub mod Inside
+pub mod LineRoom
+pub mod Mirror
+pub mod SaidLines
+pub mod Refusing
+pub mod Saying
+pub mod ShortNames

@@ -1,0 +1,76 @@
+-- The file beside the contents is brought up to them.
+use Rattle.std.proofs.Common.{◌≡◌, ◌≤◌, ◌<◌, List, [], ◌∷◌, ◌++◌, length, refl, ap, sym, subst, ◌∙◌, append-nil, append_assoc, arith, Some, None}
+use Rattle.std.proofs.lemmas.List.{length-append}
+use Rattle.std.proofs.lemmas.Option.{same_Some}
+use Rattle.std.specs.Prelude.{slice_get}
+use Rattle.file_model.specs.Reading.{file_of}
+use Rattle.file_model.specs.Steps.{all_phases}
+use Rattle.file_model.specs.declared.files.File.{File}
+use Rattle.file_model.specs.declared.states.Contents.{Contents}
+use Rattle.file_units.specs.Growing.{Begins, Grows, IsFrontOf}
+use Rattle.file_units.specs.Units.{IsSettled}
+
+-- ---- a list that begins another is brought up to it
+pub nothing-begins : {A : Type 0} (all : List A) → Begins [] all
+nothing-begins all = (all, refl)
+
+pub begins-short : {A : Type 0} (xs all : List A) → Begins xs all → length xs ≤ length all
+begins-short xs all h = omega (arith, ap length h.1, length-append xs h.0)
+
+next-of : {A : Type 0} (xs rest : List A) → slice_get (xs ++ rest) (length xs) ≡ slice_get rest 0
+next-of [] rest = refl
+next-of (x ∷ xs) rest = next-of xs rest
+
+found-next : {A : Type 0} (xs all rest : List A) → xs ++ rest ≡ all → slice_get rest 0 ≡ slice_get all (length xs)
+found-next xs all rest is = sym (next-of xs rest) ∙ ap (λ l. slice_get l (length xs)) is
+
+one-more : {A : Type 0} (xs all rest : List A) (x : A) → xs ++ rest ≡ all → slice_get rest 0 ≡ Some x → Begins (xs ++ x ∷ []) all
+one-more xs all [] x is next = absurd (cc)
+one-more xs all (y ∷ rest) x is next =
+    let same : x ≡ y = sym (same_Some y x next) in
+    (rest, append_assoc xs (x ∷ []) rest ∙ ap (λ z. xs ++ z ∷ rest) same ∙ is)
+
+pub begins-next : {A : Type 0} (xs all : List A) (x : A) → Begins xs all → Some x ≡ slice_get all (length xs) → Begins (xs ++ x ∷ []) all
+begins-next xs all x h next = one-more xs all h.0 x h.1 (found-next xs all h.0 h.1 ∙ sym next)
+
+no-more : {A : Type 0} (xs all rest : List A) → xs ++ rest ≡ all → slice_get rest 0 ≡ None → xs ≡ all
+no-more xs all [] is none = sym (append-nil xs) ∙ is
+no-more xs all (y ∷ rest) is none = absurd (cc)
+
+pub begins-all : {A : Type 0} (xs all : List A) → Begins xs all → None ≡ slice_get all (length xs) → xs ≡ all
+begins-all xs all h none = no-more xs all h.0 h.1 (found-next xs all h.0 h.1 ∙ sym none)
+
+shorter-more : {A : Type 0} (xs all rest : List A) (x : A) → xs ++ rest ≡ all → slice_get rest 0 ≡ Some x → length xs < length all
+shorter-more xs all [] x is next = absurd (cc)
+shorter-more xs all (y ∷ rest) x is next = omega (arith, ap length is, length-append xs (y ∷ rest))
+
+-- the list that is to be brought up is then shorter
+pub begins-shorter : {A : Type 0} (xs all : List A) (x : A) → Begins xs all → Some x ≡ slice_get all (length xs) → length xs < length all
+begins-shorter xs all x h next = shorter-more xs all h.0 x h.1 (found-next xs all h.0 h.1 ∙ sym next)
+
+-- ---- the file of contents begins that of those that have more
+pub front-grown : (c d : Contents) → IsSettled c → Grows c d → IsFrontOf (file_of c) d
+front-grown c d at_rest h = record {
+  format = sym h.1;
+  nodes = h.2;
+  elements = h.3;
+  roles = h.4;
+  types = h.6;
+  actors = h.8;
+  cases = h.10;
+  phases = ap all_phases at_rest;
+}
+
+-- and that of nothing begins all of the format
+pub nothing-front : (f : File) (d : Contents) → f ≡ record { format = 3; nodes = []; elements = []; roles = []; types = []; actors = []; cases = []; phases = [] } → d.format ≡ 3 → IsFrontOf f d
+nothing-front f d is format =
+    subst (λ (g : File). IsFrontOf g d) (sym is) (record {
+      format = sym format;
+      nodes = nothing-begins d.nodes;
+      elements = nothing-begins d.elements;
+      roles = nothing-begins d.roles;
+      types = nothing-begins d.types.items;
+      actors = nothing-begins d.actors.items;
+      cases = nothing-begins d.cases.items;
+      phases = refl;
+    })

@@ -1,0 +1,17 @@
+use Rattle.std.proofs.Common.{◌≡◌, ◌≤◌, ◌+◌, ◌*◌, length, Ok}
+use Rattle.file_model.specs.Room.{count_of_names}
+use Rattle.file_model.specs.Steps.{at_place}
+use Rattle.file_units.specs.Units.{lines_read, said, unit_read}
+use Rattle.file_units.proofs.Inside.{Inside}
+use Rattle.file_units.proofs.reading.read_unit.Given as goal
+
+abbrev pub invariant-loop-line : goal.invariant-loop-line
+invariant-loop-line l = record {
+  inside : Inside l.fn.contents l.at l.place l.contents;
+  counted : 2 * l.at + length l.rest ≤ length l.unit;
+  room : count_of_names l.contents + length l.rest ≤ count_of_names l.fn.contents + length l.unit;
+  left : lines_read (Ok (at_place l.place l.contents)) l.at (said l.rest) ≡ unit_read l.fn.contents l.unit;
+}
+
+abbrev pub decreases-loop-line : goal.decreases-loop-line
+decreases-loop-line l = length l.rest

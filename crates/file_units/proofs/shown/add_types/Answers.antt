@@ -1,0 +1,19 @@
+use Rattle.std.proofs.Common.{rules, ◌≡◌, List, [], ◌∷◌, ◌++◌, length, Some, None, subst, sym, ◌∙◌}
+use Rattle.std.specs.Prelude.{slice_get}
+use Rattle.file_model.specs.declared.files.TypeDecl.{TypeDecl}
+use Rattle.file_units.specs.Growing.{Begins}
+use Rattle.file_units.proofs.Mirror.{begins-all, begins-next}
+use Rattle.file_units.proofs.shown.add_types.Goals as goal
+
+pub loop-decl-preserved : goal.loop-decl-preserved
+loop-decl-preserved c =
+    let next : Some c.in-Some.decl.now ≡ slice_get c.args.all.now (length c.loop-decl.types) = search rules in
+    let name : c.in_ok-of_word.field-0 ≡ c.in-Some.decl.now.name = c.in_ok-of_word.ensures ∙ c.word.ensures.bytes in
+    let schema : c.in_ok-copy.field-0 ≡ c.in-Some.decl.now.schema = c.in_ok-copy.ensures in
+    let same : c.push.new.self ≡ c.loop-decl.types ++ c.in-Some.decl.now ∷ [] = rw (name, schema) at c.in_ok-push.ensures.ok in
+    subst (λ (l : List TypeDecl). Begins l c.args.all.now) (sym same) (begins-next c.loop-decl.types c.args.all.now c.in-Some.decl.now c.loop-decl.invariant next)
+
+pub returns : goal.returns
+returns c =
+    let none : None ≡ slice_get c.args.all.now (length c.loop-decl.types) = search rules in
+    begins-all c.loop-decl.types c.args.all.now c.loop-decl.invariant none

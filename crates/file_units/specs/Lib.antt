@@ -1,0 +1,4 @@
+pub mod Facts
+pub mod Growing
+pub mod Taking
+pub mod Units
