@@ -1,0 +1,4 @@
+pub mod Alike
+pub mod Files
+pub mod Items
+pub mod Same
