@@ -1,0 +1,64 @@
+-- One entry more of a journal is its last one.
+use Rattle.std.proofs.Common.{◌≡◌, ℕ, ◌+◌, ◌-◌, List, [], ◌∷◌, ◌++◌, length, refl, ap, sym, ◌∙◌, arith, append_assoc, append-nil, Some}
+use Rattle.std.proofs.Math.Seq.{drop-append_seam, drop-length}
+use Rattle.std.proofs.lemmas.List.{length-append}
+use Rattle.std.specs.Prelude.{slice_get, codes}
+use Rattle.case_core.specs.Machine.{next_case}
+use Rattle.case_core.specs.declared.events.Event.{Event}
+use Rattle.file_words.specs.Lines.{Bytes}
+use Rattle.file_model.specs.declared.files.CaseDecl.{CaseDecl}
+use Rattle.file_model.specs.declared.files.File.{File}
+use Rattle.report_text.specs.Journals.{case_line, kind_line, numbered}
+use Rattle.report_words.specs.Words.{type_text}
+use Rattle.script_run.specs.Calls.{call_case, call_kind}
+use Rattle.script_run.specs.Entries.{CaseEntry, KindEntry}
+use Rattle.script_run.specs.declared.runs.ClosedCase.{ClosedCase}
+use Rattle.script_run.specs.declared.runs.ClosedKind.{ClosedKind}
+use Rattle.talk_answers.specs.Entries.{case_entry, if_there, kind_entry, last_entry}
+use Rattle.talk_told.specs.Told.{case_more, case_name, entries_more, kind_more, kind_name}
+use Rattle.type_core.specs.Machine.{next_kind}
+use Rattle.type_core.specs.declared.events.KindEvent.{KindEvent}
+
+at-end : {X : Type 0} (xs : List X) (x : X) → slice_get (xs ++ x ∷ []) (length xs) ≡ Some x
+at-end [] x = refl
+at-end (y ∷ ys) x = at-end ys x
+
+last-of : {X : Type 0} (line : ℕ → X → Bytes) (journal : List X) (e : X) → last_entry line (journal ++ e ∷ []) ≡ line (length journal + 1) e
+last-of line journal e =
+    let long : length (journal ++ e ∷ []) ≡ length journal + 1 = omega (arith, length-append journal (e ∷ [])) in
+    let at : length (journal ++ e ∷ []) - 1 ≡ length journal = omega (arith, long) in
+    ap (if_there (line (length (journal ++ e ∷ [])))) (ap (slice_get (journal ++ e ∷ [])) at ∙ at-end journal e) ∙ ap (λ n. line n e) long
+
+pub one-more : {X : Type 0} (name : Bytes) (line : ℕ → X → Bytes) (journal : List X) (e : X) → entries_more name line journal (journal ++ e ∷ []) ≡ name ++ line (length journal + 1) e
+one-more name line journal e =
+    ap (λ es. numbered (λ n x. name ++ line n x) (length journal + 1) es) (drop-append_seam journal (e ∷ [])) ∙ append-nil (name ++ line (length journal + 1) e)
+
+pub none-more : {X : Type 0} (name : Bytes) (line : ℕ → X → Bytes) (journal : List X) → entries_more name line journal journal ≡ []
+none-more name line journal = ap (λ es. numbered (λ n x. name ++ line n x) (length journal + 1) es) (drop-length journal)
+
+-- the name stands behind a word, and the line behind a space
+kind-named : (a b c d : Bytes) → (a ++ (b ++ c)) ++ d ≡ (a ++ b) ++ (c ++ d)
+kind-named a b c d = append_assoc a (b ++ c) d ∙ ap (λ l. a ++ l) (append_assoc b c d) ∙ sym (append_assoc a b (c ++ d))
+
+case-named : (a b c d : Bytes) → (a ++ (b ++ c)) ++ d ≡ a ++ (b ++ (c ++ d))
+case-named a b c d = append_assoc a (b ++ c) d ∙ ap (λ l. a ++ l) (append_assoc b c d)
+
+-- a type that was called once more, and a case
+pub kind-called : (f : File) (t a : ℕ) (e : KindEvent) (k : ClosedKind) → kind_more f t k (call_kind a e k) ≡ kind_entry f t (call_kind a e k)
+kind-called f t a e k =
+    let entry : KindEntry = record { caller = a; event = e; reply = (next_kind k.machine e).1 } in
+    one-more (kind_name f t) (kind_line f) k.journal entry ∙ kind-named (codes "type ") (type_text f t) (codes " ") (kind_line f (length k.journal + 1) entry)
+    ∙ sym (last-of (λ n x. (codes "type " ++ type_text f t) ++ (codes " " ++ kind_line f n x)) k.journal entry)
+
+pub case-called : (f : File) (d : CaseDecl) (a : ℕ) (e : Event) (c : ClosedCase) → case_more f d c (call_case a e c) ≡ case_entry f d (call_case a e c)
+case-called f d a e c =
+    let entry : CaseEntry = record { caller = a; event = e; reply = (next_case c.machine e).1 } in
+    one-more (case_name d) (case_line f) c.journal entry ∙ case-named (codes "case ") d.name (codes " ") (case_line f (length c.journal + 1) entry)
+    ∙ sym (last-of (λ n x. codes "case " ++ (d.name ++ (codes " " ++ case_line f n x))) c.journal entry)
+
+-- one that was not
+pub kind-left : (f : File) (t : ℕ) (k : ClosedKind) → kind_more f t k k ≡ []
+kind-left f t k = none-more (kind_name f t) (kind_line f) k.journal
+
+pub case-left : (f : File) (d : CaseDecl) (c : ClosedCase) → case_more f d c c ≡ []
+case-left f d c = none-more (case_name d) (case_line f) c.journal

@@ -1,0 +1,4 @@
+pub mod Added
+pub mod Changed
+pub mod Entries
+pub mod Worked
