@@ -1,3 +1,4 @@
-pub mod Answering
+pub mod Entries
 pub mod Lines
+pub mod Offers
 pub mod Standings

@@ -1,17 +1,55 @@
 // The items of cases.
-ghost use Rattle.std.specs.Prelude.{◌≡◌, flat_map};
+ghost use Rattle.std.specs.Prelude.{◌≡◌, flat_map, None, Some};
 ghost use Rattle.adept_io.specs.Written.{Gives};
+ghost use Rattle.case_core.specs.CaseModel.{CaseModel};
+ghost use Rattle.case_core.specs.Kept.{KeptIn};
 ghost use Rattle.report_text.specs.Report.{side_by_side};
-ghost use Rattle.talk_answers.specs.Standings.{case_items, concerns, has_role, item_line, item_lines, line_if_concerned};
+ghost use Rattle.talk_answers.specs.Offers.{HoldsEnds, IsPromised, OffersStarts};
+ghost use Rattle.talk_answers.specs.Standings.{case_items, concerns, has_role, item_line, item_lines, items, line_if_concerned};
 
 use adept_io::{Sink, put};
 use case_core::{Item, LiveCase};
 use file_model::{CaseDecl, File};
 use line_calls::roles_of;
 use report_text::{ClosedCase, put_item};
+use unit_run::UnitRun;
 
-/// The items of cases that are offered to an actor or held by it; where no actor is asked for, all.
-pub fn put_items<K: Sink>(
+/// The items of each case.
+pub fn put_all_items<K: Sink>(sink: &mut K, ok: bool, file: &File, run: &UnitRun) -> bool
+    ensures lines { Gives K.written K.faults ok result sink.old sink.new (items file.now None run.now) }
+
+    // A case is never stuck, and what is offered there has its values.
+    ensures promised { (s : CaseModel) → KeptIn s.live → IsPromised s }
+{
+    put_items(sink, ok, file, None, file.cases.as_slice(), run.cases())
+}
+
+/// The items of each case that are offered to an actor or held by it.
+pub fn put_items_for<K: Sink>(
+    sink: &mut K,
+    ok: bool,
+    file: &File,
+    run: &UnitRun,
+    actor: u32,
+) -> bool
+    ensures lines { Gives K.written K.faults ok result sink.old sink.new (items file.now (Some actor) run.now) }
+
+    // The actor may start exactly the nodes that it is offered, and end exactly those that it holds.
+    ensures starts { (s : CaseModel) → KeptIn s.live → OffersStarts file.now actor s }
+    ensures ends { (s : CaseModel) → KeptIn s.live → HoldsEnds actor s }
+{
+    put_items(
+        sink,
+        ok,
+        file,
+        Some(actor),
+        file.cases.as_slice(),
+        run.cases(),
+    )
+}
+
+// The items of cases that are offered to an actor or held by it; where no actor is asked for, all.
+fn put_items<K: Sink>(
     sink: &mut K,
     ok: bool,
     file: &File,

@@ -3,7 +3,7 @@ ghost use Rattle.std.specs.Prelude.{◌≡◌, Some};
 ghost use Rattle.adept_io.specs.Written.{Gives};
 ghost use Rattle.report_text.specs.Ends.{progress};
 ghost use Rattle.report_text.specs.Report.{side_by_side};
-ghost use Rattle.talk_answers.specs.Standings.{standing, standing_of};
+ghost use Rattle.talk_answers.specs.Standings.{all_standings, standing, standing_at, standing_of, standings_of};
 
 use adept_io::{Sink, put, put_pieces};
 use case_core::LiveCase;
@@ -11,9 +11,45 @@ use file_model::{CaseDecl, File};
 use itoa::Buffer;
 use report_text::ClosedCase;
 use report_words::put_type;
+use unit_run::UnitRun;
 
-/// How cases stand.
-pub fn put_standings<K: Sink>(
+/// How each case stands.
+pub fn put_all_standings<K: Sink>(sink: &mut K, ok: bool, file: &File, run: &UnitRun) -> bool
+    ensures { Gives K.written K.faults ok result sink.old sink.new (all_standings file.now run.now) }
+{
+    put_standings(sink, ok, file, file.cases.as_slice(), run.cases())
+}
+
+/// How each case of a type stands.
+pub fn put_standings_of<K: Sink>(
+    sink: &mut K,
+    ok: bool,
+    file: &File,
+    run: &UnitRun,
+    type_no: u32,
+) -> bool
+    ensures { Gives K.written K.faults ok result sink.old sink.new (standings_of file.now run.now type_no) }
+{
+    let mut well = ok;
+    for place in run.places().of_kind(type_no) {
+        well = put_standing_at(sink, well, file, run, *place);
+    }
+    well
+}
+
+// How the case stands that was declared at a place.
+#[tactic(auto, using(adept_io::proofs::Sent::gives_nothing))]
+fn put_standing_at<K: Sink>(sink: &mut K, ok: bool, file: &File, run: &UnitRun, place: u32) -> bool
+    ensures { Gives K.written K.faults ok result sink.old sink.new (standing_at file.now run.now place) }
+{
+    let index = place as usize;
+    match (file.cases.get(index), run.cases().get(index)) {
+        (Some(decl), Some(case)) => put_standing(sink, ok, file, decl, case),
+        _ => ok,
+    }
+}
+
+fn put_standings<K: Sink>(
     sink: &mut K,
     ok: bool,
     file: &File,
