@@ -1,0 +1,74 @@
+-- What is answered to a unit.
+use Rattle.std.proofs.Common.{◌≡◌, ◌+◌, Bool, true, false, List, [], ◌∷◌, ◌++◌, length, refl, ap, sym, ◌∙◌, Result, Ok, Err}
+use Rattle.std.proofs.lemmas.Bool.{and_parts}
+use Rattle.std.specs.Prelude.{◌&&◌, codes}
+use Rattle.std.specs.Result.{is_ok}
+use Rattle.file_model.specs.Reading.{file_of}
+use Rattle.file_model.specs.declared.refusals.Refused.{Refused}
+use Rattle.file_model.specs.declared.states.Contents.{Contents}
+use Rattle.file_units.specs.Units.{unit_read}
+use Rattle.file_words.specs.Lines.{Bytes}
+use Rattle.talk_answers.specs.Lines.{no_line, ok_line}
+use Rattle.talk_rules.specs.Units.{fits, header, takes}
+use Rattle.talk_state.proofs.Behind.{length-more}
+use Rattle.talk_state.proofs.Taken.{held-next}
+use Rattle.talk_state.specs.Answers.{answer_read, called_text, entries_of, held_rules, unit_answer}
+use Rattle.talk_state.specs.Held.{Held, held_by, placing_of}
+use Rattle.talk_state.specs.States.{Holds, State}
+
+-- what is told of a state behind its units
+abbrev pub taken_text : State → Bytes
+taken_text s = entries_of (file_of s.contents) s.placing s.called ++ ok_line s.count
+
+told-held : (units : List Bytes) (s : State) → Holds units s → taken_text s ≡ called_text (held_by units) ++ ok_line (length units)
+told-held units s h =
+    ap (λ c. entries_of (file_of c) s.placing s.called ++ ok_line s.count) h.contents
+    ∙ (ap (λ p. entries_of (file_of (held_by units).contents) p s.called ++ ok_line s.count) h.placing
+    ∙ (ap (λ o. entries_of (file_of (held_by units).contents) (placing_of (held_by units)) o ++ ok_line s.count) h.called
+    ∙ ap (λ n. called_text (held_by units) ++ ok_line n) h.count))
+
+is_there : {E : Type 0} (r : Result Contents E) → is_ok r ≡ true → (d : Contents) × (r ≡ Ok d)
+is_there (Ok d) e = (d, refl)
+is_there (Err x) e = absurd (cc (e))
+
+read-taken : (units : List Bytes) (unit : Bytes) (d : Contents) → fits (header ∷ units) unit ≡ true → unit_read (held_by units).contents unit ≡ Ok d
+    → unit_answer units unit ≡ called_text (held_by (units ++ unit ∷ [])) ++ ok_line (length (units ++ unit ∷ []))
+read-taken units unit d fit is =
+    let h = held_by units in
+    ap (λ b. answer_read b (length units) h (unit_read h.contents unit)) fit
+    ∙ (ap (answer_read true (length units) h) is
+    ∙ (ap (λ (x : Held). called_text x ++ ok_line (length units + 1)) (sym (held-next units unit d is))
+    ∙ ap (λ n. called_text (held_by (units ++ unit ∷ [])) ++ ok_line n) (sym (length-more units unit))))
+
+-- a unit that was taken
+pub answer-taken : (units : List Bytes) (unit : Bytes) (s : State) → takes held_rules units unit ≡ true → Holds (units ++ unit ∷ []) s → taken_text s ≡ unit_answer units unit
+answer-taken units unit s taken h =
+    let both = and_parts _ _ taken in
+    let read = is_there (unit_read (held_by units).contents unit) both.0 in
+    told-held (units ++ unit ∷ []) s h ∙ sym (read-taken units unit read.0 both.1 read.1)
+
+-- a unit that was not
+pub answer-refused : (units : List Bytes) (unit : Bytes) (r : Refused) → unit_read (held_by units).contents unit ≡ Err r → no_line r.line r.text ≡ unit_answer units unit
+answer-refused units unit r is =
+    let h = held_by units in
+    sym (ap (answer_read (fits (header ∷ units) unit) (length units) h) is)
+
+pub answer-full : (units : List Bytes) (unit : Bytes) (d : Contents) → fits (header ∷ units) unit ≡ false → unit_read (held_by units).contents unit ≡ Ok d → codes "no full\n" ≡ unit_answer units unit
+answer-full units unit d full is =
+    let h = held_by units in
+    sym (ap (λ b. answer_read b (length units) h (unit_read h.contents unit)) full ∙ ap (answer_read false (length units) h) is)
+
+and-false : (a : Bool) → (a && false) ≡ false
+and-false true = refl
+and-false false = refl
+
+pub not-read : (units : List Bytes) (unit : Bytes) (r : Refused) → unit_read (held_by units).contents unit ≡ Err r → takes held_rules units unit ≡ false
+not-read units unit r is = ap (λ (o : Result Contents Refused). is_ok o && fits (header ∷ units) unit) is
+
+pub not-fitting : (units : List Bytes) (unit : Bytes) → fits (header ∷ units) unit ≡ false → takes held_rules units unit ≡ false
+not-fitting units unit full =
+    let read = is_ok (unit_read (held_by units).contents unit) in
+    ap (λ b. read && b) full ∙ and-false read
+
+pub is-taken : (units : List Bytes) (unit : Bytes) (d : Contents) → fits (header ∷ units) unit ≡ true → unit_read (held_by units).contents unit ≡ Ok d → takes held_rules units unit ≡ true
+is-taken units unit d fit is = ap (λ (o : Result Contents Refused). is_ok o && fits (header ∷ units) unit) is ∙ fit

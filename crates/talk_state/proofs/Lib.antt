@@ -1,0 +1,8 @@
+pub mod Ages
+pub mod Lengths
+pub mod Behind
+pub mod Taken
+pub mod TakenBy
+pub mod Nothing
+pub mod Answered
+pub mod Asking

@@ -1,0 +1,172 @@
+-- A state behind a unit that was taken.
+use Rattle.std.proofs.Common.{◌≡◌, ℕ, ◌+◌, ◌-◌, ◌*◌, ◌<◌, ◌≤◌, ◌^◌, true, List, [], ◌∷◌, ◌++◌, length, take, ap, sym, subst, ◌∙◌, arith, append-nil, Ok}
+use Rattle.std.proofs.Math.Seq.{take-append_seam}
+use Rattle.std.proofs.lemmas.Grind.{flat_map-append}
+use Rattle.std.proofs.lemmas.List.{length-append, length-map}
+use Rattle.std.proofs.lemmas.List.Sums.{fold-append}
+use Rattle.std.specs.Prelude.{flat_map}
+use Rattle.file_model.specs.Reading.{file_of}
+use Rattle.file_model.specs.Room.{count_of_names}
+use Rattle.file_model.specs.declared.files.CaseDecl.{CaseDecl}
+use Rattle.file_model.specs.declared.files.Line.{Line}
+use Rattle.file_model.specs.declared.states.Contents.{Contents}
+use Rattle.file_units.specs.Facts.{IsReady}
+use Rattle.file_units.specs.Taking.{SaysBehind, said_effort}
+use Rattle.file_units.specs.Units.{settled, unit_read}
+use Rattle.file_units.specs.declared.held.Said.{Said}
+use Rattle.file_units.specs.declared.held.Said.TheVariants as say
+use Rattle.file_words.specs.Lines.{Bytes}
+use Rattle.script_run.specs.Oldest.{oldest}
+use Rattle.store_disk.proofs.Framing.{framed-more}
+use Rattle.store_disk.specs.Image.{all_framed, framed}
+use Rattle.talk_rules.specs.Units.{header}
+use Rattle.talk_state.proofs.Behind.{called-behind, last-more, length-more, worked-behind}
+use Rattle.talk_state.proofs.Lengths.{cases-worked, kinds-worked}
+use Rattle.talk_state.specs.Held.{Held, held_after, held_behind, held_by, nothing_held, placed_in, placing_of, run_behind, with_unit}
+use Rattle.talk_state.specs.States.{Holds, IsSound, State}
+use Rattle.talk_state.specs.Working.{CanWork, case_placed, kind_placed, said_called, said_worked, with_last}
+use Rattle.unit_run.specs.Runs.{Placing, types_of}
+
+-- one state is that behind another and a unit, which was read and says this
+pub record Taken (s t : State) (d : Contents) (said : Said) (unit : Bytes) : Type 0 where
+  pub is_read : unit_read s.contents unit ≡ Ok d
+  pub says : SaysBehind s.contents d said
+  pub contents : t.contents ≡ settled d
+  pub placing : t.placing ≡ said_worked (file_of (settled d)) said s.placing
+  pub called : t.called ≡ said_called (file_of (settled d)) said
+  pub bytes : t.bytes ≡ s.bytes ++ unit
+  pub last : t.last ≡ length s.bytes
+  pub count : t.count ≡ s.count + 1
+  pub long : t.long ≡ s.long + (5 + length unit)
+  pub whole : t.whole ≡ true
+  pub age : oldest t.placing.run.cases ≤ oldest s.placing.run.cases + said_effort said
+  pub effort : said_effort said ≤ 2 * length unit
+  pub names : count_of_names t.contents ≤ count_of_names s.contents + length unit
+  pub room : s.long + (5 + length unit) < 2 ^ 30
+
+-- ---- how many types and cases there are
+kinds-said : (c d : Contents) (said : Said) (p : Placing) → SaysBehind c d said → length p.run.kinds ≡ length c.types.items → length (said_worked (file_of (settled d)) said p).run.kinds ≡ length d.types.items
+kinds-said c d say.«Type» p s even =
+    ap (λ o. length (with_last kind_placed o p).run.kinds) (last-more c.types.items d.types.items s.one s.types)
+    ∙ (length-more p.run.kinds _ ∙ (ap (λ n. n + 1) even ∙ sym (ap length s.types ∙ length-more c.types.items s.one)))
+kinds-said c d say.Case p s even =
+    ap (λ o. length (with_last case_placed o p).run.kinds) (last-more c.cases.items d.cases.items s.one s.cases) ∙ (even ∙ ap length (sym s.types))
+kinds-said c d (say.Line l) p s even = kinds-worked (file_of (settled d)) p.run l ∙ (even ∙ ap length (sym s.types))
+kinds-said c d say.Other p s even = even ∙ ap length (sym s.types)
+
+cases-said : (c d : Contents) (said : Said) (p : Placing) → SaysBehind c d said → length p.run.cases ≡ length c.cases.items → length (said_worked (file_of (settled d)) said p).run.cases ≡ length d.cases.items
+cases-said c d say.«Type» p s even =
+    ap (λ o. length (with_last kind_placed o p).run.cases) (last-more c.types.items d.types.items s.one s.types) ∙ (even ∙ ap length (sym s.cases))
+cases-said c d say.Case p s even =
+    ap (λ o. length (with_last case_placed o p).run.cases) (last-more c.cases.items d.cases.items s.one s.cases)
+    ∙ (length-more p.run.cases _ ∙ (ap (λ n. n + 1) even ∙ sym (ap length s.cases ∙ length-more c.cases.items s.one)))
+cases-said c d (say.Line l) p s even = cases-worked (file_of (settled d)) p.run l ∙ (even ∙ ap length (sym s.cases))
+cases-said c d say.Other p s even = even ∙ ap length (sym s.cases)
+
+-- ---- what it needs is there
+kinds-placed : (s : State) → IsSound s → s.placing.placed.kinds ≡ length s.placing.run.kinds
+kinds-placed s h = ap (λ (p : Placing). p.placed.kinds) h.placing
+
+types-placed : (s : State) → IsSound s → s.placing.placed.types ≡ types_of s.contents.cases.items
+types-placed s h = ap (λ (p : Placing). p.placed.types) h.placing
+
+pub can-work : (s : State) (d : Contents) (said : Said) (n : ℕ) → IsSound s → SaysBehind s.contents d said → IsReady (settled d) → said_effort said ≤ 2 * n → s.long + (5 + n) < 2 ^ 30 → CanWork (file_of (settled d)) said s.placing
+can-work s d say.«Type» n h says ready effort room =
+    let types : length d.types.items ≡ length s.contents.types.items + 1 = ap length says.types ∙ length-more s.contents.types.items says.one in
+    record {
+      one = says.one;
+      last = last-more s.contents.types.items d.types.items says.one says.types;
+      small = says.small;
+      even = kinds-placed s h;
+      few = let few = ready.types in omega (arith, few);
+      room = let few = ready.types in let kinds = h.kinds in omega (arith, types, few, kinds);
+    }
+can-work s d say.Case n h says ready effort room =
+    let cases : length d.cases.items ≡ length s.contents.cases.items + 1 = ap length says.cases ∙ length-more s.contents.cases.items says.one in
+    let even = kinds-placed s h in
+    let placed : length s.placing.placed.types ≡ length s.contents.cases.items = ap length (types-placed s h) ∙ length-map s.contents.cases.items (λ (k : CaseDecl). k.id.type_no) in
+    record {
+      one = says.one;
+      last = last-more s.contents.cases.items d.cases.items says.one says.cases;
+      there = let there = says.there in let kinds = h.kinds in omega (arith, there, kinds, even);
+      room = let few = ready.cases in omega (arith, cases, few, placed);
+    }
+can-work s d (say.Line l) n h says ready effort room = record {
+  of = record {
+    types = types-placed s h ∙ ap types_of (sym says.cases);
+    placed = ready.placed;
+    many = h.cases ∙ ap length (sym says.cases);
+  };
+  age = let young = h.young in omega (arith, young, effort, room);
+}
+can-work s d say.Other n h says ready effort room = tt
+
+-- ---- the state behind is sound
+module _ (s t : State) (d : Contents) (said : Said) (unit : Bytes) (h : IsSound s) (k : Taken s t d said unit) where
+  placed-behind : t.placing ≡ placed_in (settled d) (run_behind s.contents d s.placing.run)
+  placed-behind = k.placing ∙ (ap (said_worked (file_of (settled d)) said) h.placing ∙ worked-behind s.contents d said s.placing.run k.says)
+
+  sound-placing : t.placing ≡ placed_in t.contents t.placing.run
+  sound-placing =
+      placed-behind
+      ∙ (ap (placed_in (settled d)) (sym (ap (λ (p : Placing). p.run) placed-behind)) ∙ ap (λ (c : Contents). placed_in c t.placing.run) (sym k.contents))
+
+  pub taken-sound : IsSound t
+  taken-sound = record {
+    placing = sound-placing;
+    kinds =
+        ap (λ (p : Placing). length p.run.kinds) k.placing
+        ∙ (kinds-said s.contents d said s.placing k.says h.kinds ∙ ap (λ (c : Contents). length c.types.items) (sym k.contents));
+    cases =
+        ap (λ (p : Placing). length p.run.cases) k.placing
+        ∙ (cases-said s.contents d said s.placing k.says h.cases ∙ ap (λ (c : Contents). length c.cases.items) (sym k.contents));
+    young = let young = h.young in let long = k.long in let age = k.age in let effort = k.effort in omega (arith, young, long, age, effort);
+    names = let names = h.names in let long = k.long in let more = k.names in omega (arith, names, long, more);
+    last = let last = k.last in omega (arith, last, ap length k.bytes, length-append s.bytes unit);
+    bytes = let bytes = h.bytes in let long = k.long in omega (arith, bytes, long, ap length k.bytes, length-append s.bytes unit);
+    count = let count = h.count in let long = k.long in let one = k.count in omega (arith, count, long, one);
+    short = let long = k.long in let room = k.room in omega (arith, long, room);
+  }
+
+-- ---- and it is that of one unit more
+held-more : (units : List Bytes) (unit : Bytes) → held_by (units ++ unit ∷ []) ≡ with_unit (held_by units) unit
+held-more units unit = fold-append with_unit nothing_held units (unit ∷ [])
+
+pub held-next : (units : List Bytes) (unit : Bytes) (d : Contents) → unit_read (held_by units).contents unit ≡ Ok d → held_by (units ++ unit ∷ []) ≡ held_behind (held_by units) d
+held-next units unit d is = held-more units unit ∙ ap (held_after (held_by units)) is
+
+joined-more : (units : List Bytes) (unit : Bytes) → flat_map (λ (u : Bytes). u) (units ++ unit ∷ []) ≡ flat_map (λ (u : Bytes). u) units ++ unit
+joined-more units unit = flat_map-append (λ (u : Bytes). u) units (unit ∷ []) ∙ ap (λ l. flat_map (λ (u : Bytes). u) units ++ l) (append-nil unit)
+
+front-more : (units : List Bytes) (unit : Bytes) → take (length (units ++ unit ∷ []) - 1) (units ++ unit ∷ []) ≡ units
+front-more units unit =
+    let many : length (units ++ unit ∷ []) - 1 ≡ length units = omega (arith, length-more units unit) in
+    ap (λ n. take n (units ++ unit ∷ [])) many ∙ take-append_seam units (unit ∷ [])
+
+long-more : (units : List Bytes) (unit : Bytes) → length (all_framed (header ∷ units ++ unit ∷ [])) ≡ length (all_framed (header ∷ units)) + (5 + length unit)
+long-more units unit = omega (arith, ap length (framed-more (header ∷ units) unit), length-append (all_framed (header ∷ units)) (framed unit))
+
+module _ (units : List Bytes) (s t : State) (d : Contents) (said : Said) (unit : Bytes) (h : Holds units s) (k : Taken s t d said unit) where
+  read-next : unit_read (held_by units).contents unit ≡ Ok d
+  read-next = ap (λ (c : Contents). unit_read c unit) (sym h.contents) ∙ k.is_read
+
+  next : held_by (units ++ unit ∷ []) ≡ held_behind (held_by units) d
+  next = held-next units unit d read-next
+
+  says-next : SaysBehind (held_by units).contents d said
+  says-next = subst (λ (c : Contents). SaysBehind c d said) h.contents k.says
+
+  pub taken-holds : Holds (units ++ unit ∷ []) t
+  taken-holds = record {
+    contents = k.contents ∙ ap (λ (x : Held). x.contents) (sym next);
+    placing =
+        k.placing
+        ∙ (ap (said_worked (file_of (settled d)) said) h.placing
+        ∙ (worked-behind (held_by units).contents d said (held_by units).run says-next ∙ ap placing_of (sym next)));
+    called = k.called ∙ (called-behind (held_by units).contents d said says-next ∙ ap (λ (x : Held). x.called) (sym next));
+    bytes = k.bytes ∙ (ap (λ bs. bs ++ unit) h.bytes ∙ sym (joined-more units unit));
+    last = k.last ∙ (ap length h.bytes ∙ ap (λ us. length (flat_map (λ (u : Bytes). u) us)) (sym (front-more units unit)));
+    count = k.count ∙ (ap (λ n. n + 1) h.count ∙ sym (length-more units unit));
+    long = k.long ∙ (ap (λ n. n + (5 + length unit)) h.long ∙ sym (long-more units unit));
+    whole = k.whole;
+  }

@@ -1,0 +1,67 @@
+use Rattle.std.proofs.Common.{◌≡◌, true, ◌∷◌, [], ◌++◌, sym, subst, ◌∙◌, rules}
+use Rattle.talk_state.proofs.Taken.{taken-holds, taken-sound}
+use Rattle.talk_state.proofs.TakenBy.{not_false, taken-by}
+use Rattle.talk_state.specs.States.{Holds, State}
+use Rattle.talk_state.proofs.states.TalkState.take.Goals as goal
+use Rattle.talk_state.proofs.states.TalkState.take.Goals.{in-Line+in-End-3, in-Line+in-Change-3, in-Line+in-Install-3, in-Line+in-Create-3, in-Type-3}
+
+pub invariant_of-self-in_ok-extend_from_slice-in-Ok-4 : goal.invariant_of-self-in_ok-extend_from_slice-in-Ok-4
+invariant_of-self-in_ok-extend_from_slice-in-Ok-4 c =
+    let s : State = record {
+      contents = c.self.inside.file;
+      placing = c.self.inside.run;
+      called = c.self.inside.called;
+      bytes = c.self.inside.units.items;
+      last = c.self.inside.last;
+      count = c.self.inside.count;
+      long = c.self.inside.long;
+      whole = c.self.inside.is_whole;
+    } in
+    let k = taken-by s c.take_unit.new.self c.in-Ok.said c.args.unit.now c.has_room-has_room.result c.file.result.now c.work.new.run c.in_ok-self-inside-in-Ok.field-0 c.extend_from_slice.new.self.items c.len-self-inside.result
+    c.has_room-has_room.ensures c.in-Ok.ensures.taken c.file.ensures.file c.in_ok-self-inside-in-Ok.ensures.run c.in_ok-self-inside-in-Ok.ensures.called c.in_ok-extend_from_slice-in-Ok.ensures.items (c.len-self-inside.ensures ∙ c.self.inside.units.ok.0)
+    c.in_ok-self-inside-in-Ok.ensures.age c.in-Ok.ensures.effort c.in-Ok.ensures.names in
+    let whole : c.self.inside.is_whole ≡ true = first_of (cc c.if-not-self.false, search rules, search (rules, not_false)) in
+    λ _. taken-sound s _ k.0 c.in-Ok.said c.args.unit.now (c.self.invariant whole) k.1
+
+pub invariant_of-self-in_ok-extend_from_slice-in-Ok-5 : goal.invariant_of-self-in_ok-extend_from_slice-in-Ok-5
+invariant_of-self-in_ok-extend_from_slice-in-Ok-5 c =
+    let s : State = record {
+      contents = c.self.inside.file;
+      placing = c.self.inside.run;
+      called = c.self.inside.called;
+      bytes = c.self.inside.units.items;
+      last = c.self.inside.last;
+      count = c.self.inside.count;
+      long = c.self.inside.long;
+      whole = c.self.inside.is_whole;
+    } in
+    let k = taken-by s c.take_unit.new.self c.in-Ok.said c.args.unit.now c.has_room-has_room.result c.file.result.now c.work.new.run c.in_ok-self-inside-in-Ok.field-0 c.extend_from_slice.new.self.items c.len-self-inside.result
+    c.has_room-has_room.ensures c.in-Ok.ensures.taken c.file.ensures.file c.in_ok-self-inside-in-Ok.ensures.run c.in_ok-self-inside-in-Ok.ensures.called c.in_ok-extend_from_slice-in-Ok.ensures.items (c.len-self-inside.ensures ∙ c.self.inside.units.ok.0)
+    c.in_ok-self-inside-in-Ok.ensures.age c.in-Ok.ensures.effort c.in-Ok.ensures.names in
+    let whole : c.self.inside.is_whole ≡ true = first_of (cc c.if-not-self.false, search rules, search (rules, not_false)) in
+    λ _. taken-sound s _ k.0 c.in-Ok.said c.args.unit.now (c.self.invariant whole) k.1
+
+pub returns-in_ok-extend_from_slice-in-Ok-clause-taken : goal.returns-in_ok-extend_from_slice-in-Ok-clause-taken
+returns-in_ok-extend_from_slice-in-Ok-clause-taken c = λ units h.
+    let s : State = record {
+      contents = c.self.inside.file;
+      placing = c.self.inside.run;
+      called = c.self.inside.called;
+      bytes = c.self.inside.units.items;
+      last = c.self.inside.last;
+      count = c.self.inside.count;
+      long = c.self.inside.long;
+      whole = c.self.inside.is_whole;
+    } in
+    let k = taken-by s c.take_unit.new.self c.in-Ok.said c.args.unit.now c.has_room-has_room.result c.file.result.now c.work.new.run c.in_ok-self-inside-in-Ok.field-0 c.extend_from_slice.new.self.items c.len-self-inside.result
+    c.has_room-has_room.ensures c.in-Ok.ensures.taken c.file.ensures.file c.in_ok-self-inside-in-Ok.ensures.run c.in_ok-self-inside-in-Ok.ensures.called c.in_ok-extend_from_slice-in-Ok.ensures.items (c.len-self-inside.ensures ∙ c.self.inside.units.ok.0)
+    c.in_ok-self-inside-in-Ok.ensures.age c.in-Ok.ensures.effort c.in-Ok.ensures.names in
+    let before : Holds units s = subst (Holds units) (sym c.self.view_is) h in
+    let behind = taken-holds units s _ k.0 c.in-Ok.said c.args.unit.now before k.1 in
+    elim c.match-said-5.branch [
+      | in-Line+in-End-3 w ↦ subst (Holds (units ++ c.args.unit.now ∷ [])) (sym w.self-is) behind
+      | in-Line+in-Change-3 w ↦ subst (Holds (units ++ c.args.unit.now ∷ [])) (sym w.self-is) behind
+      | in-Line+in-Install-3 w ↦ subst (Holds (units ++ c.args.unit.now ∷ [])) (sym w.self-is) behind
+      | in-Line+in-Create-3 w ↦ subst (Holds (units ++ c.args.unit.now ∷ [])) (sym w.self-is) behind
+      | in-Type-3 w ↦ subst (Holds (units ++ c.args.unit.now ∷ [])) (sym w.self-is) behind
+    ]

@@ -1,0 +1,96 @@
+-- What is answered to units and to questions.
+use Rattle.std.specs.Prelude.{ℕ, ◌+◌, ◌-◌, Bool, true, false, nat_le, List, [], ◌∷◌, ◌++◌, length, flat_map, slice_get, Option, Some, None, option_map, Result, Ok, Err, if◌then◌else◌, codes}
+use Rattle.std.specs.Result.{is_ok}
+use Rattle.file_words.specs.Lines.{Bytes}
+use Rattle.file_names.specs.Names.{place_of}
+use Rattle.file_model.specs.Reading.{file_of}
+use Rattle.file_model.specs.Scripting.{actor_in}
+use Rattle.file_model.specs.declared.files.File.{File}
+use Rattle.file_model.specs.declared.refusals.Refused.{Refused}
+use Rattle.file_model.specs.declared.states.Contents.{Contents}
+use Rattle.file_units.specs.Taking.{Refuses}
+use Rattle.file_units.specs.Units.{unit_read}
+use Rattle.file_units.specs.declared.held.UnitRefusal.{UnitRefusal}
+use Rattle.line_calls.specs.declared.calls.Cells.{Cells}
+use Rattle.report_text.specs.Report.{case_text, kind_text, text}
+use Rattle.script_run.specs.declared.runs.Run.{Run}
+use Rattle.talk_answers.specs.Entries.{entries, if_both, if_there}
+use Rattle.talk_answers.specs.Lines.{no_line, ok_line, quoted}
+use Rattle.talk_answers.specs.Standings.{actors_text, all_standings, items, standings_of, types_text}
+use Rattle.talk_questions.specs.Questions as asked
+use Rattle.talk_rules.specs.Units.{UnitRules, fits, header}
+use Rattle.talk_state.specs.Held.{Held, held_behind, held_by, placing_of}
+use Rattle.talk_state.specs.declared.limits.TheConstants.{MAX_ANSWER}
+use Rattle.unit_run.specs.Runs.{Placing}
+
+-- ---- units
+
+-- the reader takes a unit behind others
+abbrev pub is_read : List Bytes → Bytes → Bool
+is_read units unit = is_ok (unit_read (held_by units).contents unit)
+
+-- why a unit behind others is not taken
+abbrev pub RefusesUnit : List Bytes → Bytes → UnitRefusal → Type 0
+RefusesUnit units unit refusal = Refuses (fits (header ∷ units) unit) (unit_read (held_by units).contents unit) refusal
+
+-- the entries of the calls of the last unit
+abbrev pub entries_of : File → Placing → Option Cells → Bytes
+entries_of f p called = if_there (entries f p) called
+
+abbrev pub called_text : Held → Bytes
+called_text h = entries_of (file_of h.contents) (placing_of h) h.called
+
+abbrev pub answer_read : Bool → ℕ → Held → Result Contents Refused → Bytes
+answer_read fit n h (Err r) = no_line r.line r.text
+answer_read true n h (Ok d) = called_text (held_behind h d) ++ ok_line (n + 1)
+answer_read false n h (Ok d) = codes "no full\n"
+
+abbrev pub unit_answer : List Bytes → Bytes → Bytes
+unit_answer units unit = let h = held_by units in answer_read (fits (header ∷ units) unit) (length units) h (unit_read h.contents unit)
+
+-- ---- questions
+
+abbrev pub type_part : File → Run → ℕ → Bytes
+type_part f r t = if_both (kind_text f) (slice_get f.types t) (slice_get r.kinds t)
+
+abbrev pub case_part : File → Run → ℕ → Bytes
+case_part f r place = if_both (case_text f) (slice_get f.cases place) (slice_get r.cases place)
+
+-- the last of units, and its entries
+abbrev pub last_text : List Bytes → Held → Bytes
+last_text units h = if_there quoted (slice_get units (length units - 1)) ++ called_text h
+
+-- the lines of an answer but for its last, unless a name was not declared
+abbrev pub asked_text : List Bytes → Held → asked.Asked → Option Bytes
+asked_text units h asked.report = Some (text (file_of h.contents) h.run)
+asked_text units h (asked.of_type n) = option_map (type_part (file_of h.contents) h.run) (place_of h.contents.types.names n)
+asked_text units h (asked.of_case n) = option_map (case_part (file_of h.contents) h.run) (place_of h.contents.cases.names n)
+asked_text units h asked.cases = Some (all_standings (file_of h.contents) (placing_of h))
+asked_text units h (asked.cases_of n) = option_map (standings_of (file_of h.contents) (placing_of h)) (place_of h.contents.types.names n)
+asked_text units h asked.items = Some (items (file_of h.contents) None (placing_of h))
+asked_text units h (asked.items_of n) = option_map (λ a. items (file_of h.contents) (Some a) (placing_of h)) (actor_in n h.contents)
+asked_text units h asked.types = Some (types_text (file_of h.contents) (placing_of h))
+asked_text units h asked.actors = Some (actors_text (file_of h.contents))
+asked_text units h asked.count = Some []
+asked_text units h asked.last = Some (last_text units h)
+asked_text units h asked.lines = Some (quoted (flat_map (λ unit. unit) units))
+
+-- an answer has at most so many bytes
+abbrev pub within : Bytes → Bytes
+within answer = if nat_le (length answer) MAX_ANSWER then answer else no_line 1 (codes "limit bytes")
+
+abbrev pub answer_known : ℕ → Option Bytes → Bytes
+answer_known n None = no_line 1 (codes "unknown")
+answer_known n (Some lines) = within (lines ++ ok_line n)
+
+abbrev pub answer_asked : List Bytes → Option asked.Asked → Bytes
+answer_asked units None = no_line 1 (codes "form")
+answer_asked units (Some q) = answer_known (length units) (asked_text units (held_by units) q)
+
+abbrev pub question_answer : List Bytes → Bytes → Bytes
+question_answer units line = answer_asked units (asked.question_in line)
+
+-- ---- all of it
+
+abbrev pub held_rules : UnitRules
+held_rules = record { reads = is_read; answer = unit_answer; asked = question_answer; well = ok_line; refusal = no_line }

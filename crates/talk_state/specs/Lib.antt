@@ -1,0 +1,6 @@
+pub mod Answering
+pub mod Answers
+pub mod Held
+pub mod States
+pub mod Telling
+pub mod Working

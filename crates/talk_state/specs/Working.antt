@@ -1,0 +1,69 @@
+-- What a unit says, worked.
+use Rattle.std.specs.Prelude.{◌≡◌, ◌+◌, ◌-◌, ◌<◌, ◌≤◌, ◌^◌, List, [], ◌∷◌, ◌++◌, length, slice_get, Option, Some, None, option_map}
+use Rattle.file_model.specs.Sizes.{line_effort}
+use Rattle.file_model.specs.declared.files.CaseDecl.{CaseDecl}
+use Rattle.file_model.specs.declared.files.File.{File}
+use Rattle.file_model.specs.declared.files.Line.{Line}
+use Rattle.file_model.specs.declared.files.TypeDecl.{TypeDecl}
+use Rattle.file_units.specs.Facts.{IsSmall}
+use Rattle.file_units.specs.declared.held.Said.{Said}
+use Rattle.file_units.specs.declared.held.Said.TheVariants as say
+use Rattle.line_calls.specs.Calls.{cells_of}
+use Rattle.line_calls.specs.declared.calls.Cells.{Cells}
+use Rattle.line_calls.specs.declared.calls.Cells.TheVariants as cells
+use Rattle.script_run.specs.Calls.{worked}
+use Rattle.script_run.specs.Oldest.{oldest}
+use Rattle.unit_run.specs.Runs.{IsOf, Placing, with_case, with_kind}
+
+abbrev pub last_of : {A : Type 0} → List A → Option A
+last_of xs = slice_get xs (length xs - 1)
+
+-- with one more type, and with one more case
+abbrev pub kind_placed : TypeDecl → Placing → Placing
+kind_placed d p = record { run = with_kind d p.run; placed = record p.placed { kinds = p.placed.kinds + 1 } }
+
+abbrev pub case_placed : CaseDecl → Placing → Placing
+case_placed d p = record { run = with_case d p.run; placed = record p.placed { types = p.placed.types ++ d.id.type_no ∷ [] } }
+
+abbrev pub with_last : {A : Type 0} → (A → Placing → Placing) → Option A → Placing → Placing
+with_last add None p = p
+with_last add (Some d) p = add d p
+
+-- the last type is defined, the last case is there, or the line is worked
+abbrev pub said_worked : File → Said → Placing → Placing
+said_worked f say.«Type» p = with_last kind_placed (last_of f.types) p
+said_worked f say.Case p = with_last case_placed (last_of f.cases) p
+said_worked f (say.Line l) p = record p { run = worked f p.run l }
+said_worked f say.Other p = p
+
+-- whom it calls
+abbrev pub said_called : File → Said → Option Cells
+said_called f say.«Type» = option_map (λ d. cells.Kind (length f.types - 1)) (last_of f.types)
+said_called f say.Case = None
+said_called f (say.Line l) = Some (cells_of l.act)
+said_called f say.Other = None
+
+-- what it needs: a type that is small, a case of a type that is there, or cases that are not too old
+pub record CanDefine (f : File) (p : Placing) : Type 0 where
+  pub one : TypeDecl
+  pub last : last_of f.types ≡ Some one
+  pub small : IsSmall one
+  pub even : p.placed.kinds ≡ length p.run.kinds
+  pub few : length f.types < 2 ^ 32
+  pub room : length p.run.kinds + 1 < 2 ^ 32
+
+pub record CanDeclare (f : File) (p : Placing) : Type 0 where
+  pub one : CaseDecl
+  pub last : last_of f.cases ≡ Some one
+  pub there : one.id.type_no < p.placed.kinds
+  pub room : length p.placed.types + 1 < 2 ^ 32
+
+pub record CanCall (f : File) (l : Line) (p : Placing) : Type 0 where
+  pub of : IsOf f.cases p
+  pub age : oldest p.run.cases + line_effort l ≤ 4000000000
+
+abbrev pub CanWork : File → Said → Placing → Type 0
+CanWork f say.«Type» p = CanDefine f p
+CanWork f say.Case p = CanDeclare f p
+CanWork f (say.Line l) p = CanCall f l p
+CanWork f say.Other p = Unit {0}
