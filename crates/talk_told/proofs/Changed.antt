@@ -24,10 +24,10 @@ got-none : {X : Type 0} (i : ℕ) → slice_get {X = X} [] i ≡ None
 got-none zero = refl
 got-none (suc i) = refl
 
-changed_at-none : {X : Type 0} (g : X → X) (i : ℕ) → changed_at g i [] ≡ []
+pub changed_at-none : {X : Type 0} (g : X → X) (i : ℕ) → changed_at g i [] ≡ []
 changed_at-none g i = ap (put_back g i []) (got-none i)
 
-changed_at-suc : {X : Type 0} (g : X → X) (i : ℕ) (x : X) (xs : List X) → changed_at g (suc i) (x ∷ xs) ≡ x ∷ changed_at g i xs
+pub changed_at-suc : {X : Type 0} (g : X → X) (i : ℕ) (x : X) (xs : List X) → changed_at g (suc i) (x ∷ xs) ≡ x ∷ changed_at g i xs
 changed_at-suc g i x xs = by (slice_get xs i)
   where
     by : (o : Option _) → put_back g (suc i) (x ∷ xs) o ≡ x ∷ put_back g i xs o

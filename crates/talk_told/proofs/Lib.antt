@@ -1,4 +1,7 @@
 pub mod Added
 pub mod Changed
 pub mod Entries
+pub mod Held
+pub mod Kept
+pub mod Units
 pub mod Worked
