@@ -1,5 +1,5 @@
 -- The answer to a unit that is accepted tells what the run of the longer file has more than that of the shorter.
-use Rattle.std.proofs.Common.{◌≡◌, ◌+◌, ◌<◌, Bool, List, [], ◌∷◌, ◌++◌, length, drop, refl, ap, sym, subst, ◌∙◌, arith, if◌then◌else◌, Option, Some, None}
+use Rattle.std.proofs.Common.{◌≡◌, ◌<◌, Bool, List, [], ◌∷◌, ◌++◌, length, drop, refl, ap, sym, subst, ◌∙◌, arith, if◌then◌else◌, Option, Some, None}
 use Rattle.std.proofs.Math.Seq.{drop-append_seam, drop-length}
 use Rattle.std.proofs.lemmas.Bool.{le-ltb, lt-ltb}
 use Rattle.std.proofs.lemmas.List.{length-append}
@@ -21,7 +21,7 @@ use Rattle.line_calls.specs.declared.calls.Cells.TheVariants as cells
 use Rattle.script_run.specs.Calls.{worked}
 use Rattle.script_run.specs.Serial.{defined}
 use Rattle.script_run.specs.declared.runs.Run.{Run}
-use Rattle.talk_answers.specs.Entries.{entries, if_there, kind_entry}
+use Rattle.talk_answers.specs.Entries.{if_there, kind_entry}
 use Rattle.talk_state.specs.Answers.{called_text, entries_of}
 use Rattle.talk_state.specs.Held.{Held, called_by, declared_behind, held_behind, line_worked, placed_in, run_behind}
 use Rattle.talk_told.specs.Told.{HasVersion, IsAtWork, run_more}

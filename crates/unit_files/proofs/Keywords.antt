@@ -1,5 +1,5 @@
 -- What the words of a line tell of its form.
-use Rattle.std.proofs.Common.{◌≡◌, ℕ, ◌==◌, ◌&&◌, Bool, true, false, not, List, [], ◌∷◌, length, map, refl, ap, sym, ◌∙◌, if◌then◌else◌, Option}
+use Rattle.std.proofs.Common.{◌≡◌, ℕ, ◌==◌, ◌&&◌, Bool, true, false, List, [], ◌∷◌, length, map, refl, ap, sym, ◌∙◌, if◌then◌else◌, Option}
 use Rattle.std.proofs.lemmas.Slice.Eq.{bytes_eq-Decides}
 use Rattle.std.specs.Prelude.{◌||◌, IfSome, codes, nat_le}
 use Rattle.file_words.specs.Lines.{Bytes}
@@ -9,7 +9,7 @@ use Rattle.file_words.specs.Words.{is, is_comment, is_skipped}
 use Rattle.file_forms.specs.DeclarationForms.{actor_ahead, actor_line, begins_reserved, declaration_line, is_reserved, roles_at_end}
 use Rattle.file_forms.specs.Forms.{Declaration, a_type, an_actor, a_case, first_phase, TypeLine, activity, opens_and, opens_xor, opens_branch, opens_loop, closes_block, a_sync, an_element, a_read, a_write, type_end}
 use Rattle.file_forms.specs.Forms.{Deed, to_create, to_start, to_withdraw, to_end, to_change, to_install, to_migrate, ScriptLine, next_phase, a_deed}
-use Rattle.file_forms.specs.Forms.{OperationLine, insert, parallel, conditional, delete, move, sync, unsync, element, read, unread, write, unwrite, group_end}
+use Rattle.file_forms.specs.Forms.{OperationLine, delete, element, read, group_end}
 use Rattle.file_forms.specs.OperationForms.{around_items, conditional_line, edge_line, edge_operation, insert_line, move_line, new_node, operation_line, parallel_line, place, role_line, row_line, tree_operation, with_block}
 use Rattle.file_forms.specs.PieceForms.{◌>>=◌, element_and_kind, name_ahead, name_and_role, nothing_more, one_name, only, read_edge, role_word, two_names, two_names_ahead, two_names_and_role}
 use Rattle.file_forms.specs.ScriptForms.{choice_ahead, deed, end_deed, named_deed, pairs, script_line}

@@ -34,7 +34,7 @@ use Rattle.file_model.specs.declared.states.Contents.{Contents}
 use Rattle.file_model.specs.declared.states.Group.{Group}
 use Rattle.file_model.specs.declared.states.Section.{Section}
 use Rattle.file_model.specs.declared.states.Section.TheVariants as section
-use Rattle.file_units.specs.Units.{has_ended, lines_read, says, unit_read}
+use Rattle.file_units.specs.Units.{has_ended, lines_read, unit_read}
 use Rattle.file_units.proofs.Grows.{GrowsStep, IsInUnit, step_in-grows}
 use Rattle.talk_items.specs.Items as items
 use Rattle.talk_items.specs.Items.{ends_line, is_end, opens, place_behind, words}
