@@ -25,7 +25,6 @@ import tempfile
 import time
 
 import answering
-import chatter
 
 HERE = os.path.dirname(os.path.abspath(__file__))
 TOP = os.path.dirname(HERE)
@@ -530,7 +529,7 @@ def checked(program, check):
             return str(why)
 
 
-def tried(program, player, talks_made=chatter.TALKS):
+def tried(program, player):
     """For each case of the server its name and what differs. `player` is the command whose `play` a second reading asks."""
     for name, talk, answers, before in cases():
         yield name, what_differs(program, talk, answers, before)
@@ -540,4 +539,3 @@ def tried(program, player, talks_made=chatter.TALKS):
     for check in CHECKS:
         yield "serve: " + (check.__doc__ or "").splitlines()[0], checked(program, check)
     yield from of_old(program)
-    yield from chatter.tried(program, player, talks_made)
