@@ -1,7 +1,7 @@
 // Groups in which many calls are stored.
-ghost use Rattle.std.specs.Prelude.{◌<◌, ◌≤◌, ◌^◌, length, IfOk, IsErrOf};
+ghost use Rattle.std.specs.Prelude.{◌≡◌, ◌<◌, ◌≤◌, ◌^◌, length, IfOk, IsErrOf};
 ghost use Rattle.std.specs.List.{AllByRecursion};
-ghost use Rattle.store_room.specs.Groups.{IsFirstGroup};
+ghost use Rattle.store_room.specs.Groups.{IsFirstGroup, end_behind};
 ghost use Rattle.store_room.specs.Room.{IsPayable, Overflows};
 
 use crate::faults::RoomFault;
@@ -34,4 +34,22 @@ pub fn first_group(
         group.push(bytes.as_slice())?;
     }
     Ok((group, calls.len()))
+}
+
+/// The end of the phase of the call with an index, no further than so far: the first of the ends that is behind it. With the
+/// ends from that one on.
+pub fn next_end(ends: &[usize], index: usize, last: usize) -> (usize, &[usize])
+    requires { index < last }
+    ensures exact { result.0 ≡ end_behind index last ends.now }
+    ensures behind { index < result.0 }
+    ensures within { result.0 ≤ last }
+{
+    let mut rest = ends;
+    while let [end, others @ ..] = rest {
+        if index < *end {
+            return ((*end).min(last), rest);
+        }
+        rest = others;
+    }
+    (last, rest)
 }

@@ -7,5 +7,5 @@ mod groups;
 mod payloads;
 
 pub use faults::RoomFault;
-pub use groups::first_group;
+pub use groups::{first_group, next_end};
 pub use payloads::{group_within, payload_within};

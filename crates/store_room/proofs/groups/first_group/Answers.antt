@@ -2,7 +2,7 @@ use Rattle.std.proofs.Common.{◌≡◌, inl, inr, ◌+◌, Err, ap, length, ari
 use Rattle.std.proofs.lemmas.Result.{err_from_is_err_and}
 use Rattle.store_disk.specs.Image.{all_framed}
 use Rattle.store_room.specs.declared.faults.RoomFault.TheVariants as fault
-use Rattle.store_room.proofs.Grouped.{group-are, group-fits, group-over, group-payable, group-span}
+use Rattle.store_room.proofs.Grouped.{group-are, group-fits, group-over, group-payable, group-payloads, group-span}
 use Rattle.store_room.proofs.groups.first_group.Goals.{else-count-gt0-via-then-count-gt0+else-span-len-gt-MAX_GROUP, else-count-gt0-via-else-count-gt0}
 use Rattle.store_room.proofs.groups.first_group.Goals as goal
 
@@ -40,4 +40,5 @@ loop-count-preserved c =
         | else-count-gt0-via-else-count-gt0 w ↦ inl (omega (arith, w.if-count-gt0.false))
       ];
       payable = group-payable limit gate span l.count calls l.group r l.invariant.are stands low item l.invariant.payable;
+      payloads = group-payloads limit gate span l.count calls l.group r l.invariant.are stands low item p found.payload.0 l.invariant.payloads;
     }

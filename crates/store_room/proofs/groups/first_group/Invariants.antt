@@ -2,7 +2,7 @@ use Rattle.std.proofs.Common.{◌≡◌, ◌⊎◌, ◌+◌, ◌<◌, ◌≤◌,
 use Rattle.std.specs.List.{AllByRecursion}
 use Rattle.store_disk.specs.Image.{all_framed}
 use Rattle.store_disk.specs.declared.group.TheConstants.{MAX_GROUP}
-use Rattle.store_room.specs.Room.{IsPayable, Overflows, payload_of}
+use Rattle.store_room.specs.Room.{HasPayload, IsPayable, Overflows, payload_of}
 use Rattle.store_room.proofs.groups.first_group.Given as goal
 
 abbrev pub invariant-loop-count : goal.invariant-loop-count
@@ -12,4 +12,5 @@ invariant-loop-count l = record {
   fits : Overflows l.limit l.gate (take l.count l.calls) → ⊥;
   cut : (l.count ≤ 1) ⊎ (length (all_framed l.group) ≤ MAX_GROUP);
   payable : AllByRecursion IsPayable (drop l.count l.calls);
+  payloads : AllByRecursion HasPayload (take l.count l.calls);
 }
