@@ -1,4 +1,3 @@
 pub mod Finding
-pub mod Grouping
 pub mod Keeping
 pub mod Refusals

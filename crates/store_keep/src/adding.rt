@@ -3,7 +3,6 @@ ghost use Rattle.std.specs.Prelude.{◌≡◌, ◌≢◌, ◌<◌, ◌≤◌, �
 ghost use Rattle.std.specs.List.{AllByRecursion};
 ghost use Rattle.adept_io.specs.Counts.{Rose};
 ghost use Rattle.store_disk.specs.Rest.{IsAtRest};
-ghost use Rattle.store_keep.specs.Grouping.{end_behind};
 ghost use Rattle.store_keep.specs.Keeping.{AddsOnly, IsStored, held};
 ghost use Rattle.store_keep.specs.Refusals.{IsAddFault};
 ghost use Rattle.store_room.specs.Room.{IsPayable, Overflows, payload_of};
@@ -12,25 +11,7 @@ use crate::faults::KeepFault;
 use std::alloc::Global;
 use store_disk::{Disk, append_group};
 use store_form::Recorded;
-use store_room::first_group;
-
-// The end of the phase of the call with an index, no further than so far: the first of the ends that is behind it. With the
-// ends from that one on.
-fn next_end(ends: &[usize], index: usize, last: usize) -> (usize, &[usize])
-    requires { index < last }
-    ensures exact { result.0 ≡ end_behind index last ends.now }
-    ensures behind { index < result.0 }
-    ensures within { result.0 ≤ last }
-{
-    let mut rest = ends;
-    while let [end, others @ ..] = rest {
-        if index < *end {
-            return ((*end).min(last), rest);
-        }
-        rest = others;
-    }
-    (last, rest)
-}
+use store_room::{first_group, next_end};
 
 // Stores the calls behind the first so many, in an image of at most so many bytes: those up to each end in groups of their own.
 pub(crate) fn add_all<D: Disk>(
