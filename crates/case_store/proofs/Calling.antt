@@ -1,9 +1,10 @@
 -- Calls that are made one after another.
-use Rattle.std.proofs.Common.{◌≡◌, ◌+◌, ◌≤◌, List, [], ◌∷◌, ◌++◌, map, Some, refl, sym, ap, subst, ◌∙◌, append_assoc, arith}
+use Rattle.std.proofs.Common.{◌≡◌, ℕ, suc, ◌+◌, ◌≤◌, List, [], ◌∷◌, ◌++◌, length, map, take, Some, refl, sym, ap, subst, ◌∙◌, append_assoc, arith}
 use Rattle.std.specs.Prelude.{fold}
-use Rattle.std.proofs.lemmas.List.{append-nil, map_push}
+use Rattle.std.proofs.lemmas.List.{append-nil, length-map, length-take-le, map_push}
 use Rattle.std.proofs.lemmas.List.Sums.{sum_by-cons}
 use Rattle.script_run.specs.Oldest.{oldest}
+use Rattle.script_run.specs.declared.runs.Run.{Run}
 use Rattle.store_form.specs.declared.stored.Recorded.{Recorded}
 use Rattle.case_store.specs.Folding.{answer_of, answers_of, called, stored_weight, weight_of_all}
 use Rattle.case_store.specs.Standing.{AreKnown, Held}
@@ -51,3 +52,12 @@ all-made old now calls replies so_far =
 
 pub all-answered : (old now : Held) (calls : List Recorded) (replies : List StoredReply) → Made old now calls [] replies → map Some replies ≡ answers_of old.starts old.run calls
 all-answered old now calls replies so_far = sym (append-nil (map Some replies)) ∙ so_far.answers
+
+-- each call is answered
+answers-many : (starts : List ℕ) (run : Run) (rs : List Recorded) → length (answers_of starts run rs) ≡ length rs
+answers-many starts run [] = refl
+answers-many starts run (r ∷ rs) = ap suc (answers-many starts (called starts run r) rs)
+
+pub told-many : (starts : List ℕ) (run : Run) (calls : List Recorded) (count : ℕ) (replies : List StoredReply) → count ≤ length calls → map Some replies ≡ answers_of starts run (take count calls)
+    → length replies ≡ count
+told-many starts run calls count replies within told = sym (length-map replies Some) ∙ ap length told ∙ answers-many starts run (take count calls) ∙ length-take-le count calls within

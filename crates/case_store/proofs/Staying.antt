@@ -149,6 +149,14 @@ pub known-append : (starts : List ℕ) (run : Run) (rs qs : List Recorded) → A
 known-append starts run [] qs known more = more
 known-append starts run (r ∷ rs) qs known more = (known.0, known.1, known-append starts (called starts run r) rs qs known.2 more)
 
+pub known-front : (starts : List ℕ) (run : Run) (rs qs : List Recorded) → AreKnown starts run (rs ++ qs) → AreKnown starts run rs
+known-front starts run [] qs known = tt
+known-front starts run (r ∷ rs) qs known = (known.0, known.1, known-front starts (called starts run r) rs qs known.2)
+
+pub known-rest : (starts : List ℕ) (run : Run) (rs qs : List Recorded) → AreKnown starts run (rs ++ qs) → AreKnown starts (fold (called starts) run rs) qs
+known-rest starts run [] qs known = known
+known-rest starts run (r ∷ rs) qs known = known-rest starts (called starts run r) rs qs known.2
+
 pub all-types-stay : (starts : List ℕ) (run : Run) (rs : List Recorded) → length (fold (called starts) run rs).kinds ≡ length run.kinds
 all-types-stay starts run [] = refl
 all-types-stay starts run (r ∷ rs) = all-types-stay starts (called starts run r) rs ∙ types-stay starts r.caller r.event run

@@ -1,9 +1,10 @@
 -- A store as contracts see it, and what it holds.
-use Rattle.std.specs.Prelude.{◌≡◌, ℕ, ◌<◌, ◌≤◌, ◌^◌, Bool, true, List, [], ◌∷◌, map}
+use Rattle.std.specs.Prelude.{◌≡◌, ℕ, ◌<◌, ◌≤◌, ◌^◌, Bool, true, List, [], ◌∷◌, map, take}
 use Rattle.script_run.specs.Oldest.{oldest}
 use Rattle.script_run.specs.declared.runs.Run.{Run}
+use Rattle.store_disk.specs.Disk.{LeavesOnly}
 use Rattle.store_disk.specs.Image.{HasList}
-use Rattle.store_disk.specs.Rest.{IsAtRest}
+use Rattle.store_disk.specs.Rest.{HasNoneOrAll, IsAtRest}
 use Rattle.store_form.specs.Stored.{HasNoVersion}
 use Rattle.store_form.specs.declared.stored.Recorded.{Recorded}
 use Rattle.store_room.specs.Room.{HasPayload, payload_of}
@@ -53,3 +54,7 @@ pub record IsStore {D : Type 0} (content : D → List ℕ) (may_leave : D → Li
 -- what an opened store holds is what the disk held
 abbrev pub Opens : {D : Type 0} → (D → List ℕ) → (D → List ℕ → Type 0) → List ℕ → List ℕ → StoreState D → Type 0
 Opens content may_leave counts image store = (records : List Recorded) × HasList (map payload_of records) image × IsStore content may_leave counts store records
+
+-- A stop at any moment leaves these records, or these and the first so many of the calls.
+abbrev pub AddsFirst : {D : Type 0} → (D → ℕ) → (D → ℕ → List ℕ → Type 0) → List Recorded → List Recorded → D → D → Type 0
+AddsFirst moment left_since records calls old new = (n : ℕ) × LeavesOnly moment left_since old new (HasNoneOrAll (map payload_of records) (map payload_of (take n calls)))

@@ -1,17 +1,19 @@
 // The store.
-ghost use Rattle.std.specs.Prelude.{◌≡◌, ◌+◌, ◌<◌, ◌≤◌, ◌^◌, ◌++◌, ◌∷◌, [], ◌≢◌, ◌⊎◌, ◌↔◌, ℕ, List, Some, false, true, get_or, length, map, sum, IfOk, IfErr, OnOk, IsErrOf};
+ghost use Rattle.std.specs.Prelude.{◌≡◌, ◌+◌, ◌<◌, ◌≤◌, ◌^◌, ◌++◌, ◌∷◌, [], ◌≢◌, ◌⊎◌, ◌↔◌, ℕ, List, Some, false, true, get_or, length, map, max, sum, take, IfOk, IfErr, OnErr, OnOk, IsErrOf};
+ghost use Rattle.std.specs.List.{AllByRecursion};
 ghost use Rattle.adept_io.specs.Counts.{Rose};
 ghost use Rattle.store_disk.specs.Disk.{LeavesOnly};
-ghost use Rattle.store_disk.specs.Image.{HasList};
+ghost use Rattle.store_disk.specs.Image.{HasList, all_framed};
 ghost use Rattle.store_disk.specs.Opening.{HoldsAsBefore, with_gate};
 ghost use Rattle.store_disk.specs.Rest.{HasNoneOrAll, IsBeforeOrAfter, appended, group_appended};
 ghost use Rattle.store_form.specs.Payload.{IsPayloadOf, payload};
 ghost use Rattle.store_form.specs.Stored.{HasNoVersion, is_shallow};
 ghost use Rattle.store_form.specs.declared.stored.Recorded.{Recorded};
-ghost use Rattle.store_room.specs.Room.{Overflows, Passes, payload_of};
+ghost use Rattle.store_room.specs.Groups.{IsFirstGroup};
+ghost use Rattle.store_room.specs.Room.{HasPayload, Overflows, Passes, payload_of};
 ghost use Rattle.case_store.specs.Damage.{Says, disk_of};
 ghost use Rattle.case_store.specs.Folding.{answer_of, answers_of, has};
-ghost use Rattle.case_store.specs.Standing.{AreKnown, IsStore, Opens, Past};
+ghost use Rattle.case_store.specs.Standing.{AddsFirst, AreKnown, IsStore, Opens, Past};
 ghost use Rattle.case_store.specs.Faults.{refused};
 
 use crate::held::HeldCells;
@@ -20,9 +22,9 @@ use crate::replies::StoredReply;
 use script_run::{ClosedCases, ClosedKinds};
 use std::alloc::Global;
 use std::marker::Model;
-use store_disk::{Disk, Framed, MAX_IMAGE, append, append_group, open_image};
+use store_disk::{Disk, Framed, Group, MAX_IMAGE, append, append_group, open_image};
 use store_form::{Recorded, Stored};
-use store_room::{RoomFault, group_within, payload_within};
+use store_room::{RoomFault, first_group, group_within, payload_within};
 
 /// Types and cases whose calls are on a disk.
 #[derive(Drop)]
@@ -235,12 +237,80 @@ impl<D: Disk + Drop> Store<D> {
         if self.is_broken {
             return Err(StoreFault::Broken);
         }
-        let gate = self.gate;
-        let group = group_within(alloc, calls, gate, limit)?;
+        let group = group_within(alloc, calls, self.gate, limit)?;
+        let replies = self.make_group(alloc, calls, &group)?;
+        Ok(replies)
+    }
+
+    /// Makes the first of these calls, one after another, and stores them as one group, in an image of at most so many bytes: as
+    /// many as make a group of no more than 1,048,576 bytes, but one in any case. Answers what each of them is told.
+    pub fn step_first(
+        &mut self,
+        alloc: Global,
+        calls: &[Recorded],
+        limit: u64,
+    ) -> Result<Vec<StoredReply>, StoreFault>
+        ghost past: { Past }
+        requires store { self.old.is_broken ≡ false → IsStore D.content D.may_leave past.counts self.old past.records }
+        requires some { 0 < length calls.now }
+        requires known { AreKnown self.old.held.starts self.old.held.run calls.now }
+        requires limit { limit ≤ 2 ^ 30 }
+        ensures first { IfOk result (λ r. IsFirstGroup limit self.old.gate calls.now (length r.items) (map payload_of (take (length r.items) calls.now))) }
+        ensures acknowledged { IfOk result (λ r. IsStore D.content D.may_leave past.counts self.new (past.records ++ take (length r.items) calls.now)) }
+        ensures whole { OnOk result (self.new.is_broken ≡ false) }
+        ensures replies { IfOk result (λ r. map Some r.items ≡ answers_of self.old.held.starts self.old.held.run (take (length r.items) calls.now)) }
+        ensures size { OnOk result (length (D.content self.new.disk) ≡ max (length (D.content self.old.disk)) (self.new.gate + 1)) }
+        ensures any_moment { self.old.is_broken ≡ false → AddsFirst D.moment D.left_since past.records calls.now self.old.disk self.new.disk }
+        ensures broken { IsErrOf result StoreFault.Broken ↔ (self.old.is_broken ≡ true) }
+        ensures full { IsErrOf result StoreFault.Full → Overflows limit self.old.gate calls.now }
+        ensures rose { IsErrOf result StoreFault.Disk → Rose (D.faults self.old.disk) (D.faults self.new.disk) }
+        ensures no_fault { OnOk result (D.faults self.new.disk ≡ D.faults self.old.disk) }
+        ensures breaks { IsErrOf result StoreFault.Disk → self.new.is_broken ≡ true }
+        ensures same { IfErr result (λ e. e ≢ StoreFault.Disk → e ≢ StoreFault.NoMemory → self.new ≡ self.old) }
+        ensures disk { IfErr result (λ e. e ≢ StoreFault.Disk → self.new.disk ≡ self.old.disk) }
+        ensures never_falls { D.faults self.old.disk ≤ D.faults self.new.disk }
+    {
+        if self.is_broken {
+            return Err(StoreFault::Broken);
+        }
+        let (group, count) = first_group(alloc, calls, self.gate, limit)?;
+        let replies = self.make_group(alloc, &calls[..count], &group)?;
+        Ok(replies)
+    }
+
+    // Makes calls whose payloads are a group that finds room, and stores it.
+    fn make_group(
+        &mut self,
+        alloc: Global,
+        calls: &[Recorded],
+        group: &Group,
+    ) -> Result<Vec<StoredReply>, StoreFault>
+        ghost past: { Past }
+        requires store { IsStore D.content D.may_leave past.counts self.old past.records }
+        requires some { 0 < length calls.now }
+        requires known { AreKnown self.old.held.starts self.old.held.run calls.now }
+        requires group { group.now ≡ map payload_of calls.now }
+        requires payloads { AllByRecursion HasPayload calls.now }
+        requires short { self.old.gate + length (all_framed group.now) < 2 ^ 30 }
+        ensures acknowledged { OnOk result (IsStore D.content D.may_leave past.counts self.new (past.records ++ calls.now)) }
+        ensures whole { OnOk result (self.new.is_broken ≡ false) }
+        ensures replies { IfOk result (λ replies. map Some replies.items ≡ answers_of self.old.held.starts self.old.held.run calls.now) }
+        ensures every_image { OnOk result ((image : List ℕ) → D.may_leave self.new.disk image → HasList (map payload_of past.records ++ map payload_of calls.now) image) }
+        ensures bytes { OnOk result (D.content self.new.disk ≡ group_appended self.old.gate (map payload_of calls.now) (D.content self.old.disk)) }
+        ensures next_gate { OnOk result (get_or (D.content self.new.disk) self.new.gate 1 ≡ 0) }
+        ensures size { OnOk result (length (D.content self.new.disk) ≡ max (length (D.content self.old.disk)) (self.new.gate + 1)) }
+        ensures any_moment { LeavesOnly D.moment D.left_since self.old.disk self.new.disk (HasNoneOrAll (map payload_of past.records) (map payload_of calls.now)) }
+        ensures causes { IfErr result (λ e. (e ≡ StoreFault.Disk) ⊎ (e ≡ StoreFault.NoMemory)) }
+        ensures rose { IsErrOf result StoreFault.Disk → Rose (D.faults self.old.disk) (D.faults self.new.disk) }
+        ensures no_fault { OnOk result (D.faults self.new.disk ≡ D.faults self.old.disk) }
+        ensures breaks { OnErr result (self.new.is_broken ≡ true) }
+        ensures disk { IfErr result (λ e. e ≢ StoreFault.Disk → self.new.disk ≡ self.old.disk) }
+        ensures never_falls { D.faults self.old.disk ≤ D.faults self.new.disk }
+    {
         // From here on types and cases are ahead of the disk, until the group is there.
         self.is_broken = true;
         let replies = self.held.call_all(alloc, calls)?;
-        self.gate = append_group(&mut self.disk, gate, &group)?;
+        self.gate = append_group(&mut self.disk, self.gate, group)?;
         self.is_broken = false;
         Ok(replies)
     }

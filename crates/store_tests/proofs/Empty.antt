@@ -1,23 +1,14 @@
 -- What a store holds that was opened on a disk without bytes.
-use Rattle.std.proofs.Common.{ℕ, List, [], ◌∷◌, ◌∙◌, map, Option, Result, Ok, Err, ap, refl, sym, subst, ◌≡◌}
+use Rattle.std.proofs.Common.{ℕ, List, [], ◌∷◌, ◌∙◌, Option, Result, Ok, Err, ap, refl, sym, subst, ◌≡◌}
 use Rattle.std.specs.Prelude.{IfOk, IfSome}
 use Rattle.std.specs.Result.{result_ok}
-use Rattle.store_room.specs.Room.{payload_of}
+use Rattle.case_store.proofs.Empty.{empty-store}
 use Rattle.case_store.specs.Folding.{fresh, starts_of}
 use Rattle.case_store.specs.Standing.{AreKnown, IsStore, Opens, StoreState}
-use Rattle.store_disk.specs.Image.{HasList}
 use Rattle.store_form.specs.declared.stored.Recorded.{Recorded}
 use Rattle.store_form.specs.declared.stored.Stored.TheVariants as stored
 
 module _ {D : Type 0} (content : D → List ℕ) (may_leave : D → List ℕ → Type 0) (counts : List ℕ) where
-  -- it holds no record
-  pub empty-store : (image : List ℕ) (store : StoreState D) → image ≡ [] → Opens content may_leave counts image store → IsStore content may_leave counts store []
-  empty-store image store none (records, list, is) = go records (subst (HasList (map payload_of records)) none list) is
-    where
-      go : (records : List Recorded) → HasList (map payload_of records) [] → IsStore content may_leave counts store records → IsStore content may_leave counts store []
-      go [] list is = is
-      go (r ∷ rs) list is = absurd (cc (list))
-
   -- two questions to its one type name what is there
   pub both-known : (store : StoreState D) (a b : ℕ) → counts ≡ 1 ∷ [] → IsStore content may_leave counts store []
       → AreKnown store.held.starts store.held.run (record { caller = a; event = stored.Newest 0 } ∷ record { caller = b; event = stored.Newest 0 } ∷ [])
@@ -33,5 +24,5 @@ module _ {D : Type 0} (content : D → List ℕ) (may_leave : D → List ℕ →
   empty-if-opened {E = E} image opened o none is opens = subst (λ x. IfSome x (λ store. IsStore content may_leave counts store [])) (sym is) (go opened opens)
     where
       go : (opened : Result (StoreState D) E) → IfOk opened (λ store. Opens content may_leave counts image store) → IfSome (result_ok opened) (λ store. IsStore content may_leave counts store [])
-      go (Ok store) opens = empty-store image store none opens
+      go (Ok store) opens = empty-store content may_leave counts image store none opens
       go (Err e) opens = tt

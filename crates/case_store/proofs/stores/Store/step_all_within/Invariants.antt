@@ -1,6 +1,4 @@
-use Rattle.std.specs.Prelude.{map}
-use Rattle.store_room.specs.Room.{payload_of}
 use Rattle.case_store.proofs.stores.Store.step_all_within.Given as goal
 
-abbrev pub ghost-append_group : goal.ghost-append_group
-ghost-append_group g a = map payload_of g.past.records
+abbrev pub ghost-make_group : goal.ghost-make_group
+ghost-make_group g a = g.past

@@ -1,0 +1,15 @@
+-- What a store holds that was opened on a disk without bytes.
+use Rattle.std.proofs.Common.{◌≡◌, List, [], ◌∷◌, ℕ, map, subst}
+use Rattle.case_store.specs.Standing.{IsStore, Opens, StoreState}
+use Rattle.store_disk.specs.Image.{HasList}
+use Rattle.store_form.specs.declared.stored.Recorded.{Recorded}
+use Rattle.store_room.specs.Room.{payload_of}
+
+-- it holds no record
+pub empty-store : {D : Type 0} (content : D → List ℕ) (may_leave : D → List ℕ → Type 0) (counts image : List ℕ) (store : StoreState D) → image ≡ [] → Opens content may_leave counts image store
+    → IsStore content may_leave counts store []
+empty-store content may_leave counts image store none (records, list, is) = go records (subst (HasList (map payload_of records)) none list) is
+  where
+    go : (records : List Recorded) → HasList (map payload_of records) [] → IsStore content may_leave counts store records → IsStore content may_leave counts store []
+    go [] list is = is
+    go (r ∷ rs) list is = absurd (cc (list))

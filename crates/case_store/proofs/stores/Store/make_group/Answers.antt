@@ -1,0 +1,38 @@
+use Rattle.std.proofs.Common.{◌+◌, ◌<◌, ◌≤◌, ◌^◌, false, length, map, subst, sym}
+use Rattle.case_store.proofs.Folds.{all-steps, room-for-all, stays}
+use Rattle.case_store.proofs.stores.Store.make_group.Goals as goal
+use Rattle.case_store.specs.Standing.{AreKnown, IsStore}
+use Rattle.script_run.specs.Oldest.{oldest}
+use Rattle.store_disk.specs.Disk.{LeavesOnly}
+use Rattle.store_disk.specs.Image.{all_framed}
+use Rattle.store_disk.specs.Rest.{HasNoneOrAll}
+use Rattle.store_room.specs.Room.{payload_of}
+
+pub call_all-requires-clause-young : goal.call_all-requires-clause-young
+call_all-requires-clause-young g c =
+    let view = c.self.view_is in
+    room-for-all c.args.calls.now c.args.group.now c.self.inside.gate (oldest c.self.inside.held.run.cases) c.requires.1.1.1.1.0
+    (subst (λ s. oldest s.held.run.cases ≤ s.gate) (sym view) c.requires.1.0.young)
+    (subst (λ s. s.gate + length (all_framed c.args.group.now) < 2 ^ 30) (sym view) c.requires.1.1.1.1.1.1)
+
+pub returns-in_err-replies-clause-any_moment : goal.returns-in_err-replies-clause-any_moment
+returns-in_err-replies-clause-any_moment g c =
+    let k = g.D.Disk in
+    let now = c.args.self.now in
+    let ps = map payload_of g.past.records in
+    let qs = map payload_of c.args.calls.now in
+    subst (λ s. LeavesOnly k.moment k.left_since now.disk s.disk (HasNoneOrAll ps qs)) (sym c.self.view_is)
+    (stays k.content k.may_leave k.moment k.left_since now.disk ps qs now.gate (g.met.D.Disk.only_now now.disk) c.requires.1.0.rest)
+
+pub returns-clause-acknowledged : goal.returns-clause-acknowledged
+returns-clause-acknowledged g c =
+    let k = g.D.Disk in
+    let view = c.self.view_is in
+    let calls = c.args.calls.now in
+    let store = subst (λ s. IsStore k.content k.may_leave g.past.counts s g.past.records) (sym view) c.requires.1.0 in
+    let known = subst (λ s. AreKnown s.held.starts s.held.run calls) (sym view) c.requires.1.1.1.0 in
+    let short = subst (λ s. s.gate + length (all_framed c.args.group.now) < 2 ^ 30) (sym view) c.requires.1.1.1.1.1.1 in
+    let added = c.in_ok-self-inside.ensures in
+    all-steps k.content k.may_leave g.past.counts _
+    (record { disk = c.append_group.new.disk; gate = c.in_ok-self-inside.field-0; held = c.call_all.new.self; is_broken = false })
+    g.past.records calls c.args.group.now store known c.requires.1.1.1.1.1.0 c.requires.1.1.1.1.0 c.in_ok-replies.ensures.run added.acknowledged added.next short c.in_ok-replies.ensures.young
