@@ -1,3 +1,4 @@
 pub mod Input
 pub mod Playing
 pub mod Statuses
+pub mod Storing

@@ -7,6 +7,7 @@ use Rattle.case_keep.specs.Input.{EndsUnread, StandFor}
 use Rattle.case_keep.specs.Statuses.{status_of}
 use Rattle.case_keep.specs.declared.playing.StoreOutcome.{StoreOutcome}
 use Rattle.case_keep.specs.declared.unkept.Unkept.{Unkept}
+use Rattle.case_store.specs.Standing.{IsStore, StoreState}
 use Rattle.file_limits.specs.declared.TheConstants.{NEWEST_KEPT_FORMAT}
 use Rattle.file_model.specs.Reading.{file_up_to}
 use Rattle.file_model.specs.declared.files.File.{File}
@@ -15,6 +16,7 @@ use Rattle.script_run.specs.Serial.{serial}
 use Rattle.store_calls.specs.Calls.{calls, payloads}
 use Rattle.store_keep.specs.Keeping.{HoldsBeginning, IsStored}
 use Rattle.store_room.specs.Room.{Overflows}
+use Rattle.store_runs.specs.Stored.{IsSameRun, case_counts}
 use Rattle.store_keep.specs.declared.faults.KeepFault.{KeepFault}
 use Rattle.store_keep.specs.declared.faults.KeepFault.TheVariants as fault
 
@@ -69,3 +71,10 @@ pub record Stores {D : Type 0} (content : D → List ℕ) (may_leave : D → Lis
 -- where the bytes stand for a file, an image holds a beginning of its calls
 abbrev pub HoldsBeginningOf : Option (List ℕ) → List ℕ → Type 0
 HoldsBeginningOf bytes image = IfSome bytes (λ b. IfOk (file_up_to NEWEST_KEPT_FORMAT b) (λ f. HoldsBeginning (payloads f) [] image))
+
+-- the disk is that of a store which holds the file's calls, and has the types and the cases of its serial run, journals and all
+pub record HoldsRun {D : Type 0} (content : D → List ℕ) (may_leave : D → List ℕ → Type 0) (f : File) (disk : D) : Type 0 where
+  pub store : StoreState D
+  pub own : store.disk ≡ disk
+  pub holds : IsStore content may_leave (case_counts f) store (calls f)
+  pub same : IsSameRun store.held.starts f.cases (serial f) store.held.run

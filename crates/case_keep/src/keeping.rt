@@ -85,7 +85,7 @@ pub fn keep_file_within<K: Sink, D: Disk>(
 }
 
 // Stores those of a file's calls that the disk does not hold yet, in an image of at most so many bytes.
-pub(crate) fn store_calls_of<D: Disk>(
+fn store_calls_of<D: Disk>(
     alloc: Global,
     file: &File,
     limit: u64,

@@ -5,6 +5,7 @@
 mod keeping;
 mod playing;
 mod reading;
+mod storing;
 mod unkept;
 
 pub use keeping::{keep_file, keep_file_within};

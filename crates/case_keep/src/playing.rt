@@ -3,7 +3,7 @@ ghost use Rattle.std.specs.Prelude.{◌≡◌, ◌≢◌, ◌≤◌, ◌^◌, �
 ghost use Rattle.std.specs.Io.KnownBytes.{Appends, IsAtEnd};
 ghost use Rattle.adept_io.specs.Counts.{Rose};
 ghost use Rattle.adept_io.specs.Written.{AppendsPrefix};
-ghost use Rattle.case_keep.specs.Playing.{EndsUnplayed, HoldsBeginningOf, IsPlayFault, IsPlayStatus, IsReadStatus, IsUnreadStatus, IsWorkStatus, OfFile, Reports, Stores};
+ghost use Rattle.case_keep.specs.Playing.{EndsUnplayed, HoldsBeginningOf, HoldsRun, IsPlayFault, IsPlayStatus, IsReadStatus, IsUnreadStatus, IsWorkStatus, OfFile, Reports, Stores};
 ghost use Rattle.file_facts.specs.Facts.{IsWorkable};
 ghost use Rattle.file_model.specs.Sizes.{IsBounded};
 ghost use Rattle.report_text.specs.Report.{text};
@@ -13,8 +13,9 @@ ghost use Rattle.store_disk.specs.Disk.{IsSettled, LeavesOnly};
 ghost use Rattle.store_keep.specs.Keeping.{HoldsBeginning, IsStored};
 ghost use Rattle.store_room.specs.Room.{Overflows};
 
-use crate::keeping::{keep_file_within, store_calls_of};
+use crate::keeping::keep_file_within;
 use crate::reading::read_process;
+use crate::storing::store_over;
 use crate::unkept::keep_status;
 use adept_io::{Sink, Source};
 use file_model::File;
@@ -32,8 +33,8 @@ pub struct StoreOutcome<D: Disk + Drop> {
     pub disk: D,
 }
 
-/// Reads a process file, stores its calls on a disk without bytes, one after another, opens the disk again, and writes the
-/// report of the calls that it holds. The disk is left alone until the file is read, and nothing is written before the
+/// Reads a process file, makes its calls on a store that is opened on a disk without bytes, those of each phase in groups, opens
+/// the disk again, and writes the report of the calls that it holds. The disk is left alone until the file is read, and nothing is written before the
 /// disk was opened again.
 pub fn store_play<S: Source, K: Sink, D: Disk + Drop>(
     alloc: Global,
@@ -47,6 +48,7 @@ pub fn store_play<S: Source, K: Sink, D: Disk + Drop>(
     ensures whole { IsReadStatus result.status → IsAtEnd (S.left source.new) }
     ensures report { IsReadStatus result.status → OfFile (S.left source.old) (λ f. Reports K.written K.faults f sink.old sink.new result.status) }
     ensures stored { IsReadStatus result.status → OfFile (S.left source.old) (λ f. Stores D.content D.may_leave D.faults (2 ^ 30) f disk result) }
+    ensures run { (result.status ≡ 0) ⊎ (result.status ≡ 4) → OfFile (S.left source.old) (λ f. HoldsRun D.content D.may_leave f result.disk) }
     ensures steady { result.status ≢ 7 → D.faults result.disk ≡ D.faults disk }
     ensures untouched { result.status ≢ 0 → result.status ≢ 4 → sink.new ≡ sink.old }
     ensures any_moment { LeavesOnly D.moment D.left_since disk result.disk (HoldsBeginningOf (S.left source.old)) }
@@ -69,6 +71,7 @@ pub fn store_play_within<S: Source, K: Sink, D: Disk + Drop>(
     ensures whole { IsReadStatus result.status → IsAtEnd (S.left source.new) }
     ensures report { IsReadStatus result.status → OfFile (S.left source.old) (λ f. Reports K.written K.faults f sink.old sink.new result.status) }
     ensures stored { IsReadStatus result.status → OfFile (S.left source.old) (λ f. Stores D.content D.may_leave D.faults limit f disk result) }
+    ensures run { (result.status ≡ 0) ⊎ (result.status ≡ 4) → OfFile (S.left source.old) (λ f. HoldsRun D.content D.may_leave f result.disk) }
     ensures steady { result.status ≢ 7 → D.faults result.disk ≡ D.faults disk }
     ensures untouched { result.status ≢ 0 → result.status ≢ 4 → sink.new ≡ sink.old }
     ensures any_moment { LeavesOnly D.moment D.left_since disk result.disk (HoldsBeginningOf (S.left source.old)) }
@@ -97,11 +100,12 @@ fn play_over<K: Sink, D: Disk + Drop>(
     ensures statuses { IsWorkStatus result.status }
     ensures report { Reports K.written K.faults file.now sink.old sink.new result.status }
     ensures stored { Stores D.content D.may_leave D.faults limit file.now disk result }
+    ensures run { (result.status ≡ 0) ⊎ (result.status ≡ 4) → HoldsRun D.content D.may_leave file.now result.disk }
     ensures steady { result.status ≢ 7 → D.faults result.disk ≡ D.faults disk }
     ensures any_moment { LeavesOnly D.moment D.left_since disk result.disk (HoldsBeginning (payloads file.now) []) }
 {
-    let mut disk = disk;
-    match play_file(alloc, file, limit, sink, &mut disk) {
+    let (disk, played) = play_file(alloc, file, limit, sink, disk);
+    match played {
         Ok(()) => StoreOutcome { status: 0, disk },
         Err(fault) => StoreOutcome {
             status: keep_status(fault),
@@ -110,33 +114,42 @@ fn play_over<K: Sink, D: Disk + Drop>(
     }
 }
 
-// Stores the calls of a file, opens the disk again, and writes the report of what it holds.
-fn play_file<K: Sink, D: Disk>(
+// Stores the calls of a file, opens the disk again, and writes the report of what it holds. With the disk.
+fn play_file<K: Sink, D: Disk + Drop>(
     alloc: Global,
     file: &File,
     limit: u64,
     sink: &mut K,
-    disk: &mut D,
-) -> Result<(), KeepFault>
+    disk: D,
+) -> (D, Result<(), KeepFault>)
     requires bounded { IsBounded file.now }
     requires workable { IsWorkable file.now }
     requires limit { limit ≤ 2 ^ 30 }
-    requires settled { IsSettled D.content D.may_leave disk.old [] }
-    ensures all { OnOk result (IsStored D.content D.may_leave disk.new (payloads file.now)) }
-    ensures fits { OnOk result (Overflows limit 0 (calls file.now) → ⊥) }
-    ensures written { OnOk result (Appends (K.written sink.old) (K.written sink.new) (text file.now (serial file.now))) }
-    ensures causes { IfErr result (λ e. IsPlayFault e) }
-    ensures full { IsErrOf result KeepFault.Full → Overflows limit 0 (calls file.now) }
-    ensures rose { IsErrOf result KeepFault.Disk → Rose (D.faults disk.old) (D.faults disk.new) }
-    ensures no_fault { OnOk result (D.faults disk.new ≡ D.faults disk.old) }
-    ensures no_other_fault { IfErr result (λ e. e ≢ KeepFault.Disk → D.faults disk.new ≡ D.faults disk.old) }
-    ensures unwritten { IsErrOf result KeepFault.Unwritten → IsStored D.content D.may_leave disk.new (payloads file.now) }
-    ensures fits_unwritten { IsErrOf result KeepFault.Unwritten → Overflows limit 0 (calls file.now) → ⊥ }
-    ensures part { IsErrOf result KeepFault.Unwritten → AppendsPrefix (K.written sink.old) (K.written sink.new) (text file.now (serial file.now)) }
-    ensures sink_failed { IsErrOf result KeepFault.Unwritten → Rose (K.faults sink.old) (K.faults sink.new) }
-    ensures untouched { IfErr result (λ e. e ≢ KeepFault.Unwritten → sink.new ≡ sink.old) }
-    ensures any_moment { LeavesOnly D.moment D.left_since disk.old disk.new (HoldsBeginning (payloads file.now) []) }
+    requires settled { IsSettled D.content D.may_leave disk [] }
+    ensures all { OnOk result.1 (IsStored D.content D.may_leave result.0 (payloads file.now)) }
+    ensures run { OnOk result.1 (HoldsRun D.content D.may_leave file.now result.0) }
+    ensures fits { OnOk result.1 (Overflows limit 0 (calls file.now) → ⊥) }
+    ensures written { OnOk result.1 (Appends (K.written sink.old) (K.written sink.new) (text file.now (serial file.now))) }
+    ensures causes { IfErr result.1 (λ e. IsPlayFault e) }
+    ensures full { IsErrOf result.1 KeepFault.Full → Overflows limit 0 (calls file.now) }
+    ensures rose { IsErrOf result.1 KeepFault.Disk → Rose (D.faults disk) (D.faults result.0) }
+    ensures no_fault { OnOk result.1 (D.faults result.0 ≡ D.faults disk) }
+    ensures no_other_fault { IfErr result.1 (λ e. e ≢ KeepFault.Disk → D.faults result.0 ≡ D.faults disk) }
+    ensures unwritten { IsErrOf result.1 KeepFault.Unwritten → IsStored D.content D.may_leave result.0 (payloads file.now) }
+    ensures run_unwritten { IsErrOf result.1 KeepFault.Unwritten → HoldsRun D.content D.may_leave file.now result.0 }
+    ensures fits_unwritten { IsErrOf result.1 KeepFault.Unwritten → Overflows limit 0 (calls file.now) → ⊥ }
+    ensures part { IsErrOf result.1 KeepFault.Unwritten → AppendsPrefix (K.written sink.old) (K.written sink.new) (text file.now (serial file.now)) }
+    ensures sink_failed { IsErrOf result.1 KeepFault.Unwritten → Rose (K.faults sink.old) (K.faults sink.new) }
+    ensures untouched { IfErr result.1 (λ e. e ≢ KeepFault.Unwritten → sink.new ≡ sink.old) }
+    ensures any_moment { LeavesOnly D.moment D.left_since disk result.0 (HoldsBeginning (payloads file.now) []) }
 {
-    store_calls_of(alloc, file, limit, disk)?;
-    keep_file_within(alloc, file, limit, sink, disk)
+    let (disk, stored) = store_over(alloc, file, limit, disk);
+    match stored {
+        Ok(()) => {
+            let mut disk = disk;
+            let reported = keep_file_within(alloc, file, limit, sink, &mut disk);
+            (disk, reported)
+        }
+        Err(fault) => (disk, Err(fault)),
+    }
 }

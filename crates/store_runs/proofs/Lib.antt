@@ -1,4 +1,4 @@
-mod CountedPlaces
+pub mod CountedPlaces
 pub mod Folded
 pub mod Known
 mod Numbers

@@ -1,37 +1,46 @@
-use Rattle.std.proofs.lemmas.Result.{IfErr-weaker}
-use Rattle.store_calls.specs.Calls.{calls, payloads}
-use Rattle.store_keep.specs.Refusals.{Tells}
-use Rattle.case_keep.specs.Playing.{IsPlayFault}
-use Rattle.case_keep.proofs.Outcomes.{both-moments, first-moments, fault-is, second-faults, second-full, stored-list}
+use Rattle.std.proofs.Common.{◌≤◌, ◌^◌, length}
+use Rattle.std.proofs.lemmas.Result.{IfErr-weaker, IfOk-at_ok, on_ok_weaker}
+use Rattle.case_keep.proofs.Outcomes.{fault-is, second-faults, second-full, stored-list}
+use Rattle.case_keep.proofs.Stepped.{run-again}
 use Rattle.case_keep.proofs.playing.play_file.Goals as goal
+use Rattle.case_keep.specs.Playing.{HoldsRun, IsPlayFault}
+use Rattle.store_calls.specs.Calls.{calls, payloads}
+use Rattle.store_keep.specs.Keeping.{IsStored}
+use Rattle.store_keep.specs.Refusals.{Tells}
 
-pub returns-in_err-store_calls_of-clause-any_moment : goal.returns-in_err-store_calls_of-clause-any_moment
-returns-in_err-store_calls_of-clause-any_moment g c =
-    let k = g.D.Disk in
-    first-moments k.content k.may_leave k.moment k.left_since c.args.disk.now c.store_calls_of.new.disk (payloads c.args.file.now) c.requires.settled.gives c.store_calls_of.ensures.any_moment
-
-pub returns-clause-causes : goal.returns-clause-causes
-returns-clause-causes g c =
-    let k = g.D.Disk in
-    let f = c.args.file.now in
-    let mid = c.store_calls_of.new.disk in
-    let first = c.in_ok-store_calls_of.ensures in
-    let list = stored-list k.content k.may_leave mid (payloads f) first.all in
-    IfErr-weaker c.keep_file_within.result (λ e. Tells c.args.limit (calls f) (k.content mid) e) (λ e. IsPlayFault e) (λ e told. second-faults c.args.limit (calls f) (k.content mid) e list first.within told) c.keep_file_within.ensures.refused
-
-pub returns-clause-full : goal.returns-clause-full
-returns-clause-full g c full =
+pub returns-in-Ok-clause-run : goal.returns-in-Ok-clause-run
+returns-in-Ok-clause-run g c =
     let k = g.D.Disk in
     let f = c.args.file.now in
-    let mid = c.store_calls_of.new.disk in
-    let list = stored-list k.content k.may_leave mid (payloads f) c.in_ok-store_calls_of.ensures.all in
-    absurd (second-full c.args.limit (calls f) (k.content mid) list (fault-is c.keep_file_within.result (λ e. Tells c.args.limit (calls f) (k.content mid) e) c.keep_file_within.ensures.refused full))
+    let mid = c.store_over-disk.result.0 in
+    let run : HoldsRun k.content k.may_leave f mid = IfOk-at_ok (λ _. HoldsRun k.content k.may_leave f mid) c.in-Ok.is c.store_over-disk.ensures.run in
+    on_ok_weaker c.keep_file_within-reported.result (λ stored. run-again k.content k.may_leave f mid c.keep_file_within-reported.new.disk run stored) c.keep_file_within-reported.ensures.all
 
-pub returns-clause-any_moment : goal.returns-clause-any_moment
-returns-clause-any_moment g c =
+pub returns-in-Ok-clause-run_unwritten : goal.returns-in-Ok-clause-run_unwritten
+returns-in-Ok-clause-run_unwritten g c unwritten =
     let k = g.D.Disk in
     let f = c.args.file.now in
-    let mid = c.store_calls_of.new.disk in
-    both-moments k.content k.may_leave k.moment k.left_since c.args.disk.now mid c.keep_file_within.new.disk (payloads f)
-    (first-moments k.content k.may_leave k.moment k.left_since c.args.disk.now mid (payloads f) c.requires.settled.gives c.store_calls_of.ensures.any_moment)
-    (stored-list k.content k.may_leave mid (payloads f) c.in_ok-store_calls_of.ensures.all) c.keep_file_within.ensures.any_moment
+    let mid = c.store_over-disk.result.0 in
+    let run : HoldsRun k.content k.may_leave f mid = IfOk-at_ok (λ _. HoldsRun k.content k.may_leave f mid) c.in-Ok.is c.store_over-disk.ensures.run in
+    run-again k.content k.may_leave f mid c.keep_file_within-reported.new.disk run (c.keep_file_within-reported.ensures.unwritten unwritten)
+
+pub returns-in-Ok-clause-causes : goal.returns-in-Ok-clause-causes
+returns-in-Ok-clause-causes g c =
+    let k = g.D.Disk in
+    let f = c.args.file.now in
+    let mid = c.store_over-disk.result.0 in
+    let stored : IsStored k.content k.may_leave mid (payloads f) = IfOk-at_ok (λ _. IsStored k.content k.may_leave mid (payloads f)) c.in-Ok.is c.store_over-disk.ensures.all in
+    let within : length (k.content mid) ≤ 2 ^ 30 = IfOk-at_ok (λ _. length (k.content mid) ≤ 2 ^ 30) c.in-Ok.is c.store_over-disk.ensures.within in
+    let list = stored-list k.content k.may_leave mid (payloads f) stored in
+    IfErr-weaker c.keep_file_within-reported.result (λ e. Tells c.args.limit (calls f) (k.content mid) e) (λ e. IsPlayFault e)
+    (λ e told. second-faults c.args.limit (calls f) (k.content mid) e list within told) c.keep_file_within-reported.ensures.refused
+
+pub returns-in-Ok-clause-full : goal.returns-in-Ok-clause-full
+returns-in-Ok-clause-full g c full =
+    let k = g.D.Disk in
+    let f = c.args.file.now in
+    let mid = c.store_over-disk.result.0 in
+    let stored : IsStored k.content k.may_leave mid (payloads f) = IfOk-at_ok (λ _. IsStored k.content k.may_leave mid (payloads f)) c.in-Ok.is c.store_over-disk.ensures.all in
+    let list = stored-list k.content k.may_leave mid (payloads f) stored in
+    absurd (second-full c.args.limit (calls f) (k.content mid) list
+    (fault-is c.keep_file_within-reported.result (λ e. Tells c.args.limit (calls f) (k.content mid) e) c.keep_file_within-reported.ensures.refused full))

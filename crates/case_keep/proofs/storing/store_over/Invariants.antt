@@ -1,0 +1,5 @@
+use Rattle.store_runs.specs.Stored.{case_counts}
+use Rattle.case_keep.proofs.storing.store_over.Given as goal
+
+abbrev pub ghost-step_calls_of : goal.ghost-step_calls_of
+ghost-step_calls_of g a = case_counts a.file.now
