@@ -39,6 +39,15 @@ impl Items {
         }
     }
 
+    /// Equal items, without further room.
+    pub fn copy(&self, alloc: Global) -> Result<Items, NoMemory>
+        ensures { IfOk result (λ new. new.rows ≡ self.now.rows) }
+    {
+        Ok(Items {
+            rows: self.rows.copy(alloc)?,
+        })
+    }
+
     /// Room for so many more items.
     pub fn reserve(&mut self, more: usize) -> Result<(), NoMemory>
         ensures same { self.new.rows ≡ self.old.rows }

@@ -1,5 +1,5 @@
 // Rows by number, in reserved room.
-ghost use Rattle.std.specs.Prelude.{◌≡◌, ◌+◌, ◌<◌, ◌≤◌, [], length, slice_get, vec_len, vec_capacity, IfSome, OnOk, if◌then◌else◌};
+ghost use Rattle.std.specs.Prelude.{◌≡◌, ◌+◌, ◌<◌, ◌≤◌, [], length, slice_get, vec_len, vec_capacity, IfOk, IfSome, OnOk, if◌then◌else◌};
 ghost use Rattle.std.specs.List.{insert};
 ghost use Rattle.std.specs.Option.{is_some, option_copied};
 ghost use Rattle.wsm_lists.specs.Keys.{first};
@@ -92,6 +92,15 @@ impl<T: Drop> NumberedRows<T> {
 }
 
 impl<T: Copy + Drop> NumberedRows<T> {
+    /// Equal rows, without further room.
+    pub fn copy(&self, alloc: Global) -> Result<Self, NoMemory>
+        ensures { IfOk result (λ new. new.rows ≡ self.now.rows) }
+    {
+        Ok(NumberedRows {
+            rows: Vec::from_slice(alloc, &self.rows)?,
+        })
+    }
+
     /// The changes, one for each number that they name: a row is put, or goes where there is None. Takes no memory.
     pub fn take_in(&mut self, changes: Table<ByFirst<Option<T>>>)
         requires { length changes ≤ self.old.spare }
