@@ -1,4 +1,4 @@
-mod Calls
+pub mod Calls
 mod Examples
 mod ExamplesOther
 mod Forms
