@@ -82,7 +82,7 @@ impl HeldCells {
     }
 
     // Where a case stands.
-    fn place_of(&self, case: CaseId) -> Option<usize>
+    pub(crate) fn place_of(&self, case: CaseId) -> Option<usize>
         ensures { result ≡ place_of self.now.starts case }
     {
         let kind = case.type_no as usize;

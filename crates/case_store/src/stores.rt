@@ -12,7 +12,7 @@ ghost use Rattle.store_form.specs.declared.stored.Recorded.{Recorded};
 ghost use Rattle.store_room.specs.Groups.{IsFirstGroup};
 ghost use Rattle.store_room.specs.Room.{HasPayload, Overflows, Passes, payload_of};
 ghost use Rattle.case_store.specs.Damage.{Says, disk_of};
-ghost use Rattle.case_store.specs.Folding.{answer_of, answers_of, has};
+ghost use Rattle.case_store.specs.Folding.{answer_of, answers_of, has, place_of};
 ghost use Rattle.case_store.specs.Standing.{AddsFirst, AreKnown, IsStore, Opens, Past};
 ghost use Rattle.case_store.specs.Faults.{refused};
 
@@ -25,6 +25,7 @@ use std::marker::Model;
 use store_disk::{Disk, Framed, Group, MAX_IMAGE, append, append_group, open_image};
 use store_form::{Recorded, Stored};
 use store_room::{RoomFault, first_group, group_within, payload_within};
+use wsm_sound::CaseId;
 
 /// Types and cases whose calls are on a disk.
 #[derive(Drop)]
@@ -81,6 +82,13 @@ impl<D: Disk + Drop> Store<D> {
         ensures { result ≡ has self.now.held.starts self.now.held.run event.now }
     {
         self.held.has(event)
+    }
+
+    /// Where a case stands among all cases, by type and place.
+    pub fn place_of(&self, case: CaseId) -> Option<usize>
+        ensures { result ≡ place_of self.now.held.starts case }
+    {
+        self.held.place_of(case)
     }
 
     /// Whether a step failed on the disk, or the memory for a group was wanting when some of its calls were made.
