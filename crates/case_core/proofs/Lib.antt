@@ -15,3 +15,4 @@ pub mod ItemLoops
 pub mod Moving
 pub mod KeptHolders
 pub mod Opened
+pub mod Copies

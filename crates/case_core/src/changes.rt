@@ -35,6 +35,7 @@ impl Live {
         requires live { IsLive (T.kept trail.old) self.old }
         requires few { length self.old.own + length ops.now < 2 ^ 32 }
         ensures kept { IsLive (T.kept trail.new) self.new }
+        ensures trail { T.kept trail.new ≡ T.kept trail.old }
         ensures live { IfOk result (λ replies. live_in (T.kept trail.new) self.new ≡ (change_live (live_in (T.kept trail.old) self.old) ops.now).0) }
         ensures first { IfOk result (λ replies. replies.0 ≡ (change_live (live_in (T.kept trail.old) self.old) ops.now).1) }
         ensures second { IfOk result (λ replies. replies.1 ≡ (change_live (live_in (T.kept trail.old) self.old) ops.now).1) }
@@ -70,6 +71,7 @@ impl Live {
     ) -> Result<(Reply, Reply), NoMemory>
         requires { IsLive (T.kept trail.old) self.old }
         ensures kept { IsLive (T.kept trail.new) self.new }
+        ensures trail { T.kept trail.new ≡ T.kept trail.old }
         ensures live { IfOk result (λ replies. live_in (T.kept trail.new) self.new ≡ (migrate_live (live_in (T.kept trail.old) self.old) version.now).0) }
         ensures first { IfOk result (λ replies. replies.0 ≡ (migrate_live (live_in (T.kept trail.old) self.old) version.now).1) }
         ensures second { IfOk result (λ replies. replies.1 ≡ (migrate_live (live_in (T.kept trail.old) self.old) version.now).1) }
@@ -95,6 +97,41 @@ impl Live {
         }
     }
 
+    /// What the change would be answered: it is made of a copy, to which the trail is lent.
+    pub(crate) fn try_change<T: TrailKeep, L: Ledger>(
+        &self,
+        alloc: Global,
+        trail: &mut T,
+        steps: &mut Steps<L>,
+        ops: &Ops,
+    ) -> Result<Reply, NoMemory>
+        requires live { IsLive (T.kept trail.old) self.now }
+        requires few { length self.entry.now.own + length ops.now < 2 ^ 32 }
+        ensures reply { IfOk result (λ reply. reply ≡ (change_live (live_in (T.kept trail.old) self.entry.now) ops.now).1) }
+        ensures trail { T.kept trail.new ≡ T.kept trail.old }
+    {
+        let mut tried = self.of(trail).copy(alloc)?;
+        let (reply, _) = tried.change(alloc, trail, steps, ops)?;
+        Ok(reply)
+    }
+
+    /// What the migration would be answered: a copy is moved, to which the trail is lent.
+    pub(crate) fn try_migrate<T: TrailKeep, L: Ledger>(
+        &self,
+        alloc: Global,
+        trail: &mut T,
+        steps: &mut Steps<L>,
+        version: &Version,
+    ) -> Result<Reply, NoMemory>
+        requires { IsLive (T.kept trail.old) self.now }
+        ensures reply { IfOk result (λ reply. reply ≡ (migrate_live (live_in (T.kept trail.old) self.entry.now) version.now).1) }
+        ensures trail { T.kept trail.new ≡ T.kept trail.old }
+    {
+        let mut tried = self.of(trail).copy(alloc)?;
+        let (reply, _) = tried.migrate(alloc, trail, steps, version)?;
+        Ok(reply)
+    }
+
     // The case on another schema, where its trail replays on it; else the first entry that fails is named.
     fn take<T: TrailKeep, L: Ledger>(
         &mut self,
@@ -110,6 +147,7 @@ impl Live {
         requires own { applied base.schema own ≡ Ok schema.value }
         requires few { length own < 2 ^ 32 }
         ensures kept { IsLive (T.kept trail.new) self.new }
+        ensures trail { T.kept trail.new ≡ T.kept trail.old }
         ensures live { IfOk result (λ replies. live_in (T.kept trail.new) self.new ≡ (taken_on (live_in (T.kept trail.old) self.old) base own schema.value reply).0) }
         ensures first { IfOk result (λ replies. replies.0 ≡ (taken_on (live_in (T.kept trail.old) self.old) base own schema.value reply).1) }
         ensures second { IfOk result (λ replies. replies.1 ≡ (taken_on (live_in (T.kept trail.old) self.old) base own schema.value reply).1) }

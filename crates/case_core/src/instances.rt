@@ -21,6 +21,7 @@ use std::marker::{Brand, Model};
 use std::sync::ledger::{Blank, Ledger};
 use turn_cell::Machine;
 use wsm_lists::Steps;
+use wsm_ops::Ops;
 use wsm_schema::{NoMemory, State};
 use wsm_sound::{Checked, Version};
 use wsm_trail::{Trail, TrailKeep};
@@ -62,6 +63,103 @@ impl Instance<Trail> {
         ensures journals { JournalsKeep type_no }
     {
         Instance::with_trail(type_no, Trail::new(alloc))
+    }
+
+    /// An equal case, which shares the version and the schema.
+    pub fn copy(&self, alloc: Global) -> Result<Case, NoMemory>
+        ensures { IfOk result (λ new. new.state ≡ self.now.state) }
+    {
+        let trail = self.trail.copy(alloc)?;
+        match self.live() {
+            None => Ok(Instance {
+                type_no: self.type_no,
+                trail,
+                live: None,
+            }),
+            Some(live) => Ok(Instance {
+                type_no: self.type_no,
+                trail,
+                live: Some(live.copy(alloc)?),
+            }),
+        }
+    }
+
+    /// What the event would be answered. The case is as before.
+    pub fn try_step(&mut self, alloc: Global, event: &Event) -> Result<Reply, NoMemory>
+        requires room { age self.old.state + weight event.now ≤ 4000000000 }
+        ensures reply { IfOk result (λ reply. reply ≡ (next_case self.old.state event.now).1) }
+        ensures same { self.new.state ≡ self.old.state }
+    {
+        let _ = self.live();
+        self.try_counted::<Brand>(alloc, event, Blank::new(1))
+    }
+
+    // The same, with a count of the marks that are read. A change and a migration leave the trail as it is, so there it is not
+    // copied.
+    fn try_counted<L: Ledger>(
+        &mut self,
+        alloc: Global,
+        event: &Event,
+        blank: Blank,
+    ) -> Result<Reply, NoMemory>
+        requires room { age self.old.state + weight event.now ≤ 4000000000 }
+        requires name { blank.name ≡ L.name }
+        requires parts { blank.parts ≡ L.parts }
+        requires some { 0 < blank.parts }
+        ensures reply { IfOk result (λ reply. reply ≡ (next_case self.old.state event.now).1) }
+        ensures same { self.new.state ≡ self.old.state }
+    {
+        let mut steps = Steps::<L>::open(blank);
+        match event {
+            Event::Create(_) | Event::Start { .. } | Event::End { .. } | Event::Withdraw { .. } => {
+                self.try_on_copy(alloc, event)
+            }
+            Event::Change(ops) => self.try_change(alloc, ops, &mut steps),
+            Event::Migrate(version) => self.try_migrate(alloc, version, &mut steps),
+        }
+    }
+
+    // The event comes to a copy of the case.
+    fn try_on_copy(&self, alloc: Global, event: &Event) -> Result<Reply, NoMemory>
+        requires room { age self.now.state + weight event.now ≤ 4000000000 }
+        ensures { IfOk result (λ reply. reply ≡ (next_case self.now.state event.now).1) }
+    {
+        let mut copy = self.copy(alloc)?;
+        let (reply, _) = copy.step(alloc, event)?;
+        Ok(reply)
+    }
+
+    fn try_change<L: Ledger>(
+        &mut self,
+        alloc: Global,
+        ops: &Ops,
+        steps: &mut Steps<L>,
+    ) -> Result<Reply, NoMemory>
+        requires room { age self.old.state + weight (Event.Change ops.now) ≤ 4000000000 }
+        ensures reply { IfOk result (λ reply. reply ≡ (next_case self.old.state (Event.Change ops.now)).1) }
+        ensures same { self.new.state ≡ self.old.state }
+    {
+        match &self.live {
+            None => Ok(Reply::NoCase),
+            Some(live) => live.try_change(alloc, &mut self.trail, steps, ops),
+        }
+    }
+
+    fn try_migrate<L: Ledger>(
+        &mut self,
+        alloc: Global,
+        version: &Version,
+        steps: &mut Steps<L>,
+    ) -> Result<Reply, NoMemory>
+        ensures reply { IfOk result (λ reply. reply ≡ (next_case self.old.state (Event.Migrate version.now)).1) }
+        ensures same { self.new.state ≡ self.old.state }
+    {
+        let is_of_another_type = self.is_of_another_type(version);
+        match &self.live {
+            None => Ok(Reply::NoCase),
+            Some(_) if is_of_another_type => Ok(Reply::OtherType),
+            Some(live) => live.try_migrate(alloc, &mut self.trail, steps, version),
+        }
     }
 
     /// What was started and ended. None where the case is not created. Each node has one Start, one End and one Again there,

@@ -51,6 +51,23 @@ impl Live {
         }
     }
 
+    /// An equal case, which shares the version and the schema, without further room.
+    pub(crate) fn copy(&self, alloc: Global) -> Result<Live, NoMemory>
+        ensures base { IfOk result (λ new. new.base ≡ self.entry.now.base) }
+        ensures own { IfOk result (λ new. new.own ≡ self.entry.now.own) }
+        ensures schema { IfOk result (λ new. new.now.value ≡ self.entry.now.now.value) }
+        ensures marks { IfOk result (λ new. new.marks.rows ≡ self.entry.now.marks.rows) }
+        ensures items { IfOk result (λ new. new.items.rows ≡ self.entry.now.items.rows) }
+    {
+        Ok(Live {
+            base: self.base.share()?,
+            own: self.own.copy(alloc)?,
+            now: Arc::try_clone(&self.now)?,
+            marks: self.marks.copy(alloc)?,
+            items: self.items.copy(alloc)?,
+        })
+    }
+
     /// The case with its trail.
     pub(crate) fn of<'a, T: TrailKeep>(&'a self, trail: &'a T) -> LiveOf<'a, T>
         requires { IsLive (T.kept trail.now) self.now }

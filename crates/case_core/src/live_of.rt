@@ -2,6 +2,7 @@
 ghost use Rattle.std.specs.Prelude.{◌≡◌, ℕ, ◌+◌, ◌<◌, ◌≤◌, ◌^◌, Some, length, IfOk};
 ghost use Rattle.std.specs.Option.{option_copied};
 ghost use Rattle.case_core.specs.CaseModel.{state_of, value_now};
+ghost use Rattle.case_core.specs.Instances.{IsLive, live_in};
 ghost use Rattle.case_core.specs.Kept.{IsOnceEach, Kept, marks_in};
 ghost use Rattle.case_core.specs.KeptItems.{held_in};
 ghost use Rattle.case_core.specs.Machine.{reads_now};
@@ -52,6 +53,15 @@ impl<'a, T: TrailKeep> Model for LiveOf<'a, T> {
 }
 
 impl<'a, T: TrailKeep> LiveOf<'a, T> {
+    /// What an equal case is besides its trail.
+    pub(crate) fn copy(&self, alloc: Global) -> Result<Live, NoMemory>
+        ensures kept { IfOk result (IsLive self.now.trail) }
+        ensures live { IfOk result (λ new. live_in self.now.trail new ≡ self.now) }
+    {
+        let _ = self.base();
+        self.live.copy(alloc)
+    }
+
     /// The version that the case stands on.
     pub fn base(&self) -> &'a Version
         ensures base { result.now ≡ self.now.base }

@@ -43,6 +43,17 @@ impl Kind {
         }
     }
 
+    /// An equal type, which shares the versions.
+    pub fn copy(&self, alloc: Global) -> Result<Kind, NoMemory>
+        ensures { IfOk result (λ new. new ≡ self.now) }
+    {
+        let _ = self.newest();
+        Ok(Kind {
+            type_no: self.type_no,
+            versions: Listing::from_vec(shared(alloc, self.versions.as_slice())?),
+        })
+    }
+
     /// The newest version, where the type is defined.
     pub fn newest(&self) -> Option<&Version>
         ensures { option_copied result ≡ newest_of self.now.versions }
@@ -120,6 +131,17 @@ impl Kind {
             Err(refusal) => both(KindReply::Unsound(refusal.fault()?)),
         }
     }
+}
+
+// Equal versions, each of which shares its schema and its lineage.
+fn shared(alloc: Global, versions: &[Version]) -> Result<Vec<Version>, NoMemory>
+    ensures { IfOk result (λ new. new.items ≡ versions.now) }
+{
+    let mut all = Vec::with_capacity(alloc, versions.len())?;
+    for version in versions {
+        all.push(version.share()?)?;
+    }
+    Ok(all)
 }
 
 /// A type has at most so many versions.
