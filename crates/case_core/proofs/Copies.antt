@@ -1,5 +1,5 @@
 -- A copy of what a case is besides its trail is that of the same case.
-use Rattle.std.proofs.Common.{◌≡◌, ◌∙◌, List, refl, ap, sym, subst}
+use Rattle.std.proofs.Common.{◌≡◌, ◌∙◌, List, Result, Ok, Err, IfOk, refl, ap, sym, subst}
 use Rattle.case_core.proofs.KeptItems.{keeps-of, told-of}
 use Rattle.case_core.specs.CaseModel.{LiveModel}
 use Rattle.case_core.specs.Instances.{IsLive, live_in}
@@ -11,16 +11,21 @@ use Rattle.wsm_schema.specs.SchemaModel.{SchemaModel}
 use Rattle.wsm_schema.specs.Trail.{TrailModel}
 use Rattle.wsm_sound.specs.VersionModel.{VersionModel}
 
-made : TrailModel → VersionModel → List Op → SchemaModel → LiveModel
+abbrev made : TrailModel → VersionModel → List Op → SchemaModel → LiveModel
 made t base own schema = record { base = base; own = own; schema = schema; trail = t }
 
-pub copied-case : (t : TrailModel) (l new : Live) → new.base ≡ l.base → new.own ≡ l.own → new.now.value ≡ l.now.value → live_in t new ≡ live_in t l
+copied-case : (t : TrailModel) (l new : Live) → new.base ≡ l.base → new.own ≡ l.own → new.now.value ≡ l.now.value → live_in t new ≡ live_in t l
 copied-case t l new base own schema =
     ap (λ (b : VersionModel). made t b new.own new.now.value) base ∙ ap (λ (o : List Op). made t l.base o new.now.value) own ∙ ap (λ (s : SchemaModel). made t l.base l.own s) schema
 
-pub copied-live : (t : TrailModel) (l new : Live) → live_in t new ≡ live_in t l → new.marks.rows ≡ l.marks.rows → new.items.rows ≡ l.items.rows → IsLive t l → IsLive t new
+copied-live : (t : TrailModel) (l new : Live) → live_in t new ≡ live_in t l → new.marks.rows ≡ l.marks.rows → new.items.rows ≡ l.items.rows → IsLive t l → IsLive t new
 copied-live t l new case marks items is =
     let same : live_in t l ≡ live_in t new = sym case in
     let rows : new.marks.rows ≡ marks_in (live_in t new) = marks ∙ is.1.0 ∙ ap marks_in same in
     let keeps : KeepsItems (live_in t new) l.items.rows = keeps-of (live_in t l) (live_in t new) same l.marks.rows is.1.0 l.items.rows is.1.1 in
     (subst Kept same is.0, (rows, told-of (live_in t new) (live_in t new) refl new.marks.rows rows new.items.rows (subst (KeepsItems (live_in t new)) (sym items) keeps)))
+
+pub live-copied : {X : Type 0} (t : TrailModel) (l : Live) (r : Result Live X) → IsLive t l → IfOk r (λ n. n.base ≡ l.base) → IfOk r (λ n. n.own ≡ l.own) → IfOk r (λ n. n.now.value ≡ l.now.value)
+    → IfOk r (λ n. n.marks.rows ≡ l.marks.rows) → IfOk r (λ n. n.items.rows ≡ l.items.rows) → IfOk r (IsLive t)
+live-copied t l (Ok n) is base own schema marks items = copied-live t l n (copied-case t l n base own schema) marks items is
+live-copied t l (Err e) is base own schema marks items = tt
