@@ -1,5 +1,5 @@
 -- A copy of what a case is besides its trail is that of the same case.
-use Rattle.std.proofs.Common.{◌≡◌, ◌∙◌, List, Result, Ok, Err, IfOk, refl, ap, sym, subst}
+use Rattle.std.proofs.Common.{◌≡◌, ◌∙◌, List, Option, Some, None, Result, Ok, Err, IfOk, option_map, refl, ap, sym, subst}
 use Rattle.case_core.proofs.KeptItems.{keeps-of, told-of}
 use Rattle.case_core.specs.CaseModel.{LiveModel}
 use Rattle.case_core.specs.Instances.{IsLive, live_in}
@@ -29,3 +29,8 @@ pub live-copied : {X : Type 0} (t : TrailModel) (l : Live) (r : Result Live X) �
     → IfOk r (λ n. n.marks.rows ≡ l.marks.rows) → IfOk r (λ n. n.items.rows ≡ l.items.rows) → IfOk r (IsLive t)
 live-copied t l (Ok n) is base own schema marks items = copied-live t l n (copied-case t l n base own schema) marks items is
 live-copied t l (Err e) is base own schema marks items = tt
+
+-- a created case has the trail that it is kept with
+pub trail-of : (t : TrailModel) (o : Option Live) (l : LiveModel) → option_map (live_in t) o ≡ Some l → t ≡ l.trail
+trail-of t None l is = absurd (cc (is))
+trail-of t (Some x) l is = let same : live_in t x ≡ l = cc (is) in ap (λ (k : LiveModel). k.trail) same

@@ -106,7 +106,7 @@ impl Live {
         ops: &Ops,
     ) -> Result<Reply, NoMemory>
         requires live { IsLive (T.kept trail.old) self.now }
-        requires few { length self.entry.now.own + length ops.now < 2 ^ 32 }
+        requires few { length self.now.own + length ops.now < 2 ^ 32 }
         ensures reply { IfOk result (λ reply. reply ≡ (change_live (live_in (T.kept trail.old) self.entry.now) ops.now).1) }
         ensures trail { T.kept trail.new ≡ T.kept trail.old }
     {
