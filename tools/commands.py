@@ -49,6 +49,11 @@ def program(named, name="adept_main"):
     return [named.stdout.decode().rstrip("\n")]
 
 
+def shell_status(status):
+    """The status of a program as a shell tells it, where it was killed too."""
+    return status if status >= 0 else 128 - status
+
+
 def read(words, doc):
     """The bytes of the one file that the words name, or of standard input, where there is none or -."""
     if len(words) > 1:
