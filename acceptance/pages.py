@@ -1,16 +1,20 @@
 """Tries tools/page on the examples: what stands in a page is what the file and its report say, and it loads nothing.
 
-What a browser shows of it is tried by trials/page.
+A page of a store is that of the file that it holds, and so are its tables (tools/table). What a browser shows of a page is tried
+by trials/page.
 """
 import glob
 import json
 import os
 import re
 import subprocess
+import tempfile
 
 HERE = os.path.dirname(os.path.realpath(__file__))
 TOP = os.path.dirname(HERE)
-PAGE = os.path.join(TOP, "tools", "page")
+PAGE, TABLE = (os.path.join(TOP, "tools", name) for name in ("page", "table"))
+# A file of format 3, which a server makes the same of.
+GROWING = os.path.join(TOP, "examples", "help-desk.adept")
 TEXT = """adept 1
 type t
 act a
@@ -82,8 +86,38 @@ def single(command):
     return None if status == 0 and {"sift-flour", "write-card", "candles"} <= set(own) and "dough" not in own else "own nodes: %r" % own
 
 
-def tried(command):
-    """The name of each case with what differs, or None."""
+def of_store(command, server):
+    """What a page or a table of a store has otherwise than those of its file."""
+    def unnumbered(data):
+        for cell in (*data["types"], *data["cases"]):
+            cell["journal"] = [[number, *rest] for number, _, *rest in cell["journal"]]
+        return {**data, "place": ""}
+
+    with tempfile.TemporaryDirectory(prefix="acceptance-") as folder, open(GROWING, "rb") as file:
+        store = os.path.join(folder, "store")
+        subprocess.run([server, store], stdin=file, stdout=subprocess.DEVNULL, check=True)
+        status, page, said = page_of([server], "--store", store)
+        wanted = data_of(page_of(command, GROWING)[1])
+        if status or unnumbered(data_of(page)) != unnumbered(wanted) or data_of(page)["place"] != "unit":
+            return "the page of a store: status %d, %s" % (status, said)
+        with open(GROWING[:-len("adept")] + "report", "rb") as report:
+            right = subprocess.run([TABLE, "--file", GROWING, "--json"], stdin=report, stdout=subprocess.PIPE).stdout
+        found = subprocess.run([TABLE, "--program", server, "--store", store, "--json"], stdout=subprocess.PIPE).stdout
+        if json.loads(found) != json.loads(right):
+            return "the tables of a store: wanted %r, got %r" % (right[:200], found[:200])
+        for tool in (PAGE, TABLE):
+            done = subprocess.run([tool, "--program", server, "--store", store + "s"], stdout=subprocess.PIPE, stderr=subprocess.PIPE)
+            if (done.returncode, done.stdout, os.path.exists(store + "s")) != (3, b"", False):
+                return "a store that is not there: %d, %r" % (done.returncode, done.stdout)
+    return None
+
+
+def tried(command, server):
+    """The name of each case with what differs, or None. Stores are made where there is a server."""
     for path in sorted(glob.glob(os.path.join(TOP, "examples", "*.adept"))):
         yield "page of " + os.path.relpath(path, TOP), what_differs(command, path)
     yield "pages", single(command)
+    if server:
+        yield "page and tables of a store", of_store(command, server)
+    else:
+        print("not tried pages of stores: there is no proved serve_main", flush=True)

@@ -1,24 +1,28 @@
 """What is wrong with a process file: each refusal of the program, with the word, what may stand there, and the way out.
 
-What is refused is asked of the program, `adept check`: of the file as it is, and then of the file with its first mistake
-mended, so that the next one is told. A mend is no advice: it is the least that lets the program read on.
+What is refused is asked of a program (asking.py): of the file as it is, and then of the file with its first mistake mended, so
+that the next one is told. A mend is no advice: it is the least that lets the program read on. What is said to a server is a
+file too, behind names that are declared already.
 """
 import re
-import subprocess
 import time
 
 import faults
 import line_forms
+from asking import Unanswered, text_of as decoded
 from line_forms import KINDS, is_kind, nearest
 from processes import GROUPS, RESERVED, WORD, words_of
 
 MOST_MISTAKES, MOST_SECONDS, MOST_NAMES = 100, 60, 12
+# How names begin that a mend puts in: of these nothing is told.
+MADE_UP = "put-in-"
 LISTED = ("sync", "element", "read", "write", "end")
+# How many there may be, and what one more is; of types, actors and cases the program that is asked has how many.
 LIMITS = {
-    "types": (64, "a type"), "actors": (32, "an actor"), "cases": (4096, "a case"), "phases": (256, "a phase"),
+    "types": (None, "a type"), "actors": (None, "an actor"), "cases": (None, "a case"), "phases": (256, "a phase"),
     "lines": (60000, "a script line"), "installs": (1024, "an install"), "ops": (256, "an operation of this group"),
     "migrations": (65536, "a migration: each migrate line counts the cases of its type that stand before it"),
-    "roles": (32, "a role of this actor"), "depth": (64, "a block inside blocks"),
+    "roles": (32, "a role of this actor"), "depth": (64, "a block inside blocks"), "bytes": (8388608, "a byte of one item"),
 }
 WAYS = {
     "roles": "Let one role stand for several.", "depth": "Close blocks, or put what stands inside into a type of its own.",
@@ -46,16 +50,20 @@ class Mistake:
 
 
 def text_of(row):
-    return row.text.decode("utf-8", "surrogateescape").rstrip("\r")
+    return decoded(row.text).rstrip("\r")
 
 
 def known(names):
     """Names that are known, as words; of many those that come first."""
-    names = list(names)
     if not names:
         return "none is known here"
     listed = ", ".join("`%s`" % name for name in names[:MOST_NAMES])
     return "known here: " + listed + (" and %d more" % (len(names) - MOST_NAMES) if len(names) > MOST_NAMES else "")
+
+
+def in_line(row):
+    """Where something is, behind a word: in a line, or before all."""
+    return " in line %d" % row.number if row and row.number else ""
 
 
 class Here:
@@ -113,13 +121,15 @@ class Here:
 
 
 class Draft:
-    """A file as it was mended so far, and the program that is asked about it."""
+    """A file as it was mended so far, and the program that is asked about it. `before` are lines that are no part of it and stand
+    before it, and `declared` the names that are declared there, of each kind all, though the lines need not have all."""
 
-    def __init__(self, data, program):
+    def __init__(self, data, asked, before=(), declared=None):
         pieces = data.split(b"\n")
         self.is_ended = pieces[-1] == b""
-        self.rows = [Row(number, text) for number, text in enumerate(pieces[:-1] if self.is_ended else pieces, 1)]
-        self.program, self.fresh, self.began = program, 0, time.monotonic()
+        self.rows = [Row(None, text) for text in before]
+        self.rows += [Row(number, text) for number, text in enumerate(pieces[:-1] if self.is_ended else pieces, 1)]
+        self.asked, self.declared, self.fresh, self.began = asked, declared or {}, 0, time.monotonic()
         self.format = next((words[-1] for words in map(words_of, map(text_of, self.rows)) if words), "1")
         line_forms.of_format(self.format)
 
@@ -128,18 +138,18 @@ class Draft:
         rows = self.rows if rows is None else rows
         is_ended = self.is_ended if is_ended is None else is_ended
         data = b"".join(row.text + b"\n" for row in rows)
-        given = data if is_ended else data[:-1]
-        done = subprocess.run([*self.program, "check"], input=given, stdout=subprocess.PIPE, stderr=subprocess.PIPE)
-        said = re.match(r"adept: line (\d+): (.*)\n", done.stderr.decode())
-        if done.returncode == 1 and said:
-            return int(said.group(1)) - 1, said.group(2)
-        if done.returncode:
-            raise Stopped(done.stderr.decode().strip() or "the program ended with status %d" % done.returncode)
-        return None
+        try:
+            return self.asked.refusal(data if is_ended else data[:-1])
+        except Unanswered as why:
+            raise Stopped(str(why)) from None
+
+    def known(self, kind, here):
+        """The names of a kind that are known before a row, as words."""
+        return known(list(dict.fromkeys([*self.declared.get(kind, ()), *here.names[kind]])))
 
     def has_form(self, at, words):
-        """Whether the program finds a form for the line, were it these words."""
-        refusal = self.ask([*self.rows[:at], Row(None, " ".join(words).encode("utf-8", "surrogateescape"))], True)
+        """Whether the program finds a form for the line, were it these words; a group is not read before it is closed."""
+        refusal = self.ask([*self.rows[:at], Row(None, " ".join(words).encode("utf-8", "surrogateescape")), Row(None, b"end")], True)
         return refusal is None or refusal[0] > at or refusal[0] == at and refusal[1] != "form"
 
     def put(self, at, *texts):
@@ -157,7 +167,7 @@ class Draft:
 
     def name(self):
         self.fresh += 1
-        return "put-in-%d" % self.fresh
+        return MADE_UP + str(self.fresh)
 
     def before_phases(self):
         """The place of the first phase, or the end."""
@@ -406,7 +416,8 @@ def limit(draft, at, why):
     if kind in ("name", "text"):
         return too_long(draft, row, why, kind, words)
     most, what = LIMITS[kind]
-    says = "This is %s past the limit of %s. %s" % (what, format(most, ","), WAYS.get(kind, "Divide the file into several."))
+    most = most or draft.asked.most[kind]
+    says = "This is %s past the limit of %s. %s" % (what, format(most, ","), WAYS.get(kind, draft.asked.larger))
     if kind == "roles":
         row.text = " ".join(words[:3 + most]).encode()
         return Mistake(row, why, words[3 + most:], [says])
@@ -445,9 +456,12 @@ def unknown(draft, at, why):
     missing = [(word, kind) for word, kind in wanted if word not in here.names[kind]]
     says = []
     for word, kind in missing:
+        if word.startswith(MADE_UP):
+            declare(draft, draft.declaring(draft.rows.index(row)), here, word, kind)
+            continue
         rows = [other for other in draft.rows if other.number and other.number > row.number and word in words_of(text_of(other))]
         later = [other for other in rows if words_of(text_of(other))[:2] == [kind, word]]
-        says.append("No %s `%s` is declared before this line; %s." % (kind, word, known(here.names[kind])))
+        says.append("No %s `%s` is declared before this line; %s." % (kind, word, draft.known(kind, here)))
         if later:
             says.append("Line %d declares it: put that line before this one." % later[0].number)
             draft.move(draft.rows.index(later[0]), draft.declaring(draft.rows.index(row)))
@@ -456,7 +470,7 @@ def unknown(draft, at, why):
         more = len(rows) - len(later)
         if more > 0:
             says.append("It stands on %d further line%s." % (more, "" if more == 1 else "s"))
-    return Mistake(row, why, [word for word, _ in missing], says)
+    return Mistake(row, why, [word for word, _ in missing], says) if says else None
 
 
 def declare(draft, place, here, word, kind):
@@ -477,13 +491,13 @@ def twice(draft, at, why):
     words = words_of(text_of(row))
     if here.type:
         first = here.seen.get((words[0], *words[1:2 if words[0] == "element" else 3]))
-        says = "The same %s stands in line %s already: leave one of them out." % (words[0], first.number if first else "?")
+        says = "The same %s stands%s already: leave one of them out." % (words[0], in_line(first))
         faulty = words[1:3]
         draft.drop(at)
     else:
         first = here.names[words[0]].get(words[1])
-        says = "A%s %s `%s` is declared in line %s already: give this one another name, or leave it out." % (
-            "n" if words[0] == "actor" else "", words[0], words[1], first.number if first else "?")
+        says = "A%s %s `%s` is declared%s already: give this one another name, or leave it out." % (
+            "n" if words[0] == "actor" else "", words[0], words[1], in_line(first))
         faulty = words[1:2]
         row.text = ("type " + draft.name()).encode() if words[0] == "type" else b""
     return Mistake(row, why, faulty, [says], [first] if first else [])
@@ -509,7 +523,7 @@ def unsound(draft, at, why):
         told.mend(draft)
     mistake = Mistake(row, why, [], told.says, told.rows)
     mistake.shown = ""
-    return None if "put-in-" in why else mistake
+    return None if MADE_UP in why else mistake
 
 
 KINDS_OF_REFUSAL = {"header": header, "unended": unended, "not-text": not_text, "form": form, "limit": limit,
@@ -527,7 +541,7 @@ def found(draft):
         row = draft.rows[at] if at < len(draft.rows) else None
         if row and row.number is None or (row is None and refusal == last):
             raise Stopped("What else is wrong behind this cannot be told before it is mended.")
-        if told == MOST_MISTAKES or time.monotonic() - draft.began > MOST_SECONDS:
+        if told and (told == MOST_MISTAKES or time.monotonic() - draft.began > MOST_SECONDS):
             raise Stopped("There may be more: mend these first.")
         last = refusal
         if row:

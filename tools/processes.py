@@ -336,6 +336,11 @@ class Report:
             else:
                 cell.take(words)
 
+    @staticmethod
+    def of_case(rows):
+        """A case by the lines that a report has of it."""
+        return next(iter(Report("\n".join(["", *rows, ""])).cases.values()))
+
     def cells(self):
         yield from ((("type", name), cell) for name, cell in self.types.items())
         yield from ((("case", name), cell) for name, cell in self.cases.items())

@@ -1,15 +1,17 @@
-"""What is told of a file that the program takes: the calls that its cases and types refuse, and what no command tells of.
+"""What is told of a file that a program takes: the calls that its cases and types refuse, and what no command tells of.
 
-What is refused, and how a case stands before that, is asked of the program: `adept play` of the file, and of its lines before
-the call. What the call would have needed is read off the blocks of the case and its journal.
+What is refused, and how a case stands before that, is asked of the program (asking.py). What the call would have needed is read
+off the blocks of the case and its journal.
 """
 import collections
-import subprocess
 
 import faults
+import talks
+from asking import text_of
 from processes import File, Report, along, role_of
+from telling import BOLD, LONGEST, RED, YELLOW, in_colour, shown
 
-MOST_TOLD, MOST_ASKED, MOST_NAMES = 100, 60, 12
+MOST_TOLD, MOST_NAMES = 100, 12
 
 
 class Call:
@@ -22,6 +24,16 @@ class Call:
     def node(self):
         return self.line.rest[0]
 
+    def kind(self):
+        return "case" if self.cell.kind else "type"
+
+    def at(self, line):
+        return self.asked.place(line.number) if line else "before"
+
+    def is_waiting(self):
+        """Whether what it waits for is told by how the case stands."""
+        return self.reply[:2] in (["not-ready", "N"], ["not-running", "N"])
+
     def last(self, verbs, node=None, replies=("started", "ended", "repeated", "created")):
         """The line of the last call of that kind that was accepted before, or None."""
         for entry in reversed(self.before):
@@ -31,26 +43,67 @@ class Call:
 
 
 class Asked:
-    """A file, its report, and how its cases stand before a line."""
+    """A file, its report, and how its cases stand before a line, as a program tells them."""
 
-    def __init__(self, data, program):
-        self.data, self.program, self.count, self.states = data, program, 0, {}
-        self.file = File(data.decode("utf-8", "surrogateescape"))
-        self.report = self.play(data).join(self.file)
+    warned_of = ("open_orders", "lonely_roles", "idle")
 
-    def play(self, data):
-        done = subprocess.run([*self.program, "play"], input=data, stdout=subprocess.PIPE)
-        return Report(done.stdout.decode("utf-8", "surrogateescape"))
+    def __init__(self, data, program, report=None):
+        self.data, self.program, self.states = data, program, {}
+        self.rows = data.split(b"\n")
+        self.file = File(text_of(data))
+        self.report = Report(program.report(data) if report is None else report).join(self.file)
+
+    def look(self, calls):
+        """Asks how the cases of calls stood before them."""
+        wanted = {(call.line.number, call.cell.name) for call in calls if call.is_waiting()}
+        self.states.update(self.program.cells(self.data, wanted) if wanted else {})
 
     def before(self, number, name):
-        """The case as it stands before a line of the file, or None where that was asked too often."""
-        if number not in self.states:
-            if self.count == MOST_ASKED:
-                return None
-            self.count += 1
-            rows = self.data.split(b"\n")[:number - 1]
-            self.states[number] = self.play(b"".join(row + b"\n" for row in rows))
-        return self.states[number].cases[name]
+        """The case as it stands before a line of the file, or None where that was not asked."""
+        return self.states.get((number, name))
+
+    def text(self, number):
+        """What stands in a line."""
+        return shown(text_of(self.rows[number - 1]).strip())[:LONGEST]
+
+    # How a place in the file is told, and the ways out.
+
+    def place(self, number):
+        return "line %d" % number
+
+    def other(self, words):
+        """That a line is to come first."""
+        return "put `%s` before this line" % words
+
+    def joined(self, actor, roles):
+        """How somebody has these roles."""
+        return "declare `actor %s roles %s`" % (actor, " ".join(map(str, roles)))
+
+    def way(self, text):
+        """What is to be done with lines of a file that can be changed."""
+        return text
+
+
+class Held(Asked):
+    """What a server holds: what was said is not changed any more, and its units are counted."""
+
+    warned_of = ("lonely_roles", "idle")
+
+    def __init__(self, data, report, server):
+        super().__init__(data, server, report)
+        self.units = talks.units(data)
+
+    def place(self, number):
+        return "unit %d" % self.units[number]
+
+    def other(self, words):
+        return "say `%s` first" % words
+
+    def joined(self, _actor, roles):
+        return "declare somebody who has it, `actor NAME roles %s`" % roles[-1]
+
+    def way(self, text):
+        return ""
 
 
 def named(names, joint="and"):
@@ -60,8 +113,9 @@ def named(names, joint="and"):
     return listed[0] if len(listed) == 1 else ", ".join(listed[:-1]) + " %s %s" % (joint, listed[-1]) if listed else "nobody"
 
 
-def at_line(line):
-    return "line %d" % line.number if line else "before"
+def joined(*parts):
+    """What is said and a way out, where there is one."""
+    return ": ".join(part for part in parts if part) + "."
 
 
 # What to say of each reply.
@@ -102,8 +156,8 @@ def left_out(call, node):
     for block, code in call.schema.around(node):
         line = call.last(("end",), block.first) if block.kind == "xor" else None
         if line and line.rest[1:3] != ["choice", str(code)]:
-            return ["`%s` is left out: it stands in branch %s of `%s`, which line %d ended with choice %s." % (
-                node, code, block.first, line.number, " ".join(line.rest[2:3]))]
+            return ["`%s` is left out: it stands in branch %s of `%s`, which %s ended with choice %s." % (
+                node, code, block.first, call.at(line), " ".join(line.rest[2:3]))]
     return ["`%s` is left out: its branch was not chosen." % node]
 
 
@@ -115,9 +169,9 @@ def not_ready(call):
         return left_out(call, node)
     if letter == "C":
         says = "`%s` is done already, since %s: nothing is done twice but in a loop that goes on."
-        return [says % (node, at_line(call.last(("end",), node)))]
+        return [says % (node, call.at(call.last(("end",), node)))]
     started = call.last(("start",), node)
-    return ["`%s` is at work on `%s`, since line %d." % (started.actor, node, started.number)]
+    return ["`%s` is at work on `%s`, since %s." % (started.actor, node, call.at(started))]
 
 
 def not_running(call):
@@ -128,7 +182,7 @@ def not_running(call):
         return left_out(call, node)
     if letter == "N":
         return ["`%s` was not started. %s" % (node, waits(call, node)[0])]
-    return ["`%s` was not started: put `%s start %s %s` before this line." % (node, call.line.actor, call.cell.name, node)]
+    return ["`%s` was not started: %s." % (node, call.asked.other("%s start %s %s" % (call.line.actor, call.cell.name, node)))]
 
 
 def not_allowed(call):
@@ -137,14 +191,14 @@ def not_allowed(call):
     who = "which %s ha%s" % (named(holders), "s" if len(holders) == 1 else "ve") if holders else "which no actor has"
     has = "role " + ", ".join(map(str, roles)) if roles else "no role"
     return ["`%s` is for role %s, %s; `%s` has %s." % (call.node(), role, who, actor, has),
-            "Let somebody with the role do it, or declare `actor %s roles %s`." % (actor, " ".join(map(str, [*roles, role])))]
+            "Let somebody with the role do it, or %s." % call.asked.joined(actor, [*roles, role])]
 
 
 def not_holder(call):
     started = call.last(("start",), call.node())
     back = ", or gives it back (`withdraw`)" if call.asked.file.format != "1" else ""
     says = "`%s` is at work on `%s`, since %s, and alone may end it: `%s` ends it%s."
-    return [says % (call.reply[1], call.node(), at_line(started), call.reply[1], back)]
+    return [says % (call.reply[1], call.node(), call.at(started), call.reply[1], back)]
 
 
 def no_node(call):
@@ -154,14 +208,13 @@ def no_node(call):
 
 def no_case(call):
     name, line = call.cell.name, call.line
-    creates = [other.number for other in call.asked.file.script if other.verb == "create" and other.target == name]
-    later = [number for number in creates if number > line.number]
-    way = "line %d does that later" % later[0] if later else "put `%s create %s` before this line" % (line.actor, name)
+    later = [other for other in call.asked.file.script if other.verb == "create" and other.target == name and other.number > line.number]
+    way = "%s does that later" % call.at(later[0]) if later else call.asked.other("%s create %s" % (line.actor, name))
     return ["The case is not created at this point: %s." % way]
 
 
 def already(call):
-    return ["The case was created in %s: leave this line out." % at_line(call.last(("create",)))]
+    return [joined("The case was created in %s" % call.at(call.last(("create",))), call.asked.way("leave this line out"))]
 
 
 def wrong_writes(call):
@@ -195,7 +248,7 @@ def no_branch(call):
 
 
 def finished(call):
-    return ["The case is finished, and neither changes nor moves any more: put the line before its last `end`."]
+    return [joined("The case is finished, and neither changes nor moves any more", call.asked.way("put the line before its last `end`"))]
 
 
 def unsound(call):
@@ -204,20 +257,20 @@ def unsound(call):
     if call.line.verb == "migrate":
         return ["With the case's own operations the new version would be unsound: %s." % " ".join(fault)]
     says, keys = faults.explained(fault, schema)
-    shown = []
+    found = []
     for key in keys:
         number = ops[key[1] - 1][0] if key[0] == "op" else schema.lines.get(key)
         if number:
-            shown.append("line %d: %s" % (number, call.asked.data.split(b"\n")[number - 1].decode("utf-8", "replace").strip()))
-    return [*dict.fromkeys(shown), *says]
+            found.append("%s: %s" % (call.asked.place(number), call.asked.text(number)))
+    return [*dict.fromkeys(found), *says]
 
 
 def blocked(call):
     verb, node = call.reply[2], " ".join(call.reply[3:])
     line = call.last((verb,), node) if verb in ("start", "end") else None
-    where = " (line %d)" % line.number if line else ""
+    where = " (%s)" % call.at(line) if line else ""
     says = "`%s %s`%s is done already, and could not have been done where that change holds: what is done stays done."
-    return [says % (verb, node, where), "Change what comes behind it, or change the case before that line."]
+    return [says % (verb, node, where), "Change what comes behind it%s." % call.asked.way(", or change the case before that line")]
 
 
 def overlap(call):
@@ -258,20 +311,25 @@ def refused(asked):
                 before.append(entry)
 
 
-def show_calls(asked, in_colour):
+def told(call):
+    """What is told of a refused call: the reply, and sentences."""
+    of_case = "`%s`: " % call.cell.name if call.line.verb == "migrate" and call.cell.kind else ""
+    yield of_case + in_colour(RED, " ".join(call.reply))
+    for sentence in SAYS[call.reply[0]](call):
+        yield shown(sentence)
+
+
+def show_calls(asked):
     """Shows the refused calls in the order of their lines: how many there are."""
     calls = sorted(refused(asked), key=lambda call: call.line.number)
-    rows = asked.data.split(b"\n")
-    shown = None
+    last = None
+    asked.look(calls[:MOST_TOLD])
     for call in calls[:MOST_TOLD]:
-        if call.line.number != shown:
-            text = rows[call.line.number - 1].decode("utf-8", "replace").strip()
-            print("%s: %s" % (in_colour("\033[1m", "line %d" % call.line.number), text[:300]))
-            shown = call.line.number
-        of_case = "`%s`: " % call.cell.name if call.line.verb == "migrate" and call.cell.kind else ""
-        print("  %s%s" % (of_case, in_colour("\033[31m", " ".join(call.reply))))
-        for sentence in SAYS[call.reply[0]](call):
-            print("  " + sentence)
+        if call.line.number != last:
+            last = call.line.number
+            print("%s: %s" % (in_colour(BOLD, asked.place(last)), asked.text(last)))
+        for line in told(call):
+            print("  " + line)
     if len(calls) > MOST_TOLD:
         print("%d more calls are refused." % (len(calls) - MOST_TOLD))
     return len(calls)
@@ -311,12 +369,12 @@ def lonely_roles(asked):
         roles[role].setdefault(node, number)
     for role, nodes in roles.items():
         if not asked.file.holders(role):
-            says = "no actor has role %d, so nobody may do %s: declare `actor NAME roles %d`, or give the node another role."
+            says = "no actor has role %s, so nobody may do %s: declare `actor NAME roles %s`, or give the node another role."
             yield min(nodes.values()), says % (role, named(nodes), role)
     for actor, own in asked.file.actors.items():
         for role in own:
             if role not in roles and role:
-                yield asked.file.numbers["actor", actor], "`%s` has role %d, which no node asks for." % (actor, role)
+                yield asked.file.numbers["actor", actor], "`%s` has role %s, which no node asks for." % (actor, role)
 
 
 def idle(asked):
@@ -337,22 +395,23 @@ def idle(asked):
             yield number, "this migration moves none of its %d cases." % len(replies)
 
 
+WARNINGS = {"open_orders": open_orders, "lonely_roles": lonely_roles, "idle": idle}
+
+
 def traps_of(asked):
-    return sorted([*open_orders(asked), *lonely_roles(asked), *idle(asked)])
+    return sorted(trap for name in asked.warned_of for trap in WARNINGS[name](asked))
 
 
-def count(data, program):
+def count(asked):
     """How many calls are refused, and how many warnings there are."""
-    asked = Asked(data, program)
     return len(list(refused(asked))), len(traps_of(asked))
 
 
-def show(data, program, in_colour):
+def show(asked):
     """Shows what is refused while the file is worked, and what no command tells of: how much there is."""
-    asked = Asked(data, program)
-    count, traps = show_calls(asked, in_colour), traps_of(asked)
+    count, traps = show_calls(asked), traps_of(asked)
     for number, says in traps[:MOST_TOLD]:
-        print("%s: %s" % (in_colour("\033[1m", "line %d" % number), in_colour("\033[33m", "warning")))
+        print("%s: %s" % (in_colour(BOLD, asked.place(number)), in_colour(YELLOW, "warning")))
         print("  " + says[0].upper() + says[1:])
     if len(traps) > MOST_TOLD:
         print("%d more warnings." % (len(traps) - MOST_TOLD))

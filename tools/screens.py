@@ -5,32 +5,32 @@ which the last is none of an end where the other side ended; `left()`, the lines
 """
 import os
 import re
-import subprocess
 import sys
 
+import asking
+import reasons
 import talks
+import telling
 
-HERE = os.path.dirname(os.path.realpath(__file__))
-QUESTIONS = ["? report", "? type TYPE", "? case CASE", "? cases", "? cases TYPE", "? items", "? items ACTOR", "? types",
-             "? actors", "? count", "? last", "? lines"]
 GOOD = (b"defined", b"installed", b"is", b"created", b"started", b"ended", b"repeated", b"changed", b"migrated", b"withdrawn")
 MARKS = {b"C": 32, b"R": 33, b"A": 34}
 QUOTED = re.compile(rb'"(?:[^"\\]|\\.)*"')
-REFUSED = re.compile(rb"no (\d+) (.*)$")
 
 
 # How an answer is shown.
 
 def shown(line):
-    """The line without bytes that a terminal would not show: they are written as \\xNN."""
-    text = line.decode(errors="surrogateescape")
-    codes = ("\\x%02x" % (ord(char) & 255) if "\udc80" <= char <= "\udcff" else
-             "".join("\\x%02x" % byte for byte in char.encode()) if char < " " or "\x7f" <= char < "\xa0" else char for char in text)
-    return "".join(codes)
+    """The line without bytes that a terminal would not show."""
+    return telling.shown(asking.text_of(line))
 
 
 def painted(number, text):
     return "\033[%dm%s\033[0m" % (number, text)
+
+
+def reply_at(line):
+    """Where the reply begins, behind the arrow that stands in no quoted text; at most 3 where there is none."""
+    return QUOTED.sub(lambda found: b"x" * len(found[0]), line).find(b" -> ") + 4
 
 
 def coloured(line):
@@ -42,8 +42,7 @@ def coloured(line):
         return painted(90, text)
     if first == b"marking":
         return " ".join([shown(first), *(painted(MARKS.get(word[-1:], 90), shown(word)) for word in line.split()[1:])])
-    # the arrow that stands in no quoted text
-    at = QUOTED.sub(lambda found: b"x" * len(found[0]), line).find(b" -> ") + 4
+    at = reply_at(line)
     if at > 3:
         return shown(line[:at]) + painted(32 if line[at:].split(b" ", 1)[0] in GOOD else 31, shown(line[at:]))
     if first in (b"adept", b"type", b"case", b"summary"):
@@ -62,26 +61,28 @@ class Screen:
         print(self.show(line[:-1] if line.endswith(b"\n") else line), flush=True)
 
 
-# What is said beside a refusal.
+class Refusals:
+    """How many units and calls of a talk are refused, by the lines of its answers."""
 
-def forms_of(line):
-    """The forms that begin as a line does."""
-    words = [word.decode(errors="replace") for word in talks.words_of(line.rstrip(b"\n"))[:2]]
-    if words[:1] == ["?"]:
-        begin = [form for form in QUESTIONS if len(words) > 1 and form.split()[1] == words[1]]
-        return ["the questions are:" if not begin else "the questions that begin so:", *(begin or QUESTIONS)]
-    told = subprocess.run([os.path.join(HERE, "forms"), *words], stdout=subprocess.PIPE, check=False).stdout
-    return told.decode(errors="replace").splitlines()
+    def __init__(self):
+        self.units, self.calls, self.entries, self.is_repeated = 0, 0, 0, False
 
+    def take(self, line):
+        if talks.ends_answer(line):
+            self.units += line.startswith(b"no ")
+            # the answer to `? last` has entries that were told before
+            self.calls += 0 if self.is_repeated else self.entries
+            self.entries, self.is_repeated = 0, False
+            return
+        self.is_repeated = self.is_repeated or line.startswith(b"| ")
+        at = reply_at(line)
+        self.entries += at > 3 and line[:1] in b"tc" and line[at:].split()[0] not in GOOD
 
-def beside(answer, said):
-    """What is said of the refusal of an item with these lines."""
-    refused = REFUSED.match(answer)
-    if not refused or not 0 < int(refused[1]) <= len(said):
-        return []
-    line = said[int(refused[1]) - 1]
-    told = ["line %s is: %s" % (refused[1].decode(), shown(line.rstrip(b"\n"))[:200])] if len(said) > 1 else []
-    return told + (forms_of(line) if refused[2].strip() == b"form" else [])
+    def told(self, store):
+        if self.units:
+            yield "serve: %d refused: what is answered `no` is not kept" % self.units
+        if self.calls:
+            yield "serve: %d call%s refused: tools/explain --store %s says why" % (self.calls, "" if self.calls == 1 else "s", store)
 
 
 # The talk.
@@ -96,10 +97,11 @@ def typed(prompt):
 
 
 class Talk:
-    """A talk that is typed; `before` gives what stands in front of a prompt, `ready` the bytes that are sent for an item."""
+    """A talk that is typed; `before` gives what stands in front of a prompt, `ready` the bytes that are sent for an item. What is
+    said of refusals is asked of the other side, and of the server's program over stores of its own."""
 
-    def __init__(self, other, before=lambda: "", ready=lambda item: b"".join(item.lines)):
-        self.other, self.before, self.ready, self.screen = other, before, ready, Screen()
+    def __init__(self, other, before=lambda: "", ready=lambda item: b"".join(item.lines), program=None):
+        self.other, self.before, self.ready, self.screen, self.server = other, before, ready, Screen(), asking.Server(program)
 
     def run(self):
         """Goes on until the input ends, or the other side does."""
@@ -137,13 +139,28 @@ class Talk:
                 return item, True
 
     def show_answer(self, said):
-        """Shows the answer to an item, and says whether there was one."""
-        last = b""
-        for last in self.other.answer():
-            self.screen.put(last)
-        for line in beside(last, said):
-            print("  " + line, flush=True)
-        return talks.ends_answer(last)
+        """Shows the answer to an item, and why something in it is refused, and says whether there was one."""
+        answer = []
+        for line in self.other.answer():
+            self.screen.put(line)
+            answer.append(line.rstrip(b"\n"))
+        if not answer or not talks.ends_answer(answer[-1]):
+            return False
+        try:
+            for line in reasons.told(self.ask, self.server, said, answer):
+                print("  " + line, flush=True)
+        except Exception:
+            # a talk goes on where what is said beside it fails
+            pass
+        return True
+
+    def ask(self, talk):
+        """The answers to questions, a line each: the lines of each answer without line feeds."""
+        self.other.send(talk)
+        told = [[line.rstrip(b"\n") for line in self.other.answer()] for _ in range(talk.count(b"\n"))]
+        if not all(lines and talks.ends_answer(lines[-1]) for lines in told):
+            raise asking.Unanswered("the other side has ended")
+        return told
 
 
 def lines_of_answer(lines):

@@ -108,6 +108,21 @@ class Item:
         return bool(self.said) and not self.is_question()
 
 
+def units(data):
+    """Of each line of a process file, from 1, of which unit it is, counted as a server counts that is told it; 0 is the header's."""
+    found, line = {}, 1
+    for unit, item in enumerate(items(data)[0]):
+        for line in range(line, line + item.count(b"\n")):
+            found[line] = unit
+        line += 1
+    return found
+
+
+def is_question(item):
+    """Whether an item, as bytes, is a question."""
+    return next((words[0] == b"?" for words in map(words_of, item.split(b"\n")) if not is_skipped(words)), False)
+
+
 def items(data):
     """The items of a talk, each as bytes, and the rest behind them."""
     item, found = Item(), []
