@@ -1,6 +1,8 @@
--- Lines of one byte more.
-use Rattle.std.proofs.Common.{◌≡◌, ◌==◌, ℕ, ◌≤◌, Bool, true, false, if◌then◌else◌, List, [], ◌∷◌, ◌++◌, length, refl, ap, ◌∙◌, arith}
+-- Lines of more bytes.
+use Rattle.std.proofs.Common.{◌≡◌, ◌==◌, ℕ, ◌≤◌, Bool, true, false, if◌then◌else◌, List, [], ◌∷◌, ◌++◌, length, refl, sym, ap, ◌∙◌, append_assoc, arith}
+use Rattle.std.proofs.lemmas.List.{append-nil}
 use Rattle.file_words.specs.Lines.{Bytes, CutLines, lines_of, onto_lines, put_first}
+use Rattle.talk_items.specs.Scans.{HasNoFeed}
 
 onto-feed : (x : ℕ) (is : Bool) (lines : List Bytes) (left : Bytes)
     → (if is then record { ended = [] ∷ (lines ++ left ∷ []); left = [] } else put_first x (lines ++ left ∷ []) [])
@@ -29,6 +31,14 @@ first-byte b false is = refl
 pub lines-byte : (bs : Bytes) (b : ℕ) → (b == 10) ≡ false → lines_of (bs ++ b ∷ []) ≡ record { ended = (lines_of bs).ended; left = (lines_of bs).left ++ b ∷ [] }
 lines-byte [] b other = first-byte b (b == 10) other
 lines-byte (x ∷ bs) b other = ap (onto_lines x) (lines-byte bs b other) ∙ onto-byte x (x == 10) (lines_of bs).ended (lines_of bs).left b
+
+-- and behind bytes without a line feed it has these more
+pub lines-part : (bs part : Bytes) → HasNoFeed part → lines_of (bs ++ part) ≡ record { ended = (lines_of bs).ended; left = (lines_of bs).left ++ part }
+lines-part bs [] none = ap lines_of (append-nil bs) ∙ ap (λ (l : Bytes). let made : CutLines = record { ended = (lines_of bs).ended; left = l } in made) (sym (append-nil (lines_of bs).left))
+lines-part bs (b ∷ part) none =
+    ap lines_of (sym (append_assoc bs (b ∷ []) part)) ∙ lines-part (bs ++ b ∷ []) part none.1
+    ∙ ap (λ (l : CutLines). let made : CutLines = record { ended = l.ended; left = l.left ++ part } in made) (lines-byte bs b none.0)
+    ∙ ap (λ (l : Bytes). let made : CutLines = record { ended = (lines_of bs).ended; left = l } in made) (append_assoc (lines_of bs).left (b ∷ []) part)
 
 -- a line has no more lines than bytes
 pub lines-few : (bs : Bytes) → length (lines_of bs).ended ≤ length bs

@@ -1,19 +1,20 @@
--- What is known of the bytes of an item, with one byte more.
-use Rattle.std.proofs.Common.{◌≡◌, ◌≢◌, ◌==◌, inl, inr, ℕ, suc, ◌+◌, ◌<◌, ◌≤◌, Bool, true, false, not, if◌then◌else◌, List, [], ◌∷◌, ◌++◌, length, get_or, take, drop, Option, Some, None, add-one, drop-cons, zero-add, refl, sym, ap, ◌∙◌, append_assoc, arith, length-append}
-use Rattle.std.specs.Prelude.{◌||◌, min, nat_lt, option_map}
+-- What is known of the bytes of an item, with more of them.
+use Rattle.std.proofs.Common.{◌≡◌, ◌==◌, inl, inr, ℕ, suc, ◌+◌, ◌≤◌, Bool, true, false, not, if◌then◌else◌, List, [], ◌∷◌, ◌++◌, length, take, drop, Option, Some, None, drop-drop, take-add, take-append-drop, zero-add, refl, sym, ap, ◌∙◌, append_assoc, arith, length-append}
+use Rattle.std.specs.Prelude.{◌&&◌, ◌||◌, min, nat_lt, option_map}
 use Rattle.std.specs.List.{filter}
-use Rattle.std.proofs.lemmas.Bool.{cases_lt, eqb-true, false_from_ne_true, le-ltb, lt-ltb}
-use Rattle.std.proofs.lemmas.List.{append-nil, drop_all, length-take, take-append-le, take_all, take_more}
+use Rattle.std.proofs.lemmas.Bool.{cases_lt, le-ltb, lt-ltb}
+use Rattle.std.proofs.lemmas.List.{append-nil, length-take, take-append-le, take_all}
 use Rattle.std.proofs.lemmas.List.Elements.{filter-append}
 use Rattle.std.proofs.lemmas.List.Sums.{count_by-le-length, length-filter}
 use Rattle.file_words.specs.Lines.{Bytes, lines_of}
 use Rattle.talk_items.specs.Items.{counted, ends, ends_line, first_kind, is_skipped, item_end, kind_of, place_behind, place_of, words}
-use Rattle.talk_items.specs.Scans.{IsScan, counted_with, first_with}
+use Rattle.talk_items.specs.Scans.{HasNoFeed, IsScan, counted_with, first_with}
 use Rattle.talk_items.specs.declared.items.ItemKind.{ItemKind}
 use Rattle.talk_items.specs.declared.items.Place.{Place}
 use Rattle.talk_items.specs.declared.items.Place.TheVariants as places
 use Rattle.talk_items.specs.declared.limits.TheConstants.{MAX_ITEM}
-use Rattle.talk_items.proofs.LinesMore.{lines-byte, lines-feed, lines-few}
+use Rattle.talk_items.proofs.Feeds.{IsFirstFeed}
+use Rattle.talk_items.proofs.LinesMore.{lines-byte, lines-feed, lines-few, lines-part}
 
 place-more : (place : Place) (lines : List Bytes) (line : Bytes) → place_of place (lines ++ line ∷ []) ≡ place_behind (place_of place lines) (words line)
 place-more place [] line = refl
@@ -58,6 +59,12 @@ count-byte n bs b other = elim (cases_lt (length bs) n) [
   | inr ge ↦ sym (counted-long n bs (b ∷ []) (omega (arith, ge)))
 ]
 
+-- bytes without a line feed
+count-part : (n : ℕ) (bs part : Bytes) → HasNoFeed part → said (lines_of (take n bs)).ended ≡ said (lines_of (take n (bs ++ part))).ended
+count-part n bs [] none = ap (λ l. said (lines_of (take n l)).ended) (sym (append-nil bs))
+count-part n bs (b ∷ part) none =
+    count-byte n bs b none.0 ∙ count-part n (bs ++ b ∷ []) part none.1 ∙ ap (λ l. said (lines_of (take n l)).ended) (append_assoc bs (b ∷ []) part)
+
 -- a line feed: the line counts where it ends within so many bytes
 count-feed : (n : ℕ) (bs : Bytes) (len : ℕ) → len ≡ min n (min (length bs) (n + 1)) + 1
     → (if nat_lt n len || is_skipped (words (lines_of bs).left) then said (lines_of (take n bs)).ended else said (lines_of (take n bs)).ended + 1) ≡ said (lines_of (take n (bs ++ 10 ∷ []))).ended
@@ -85,16 +92,16 @@ few-counted bs =
 pub none-scanned : IsScan [] places.Front None 0 0 []
 none-scanned = record { stands = refl; is_first = refl; count_is = refl; len_is = omega arith; left = refl }
 
-pub byte-scanned : (bytes : Bytes) (place : Place) (first : Option ItemKind) (count len : ℕ) (line : Bytes) (b next : ℕ) (after : Bytes) → IsScan bytes place first count len line → (b == 10) ≡ false
-    → next ≡ min MAX_ITEM len + 1 → after ≡ line ++ b ∷ [] → IsScan (bytes ++ b ∷ []) place first count next after
-byte-scanned bytes place first count len line b next after scan other more grown =
-    let lines = lines-byte bytes b other in
+pub part-scanned : (bytes : Bytes) (place : Place) (first : Option ItemKind) (count len : ℕ) (line part : Bytes) (next : ℕ) (after : Bytes) → IsScan bytes place first count len line → HasNoFeed part
+    → next ≡ min (len + length part) (MAX_ITEM + 1) → after ≡ line ++ part → IsScan (bytes ++ part) place first count next after
+part-scanned bytes place first count len line part next after scan none more grown =
+    let lines = lines-part bytes part none in
     record {
       stands = scan.stands ∙ ap (λ l. place_of places.Front l.ended) (sym lines);
       is_first = scan.is_first ∙ ap (λ l. first_kind l.ended) (sym lines);
-      count_is = scan.count_is ∙ count-byte MAX_ITEM bytes b other;
-      len_is = omega (arith, more, scan.len_is, length-append bytes (b ∷ []));
-      left = grown ∙ ap (λ l. l ++ b ∷ []) scan.left ∙ ap (λ l. l.left) (sym lines);
+      count_is = scan.count_is ∙ count-part MAX_ITEM bytes part none;
+      len_is = omega (arith, more, scan.len_is, length-append bytes part);
+      left = grown ∙ ap (λ l. l ++ part) scan.left ∙ ap (λ l. l.left) (sym lines);
     }
 
 pub feed-scanned : (bytes : Bytes) (place : Place) (first : Option ItemKind) (count len : ℕ) (line : Bytes) (next : ℕ) → IsScan bytes place first count len line → next ≡ min MAX_ITEM len + 1
@@ -115,12 +122,12 @@ feed-scanned bytes place first count len line next scan more =
       left = ap (λ l. l.left) (sym lines);
     }
 
--- a byte that is no line feed, and one that is
-pub no-feed : (b : ℕ) → b ≢ 10 → (b == 10) ≡ false
-no-feed b other = false_from_ne_true (b == 10) (λ is. other (eqb-true b 10 is))
-
+-- a line feed, and another byte
 pub ends-feed : (bytes : Bytes) → ends bytes 10 ≡ ends_line (place_of places.Front (lines_of bytes).ended) (words (lines_of bytes).left)
 ends-feed bytes = refl
+
+ends-not : (begun : Bytes) (b : ℕ) → (b == 10) ≡ false → ends begun b ≡ false
+ends-not begun b other = ap (λ t. t && (let lines = lines_of begun in ends_line (place_of places.Front lines.ended) (words lines.left))) other
 
 -- where a scan ends behind so many bytes
 pub shifted : ℕ → Option ℕ → Option ℕ
@@ -132,12 +139,41 @@ unfolding shifted
 shifted-none None = refl
 shifted-none (Some n) = ap Some (zero-add n)
 
-shifted-more : (i : ℕ) (o : Option ℕ) → shifted i (option_map suc o) ≡ shifted (i + 1) o
+shifted-one : (i : ℕ) (o : Option ℕ) → shifted i (option_map suc o) ≡ shifted (i + 1) o
 unfolding shifted
-shifted-more i None = refl
-shifted-more i (Some n) = ap Some (omega arith)
+shifted-one i None = refl
+shifted-one i (Some n) = ap Some (omega arith)
 
--- a scan, byte by byte
+one-shifted : (i : ℕ) (o : Option ℕ) → option_map suc (shifted i o) ≡ shifted (suc i) o
+unfolding shifted
+one-shifted i None = refl
+one-shifted i (Some n) = ap Some (omega arith)
+
+shifted-more : (i j : ℕ) (o : Option ℕ) → shifted i (shifted j o) ≡ shifted (i + j) o
+unfolding shifted
+shifted-more i j None = refl
+shifted-more i j (Some n) = ap Some (omega arith)
+
+shifted-at : (i j : ℕ) → shifted i (shifted j (Some 1)) ≡ Some (i + (j + 1))
+unfolding shifted
+shifted-at i j = refl
+
+shifted-never : (i : ℕ) → shifted i None ≡ None
+unfolding shifted
+shifted-never i = refl
+
+-- no item ends within bytes without a line feed
+one-byte : (begun rest : Bytes) (b : ℕ) (is : Bool) → ends begun b ≡ is → item_end begun (b ∷ rest) ≡ (if is then Some 1 else option_map suc (item_end (begun ++ b ∷ []) rest))
+one-byte begun rest b is same = ap (λ t. if t then Some 1 else option_map suc (item_end (begun ++ b ∷ []) rest)) same
+
+end-behind : (begun part rest : Bytes) → HasNoFeed part → item_end begun (part ++ rest) ≡ shifted (length part) (item_end (begun ++ part) rest)
+end-behind begun [] rest none = ap (λ l. item_end l rest) (sym (append-nil begun)) ∙ sym (shifted-none (item_end (begun ++ []) rest))
+end-behind begun (b ∷ part) rest none =
+    one-byte begun (part ++ rest) b false (ends-not begun b none.0) ∙ ap (option_map suc) (end-behind (begun ++ b ∷ []) part rest none.1)
+    ∙ one-shifted (length part) (item_end ((begun ++ b ∷ []) ++ part) rest)
+    ∙ ap (λ l. shifted (suc (length part)) (item_end l rest)) (append_assoc begun (b ∷ []) part)
+
+-- a scan, line by line
 pub record SoFar (begun bytes now : Bytes) (i : ℕ) : Type 0 where
   pub read : now ≡ begun ++ take i bytes
   pub goes : item_end begun bytes ≡ shifted i (item_end now (drop i bytes))
@@ -145,31 +181,40 @@ pub record SoFar (begun bytes now : Bytes) (i : ℕ) : Type 0 where
 pub scan-none : (begun bytes : Bytes) → SoFar begun bytes begun 0
 scan-none begun bytes = record { read = sym (append-nil begun); goes = sym (shifted-none (item_end begun bytes)) }
 
-one-byte : (now rest : Bytes) (b : ℕ) (is : Bool) → ends now b ≡ is → item_end now (b ∷ rest) ≡ (if is then Some 1 else option_map suc (item_end (now ++ b ∷ []) rest))
-one-byte now rest b is same = ap (λ t. if t then Some 1 else option_map suc (item_end (now ++ b ∷ []) rest)) same
-
-module _ {begun bytes now : Bytes} {i : ℕ} (so_far : SoFar begun bytes now i) (less : i < length bytes) (after : Bytes) (more : after ≡ now ++ get_or bytes i 0 ∷ []) where
-  read-more : after ≡ begun ++ take (i + 1) bytes
+module _ {begun bytes now : Bytes} {i : ℕ} (so_far : SoFar begun bytes now i) (n : ℕ) (feed : IsFirstFeed n (drop i bytes)) (after : Bytes) (more : after ≡ now ++ (take n (drop i bytes) ++ 10 ∷ [])) where
+  read-more : after ≡ begun ++ take (i + (n + 1)) bytes
   read-more =
-      more ∙ ap (λ n. n ++ get_or bytes i 0 ∷ []) so_far.read ∙ append_assoc begun (take i bytes) (get_or bytes i 0 ∷ [])
-      ∙ ap (λ l. begun ++ l) (sym (take_more bytes i 0 less))
+      more ∙ ap (λ l. now ++ l) (sym feed.front) ∙ ap (λ l. l ++ take (suc n) (drop i bytes)) so_far.read
+      ∙ append_assoc begun (take i bytes) (take (suc n) (drop i bytes)) ∙ ap (λ l. begun ++ l) (sym (take-add i (suc n) bytes))
+      ∙ ap (λ m. begun ++ take m bytes) (omega arith)
 
-  goes-more : (is : Bool) → ends now (get_or bytes i 0) ≡ is → item_end begun bytes ≡ shifted i (if is then Some 1 else option_map suc (item_end after (drop (suc i) bytes)))
+  goes-more : (is : Bool) → ends (now ++ take n (drop i bytes)) 10 ≡ is
+      → item_end begun bytes ≡ shifted i (shifted n (if is then Some 1 else option_map suc (item_end after (drop (suc n) (drop i bytes)))))
   goes-more is same =
-      so_far.goes ∙ ap (λ l. shifted i (item_end now l)) (drop-cons bytes i 0 less)
-      ∙ ap (shifted i) (one-byte now (drop (suc i) bytes) (get_or bytes i 0) is same)
-      ∙ ap (λ n. shifted i (if is then Some 1 else option_map suc (item_end n (drop (suc i) bytes)))) (sym more)
+      let long : length (take n (drop i bytes)) ≡ n = omega (arith, length-take n (drop i bytes), feed.within) in
+      so_far.goes ∙ ap (λ l. shifted i (item_end now l)) feed.whole
+      ∙ ap (shifted i) (end-behind now (take n (drop i bytes)) (10 ∷ drop (suc n) (drop i bytes)) feed.none)
+      ∙ ap (λ m. shifted i (shifted m (item_end (now ++ take n (drop i bytes)) (10 ∷ drop (suc n) (drop i bytes))))) long
+      ∙ ap (λ o. shifted i (shifted n o)) (one-byte (now ++ take n (drop i bytes)) (drop (suc n) (drop i bytes)) 10 is same)
+      ∙ ap (λ l. shifted i (shifted n (if is then Some 1 else option_map suc (item_end l (drop (suc n) (drop i bytes)))))) (append_assoc now (take n (drop i bytes)) (10 ∷ []) ∙ sym more)
 
-  pub scan-more : ends now (get_or bytes i 0) ≡ false → SoFar begun bytes after (i + 1)
-  scan-more not_yet = record {
+  pub scan-line : ends (now ++ take n (drop i bytes)) 10 ≡ false → SoFar begun bytes after (i + (n + 1))
+  scan-line not_yet = record {
     read = read-more;
-    goes = goes-more false not_yet ∙ shifted-more i (item_end after (drop (suc i) bytes)) ∙ ap (λ n. shifted (i + 1) (item_end after (drop n bytes))) (sym (add-one i));
+    goes =
+        goes-more false not_yet ∙ ap (shifted i) (shifted-one n (item_end after (drop (suc n) (drop i bytes))))
+        ∙ shifted-more i (n + 1) (item_end after (drop (suc n) (drop i bytes)))
+        ∙ ap (λ l. shifted (i + (n + 1)) (item_end after l)) (drop-drop (suc n) i bytes ∙ ap (λ m. drop m bytes) (omega arith));
   }
 
-  pub scan-ends : ends now (get_or bytes i 0) ≡ true → (item_end begun bytes ≡ Some (i + 1)) × (after ≡ begun ++ take (i + 1) bytes)
-  unfolding shifted
-  scan-ends is = (goes-more true is, read-more)
+  pub scan-ends : ends (now ++ take n (drop i bytes)) 10 ≡ true → (item_end begun bytes ≡ Some (i + (n + 1))) × (after ≡ begun ++ take (i + (n + 1)) bytes)
+  scan-ends is = (goes-more true is ∙ shifted-at i n, read-more)
 
-pub scan-all : (begun bytes now : Bytes) (i : ℕ) → length bytes ≤ i → SoFar begun bytes now i → None ≡ item_end begun bytes
-unfolding shifted
-scan-all begun bytes now i all so_far = sym (so_far.goes ∙ ap (λ l. shifted i (item_end now l)) (drop_all i bytes all))
+pub scan-all : (begun bytes now : Bytes) (i : ℕ) → SoFar begun bytes now i → HasNoFeed (drop i bytes) → None ≡ item_end begun bytes
+scan-all begun bytes now i so_far none =
+    sym (so_far.goes ∙ ap (λ l. shifted i (item_end now l)) (sym (append-nil (drop i bytes))) ∙ ap (shifted i) (end-behind now (drop i bytes) [] none)
+    ∙ ap (shifted i) (shifted-never (length (drop i bytes))) ∙ shifted-never i)
+
+pub taken-all : (begun bytes now after : Bytes) (i : ℕ) → SoFar begun bytes now i → after ≡ now ++ drop i bytes → after ≡ begun ++ bytes
+taken-all begun bytes now after i so_far more =
+    more ∙ ap (λ l. l ++ drop i bytes) so_far.read ∙ append_assoc begun (take i bytes) (drop i bytes) ∙ ap (λ l. begun ++ l) (take-append-drop i bytes)

@@ -1,5 +1,5 @@
 -- A line as it is cut into words, byte by byte.
-use Rattle.std.specs.Prelude.{◌≡◌, ℕ, List, [], ◌∷◌, ◌++◌, filter, map, take, if◌then◌else◌}
+use Rattle.std.specs.Prelude.{◌≡◌, ◌==◌, ℕ, Bool, false, List, [], ◌∷◌, ◌++◌, filter, map, take, if◌then◌else◌}
 use Rattle.file_words.specs.Lines.{Bytes}
 use Rattle.file_words.specs.Words.{behind, cuts, is_word}
 use Rattle.file_words.specs.declared.words.Quote.{Quote}
@@ -13,6 +13,11 @@ abbrev pub quoted : Stand → Quote
 quoted stands.Outside = quotes.Outside
 quoted stands.Inside = quotes.Inside
 quoted stands.Escaped = quotes.Escaped
+
+-- a quotation mark stands at the front
+abbrev pub begins_quoted : Bytes → Bool
+begins_quoted [] = false
+begins_quoted (b ∷ bs) = b == 34
 
 -- the words that have ended, what the one that goes on has, and where the next byte stands
 pub record Cut : Type 0 where

@@ -1,5 +1,6 @@
 -- What is known of the bytes with which an item has begun.
-use Rattle.std.specs.Prelude.{◌≡◌, ◌||◌, ℕ, ◌+◌, List, length, min, nat_lt, Option, Some, None, if◌then◌else◌}
+use Rattle.std.specs.Prelude.{◌≡◌, ◌==◌, ◌||◌, ℕ, ◌+◌, List, length, min, nat_lt, false, Option, Some, None, if◌then◌else◌}
+use Rattle.std.specs.List.{AllByRecursion}
 use Rattle.file_words.specs.Lines.{Bytes, lines_of}
 use Rattle.talk_items.specs.Items.{counted, first_kind, is_skipped, kind_of, place_of}
 use Rattle.talk_items.specs.declared.items.ItemKind.{ItemKind}
@@ -23,3 +24,7 @@ pub record IsScan (bytes : Bytes) (place : Place) (first : Option ItemKind) (cou
   pub count_is : count ≡ counted bytes
   pub len_is : len ≡ min (length bytes) (MAX_ITEM + 1)
   pub left : line ≡ (lines_of bytes).left
+
+-- bytes without a line feed
+abbrev pub HasNoFeed : Bytes → Type 0
+HasNoFeed bytes = AllByRecursion (λ b. (b == 10) ≡ false) bytes

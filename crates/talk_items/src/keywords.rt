@@ -1,6 +1,6 @@
 // Words that tell what a line is.
-ghost use Rattle.std.specs.Prelude.{◌≡◌};
-ghost use Rattle.file_words.specs.Words.{is_comment};
+ghost use Rattle.std.specs.Prelude.{◌≡◌, ◌||◌, codes, false};
+ghost use Rattle.file_words.specs.Words.{is};
 ghost use Rattle.talk_items.specs.Keywords.{keyword};
 
 /// What a word is, as far as it tells what its line is.
@@ -30,44 +30,44 @@ pub enum Keyword {
     Other,
 }
 
-// Whether a word begins a comment.
-fn is_comment(word: &[u8]) -> bool
-    ensures { result ≡ is_comment word.now }
+// Whether a word is one of those behind an actor's name that open a group.
+fn is_change(word: &[u8]) -> bool
+    ensures { result ≡ (is (codes "change") word.now || is (codes "install") word.now) }
+{
+    word == b"change".as_slice() || word == b"install".as_slice()
+}
+
+// What any other word is.
+fn other_keyword(word: &[u8]) -> Keyword
+    requires { (is (codes "change") word.now || is (codes "install") word.now) ≡ false }
+    ensures { result ≡ keyword word.now }
 {
     match word {
-        [] => false,
-        [first, ..] => *first == b'#',
+        [b'#', ..] => Keyword::Comment,
+        b"?" => Keyword::Question,
+        b"if" => Keyword::If,
+        b"move" => Keyword::Move,
+        b"type" => Keyword::Type,
+        b"actor" => Keyword::Declaration,
+        b"case" => Keyword::Declaration,
+        b"phase" => Keyword::Declaration,
+        b"end" => Keyword::End,
+        b"adept" => Keyword::Adept,
+        b"1" => Keyword::Format,
+        b"2" => Keyword::Format,
+        b"3" => Keyword::Format,
+        _ => Keyword::Other,
     }
 }
 
 // What a word is.
+#[tactic(auto, using(crate::proofs::Changes::change_is))]
 pub(crate) fn keyword_of(word: &[u8]) -> Keyword
     ensures { result ≡ keyword word.now }
 {
-    if is_comment(word) {
-        Keyword::Comment
-    } else if word == b"?".as_slice() {
-        Keyword::Question
-    } else if word == b"if".as_slice() {
-        Keyword::If
-    } else if word == b"move".as_slice() {
-        Keyword::Move
-    } else if word == b"type".as_slice() {
-        Keyword::Type
-    } else if word == b"actor".as_slice()
-        || word == b"case".as_slice()
-        || word == b"phase".as_slice()
-    {
-        Keyword::Declaration
-    } else if word == b"change".as_slice() || word == b"install".as_slice() {
+    if is_change(word) {
         Keyword::Change
-    } else if word == b"end".as_slice() {
-        Keyword::End
-    } else if word == b"adept".as_slice() {
-        Keyword::Adept
-    } else if word == b"1".as_slice() || word == b"2".as_slice() || word == b"3".as_slice() {
-        Keyword::Format
     } else {
-        Keyword::Other
+        other_keyword(word)
     }
 }

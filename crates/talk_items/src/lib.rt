@@ -8,6 +8,7 @@ mod items;
 mod keywords;
 mod limits;
 mod lines;
+mod plain;
 mod scanner;
 mod words;
 

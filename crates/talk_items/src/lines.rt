@@ -4,9 +4,12 @@ ghost use Rattle.talk_items.specs.Items.{words};
 
 use crate::keywords::Keyword;
 use crate::limits::WORDS;
+use crate::plain::plain_words;
 use crate::words::Words;
 use arrayvec::ArrayVec;
+use file_words::without_return;
 use std::marker::Model;
+use std::mem::replace;
 
 // The bytes of a line so far. A carriage return at its end is no part of its words, unless more bytes come.
 #[derive(Drop)]
@@ -39,8 +42,32 @@ impl Line {
         }
     }
 
+    // More bytes.
+    pub(crate) fn extend(&mut self, bytes: &[u8])
+        ensures { self.new ≡ self.old ++ bytes.now }
+    {
+        for byte in bytes {
+            self.push(*byte);
+        }
+    }
+
+    // The rest of the line, behind which another begins. Answers what the first words of the line are.
+    pub(crate) fn end(&mut self, rest: &[u8]) -> ArrayVec<Keyword, WORDS>
+        ensures words { result.items ≡ take 4 (words (self.old ++ rest.now)) }
+        ensures next { self.new ≡ [] }
+    {
+        if self.is_empty() {
+            if let Some(first) = plain_words(without_return(rest)) {
+                return first;
+            }
+        }
+        let mut line = replace(self, Line::new());
+        line.extend(rest);
+        line.into_first()
+    }
+
     // One byte more.
-    pub(crate) fn push(&mut self, byte: u8)
+    fn push(&mut self, byte: u8)
         ensures { self.new ≡ self.old ++ byte ∷ [] }
     {
         if self.returned {
@@ -61,7 +88,7 @@ impl Line {
     }
 
     // What the first words of the line are.
-    pub(crate) fn into_first(self) -> ArrayVec<Keyword, WORDS>
+    fn into_first(self) -> ArrayVec<Keyword, WORDS>
         ensures { result.items ≡ take 4 (words self) }
     {
         let Line {

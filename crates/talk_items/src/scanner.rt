@@ -1,7 +1,7 @@
 // Where an item ends that is read byte by byte.
-ghost use Rattle.std.specs.Prelude.{◌≡◌, ◌<◌, ◌≤◌, ◌∷◌, ◌++◌, ◌↔◌, [], length, take, IsTrue};
+ghost use Rattle.std.specs.Prelude.{◌≡◌, ◌==◌, ◌+◌, ◌<◌, ◌≤◌, ◌∷◌, ◌++◌, ◌↔◌, [], length, map, min, take, position, IsTrue};
 ghost use Rattle.talk_items.specs.Items.{counted, ends, is_blank, item_end, kind, taken};
-ghost use Rattle.talk_items.specs.Scans.{counted_with, first_with};
+ghost use Rattle.talk_items.specs.Scans.{HasNoFeed, counted_with, first_with};
 
 use crate::items::{ItemKind, Place, ends_line, is_skipped, kind_of, place_behind};
 use crate::keywords::Keyword;
@@ -9,7 +9,6 @@ use crate::limits::MAX_ITEM;
 use crate::lines::Line;
 use http_server::Log;
 use std::marker::Model;
-use std::mem::replace;
 
 // What an item is, with one line more.
 fn first_with(first: Option<ItemKind>, words: &[Keyword]) -> Option<ItemKind>
@@ -31,6 +30,29 @@ fn counted_with(counted: usize, len: usize, words: &[Keyword]) -> usize
         counted
     } else {
         counted + 1
+    }
+}
+
+// How long an item is with so many bytes more, as far as it is told apart.
+fn longer(len: usize, more: usize) -> usize
+    ensures { result ≡ min (len + more) (MAX_ITEM + 1) }
+{
+    len.saturating_add(more).min(MAX_ITEM + 1)
+}
+
+// The index of the first line feed.
+fn feed_at(bytes: &[u8]) -> Option<usize>
+    ensures { result ≡ position (λ byte. byte == 10) bytes.now }
+{
+    bytes.iter().position(|byte| *byte == b'\n')
+}
+
+// The bytes as proofs see them. It does nothing.
+fn note(log: &mut Log<u8, u8>, bytes: &[u8])
+    ensures { map (λ p. p.0) log.new.items ≡ map (λ p. p.0) log.old.items ++ bytes.now }
+{
+    for byte in bytes {
+        *log = log.and(byte, byte);
     }
 }
 
@@ -76,11 +98,15 @@ impl Scanner {
         ensures end { result ≡ item_end self.old bytes.now }
         ensures bytes { self.new ≡ self.old ++ taken result bytes.now }
     {
-        for i in 0..bytes.len() {
-            if self.push(bytes[i]) {
-                return Some(i + 1);
+        let mut done = 0;
+        while let Some(len) = feed_at(&bytes[done..]) {
+            let (line, _) = bytes[done..].split_at(len);
+            done += len + 1;
+            if self.end_line(line) {
+                return Some(done);
             }
         }
+        self.begin_line(&bytes[done..]);
         None
     }
 
@@ -112,18 +138,26 @@ impl Scanner {
         self.first.is_none() && self.line.is_empty()
     }
 
-    // Takes one byte, and answers whether the item ends with it.
-    fn push(&mut self, byte: u8) -> bool
-        ensures ends { result ≡ ends self.old byte }
-        ensures byte { self.new ≡ self.old ++ byte ∷ [] }
+    // Takes bytes of a line that goes on behind them.
+    fn begin_line(&mut self, part: &[u8])
+        requires { HasNoFeed part.now }
+        ensures { self.new ≡ self.old ++ part.now }
     {
-        self.bytes = self.bytes.and(&byte, &byte);
-        self.len = MAX_ITEM.min(self.len) + 1;
-        if byte != b'\n' {
-            self.line.push(byte);
-            return false;
-        }
-        let first_words = replace(&mut self.line, Line::new()).into_first();
+        note(&mut self.bytes, part);
+        self.len = longer(self.len, part.len());
+        self.line.extend(part);
+    }
+
+    // Takes the rest of a line, and its line feed. Answers whether the item ends with it.
+    fn end_line(&mut self, rest: &[u8]) -> bool
+        requires { HasNoFeed rest.now }
+        ensures ends { result ≡ ends (self.old ++ rest.now) 10 }
+        ensures bytes { self.new ≡ self.old ++ (rest.now ++ 10 ∷ []) }
+    {
+        note(&mut self.bytes, rest);
+        note(&mut self.bytes, b"\n");
+        self.len = longer(self.len, rest.len() + 1);
+        let first_words = self.line.end(rest);
         let words = first_words.as_slice();
         let is_end = ends_line(self.place, words);
         self.place = place_behind(self.place, words);

@@ -1,0 +1,15 @@
+-- The words that open a group behind an actor's name.
+use Rattle.std.proofs.Common.{◌≡◌, ◌||◌, Bool, true, false, codes, refl, subst, sym}
+use Rattle.std.proofs.lemmas.Slice.Eq.{bytes_eq-Decides}
+use Rattle.file_words.specs.Lines.{Bytes}
+use Rattle.file_words.specs.Words.{is}
+use Rattle.talk_items.specs.Keywords.{keyword}
+use Rattle.talk_items.specs.declared.keywords.Keyword.TheVariants as keywords
+
+pub change_is : (word : Bytes) → (is (codes "change") word || is (codes "install") word) ≡ true → keywords.Change ≡ keyword word
+change_is word either = chosen (is (codes "change") word) (is (codes "install") word) refl refl either
+  where
+    chosen : (a b : Bool) → is (codes "change") word ≡ a → is (codes "install") word ≡ b → (a || b) ≡ true → keywords.Change ≡ keyword word
+    chosen true b first second either = subst (λ w. keywords.Change ≡ keyword w) (sym ((bytes_eq-Decides word (codes "change")).0 first)) refl
+    chosen false true first second either = subst (λ w. keywords.Change ≡ keyword w) (sym ((bytes_eq-Decides word (codes "install")).0 second)) refl
+    chosen false false first second either = absurd cc

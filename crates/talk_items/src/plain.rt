@@ -1,0 +1,63 @@
+// A whole line whose first words have no quoted texts.
+ghost use Rattle.std.specs.Prelude.{◌≡◌, ◌≤◌, length, IsTrue, IfSome};
+ghost use Rattle.file_words.specs.Words.{bare_end, begins_word, is_bare, words_of};
+ghost use Rattle.talk_items.specs.Cuts.{begins_quoted, first_words};
+
+use crate::keywords::{Keyword, keyword_of};
+use crate::limits::WORDS;
+use arrayvec::ArrayVec;
+
+// Whether a byte neither separates words nor begins a quoted text.
+fn is_bare(byte: u8) -> bool
+    ensures { result ≡ is_bare byte }
+{
+    byte > b'"' || !matches!(byte, b' ' | b'\t' | b'"')
+}
+
+// How many bare bytes a line begins with.
+fn bare_end(line: &[u8]) -> usize
+    ensures within { result ≤ length line.now }
+    ensures end { result ≡ bare_end line.now }
+{
+    let mut end = 0;
+    while end < line.len() && is_bare(line[end]) {
+        end += 1;
+    }
+    end
+}
+
+// A line without the blanks at its front.
+fn without_blanks(line: &[u8]) -> &[u8]
+    ensures same { words_of result.now ≡ words_of line.now }
+    ensures word { IsTrue (begins_word result.now) }
+{
+    let mut rest = line;
+    while let [b' ' | b'\t', more @ ..] = rest {
+        rest = more;
+    }
+    rest
+}
+
+// Whether a quoted text stands at the front of a line.
+fn begins_quoted(line: &[u8]) -> bool
+    ensures { result ≡ begins_quoted line.now }
+{
+    matches!(line, [b'"', ..])
+}
+
+// What the first words of a line are, unless one of them has a quoted text.
+pub(crate) fn plain_words(line: &[u8]) -> Option<ArrayVec<Keyword, WORDS>>
+    ensures { IfSome result (λ words. words.items ≡ first_words (words_of line.now)) }
+{
+    let mut words = ArrayVec::new();
+    let mut rest = without_blanks(line);
+    while !rest.is_empty() && !words.is_full() {
+        let (word, more) = rest.split_at(bare_end(rest));
+        if begins_quoted(more) {
+            return None;
+        }
+        words.push(keyword_of(word));
+        rest = without_blanks(more);
+    }
+    Some(words)
+}
