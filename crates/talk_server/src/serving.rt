@@ -11,6 +11,7 @@ use crate::opening::open;
 use crate::responding::Server;
 use adept_io::{Sink, Source};
 use std::alloc::Global;
+use std::mem::forget;
 use store_disk::Disk;
 use talk_rules::Holder;
 use turn_loop::{TalkFault, serve_turns};
@@ -44,7 +45,10 @@ pub fn serve<H: Holder + Drop, S: Source, K: Sink, D: Disk>(
 {
     let (state, gate) = open::<H, D>(alloc, disk)?;
     let mut server = Server::new(alloc, state);
-    match serve_turns(alloc, source, sink, disk, gate, &mut server) {
+    let end = serve_turns(alloc, source, sink, disk, gate, &mut server);
+    // The process ends behind a server: what it holds goes back with it as one, not piece by piece.
+    forget(server);
+    match end {
         Ok(()) => Ok(()),
         Err(why) => Err(ServeFault::Talk(why)),
     }

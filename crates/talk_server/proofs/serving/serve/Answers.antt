@@ -69,7 +69,7 @@ returns-in-Ok-clause-ended g c =
     let gate = c.in_ok-state.gate in
     let told = told-again g.H.Holder.rules g.H.Holder.holds k.content k.may_leave (k.content old) mid s gate o in
     let rest = rest-again g.H.Holder.rules g.H.Holder.holds k.content k.may_leave (k.content old) mid s gate o in
-    ends-well g.H.Holder.rules k.content k.may_leave k.moment k.left_since old mid c.serve_turns.new.disk (held (k.content mid)) gate told rest c.open.ensures.any_moment (g.S.Source.left c.args.source.now) (g.S.Source.left c.serve_turns.new.source) (g.K.Sink.written c.args.sink.now) (g.K.Sink.written c.serve_turns.new.sink) _ c.in-Ok.ensures.ended
+    ends-well g.H.Holder.rules k.content k.may_leave k.moment k.left_since old mid c.serve_turns-end.new.disk (held (k.content mid)) gate told rest c.open.ensures.any_moment (g.S.Source.left c.args.source.now) (g.S.Source.left c.serve_turns-end.new.source) (g.K.Sink.written c.args.sink.now) (g.K.Sink.written c.serve_turns-end.new.sink) _ c.in-Ok.ensures.ended
 
 pub returns-in-Ok-clause-answered : goal.returns-in-Ok-clause-answered
 returns-in-Ok-clause-answered g c =
@@ -81,7 +81,7 @@ returns-in-Ok-clause-answered g c =
     let gate = c.in_ok-state.gate in
     let told = told-again g.H.Holder.rules g.H.Holder.holds k.content k.may_leave (k.content old) mid s gate o in
     let rest = rest-again g.H.Holder.rules g.H.Holder.holds k.content k.may_leave (k.content old) mid s gate o in
-    says-all g.H.Holder.rules k.content k.may_leave k.moment k.left_since old mid c.serve_turns.new.disk (held (k.content mid)) gate told rest c.open.ensures.any_moment (g.S.Source.left c.args.source.now) (g.K.Sink.written c.args.sink.now) (g.K.Sink.written c.serve_turns.new.sink) c.in-Ok.ensures.answered
+    says-all g.H.Holder.rules k.content k.may_leave k.moment k.left_since old mid c.serve_turns-end.new.disk (held (k.content mid)) gate told rest c.open.ensures.any_moment (g.S.Source.left c.args.source.now) (g.K.Sink.written c.args.sink.now) (g.K.Sink.written c.serve_turns-end.new.sink) c.in-Ok.ensures.answered
 
 pub returns-in-Ok-clause-any_moment : goal.returns-in-Ok-clause-any_moment
 returns-in-Ok-clause-any_moment g c =
@@ -93,7 +93,7 @@ returns-in-Ok-clause-any_moment g c =
     let gate = c.in_ok-state.gate in
     let told = told-again g.H.Holder.rules g.H.Holder.holds k.content k.may_leave (k.content old) mid s gate o in
     let rest = rest-again g.H.Holder.rules g.H.Holder.holds k.content k.may_leave (k.content old) mid s gate o in
-    talk-moments g.H.Holder.rules k.content k.may_leave k.moment k.left_since old mid c.serve_turns.new.disk (held (k.content mid)) gate told rest c.open.ensures.any_moment (g.S.Source.left c.args.source.now) c.serve_turns.ensures.any_moment
+    talk-moments g.H.Holder.rules k.content k.may_leave k.moment k.left_since old mid c.serve_turns-end.new.disk (held (k.content mid)) gate told rest c.open.ensures.any_moment (g.S.Source.left c.args.source.now) c.serve_turns-end.ensures.any_moment
 
 pub returns-in-Ok-clause-acknowledged : goal.returns-in-Ok-clause-acknowledged
 returns-in-Ok-clause-acknowledged g c =
@@ -105,13 +105,13 @@ returns-in-Ok-clause-acknowledged g c =
     let gate = c.in_ok-state.gate in
     let told = told-again g.H.Holder.rules g.H.Holder.holds k.content k.may_leave (k.content old) mid s gate o in
     let rest = rest-again g.H.Holder.rules g.H.Holder.holds k.content k.may_leave (k.content old) mid s gate o in
-    has-answered g.H.Holder.rules k.content k.may_leave k.moment k.left_since old mid c.serve_turns.new.disk (held (k.content mid)) gate told rest c.open.ensures.any_moment (g.S.Source.left c.args.source.now) (g.K.Sink.written c.args.sink.now) (g.K.Sink.written c.serve_turns.new.sink) (k.may_leave c.serve_turns.new.disk) c.serve_turns.ensures.acknowledged
+    has-answered g.H.Holder.rules k.content k.may_leave k.moment k.left_since old mid c.serve_turns-end.new.disk (held (k.content mid)) gate told rest c.open.ensures.any_moment (g.S.Source.left c.args.source.now) (g.K.Sink.written c.args.sink.now) (g.K.Sink.written c.serve_turns-end.new.sink) (k.may_leave c.serve_turns-end.new.disk) c.serve_turns-end.ensures.acknowledged
 
 pub returns-in-Ok-clause-talk_too_long : goal.returns-in-Ok-clause-talk_too_long
 returns-in-Ok-clause-talk_too_long g c = if-any (g.S.Source.left c.args.source.now) _ (λ talk long. absurd cc)
 
-pub returns-clause-ended : goal.returns-clause-ended
-returns-clause-ended g c =
+pub returns-in-Err-clause-ended : goal.returns-in-Err-clause-ended
+returns-in-Err-clause-ended g c =
     let k = g.D.Disk in
     let old = c.args.disk.now in
     let mid = c.open.new.disk in
@@ -120,10 +120,10 @@ returns-clause-ended g c =
     let gate = c.in_ok-state.gate in
     let told = told-again g.H.Holder.rules g.H.Holder.holds k.content k.may_leave (k.content old) mid s gate o in
     let rest = rest-again g.H.Holder.rules g.H.Holder.holds k.content k.may_leave (k.content old) mid s gate o in
-    ends-cut g.H.Holder.rules k.content k.may_leave k.moment k.left_since old mid c.serve_turns.new.disk (held (k.content mid)) gate told rest c.open.ensures.any_moment (g.S.Source.left c.args.source.now) (g.S.Source.left c.serve_turns.new.source) (g.K.Sink.written c.args.sink.now) (g.K.Sink.written c.serve_turns.new.sink) c.in-Err.why c.in-Err.ensures.ended
+    ends-cut g.H.Holder.rules k.content k.may_leave k.moment k.left_since old mid c.serve_turns-end.new.disk (held (k.content mid)) gate told rest c.open.ensures.any_moment (g.S.Source.left c.args.source.now) (g.S.Source.left c.serve_turns-end.new.source) (g.K.Sink.written c.args.sink.now) (g.K.Sink.written c.serve_turns-end.new.sink) c.in-Err.why c.in-Err.ensures.ended
 
-pub returns-clause-begun : goal.returns-clause-begun
-returns-clause-begun g c =
+pub returns-in-Err-clause-begun : goal.returns-in-Err-clause-begun
+returns-in-Err-clause-begun g c =
     let k = g.D.Disk in
     let old = c.args.disk.now in
     let mid = c.open.new.disk in
@@ -132,10 +132,10 @@ returns-clause-begun g c =
     let gate = c.in_ok-state.gate in
     let told = told-again g.H.Holder.rules g.H.Holder.holds k.content k.may_leave (k.content old) mid s gate o in
     let rest = rest-again g.H.Holder.rules g.H.Holder.holds k.content k.may_leave (k.content old) mid s gate o in
-    says-some g.H.Holder.rules k.content k.may_leave k.moment k.left_since old mid c.serve_turns.new.disk (held (k.content mid)) gate told rest c.open.ensures.any_moment (g.S.Source.left c.args.source.now) (g.K.Sink.written c.args.sink.now) (g.K.Sink.written c.serve_turns.new.sink) c.in-Err.ensures.begun
+    says-some g.H.Holder.rules k.content k.may_leave k.moment k.left_since old mid c.serve_turns-end.new.disk (held (k.content mid)) gate told rest c.open.ensures.any_moment (g.S.Source.left c.args.source.now) (g.K.Sink.written c.args.sink.now) (g.K.Sink.written c.serve_turns-end.new.sink) c.in-Err.ensures.begun
 
-pub returns-clause-any_moment : goal.returns-clause-any_moment
-returns-clause-any_moment g c =
+pub returns-in-Err-clause-any_moment : goal.returns-in-Err-clause-any_moment
+returns-in-Err-clause-any_moment g c =
     let k = g.D.Disk in
     let old = c.args.disk.now in
     let mid = c.open.new.disk in
@@ -144,10 +144,10 @@ returns-clause-any_moment g c =
     let gate = c.in_ok-state.gate in
     let told = told-again g.H.Holder.rules g.H.Holder.holds k.content k.may_leave (k.content old) mid s gate o in
     let rest = rest-again g.H.Holder.rules g.H.Holder.holds k.content k.may_leave (k.content old) mid s gate o in
-    talk-moments g.H.Holder.rules k.content k.may_leave k.moment k.left_since old mid c.serve_turns.new.disk (held (k.content mid)) gate told rest c.open.ensures.any_moment (g.S.Source.left c.args.source.now) c.serve_turns.ensures.any_moment
+    talk-moments g.H.Holder.rules k.content k.may_leave k.moment k.left_since old mid c.serve_turns-end.new.disk (held (k.content mid)) gate told rest c.open.ensures.any_moment (g.S.Source.left c.args.source.now) c.serve_turns-end.ensures.any_moment
 
-pub returns-clause-none_lost : goal.returns-clause-none_lost
-returns-clause-none_lost g c =
+pub returns-in-Err-clause-none_lost : goal.returns-in-Err-clause-none_lost
+returns-in-Err-clause-none_lost g c =
     let k = g.D.Disk in
     let old = c.args.disk.now in
     let mid = c.open.new.disk in
@@ -156,27 +156,27 @@ returns-clause-none_lost g c =
     let gate = c.in_ok-state.gate in
     let told = told-again g.H.Holder.rules g.H.Holder.holds k.content k.may_leave (k.content old) mid s gate o in
     let rest = rest-again g.H.Holder.rules g.H.Holder.holds k.content k.may_leave (k.content old) mid s gate o in
-    has-any-answered g.H.Holder.rules k.content k.may_leave k.moment k.left_since old mid c.serve_turns.new.disk (held (k.content mid)) gate told rest c.open.ensures.any_moment (g.S.Source.left c.args.source.now) (g.K.Sink.written c.args.sink.now) (g.K.Sink.written c.serve_turns.new.sink) (k.may_leave c.serve_turns.new.disk) c.serve_turns.ensures.acknowledged
+    has-any-answered g.H.Holder.rules k.content k.may_leave k.moment k.left_since old mid c.serve_turns-end.new.disk (held (k.content mid)) gate told rest c.open.ensures.any_moment (g.S.Source.left c.args.source.now) (g.K.Sink.written c.args.sink.now) (g.K.Sink.written c.serve_turns-end.new.sink) (k.may_leave c.serve_turns-end.new.disk) c.serve_turns-end.ensures.acknowledged
 
-pub returns-clause-talk_too_long : goal.returns-clause-talk_too_long
-returns-clause-talk_too_long g c =
+pub returns-in-Err-clause-talk_too_long : goal.returns-in-Err-clause-talk_too_long
+returns-in-Err-clause-talk_too_long g c =
     if-some (g.S.Source.left c.args.source.now) _ _ (λ talk tells long. let same : c.in-Err.why ≡ cut.TooLong = cc in tells (ap (λ w. Err w) same)) c.in-Err.ensures.too_long
 
-pub returns-clause-source_failed : goal.returns-clause-source_failed
-returns-clause-source_failed g c =
+pub returns-in-Err-clause-source_failed : goal.returns-in-Err-clause-source_failed
+returns-in-Err-clause-source_failed g c =
     λ failed. let same : c.in-Err.why ≡ cut.Unread = cc in c.in-Err.ensures.source_failed (ap (λ w. Err w) same)
 
-pub returns-clause-sink_failed : goal.returns-clause-sink_failed
-returns-clause-sink_failed g c =
+pub returns-in-Err-clause-sink_failed : goal.returns-in-Err-clause-sink_failed
+returns-in-Err-clause-sink_failed g c =
     λ failed. let same : c.in-Err.why ≡ cut.Unwritten = cc in c.in-Err.ensures.sink_failed (ap (λ w. Err w) same)
 
-pub returns-clause-disk_failed : goal.returns-clause-disk_failed
-returns-clause-disk_failed g c =
+pub returns-in-Err-clause-disk_failed : goal.returns-in-Err-clause-disk_failed
+returns-in-Err-clause-disk_failed g c =
     let k = g.D.Disk in
-    λ failed. subst (λ n. Rose n (k.faults c.serve_turns.new.disk)) c.in_ok-state.ensures.no_fault (c.in-Err.ensures.disk_failed (ap (λ w. Err w) (disk-cut c.in-Err.why failed)))
+    λ failed. subst (λ n. Rose n (k.faults c.serve_turns-end.new.disk)) c.in_ok-state.ensures.no_fault (c.in-Err.ensures.disk_failed (ap (λ w. Err w) (disk-cut c.in-Err.why failed)))
 
-pub serve_turns-requires : goal.serve_turns-requires
-serve_turns-requires g c κs outlive =
+pub serve_turns-end-requires : goal.serve_turns-end-requires
+serve_turns-end-requires g c κs outlive =
     let k = g.D.Disk in
     let old = c.args.disk.now in
     let mid = c.open.new.disk in
