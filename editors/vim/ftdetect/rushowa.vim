@@ -1,3 +1,3 @@
-" Process files, and Rattle, which is Rust with contracts.
-autocmd BufNewFile,BufRead *.adept setfiletype adept
+" Process files and talks, and Rattle, which is Rust with contracts.
+autocmd BufNewFile,BufRead *.adept,*.talk setfiletype adept
 autocmd BufNewFile,BufRead *.rt setfiletype rattle
