@@ -46,6 +46,7 @@ ends-at begun (b ∷ bytes) is = chosen (ends begun b) is (ends-at (begun ++ b �
     first : List Bytes → Bytes
     first [] = []
     first (x ∷ xs) = x
+
     chosen : (e : Bool)
         → (if e then behind ((begun ++ b ∷ []) ∷ []) (split_from ends [] bytes) else split_from ends (begun ++ b ∷ []) bytes) ≡ record { items = (begun ++ b ∷ bytes) ∷ []; rest = [] }
         → (split_from ends (begun ++ b ∷ []) bytes ≡ record { items = ((begun ++ b ∷ []) ++ bytes) ∷ []; rest = [] } → item_end (begun ++ b ∷ []) bytes ≡ Some (length bytes))

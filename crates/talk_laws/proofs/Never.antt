@@ -60,8 +60,9 @@ module _ (rules : UnitRules) where
   as-never-stopped ps before after talk more was list whole bare =
       let r : Rules = server_rules rules in
       let qs : List Bytes = held_at_last r ps talk in
-      let kept = worked-served rules ps (split ends talk).items (items-of ends talk) (opened-served rules before ps was) in
-      (served-again rules qs after kept list,
-      said-more r talk more whole ps
-      ∙ ap (λ x. answers r true ps (split ends talk).items ++ (x ++ r.ending (held_at_last r qs more) (split ends more).rest))
-      (same-answers (still_first true (split ends talk).items) qs (split ends more).items bare))
+      let kept = worked-served rules ps (split ends talk).items (items-of ends talk) (opened-served rules before ps was) in (
+        served-again rules qs after kept list,
+        said-more r talk more whole ps
+            ∙ ap (λ x. answers r true ps (split ends talk).items ++ (x ++ r.ending (held_at_last r qs more) (split ends more).rest))
+            (same-answers (still_first true (split ends talk).items) qs (split ends more).items bare),
+      )

@@ -73,12 +73,14 @@ module _ (rules : UnitRules) where
     where
       us : List Bytes
       us = units_in ps
+
       one : accepts rules ps item ≡ true → is_next rules us item ≡ true
       one accepted = is-next us item is (subst (λ qs. accepts rules qs item ≡ true) served.headed accepted)
+
       chosen : (b : Bool) → accepts rules ps item ≡ b → IsServed rules (ps ++ (if b then item ∷ [] else []))
       chosen true accepted =
           let longer : ps ++ item ∷ [] ≡ header ∷ (us ++ item ∷ []) = ap (λ qs. qs ++ item ∷ []) served.headed in
-          subst (IsServed rules) (sym longer) (record { headed = refl; taken = next-more [] us item served.taken (one accepted); })
+          subst (IsServed rules) (sym longer) (record { headed = refl; taken = next-more [] us item served.taken (one accepted) })
       chosen false accepted = subst (IsServed rules) (sym (append-nil ps)) served
 
   pub worked-served : (ps items : List Bytes) → AllByRecursion (IsItem ends) items → IsServed rules ps → IsServed rules (worked (server_rules rules) ps items)
