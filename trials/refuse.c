@@ -4,6 +4,7 @@
  * REFUSED=read:N      the Nth read fails; REFUSED=write:N: the Nth write
  * REFUSED=reads:N     each read gives N bytes at most; REFUSED=writes:N: each write takes N at most
  * REFUSED=interrupted:N   a signal interrupts each read and each write but every Nth
+ *                     several of these have commas between them
  * COUNTED=FILE        holds three numbers of 8 bytes: how often it called for memory, read and wrote
  */
 #define _GNU_SOURCE
@@ -26,8 +27,9 @@ static int is_on;
 
 static void take(const char *what, const char *name, long *to) {
     size_t length = strlen(name);
-    if (!strncmp(what, name, length) && what[length] == ':')
-        *to = atol(what + length + 1);
+    for (; what; what = strchr(what, ',') ? strchr(what, ',') + 1 : NULL)
+        if (!strncmp(what, name, length) && what[length] == ':')
+            *to = atol(what + length + 1);
 }
 
 __attribute__((constructor)) static void begin(void) {
