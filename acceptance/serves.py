@@ -11,12 +11,14 @@ that documents show, where what is typed stands behind `> ` or two blanks.  What
 answers: behind what it held the bytes of each unit whose answer is `ok`.  The cases were worked out from docs/SERVE.md by
 hand; made talks (chatter.py) are answered by a second reading of it (answering.py).
 """
+import collections
 import fcntl
 import glob
 import os
 import re
 import resource
 import select
+import shutil
 import signal
 import stat
 import subprocess
@@ -435,6 +437,25 @@ def little_memory(serve):
         raise Differs("it ended with %s alone" % ended)
 
 
+def opened_with_little_memory(serve):
+    """A store that is opened with little memory tells all that it holds, or 5 and nothing; it is left as it is."""
+    serve.run(b"type t\nact A\nend\n" + b"".join(b"case c%d t\n" % number for number in range(3000)))
+    whole, told = read(serve.path()), serve.run(b"? cases\n? count\n")
+    ended = collections.Counter()
+    for limit in range(1000, 40000, 1500):
+        def short(limit=limit):
+            resource.setrlimit(resource.RLIMIT_AS, (limit << 10, limit << 10))
+
+        if serve.run(b"", [], preexec_fn=short)[0] != 2:
+            continue
+        got = serve.run(b"? cases\n? count\n", preexec_fn=short)
+        wants(got in (told, (5, b"", b"serve: out of memory\n")), True)
+        wants(read(serve.path()), whole)
+        ended[got[0]] += 1
+    if ended and set(ended) != {0, 5}:
+        raise Differs("it ended with %s alone" % [*ended])
+
+
 def long_items(serve):
     """An item of 8,388,608 bytes is taken, one of a byte more is refused, and the line is told."""
     longest = 8388608
@@ -502,9 +523,90 @@ def kept_for_lines(serve):
         wants(said()[:2], (1, b""))
 
 
+# What befalls single calls of the system, by strace.
+
+# The calls whose fault counts, and what the first of them is that the program makes by itself.
+CALLS = "openat,readlink,link,unlink,statx,flock,pread64,pwrite64,fsync,fdatasync,read,write"
+# Those that no signal interrupts.
+ONCE = "readlink", "link", "unlink", "statx"
+FIRST, OPENED = 'openat(AT_FDCWD, "/", ', '"\\0\\0\\0\\10adept 3\\n\\0"'
+
+
+def injected(name, how, number):
+    """Before a run: its call of that number and name is met so."""
+    return ["strace", "-f", "-qq", "-o", "/dev/null", "-e", "trace=" + name, "-e", "inject=%s:%s:when=%d" % (name, how, number)]
+
+
+def calls(serve):
+    """The calls of a run over a new store: the name of each, its number among those of that name, and the status where it fails."""
+    wants(serve.run(SMALL, before=["strace", "-f", "-qq", "-o", serve.path("told"), "-e", "trace=" + CALLS]), (0, SMALL_ANSWERS, b""))
+    lines = [line.split(None, 1)[1] for line in read(serve.path("told")).decode().splitlines()]
+    clear(serve)
+    counted, has_begun, is_open = collections.Counter(), False, False
+    for line in lines:
+        name = line.split("(")[0]
+        counted[name] += 1
+        has_begun = has_begun or line.startswith(FIRST)
+        is_open = is_open or OPENED in line
+        if has_begun:
+            yield name, counted[name], 3 if line.startswith((FIRST, "read(0,")) else 4 if line.startswith("write(1,") else 7 if is_open else 11
+
+
+def clear(serve):
+    for name in os.listdir(serve.folder):
+        os.remove(serve.path(name))
+
+
+def goes_on(serve, *statuses):
+    """A store that a run left is none, or has the whole mark and the units of whole turns; the next run goes on to the end."""
+    others = [name for name in os.listdir(serve.folder) if name != "store" and not OTHER.match(name)]
+    left = read(serve.path()) if os.path.exists(serve.path()) else MARK
+    wants((others, left[:len(MARK)]), ([], MARK))
+    units = list(accepted(SMALL, SMALL_ANSWERS))
+    held = payloads_of(left)
+    wants((statuses, held in ([], [HEADER], [HEADER, *units])), (statuses, True))
+    wants(serve.run(b"? count\n" + b"".join(units[max(0, len(held) - 1):]))[0], 0)
+    wants(read(serve.path())[:len(framed([HEADER, *units]))], framed([HEADER, *units]))
+
+
+def failing_calls(serve):
+    """Each call of the system that fails is told: 11 while the store is opened, 7 behind it, 3 and 4 of streams; the next run goes on."""
+    said = {3: b"serve: cannot read\n", 4: b"serve: cannot write\n", 7: b"serve: the store failed: ", 11: b"serve: cannot open the store: "}
+    reason = os.fsencode(serve.path()) + b": Input/output error (os error 5)\n"
+    statuses = collections.Counter()
+    for name, number, status in calls(serve):
+        clear(serve)
+        got = serve.run(SMALL, before=injected(name, "error=EIO", number))
+        # the read that finds the end comes behind the answers
+        output = SMALL_ANSWERS if status == 3 and statuses[3] == 2 else b""
+        wants((name, number, *got), (name, number, status, output, said[status] + (reason if status > 4 else b"")))
+        statuses[status] += 1
+        goes_on(serve, name, number)
+    wants((statuses[3], statuses[4], statuses[7], statuses[11] > 10), (3, 1, 8, True))
+
+
+def stopped_at_calls(serve):
+    """A stop at any call of the system leaves no store or one with its whole mark, and all of a turn or nothing; the next run goes on."""
+    for name, number, _ in calls(serve):
+        clear(serve)
+        wants(serve.run(SMALL, before=injected(name, "signal=KILL", number))[0], -signal.SIGKILL)
+        goes_on(serve, name, number)
+
+
+def interrupted_calls(serve):
+    """A call of the system that a signal interrupts is made again."""
+    for name, number, _ in calls(serve):
+        if name in ONCE:
+            continue
+        clear(serve)
+        wants((name, number, *serve.run(SMALL, before=injected(name, "error=EINTR", number))), (name, number, 0, SMALL_ANSWERS, b""))
+        wants(read(serve.path()), framed([HEADER, *accepted(SMALL, SMALL_ANSWERS)]))
+
+
+TRACED = [failing_calls, stopped_at_calls, interrupted_calls]
 CHECKS = [closed_streams, words, no_store, held_store, foreign_files, begun_stores, damaged_stores, behind_the_list, long_stores,
           opened_on_a_copy, unread_answers, reader_that_goes_away, unreadable_input, impatient_streams, failing_store, little_memory,
-          long_items, new_files, odd_folder, many_questions, kept_for_lines]
+          opened_with_little_memory, long_items, new_files, odd_folder, many_questions, kept_for_lines]
 
 
 def of_old(program):
@@ -536,6 +638,10 @@ def tried(program, player):
     for name, talk, answers, _ in cases():
         if name.startswith("examples"):
             yield name + ", as play has it", None if answering.answers(player, talk)[0] == answers else "another reading answers otherwise"
-    for check in CHECKS:
+    run = ["strace", "-qq", "-o", "/dev/null", program]
+    has_strace = shutil.which("strace") is not None and subprocess.run(run, capture_output=True, check=False).returncode == 2
+    if not has_strace:
+        print("not tried serves, %s: there is no strace that can trace" % ", ".join(check.__name__ for check in TRACED), flush=True)
+    for check in CHECKS + (TRACED if has_strace else []):
         yield "serve: " + (check.__doc__ or "").splitlines()[0], checked(program, check)
     yield from of_old(program)
