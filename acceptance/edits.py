@@ -1,9 +1,12 @@
 """Whether each must-fail edit fits the text that it changes: what is old stands once in its file, and what is new differs.
 
-rt ci counts an edit that does not fit for nothing, and passes all the same.
+rt ci counts an edit that does not fit for nothing, and passes all the same.  So it is asked of the changes with which
+trials/stop and trials/stop-serve make wrong programs.
 """
 
 import glob
+import importlib.machinery
+import importlib.util
 import os
 
 TOP = os.path.dirname(os.path.dirname(os.path.realpath(__file__)))
@@ -13,6 +16,19 @@ def tried():
     """The name of each edit with what is wrong with it, or None."""
     for path in sorted(glob.glob(os.path.join(TOP, "crates", "*", "must-fail", "*.edit"))):
         yield os.path.relpath(path, TOP), what_is_wrong(path)
+    for trial in "stop", "stop-serve":
+        for what, source, old, new in changes_of(trial):
+            count = (text_of(os.path.join(TOP, "crates", source)) or "").count(old)
+            is_fit = count == 1 and old != new
+            yield "trials/%s, %s" % (trial, what), None if is_fit else "the old text stands %d times in its file" % count
+
+
+def changes_of(trial):
+    """The changes of sources with which a trial makes wrong programs."""
+    loader = importlib.machinery.SourceFileLoader("trial", os.path.join(TOP, "trials", trial))
+    module = importlib.util.module_from_spec(importlib.util.spec_from_loader("trial", loader))
+    loader.exec_module(module)
+    return module.WRONG
 
 
 def what_is_wrong(path):
