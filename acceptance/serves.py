@@ -313,6 +313,30 @@ def damaged_stores(serve):
         wants(read(serve.path()), held)
 
 
+def places_in(store):
+    """Where the gates of a store stand, each record's and the last."""
+    places = [0]
+    for payload in payloads_of(store):
+        places.append(places[-1] + 5 + len(payload))
+    return places
+
+
+def changed_stores(serve):
+    """A store of which one byte was changed, or that was cut, tells the units that its records then have, or is damaged at one of them and left as it is."""
+    whole = framed([HEADER, *accepted(SMALL, SMALL_ANSWERS)])
+    changed = [whole[:at] + bytes([whole[at] ^ 1 << at % 8]) + whole[at + 1:] for at in range(len(MARK), len(whole))]
+    for held in changed + [whole[:length] for length in range(len(MARK) + 2, len(whole))]:
+        write(serve.path(), held)
+        status, output, said = serve.run(b"? lines\n")
+        if status == 0:
+            units = payloads_of(held)[1:]
+            lines = b"".join(units).split(b"\n")[:-1]
+            wants((held, output, said), (held, b"".join(b"| %s\n" % line for line in lines) + b"ok %d\n" % len(units), b""))
+        else:
+            wants((held, status, output, said in [*map(damage, places_in(held))]), (held, 9, b"", True))
+        wants(read(serve.path()), held)
+
+
 def behind_the_list(serve):
     """What stands behind the gate that ends a list does not count."""
     for gate in (b"\0", b"\2", b"\xff"):
@@ -604,7 +628,7 @@ def interrupted_calls(serve):
 
 
 TRACED = [failing_calls, stopped_at_calls, interrupted_calls]
-CHECKS = [closed_streams, words, no_store, held_store, foreign_files, begun_stores, damaged_stores, behind_the_list, long_stores,
+CHECKS = [closed_streams, words, no_store, held_store, foreign_files, begun_stores, damaged_stores, changed_stores, behind_the_list, long_stores,
           opened_on_a_copy, unread_answers, reader_that_goes_away, unreadable_input, impatient_streams, failing_store, little_memory,
           opened_with_little_memory, long_items, new_files, odd_folder, many_questions, kept_for_lines]
 
