@@ -165,7 +165,7 @@ class Cutter:
         self.data, self.size, self.end, self.within = bytearray(), 0, End(), 0
 
     def begin_line(self):
-        self.part, self.long = b"", None
+        self.part, self.long = bytearray(), None
 
     def take(self, data):
         """The items that are whole with these bytes."""
@@ -180,16 +180,16 @@ class Cutter:
     def go_on(self, piece):
         """Takes bytes of a line that does not end with them."""
         if self.long is None:
-            self.part = self.part + piece if self.part else piece
+            self.part += piece
             if self.size + len(self.part) > LONGEST:
-                self.long, piece, self.part, self.data = LongLine(), self.part, b"", bytearray()
+                self.long, piece, self.part, self.data = LongLine(), self.part, bytearray(), bytearray()
         if self.long is not None:
             self.long.take(piece)
 
     def end_line(self, piece):
         """Takes the last bytes of a line, and says whether the item ends with it."""
         if self.long is None:
-            line = self.part + piece
+            line = bytes(self.part) + piece if self.part else piece
             words, size = words_of(line, TELLING), len(line) + 1
         else:
             self.long.take(piece)

@@ -1,0 +1,441 @@
+"""Tries tools/share: several clients and one server, with the program itself.
+
+The talks of the server (serves.py) are said to it by one client, with the same answers; what clients send in pieces and at once is
+not mixed; and whoever goes away, takes no answers, or may not say what it says, harms nobody else.  What holds where the server is
+killed under the load of many clients is tried by trials/share.
+"""
+import os
+import random
+import re
+import signal
+import socket
+import stat
+import subprocess
+import sys
+import tempfile
+import time
+
+import answering
+import chatter
+import serves
+import stamps
+import talks
+from serves import Differs, wants
+
+TOP = os.path.dirname(os.path.dirname(os.path.abspath(__file__)))
+SHARE, LINES = (os.path.join(TOP, "tools", name) for name in ("share", "lines"))
+WAIT = 600
+TALKS = 4
+STAMP = re.compile(rb"^\| # \d{4}-\d\d-\d\dT\d\d:\d\d:\d\dZ \S+ \d+\n", re.M)
+NOBODY = 65534
+# What a client that may speak for `nor` alone tries, in pieces that are sent one after another, and the last lines of its answers;
+# None is any answer.
+NOT_YOURS, FORM = b"no 1 not-yours\n", b"no 1 form\n"
+ATTEMPTS = [
+    ("another actor", [b"nora start c A\n"], [NOT_YOURS]),
+    ("a name that begins so", [b"no start c A\n", b"nor. start c A\n", b"noraa start c A\n"], [NOT_YOURS] * 3),
+    ("a name in pieces", [b"nor", b"a start c A\n"], [NOT_YOURS]),
+    ("a line feed in pieces", [b"nor start c B", b"\n", b"nora start c A", b"\n"], [None, NOT_YOURS]),
+    ("a group whose later lines are another's", [b"nor change c\nnora start c A\nend\n"], [b"no 2 form\n"]),
+    ("a group that seems to end", [b"nor change c\nend here\nnora start c A\nend\n"], [b"no 2 form\n"]),
+    ("a group that is none", [b"nor change\nnora start c A\nend\n"], [FORM]),
+    ("a quote that opens across lines", [b'nor end c A x="abc\nnora start c A\n', b'nora start c A x="\n'], [FORM, NOT_YOURS, NOT_YOURS]),
+    ("a quote round the name", [b'"nora" start c A\n', b'"nor" start c A\n', b'nor"a" start c A\n'], [NOT_YOURS] * 3),
+    ("a quote that hides a blank", [b'nor"\ta start c A\n', b'nor" start c A\nnora start c A\n'], [NOT_YOURS] * 3),
+    ("a carriage return in a line", [b"nor start c A\rnora start c A\n", b"\rnora start c A\r\n"], [FORM, NOT_YOURS]),
+    ("other bytes that end lines", [b"nor start c A\x0bnora\n", b"nor start c A\x0cnora\n", b"nor start c A\xc2\x85nora\n", b"\x00nora start c A\n"],
+     [None, None, None, NOT_YOURS]),
+    ("blanks in front", [b" \t nora start c A\n"], [NOT_YOURS]),
+    ("comments in front", [b"# nor\n\n \t# nor start c A\nnora start c A\n"], [NOT_YOURS]),
+    ("letters that look alike", [b"Nora start c A\n", b"n\xd0\xbera start c A\n", b"\xffnora start c A\n"], [NOT_YOURS] * 3),
+    ("declarations", [b"type u\nact A\nend\n", b"actor more\n", b"case d t\n", b" phase\n"], [NOT_YOURS] * 4),
+    ("a version, and cases that move", [b"nor install t\ninsert X after A\nend\n", b"nor migrate t\n"], [NOT_YOURS] * 2),
+    ("a header behind the first line", [b"adept 3\n", b"adept 3\nnora start c A\n"], [NOT_YOURS] * 3),
+    ("a question with another's unit", [b"? if nora start c A\n", b"? if nora change c\nnora start c A\nend\n", b"? move nora t\nnora start c A\nend\n"], [None] * 3),
+    ("a comment that is too long", [b"#" * 8388608 + b"\nnora start c A\n", b"nora start c A\n"], [b"no 1 limit bytes\n", NOT_YOURS]),
+    ("another's stamp", [b"# 2030-01-01T00:00:00Z nora 900000\nnor start c B\n"], [None]),
+    ("a group that goes on behind the end", [b"nor change c\ninsert Y after nothing\nend\nnora start c A\nend\n"], [None, NOT_YOURS, NOT_YOURS]),
+]
+BEFORE = b"type t\nact A\nact B\nend\nactor nor\nactor nora\ncase c t\nnora create c\n"
+
+
+class Share:
+    """tools/share at work in a folder."""
+
+    def __init__(self, program, folder, *words):
+        self.program, self.store, self.socket = program, os.path.join(folder, "store"), os.path.join(folder, "socket")
+        self.child = subprocess.Popen([SHARE, "--program", program, *words, self.store, self.socket], stdin=subprocess.DEVNULL, stderr=subprocess.PIPE)
+        until = time.time() + WAIT
+        while not (self.is_there() or self.child.poll() is not None or time.time() > until):
+            time.sleep(0.01)
+
+    def is_there(self):
+        try:
+            self.connect().close()
+            return True
+        except OSError:
+            return False
+
+    def connect(self, user=None):
+        """A new client, which another user of the system may be."""
+        made = socket.socket(socket.AF_UNIX)
+        made.settimeout(WAIT)
+        try:
+            if user is not None:
+                os.seteuid(user)
+            made.connect(self.socket)
+            return made
+        finally:
+            if user is not None:
+                os.seteuid(0)
+
+    def server(self):
+        """The number of the server's process."""
+        with open("/proc/%d/task/%d/children" % (self.child.pid, self.child.pid), encoding="ascii") as file:
+            return int(file.read().split()[0])
+
+    def wait(self):
+        """The status, and what was said."""
+        said = self.child.communicate(timeout=WAIT)[1]
+        return self.child.returncode, said
+
+    def stop(self):
+        self.child.send_signal(signal.SIGTERM)
+        return self.wait()
+
+    def answers(self, *numbers):
+        """What --answers prints."""
+        return subprocess.run([SHARE, "--program", self.program, "--answers", self.store, *map(str, numbers)], stdout=subprocess.PIPE, timeout=WAIT, check=True).stdout
+
+    def lines(self):
+        return subprocess.run([LINES, self.store], stdout=subprocess.PIPE, timeout=WAIT, check=True).stdout
+
+
+def told(client, count=None):
+    """So many answers of a client, each as bytes; all up to the end where no number is given."""
+    data, answers, found, answer = b"-", talks.Answers(), [], b""
+    while data and len(found) != count:
+        try:
+            data = client.recv(1 << 16)
+        except ConnectionError:
+            data = b""
+        for piece, is_end in answers.take(data):
+            answer += piece
+            if is_end:
+                found.append(answer)
+                answer = b""
+    return found
+
+
+def ask(client, *pieces, count=1):
+    """The answers to what is sent in pieces."""
+    for piece in pieces:
+        client.sendall(piece)
+        if len(pieces) > 1:
+            time.sleep(0.02)
+    return told(client, count)
+
+
+def last_lines(answers):
+    return [answer[answer[:-1].rfind(b"\n") + 1:] for answer in answers]
+
+
+def said_at_once(share, talk):
+    """What one client is answered to a talk, by --to."""
+    done = subprocess.run([SHARE, "--to", share.socket], input=talk, stdout=subprocess.PIPE, timeout=WAIT, check=False)
+    return done.returncode, STAMP.sub(b"", done.stdout)
+
+
+# What is tried. The first line of each says what holds.
+
+def groups_in_pieces(program, folder):
+    """Two clients send groups in pieces, in turn: each is answered its own, and nothing is mixed."""
+    share = Share(program, folder)
+    one, other = share.connect(), share.connect()
+    for first, second in zip((b"type t\n", b"act A\nac", b"t B\n", b"en", b"d\n"), (b"typ", b"e u\nact", b" C\n# end\n", b"end", b"\n")):
+        one.sendall(first)
+        other.sendall(second)
+        time.sleep(0.05)
+    answers = sorted([*told(one, 1), *told(other, 1)])
+    wants([answer[:answer.index(b"ok")] for answer in answers], [b"type t 1 - define -> defined\n", b"type u 1 - define -> defined\n"])
+    wants(sorted(last_lines(answers)), [b"ok 1\n", b"ok 2\n"])
+    wants(share.stop(), (0, b""))
+    wants(os.path.exists(share.socket), False)
+
+
+def goes_away_in_a_group(program, folder):
+    """A client that goes away in the middle of a group sends nothing of it; what it sent before that is worked."""
+    share = Share(program, folder)
+    gone, other = share.connect(), share.connect()
+    gone.sendall(b"actor ann\ntype t\nact A\n")
+    gone.close()
+    wants(ask(other, b"type t\nact B\nend\n")[0][:-2], b"type t 1 - define -> defined\nok ")
+    wants(ask(other, b"? actors\n"), [b"actor ann\nok 2\n"])
+    rest = share.connect()
+    rest.sendall(b"actor bob\ntype t\n# note\nact A\nac")
+    rest.shutdown(socket.SHUT_WR)
+    wants(told(rest), [b"ok 3\n", b"no 3 unended\n"])
+    wants(share.stop()[0], 0)
+    wants(b"act A" in share.lines(), False)
+
+
+def long_items(program, folder):
+    """An item that is too long is answered as by the server, wherever it ends, and the next one is taken."""
+    blanks, letters = b" " * talks.LONGEST, b"a" * talks.LONGEST
+    said = b"".join([b"type t\nact A\n#" + letters + b"\nact B\nend\n", blanks + b"actor ann \r\n", b"type t\nend" + blanks + b"x\nend" + blanks + b"\r\n",
+                     letters + b" change x\n? count\nend\n", b'"\\"' + blanks + b'" change x\n? count\nend\n? count\n'])
+    share = Share(program, folder)
+    wants(said_at_once(share, said + b"type t\n" + letters), (0, b"".join(b"no %d limit bytes\n" % line for line in (3, 1, 2, 1, 1)) + b"ok 0\nno 2 limit bytes\n"))
+    share.stop()
+
+
+def takes_nothing(program, folder):
+    """A client that takes no answers is dropped in time; until then the others are answered."""
+    share = Share(program, folder, "--wait", "2")
+    one, other = share.connect(), share.connect()
+    wants(ask(one, b"type t\nact A\nend\n" + b"".join(b"case c%d t\n" % number for number in range(4000)), count=4001)[-1], b"ok 4001\n")
+    other.sendall(b"? report\n" * 1000 + b"actor late\n")
+    began = time.time()
+    for number in range(20):
+        wants(ask(one, b"actor a%d\n" % number), [b"ok %d\n" % (4002 + number)])
+    wants(time.time() - began < 60, True)
+    until = time.time() + WAIT
+    while ask(one, b"? count\n") and time.time() < until and not is_dropped(other):
+        time.sleep(0.1)
+    wants(is_dropped(other), True)
+    wants(ask(one, b"? count\n"), [b"ok 4021\n"])
+    wants(share.stop()[0], 0)
+
+
+def is_dropped(client):
+    """Whether the other side has gone, told without a read."""
+    try:
+        client.send(b"\n", socket.MSG_DONTWAIT)
+        return False
+    except BlockingIOError:
+        return False
+    except OSError:
+        return True
+
+
+def is_killed(program, folder):
+    """Where the server is killed each client is told of its units; the numbers go on behind."""
+    share = Share(program, folder)
+    clients = [share.connect() for _ in range(3)]
+    wants(ask(clients[0], b"type t\nact A\nend\n"), [b"type t 1 - define -> defined\nok 1\n"])
+    server = share.server()
+    os.kill(server, signal.SIGSTOP)
+    for number, client in enumerate(clients):
+        client.sendall(b"actor a%d\n? count\nactor b" % number)
+    time.sleep(0.2)
+    os.kill(server, signal.SIGKILL)
+    for client in clients:
+        wants(told(client), [b"no 1 ended\n"] * 2)
+    wants(share.wait(), (137, b"share: the server has ended with 137\n"))
+    again = Share(program, folder)
+    wants(ask(again.connect(), b"actor ann\n"), [b"ok 2\n"])
+    again.stop()
+    wants(again.answers(2)[-len(b" root 2\n| actor ann\nok 2\n") + 5:], b" 2\n| actor ann\nok 2\n")
+
+
+# It answers as the program does until it has stored so many units; then it ends with 7 before it says so.
+SILENT = """#!/usr/bin/env python3
+import os, subprocess, sys
+program, most, mark = %r, %d, %r
+if os.path.exists(mark):
+    os.execv(program, [program, *sys.argv[1:]])
+open(mark, "w").close()
+child = subprocess.Popen([program, *sys.argv[1:]], stdout=subprocess.PIPE)
+for line in child.stdout:
+    if line == b"ok %%d\\n" %% most:
+        sys.exit(child.kill() or child.wait() and 7)
+    os.write(1, line)
+"""
+
+
+def is_silent(program, folder):
+    """Where the server ends before it answers a unit that it has stored, the client gets the rest of the answer from the store."""
+    silent = os.path.join(folder, "silent")
+    with open(silent, "w", encoding="utf-8") as file:
+        file.write(SILENT % (program, 4, os.path.join(folder, "mark")))
+    os.chmod(silent, 0o755)
+    share = Share(silent, folder)
+    one, other = share.connect(), share.connect()
+    wants(len(ask(other, b"type t\nact A\nend\nactor ann\ncase c t\n", count=3)), 3)
+    other.sendall(b"ann create c\n? count\n")
+    wants(told(other), [b"type t 2 ann newest -> is 1\ncase c 1 ann create 1 -> created\nok 4\n", b"no 1 ended\n"])
+    wants(told(one), [])
+    wants(share.wait()[0], 7)
+    wants(share.answers(4).split(b"\n", 1)[1], b"| ann create c\ntype t 2 ann newest -> is 1\ncase c 1 ann create 1 -> created\nok 4\n")
+
+
+def stamps_and_numbers(program, folder):
+    """In front of each unit stand time, user and number, or the number alone; a client's own comments stay behind them."""
+    share = Share(program, folder)
+    one = share.connect()
+    wants(ask(one, b"# mine\n\nactor ann\r\n? count\nactor ann\nactor bob\n", count=4), [b"ok 1\n", b"ok 1\n", b"no 1 twice\n", b"ok 2\n"])
+    share.stop()
+    share = Share(program, folder, "--no-stamp")
+    wants(ask(share.connect(), b"adept 3\n# 1\n# 700\nactor cora\n", count=2), [b"ok 2\n", b"ok 3\n"])
+    share.stop()
+    lines = re.sub(rb"(?m)^# \d{4}-\d\d-\d\dT\d\d:\d\d:\d\dZ \S+ ", b"# TIME USER ", share.lines())
+    wants(lines, b"adept 3\n# TIME USER 1\n# mine\n\nactor ann\r\n# TIME USER 3\nactor bob\n# 4\n# 1\n# 700\nactor cora\n")
+
+
+def rights_of_users(program, folder):
+    """What a user may not say is answered `no 1 not-yours`, and never reaches the server, whatever way it is tried."""
+    attempt_all(program, folder)
+
+
+def attempt_all(program, folder):
+    """Makes each attempt, beside a client that says what it may, where there can be two users; says how many there were."""
+    serves.Serve(program, folder).run(BEFORE)
+    os.chmod(folder, 0o755)
+    good, bad = (os.geteuid(), NOBODY) if os.geteuid() == 0 else (None, os.geteuid())
+    file = os.path.join(folder, "rights")
+    with open(file, "w", encoding="utf-8") as rights:
+        rights.write("# who may say what\n%s as nor\n" % stamps.name_of(bad))
+        rights.write("root as nora\nroot may cases installs\n" if good == 0 else "")
+    share = Share(program, folder, "--as", file, "--mode", "666")
+    honest = share.connect() if good == 0 else None
+    for what, pieces, answers in ATTEMPTS:
+        attempt(share, bad if good == 0 else None, what, pieces, answers)
+        if honest:
+            wants((what, last_lines(ask(honest, b"nora start c A\n"))[0][:3]), (what, b"ok "))
+    if honest:
+        wants([line[:3] for line in last_lines(ask(honest, b"case d t\nactor more\nnora install t\nend\n", count=3))], [b"ok ", b"no ", b"ok "])
+    wants(share.stop()[0], 0)
+    said = [first_words(unit) for unit in units(share.store) if unit.split(b"\n")[0].split()[2:3] == [stamps.name_of(bad).encode()]]
+    wants({first for first, _ in said} | {b"nor"}, {b"nor"})
+    wants({second for _, second in said} & {b"install", b"migrate"}, set())
+    wants(len(said), 3)
+    return len(ATTEMPTS)
+
+
+def attempt(share, user, what, pieces, answers):
+    """A client of this user tries something, and is answered so."""
+    with share.connect(user) as client:
+        wants(len(ask(client, b"adept 2\n")), 1)
+        got = last_lines(ask(client, *pieces, count=len(answers)))
+        wants((what, [one if wanted else None for one, wanted in zip(got, answers)]), (what, answers))
+        wants((what, last_lines(ask(client, b"? count\n"))[0][:3]), (what, b"ok "))
+
+
+def units(path):
+    return serves.payloads_of(serves.read(path))[1:]
+
+
+def first_words(unit):
+    """The first two words of a unit."""
+    end = talks.End()
+    for line in unit.split(b"\n")[:-1]:
+        end.take(talks.words_of(line))
+    return end.first[:2]
+
+
+def files_of_rights(program, folder):
+    """A file of rights that is wrong is told with its line, and nothing is served."""
+    for text, why in ((b"ann\n", b"line 1: it is"), (b"# x\nann may cook\n", b"line 2: there is no kind cook"), (b"ann can cases\n", b"line 1: it is")):
+        with open(os.path.join(folder, "rights"), "wb") as file:
+            file.write(text)
+        status, said = Share(program, folder, "--as", file.name).wait()
+        wants((status, why in said, os.path.exists(os.path.join(folder, "store"))), (1, True, False))
+
+
+def sockets(program, folder):
+    """The socket has the rights that are told; a stale one is replaced, and whatever else is there is left."""
+    path = os.path.join(folder, "socket")
+    with socket.socket(socket.AF_UNIX) as stale:
+        stale.bind(path)
+    for words, mode in (((), 0o600), (("--mode", "660"), 0o660)):
+        share = Share(program, folder, *words)
+        wants(stat.S_IMODE(os.stat(path).st_mode), mode)
+        second = subprocess.run([SHARE, "--program", program, share.store + "2", path], stderr=subprocess.PIPE, timeout=WAIT, check=False)
+        wants((second.returncode, second.stderr), (1, b"share: somebody listens at %s\n" % path.encode()))
+        third = subprocess.run([SHARE, "--program", program, share.store, path + "2"], stderr=subprocess.PIPE, timeout=WAIT, check=False)
+        wants((third.returncode, third.stderr[:26]), (10, b"serve: the store is in use"))
+        wants(share.stop()[0], 0)
+        wants(sorted(name for name in os.listdir(folder) if name.startswith("socket")), [])
+    for held in b"a letter\n", b"":
+        with open(path, "wb") as file:
+            file.write(held)
+        status, said = Share(program, folder).wait()
+        wants((status, b"is no socket" in said, serves.read(path)), (1, True, held))
+    os.remove(path)
+    with open(os.path.join(folder, "store"), "wb") as file:
+        file.write(b"a letter\n")
+    wants(Share(program, folder).wait(), (9, serves.NO_STORE))
+    wants(os.path.exists(path), False)
+
+
+def to_a_server(program, folder):
+    """--to says what it is given and ends with 0 when all is answered, and with 1 where nobody is there, or the server has gone."""
+    wants(subprocess.run([SHARE, "--to", os.path.join(folder, "none")], stderr=subprocess.PIPE, timeout=WAIT, check=False).returncode, 1)
+    share = Share(program, folder)
+    wants(said_at_once(share, b"adept 1\n" + serves.SMALL), (0, b"ok 0\n" + serves.SMALL_ANSWERS))
+    wants(said_at_once(share, b""), (0, b""))
+    client = subprocess.Popen([SHARE, "--to", share.socket], stdin=subprocess.PIPE, stdout=subprocess.PIPE, stderr=subprocess.PIPE)
+    client.stdin.write(b"? count\n")
+    client.stdin.flush()
+    wants(client.stdout.readline(), b"ok 4\n")
+    wants(share.stop()[0], 0)
+    output, said = client.communicate(b"? count\n", timeout=WAIT)
+    wants((client.returncode, output, said), (1, b"", b"share: the talk has ended before all was answered\n"))
+
+
+def three_desks(program, folder):
+    """The ward of examples/desks: three clients at once, until all patients have gone."""
+    share = Share(program, folder)
+    done = subprocess.run([os.path.join(TOP, "examples", "desks"), share.socket], stdout=subprocess.PIPE, timeout=WAIT, check=True)
+    wants(done.stdout.split(b"\n")[-5:-1], [*(b"case bed-%d stay 1 finished own=0" % number for number in (1, 2, 3)), b"ok 34"])
+    wants(share.stop()[0], 0)
+
+
+CHECKS = [groups_in_pieces, goes_away_in_a_group, long_items, takes_nothing, is_killed, is_silent, stamps_and_numbers, rights_of_users,
+          files_of_rights, sockets, to_a_server, three_desks]
+
+
+def checked(program, check):
+    with tempfile.TemporaryDirectory(prefix="acceptance-") as folder:
+        try:
+            check(program, folder)
+            return None
+        except (Differs, OSError, IndexError, subprocess.SubprocessError) as why:
+            return "%s: %s" % (type(why).__name__, why)
+
+
+def shared(program, talk, answers, before):
+    """None where a talk is answered so by one client."""
+    with tempfile.TemporaryDirectory(prefix="acceptance-") as folder:
+        if before is not None:
+            serves.write(os.path.join(folder, "store"), before)
+        share = Share(program, folder)
+        try:
+            wants(said_at_once(share, talk), (0, answers))
+            wants(share.stop(), (0, b""))
+            return None
+        except Differs as why:
+            return str(why)
+
+
+def made_talks(program, player, seed):
+    """Talks of a seed, said in pieces."""
+    for number in range(TALKS):
+        chance = random.Random("share %d %d" % (seed, number))
+        talk = chatter.made(chance)
+        answers, _ = answering.answers(player, talk)
+        yield "shared talk %d of the seed %d" % (number, seed), shared(program, talk, answers, None)
+
+
+def tried(program, player):
+    """For each case of tools/share its name and what differs."""
+    for name, talk, answers, before in serves.cases():
+        yield "shared: " + name, shared(program, talk, answers, before)
+    for check in CHECKS:
+        yield "share: " + check.__doc__.splitlines()[0], checked(program, check)
+    yield from made_talks(program, player, random.SystemRandom().randrange(10 ** 9))
+
+
+if __name__ == "__main__":
+    for case, difference in tried(sys.argv[1], [sys.argv[2]]):
+        print("differs" if difference else "passed", case, difference or "", flush=True)
