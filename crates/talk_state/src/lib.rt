@@ -9,7 +9,6 @@ mod questions;
 mod states;
 mod taking;
 mod telling;
-mod texts;
 mod working;
 
 pub use adept_io::NoMemory;

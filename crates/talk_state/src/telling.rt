@@ -5,18 +5,20 @@ ghost use Rattle.talk_answers.specs.Lines.{no_line, ok_line};
 ghost use Rattle.talk_state.specs.Answers.{entries_of};
 
 use crate::states::TalkState;
-use crate::texts::TextSink;
 use adept_io::NoMemory;
 use std::alloc::{AllocError, Global};
-use std::mem::replace;
 use talk_answers::{put_no, put_ok};
+use text_follower::GrowingSink;
 
-// The text is what the sink has taken, where all went well.
-fn take_back(text: &mut Vec<u8>, told: TextSink, ok: bool) -> Result<(), NoMemory>
-    ensures { OnOk result ((ok ≡ true) × (text.new.items ≡ told.bytes)) }
+// Puts what was told behind a text, where all went well.
+fn add(text: &mut Vec<u8>, ok: bool, told: &[u8]) -> Result<(), NoMemory>
+    ensures { OnOk result ((ok ≡ true) × (text.new.items ≡ text.old.items ++ told.now)) }
 {
-    *text = told.into_text();
-    if ok { Ok(()) } else { Err(AllocError) }
+    if !ok {
+        return Err(AllocError);
+    }
+    text.extend_from_slice(told)?;
+    Ok(())
 }
 
 // Puts a refusal of a line behind a text.
@@ -28,18 +30,18 @@ pub(crate) fn tell_refused(
 ) -> Result<(), NoMemory>
     ensures { OnOk result (text.new.items ≡ text.old.items ++ no_line line why.now) }
 {
-    let mut told = TextSink::behind(replace(text, Vec::new(alloc)));
+    let mut told = GrowingSink::new(alloc);
     let ok = put_no(&mut told, true, line, why);
-    take_back(text, told, ok)
+    add(text, ok, told.as_slice())
 }
 
 // Puts behind a text that all is well.
 pub(crate) fn tell_well(alloc: Global, text: &mut Vec<u8>, count: u64) -> Result<(), NoMemory>
     ensures { OnOk result (text.new.items ≡ text.old.items ++ ok_line count) }
 {
-    let mut told = TextSink::behind(replace(text, Vec::new(alloc)));
+    let mut told = GrowingSink::new(alloc);
     let ok = put_ok(&mut told, true, count);
-    take_back(text, told, ok)
+    add(text, ok, told.as_slice())
 }
 
 impl TalkState {
@@ -47,9 +49,9 @@ impl TalkState {
     pub(crate) fn tell_taken(&self, alloc: Global, text: &mut Vec<u8>) -> Result<(), NoMemory>
         ensures { OnOk result (text.new.items ≡ text.old.items ++ (entries_of (file_of self.now.contents) self.now.placing self.now.called ++ ok_line self.now.count)) }
     {
-        let mut told = TextSink::behind(replace(text, Vec::new(alloc)));
+        let mut told = GrowingSink::new(alloc);
         let ok = self.put_called(&mut told, true);
         let ok = put_ok(&mut told, ok, self.count);
-        take_back(text, told, ok)
+        add(text, ok, told.as_slice())
     }
 }

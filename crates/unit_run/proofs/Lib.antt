@@ -1,4 +1,3 @@
 pub mod Placed
 pub mod Each
 pub mod Called
-pub mod PutBack
