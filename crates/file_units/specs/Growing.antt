@@ -65,3 +65,14 @@ pub record IsFrontOf (f : File) (c : Contents) : Type 0 where
   pub actors : Begins f.actors c.actors.items
   pub cases : Begins f.cases c.cases.items
   pub phases : f.phases ≡ []
+
+-- with as much as was named and declared at the marks
+abbrev pub file_cut : Marks → File → File
+file_cut m f = record f {
+  nodes = take m.nodes f.nodes;
+  elements = take m.elements f.elements;
+  roles = take m.roles f.roles;
+  types = take m.types f.types;
+  actors = take m.actors f.actors;
+  cases = take m.cases f.cases;
+}

@@ -9,7 +9,8 @@ use Rattle.file_model.specs.declared.refusals.FileRefusal.TheVariants as reader
 use Rattle.file_model.specs.declared.refusals.Refused.{Refused}
 use Rattle.file_model.specs.declared.states.Contents.{Contents}
 use Rattle.file_facts.specs.Facts.{HasType}
-use Rattle.file_units.specs.Facts.{IsSmall}
+use Rattle.file_units.specs.Facts.{IsHeld, IsSmall}
+use Rattle.file_units.specs.Growing.{Grows, marks_of}
 use Rattle.file_units.specs.Units.{said_line, settled}
 use Rattle.file_units.specs.declared.held.Said.{Said}
 use Rattle.file_units.specs.declared.held.Said.TheVariants as say
@@ -87,3 +88,13 @@ abbrev pub Refuses : Bool → Result Contents Refused → UnitRefusal → Type 0
 Refuses has_room read (refusal.Refused r) = read ≡ Err r
 Refuses has_room read refusal.Full = (has_room ≡ false) × ((d : Contents) × (read ≡ Ok d))
 Refuses has_room read refusal.NoMemory = Unit {0}
+
+-- contents go on from others that were held, and the marks are those of such others
+pub record GoesOn (c d : Contents) : Type 0 where
+  pub held : IsHeld c
+  pub grows : Grows c d
+
+pub record IsBehind (m : Marks) (d : Contents) : Type 0 where
+  pub before : Contents
+  pub marks : m ≡ marks_of before
+  pub goes_on : GoesOn before d

@@ -5,12 +5,14 @@ ghost use Rattle.file_model.specs.Room.{HasRoom, count_of_names};
 ghost use Rattle.file_model.specs.Scripting.{actor_in};
 ghost use Rattle.file_names.specs.Names.{place_of};
 ghost use Rattle.file_model.specs.Sizes.{HasNumbers};
+ghost use Rattle.file_model.specs.declared.states.Contents.{Contents};
 ghost use Rattle.file_units.specs.Facts.{IsHeld, IsReady};
-ghost use Rattle.file_units.specs.Taking.{Refuses, Says, said_behind, said_effort, unit_refusal};
+ghost use Rattle.file_units.specs.Growing.{Grows, marks_of};
+ghost use Rattle.file_units.specs.Taking.{GoesOn, IsBehind, Refuses, Says, said_behind, said_effort, unit_refusal};
 ghost use Rattle.file_units.specs.Units.{no_units, settled, unit_read};
 
 use crate::reading::{Marks, cut_back, read_unit, settle};
-use crate::shown::{bring_up, no_file, nothing};
+use crate::shown::{bring_up, cut_file, no_file, nothing};
 use file_model::{Contents, File, FileRefusal, Line, Refused};
 use file_names::NameTable;
 use file_words::NameWord;
@@ -121,6 +123,7 @@ fn read_behind(
     ensures taken { IfOk result (λ said. (has_room ≡ true) × Says contents.old (unit_read contents.old unit.now) contents.new said) }
     ensures effort { IfOk result (λ said. said_effort said ≤ 2 * length unit.now) }
     ensures names { OnOk result (count_of_names contents.new ≤ count_of_names contents.old + length unit.now) }
+    ensures grows { OnOk result (Grows contents.old contents.new) }
     ensures held { OnOk result (IsHeld contents.new) }
     ensures file { OnOk result (file.new ≡ file_of contents.new) }
     ensures refused { IfErr result (λ refusal. Refuses has_room (unit_read contents.old unit.now) refusal) }
@@ -206,6 +209,7 @@ impl HeldFile {
         ensures taken { IfOk result (λ said. (has_room ≡ true) × Says self.old (unit_read self.old unit.now) self.new said) }
         ensures effort { IfOk result (λ said. said_effort said ≤ 2 * length unit.now) }
         ensures names { OnOk result (count_of_names self.new ≤ count_of_names self.old + length unit.now) }
+        ensures goes_on { OnOk result (GoesOn self.old self.new) }
         ensures refused { IfErr result (λ refusal. Refuses has_room (unit_read self.old unit.now) refusal) }
         ensures kept { IfErr result (λ refusal. refusal ≢ UnitRefusal.NoMemory → self.new ≡ self.old) }
     {
@@ -217,5 +221,20 @@ impl HeldFile {
             }
             Err(refusal) => Err(refusal),
         }
+    }
+    /// How much is named and declared.
+    pub fn marks(&self) -> Marks
+        ensures { result ≡ marks_of self.now }
+    {
+        Marks::of(&self.contents)
+    }
+
+    /// Takes back all that was taken behind the marks, in time of what that is: the file is the one from which they were.
+    pub fn take_back(&mut self, alloc: Global, marks: Marks)
+        requires { IsBehind marks self.old }
+        ensures { (before : Contents) → GoesOn before self.old → marks ≡ marks_of before → self.new ≡ before }
+    {
+        cut_file(&mut self.file, alloc, marks);
+        cut_back(&mut self.contents, alloc, marks);
     }
 }

@@ -105,14 +105,14 @@ pub(crate) fn read_unit(
     end_unit(contents, alloc, at, &place)
 }
 
-// How much was named and declared so far.
+/// How much was named and declared so far.
 #[derive(Clone, Copy)]
-pub(crate) struct Marks {
-    nodes: usize,
-    elements: usize,
-    roles: usize,
+pub struct Marks {
+    pub(crate) nodes: usize,
+    pub(crate) elements: usize,
+    pub(crate) roles: usize,
     pub(crate) types: usize,
-    actors: usize,
+    pub(crate) actors: usize,
     pub(crate) cases: usize,
 }
 

@@ -1,13 +1,14 @@
 // The file that contents stand for, kept beside them for those who write of it.
-ghost use Rattle.std.specs.Prelude.{◌≡◌, [], OnOk};
+ghost use Rattle.std.specs.Prelude.{◌≡◌, [], take, OnOk};
 ghost use Rattle.wsm_lists.specs.Rows.{AllRows};
 ghost use Rattle.file_model.specs.Reading.{file_of};
 ghost use Rattle.file_model.specs.ShortForms.{IsShort};
 ghost use Rattle.file_units.specs.Facts.{HasShortNames};
-ghost use Rattle.file_units.specs.Growing.{Begins, IsFrontOf};
+ghost use Rattle.file_units.specs.Growing.{Begins, IsFrontOf, file_cut};
 ghost use Rattle.file_units.specs.Units.{no_units, settled};
 
 use crate::limits::{MAX_HELD_ACTORS, MAX_HELD_CASES, MAX_HELD_TYPES};
+use crate::reading::Marks;
 use file_model::{
     ActorDecl, ActorDecls, CaseDecl, CaseDecls, CaseTable, Contents, Counts, File, Limits, Name64,
     Phases, TypeDecl, TypeDecls,
@@ -15,6 +16,7 @@ use file_model::{
 use file_names::{DeclaredList, NameTable, Names};
 use file_words::NameWord;
 use std::alloc::Global;
+use std::mem::replace;
 use wsm_lists::{Listing, NoMemory};
 
 // Contents of format 3 in which nothing is named, not even `start` and `finish`. They take no memory.
@@ -127,4 +129,25 @@ fn add_cases(cases: &mut CaseDecls, alloc: Global, all: &CaseDecls) -> Result<()
         })?;
     }
     Ok(())
+}
+
+// Keeps the first so many items of a list alone.
+fn cut_list<T: Drop>(list: &mut Listing<T>, alloc: Global, len: usize)
+    ensures { list.new ≡ take len list.old }
+{
+    let mut items = replace(list, Listing::new(alloc)).into_vec();
+    items.truncate(len);
+    *list = Listing::from_vec(items);
+}
+
+// Takes back what a file has more than was named and declared at the marks.
+pub(crate) fn cut_file(file: &mut File, alloc: Global, marks: Marks)
+    ensures { file.new ≡ file_cut marks file.old }
+{
+    cut_list(&mut file.nodes, alloc, marks.nodes);
+    cut_list(&mut file.elements, alloc, marks.elements);
+    cut_list(&mut file.roles, alloc, marks.roles);
+    cut_list(&mut file.types, alloc, marks.types);
+    cut_list(&mut file.actors, alloc, marks.actors);
+    cut_list(&mut file.cases, alloc, marks.cases);
 }
