@@ -1,3 +1,5 @@
 pub mod Counted
+pub mod GivenIf
 pub mod Last
 pub mod Offered
+pub mod Tried

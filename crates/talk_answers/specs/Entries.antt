@@ -8,6 +8,7 @@ use Rattle.line_calls.specs.declared.calls.Cells.{Cells}
 use Rattle.line_calls.specs.declared.calls.Cells.TheVariants as cells
 use Rattle.report_text.specs.Journals.{case_line, kind_line}
 use Rattle.report_words.specs.Words.{type_text}
+use Rattle.script_run.specs.Entries.{CaseEntry, KindEntry}
 use Rattle.script_run.specs.declared.runs.ClosedCase.{ClosedCase}
 use Rattle.script_run.specs.declared.runs.ClosedKind.{ClosedKind}
 use Rattle.unit_run.specs.Runs.{Placing}
@@ -27,11 +28,18 @@ if_both text (Some x) (Some y) = text x y
 abbrev pub last_entry : {X : Type 0} → (ℕ → X → Bytes) → List X → Bytes
 last_entry line journal = if_there (line (length journal)) (slice_get journal (length journal - 1))
 
+-- an entry of a type and one of a case, each with its place in the journal, and the last one
+abbrev pub kind_numbered : File → ℕ → ℕ → KindEntry → Bytes
+kind_numbered f t n e = (codes "type " ++ type_text f t) ++ (codes " " ++ kind_line f n e)
+
+abbrev pub case_numbered : File → CaseDecl → ℕ → CaseEntry → Bytes
+case_numbered f d n e = codes "case " ++ (d.name ++ (codes " " ++ case_line f n e))
+
 abbrev pub kind_entry : File → ℕ → ClosedKind → Bytes
-kind_entry f t k = last_entry (λ n e. (codes "type " ++ type_text f t) ++ (codes " " ++ kind_line f n e)) k.journal
+kind_entry f t k = last_entry (kind_numbered f t) k.journal
 
 abbrev pub case_entry : File → CaseDecl → ClosedCase → Bytes
-case_entry f d c = last_entry (λ n e. codes "case " ++ (d.name ++ (codes " " ++ case_line f n e))) c.journal
+case_entry f d c = last_entry (case_numbered f d) c.journal
 
 -- of the type with a number, of the case that was declared at a place, and of the case with an id
 abbrev pub entry_of_kind : File → Placing → ℕ → Bytes

@@ -1,11 +1,11 @@
 // The entries of a unit's calls.
 ghost use Rattle.adept_io.specs.Written.{Gives};
-ghost use Rattle.talk_answers.specs.Entries.{case_entry, entries, entries_of_each, entry_at, entry_of_case, entry_of_kind, kind_entry};
+ghost use Rattle.talk_answers.specs.Entries.{case_entry, case_numbered, entries, entries_of_each, entry_at, entry_of_case, entry_of_kind, kind_entry, kind_numbered};
 
 use adept_io::{Sink, put};
 use file_model::{CaseDecl, File};
 use line_calls::Cells;
-use report_text::{ClosedCase, ClosedKind, put_case_line, put_kind_line};
+use report_text::{CaseEntry, ClosedCase, ClosedKind, KindEntry, put_case_line, put_kind_line};
 use report_words::put_type;
 use unit_run::UnitRun;
 use wsm_sound::CaseId;
@@ -54,7 +54,7 @@ fn put_entry_of_kind<K: Sink>(
 
 // The last entry of a type.
 #[tactic(auto, using(adept_io::proofs::Sent::gives_nothing))]
-fn put_kind_entry<K: Sink>(
+pub(crate) fn put_kind_entry<K: Sink>(
     sink: &mut K,
     ok: bool,
     file: &File,
@@ -66,17 +66,29 @@ fn put_kind_entry<K: Sink>(
     let journal = kind.journal.as_slice();
     match journal.last() {
         None => ok,
-        Some(entry) => {
-            let ok = put_type(sink, ok, b"type ", file, type_no);
-            let ok = put(sink, ok, b" ");
-            put_kind_line(sink, ok, file, journal.len() as u64, entry)
-        }
+        Some(entry) => put_kind_numbered(sink, ok, file, type_no, journal.len() as u64, entry),
     }
+}
+
+// An entry of a type, with its place in the journal.
+pub(crate) fn put_kind_numbered<K: Sink>(
+    sink: &mut K,
+    ok: bool,
+    file: &File,
+    type_no: u32,
+    place: u64,
+    entry: &KindEntry,
+) -> bool
+    ensures { Gives K.written K.faults ok result sink.old sink.new (kind_numbered file.now type_no place entry.now) }
+{
+    let ok = put_type(sink, ok, b"type ", file, type_no);
+    let ok = put(sink, ok, b" ");
+    put_kind_line(sink, ok, file, place, entry)
 }
 
 // The last entry of the case with an id.
 #[tactic(auto, using(adept_io::proofs::Sent::gives_nothing))]
-fn put_entry_of_case<K: Sink>(
+pub(crate) fn put_entry_of_case<K: Sink>(
     sink: &mut K,
     ok: bool,
     file: &File,
@@ -92,7 +104,7 @@ fn put_entry_of_case<K: Sink>(
 }
 
 // The last entries of the first so many cases of a type.
-fn put_entries_of_each<K: Sink>(
+pub(crate) fn put_entries_of_each<K: Sink>(
     sink: &mut K,
     ok: bool,
     file: &File,
@@ -135,11 +147,23 @@ fn put_case_entry<K: Sink>(
     let journal = case.journal.as_slice();
     match journal.last() {
         None => ok,
-        Some(entry) => {
-            let ok = put(sink, ok, b"case ");
-            let ok = put(sink, ok, decl.name.bytes());
-            let ok = put(sink, ok, b" ");
-            put_case_line(sink, ok, file, journal.len() as u64, entry)
-        }
+        Some(entry) => put_case_numbered(sink, ok, file, decl, journal.len() as u64, entry),
     }
+}
+
+// An entry of a case, with its place in the journal.
+pub(crate) fn put_case_numbered<K: Sink>(
+    sink: &mut K,
+    ok: bool,
+    file: &File,
+    decl: &CaseDecl,
+    place: u64,
+    entry: &CaseEntry,
+) -> bool
+    ensures { Gives K.written K.faults ok result sink.old sink.new (case_numbered file.now decl.now place entry.now) }
+{
+    let ok = put(sink, ok, b"case ");
+    let ok = put(sink, ok, decl.name.bytes());
+    let ok = put(sink, ok, b" ");
+    put_case_line(sink, ok, file, place, entry)
 }

@@ -8,6 +8,7 @@ mod items;
 mod lines;
 mod reports;
 mod standings;
+mod tries;
 mod types;
 
 pub use actors::put_actors;
@@ -16,4 +17,5 @@ pub use items::{put_all_items, put_items_for};
 pub use lines::{put_no, put_ok, put_quoted};
 pub use reports::put_report;
 pub use standings::{put_all_standings, put_standings_of};
+pub use tries::{put_defined, put_tried};
 pub use types::put_types;

@@ -1,0 +1,9 @@
+use Rattle.adept_io.proofs.Sent.{gives_then}
+use Rattle.report_words.proofs.Rows.{gives_as}
+use Rattle.talk_answers.proofs.entries.put_case_numbered.Goals as goal
+
+pub returns : goal.returns
+returns g c =
+    gives_then _ _ _ _ _ _ _ _ _ _ c.put-ok.ensures
+    (gives_then _ _ _ _ _ _ _ _ _ _ (gives_as _ _ _ _ _ _ _ _ c.put-ok-2.ensures c.bytes.ensures.bytes)
+    (gives_then _ _ _ _ _ _ _ _ _ _ c.put-ok-3.ensures c.put_case_line.ensures))

@@ -1,0 +1,12 @@
+use Rattle.std.proofs.Common.{◌≡◌, take}
+use Rattle.std.specs.List.{flat_map}
+use Rattle.adept_io.specs.Written.{Gives}
+use Rattle.case_places.specs.Places.{places_of}
+use Rattle.talk_answers.specs.Tried.{tried_at}
+use Rattle.talk_answers.proofs.tries.put_each_tried.Given as goal
+
+abbrev pub invariant-loop-place : goal.invariant-loop-place
+invariant-loop-place g l = record {
+  given : Gives g.K.Sink.written g.K.Sink.faults l.ok l.well l.initial.sink l.sink (flat_map (tried_at l.file l.initial.run l.caller l.event) (take l.place (places_of l.type_no l.initial.run.placed.types)));
+  same : l.run ≡ l.initial.run;
+}
