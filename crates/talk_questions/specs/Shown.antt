@@ -2,6 +2,10 @@
 use Rattle.talk_questions.specs.Questions as asked
 use Rattle.talk_questions.specs.declared.questions.Question.{Question}
 use Rattle.talk_questions.specs.declared.questions.Question.TheVariants as question
+use Rattle.talk_questions.specs.Trials as trials
+use Rattle.talk_questions.specs.declared.asking.Asking.{Asking}
+use Rattle.talk_questions.specs.declared.trials.Trial.{Trial}
+use Rattle.talk_questions.specs.declared.trials.Trial.TheVariants as trial
 
 abbrev pub shown_question : Question → asked.Asked
 shown_question question.Report = asked.report
@@ -16,3 +20,12 @@ shown_question question.Actors = asked.actors
 shown_question question.Count = asked.count
 shown_question question.Last = asked.last
 shown_question question.Lines = asked.lines
+
+abbrev pub shown_asking : Asking → trials.Asking
+shown_asking q = record { bytes = q.bytes.now; line = q.line.now; more = q.more.now }
+
+abbrev pub shown_trial : Trial → trials.Trial
+shown_trial (trial.Unit u) = trials.unit u.now
+shown_trial (trial.Move a t lines) = trials.move a.now t.now lines.now
+shown_trial trial.NoForm = trials.no_form
+shown_trial trial.NoText = trials.no_text
