@@ -14,7 +14,7 @@ abbrev pub fits : List Bytes → Bytes → Bool
 fits ps p = nat_lt (length (all_framed ps) + (5 + length p)) (2 ^ 30)
 
 -- What is said where units are held. A unit is read behind those or not, and has an answer, whether it is taken or not. A
--- question has one, by the line that asks it. All is well where so many units are held; and a line is refused for a reason.
+-- question has one, by all its bytes. All is well where so many units are held; and a line is refused for a reason.
 pub record UnitRules : Type 0 where
   pub reads : List Bytes → Bytes → Bool
   pub answer : List Bytes → Bytes → Bytes

@@ -6,7 +6,7 @@ use adept_io::NoMemory;
 use std::alloc::Global;
 
 /// What holds units, each of which was taken behind those before it. It answers each, and it answers questions, which change
-/// nothing.
+/// nothing, also where they try a unit.
 pub trait Holder {
     // What is said where units are held.
     ghost rules: { UnitRules };
@@ -37,14 +37,16 @@ pub trait Holder {
         ensures holds { (units : List (List ℕ)) → holds self.old units → IfOk result (λ taken. holds self.new (units_behind taken units unit.now)) }
         ensures answer { (units : List (List ℕ)) → holds self.old units → OnOk result (text.new.items ≡ text.old.items ++ rules.answer units unit.now) };
 
-    /// Puts the answer to a question, of which this is the line that asks, behind a text.
+    /// Puts the answer to a question behind a text. The units that are held are the same.
     fn answer_question(
-        &self,
+        &mut self,
         alloc: Global,
-        line: &[u8],
+        question: &[u8],
         text: &mut Vec<u8>,
     ) -> Result<(), NoMemory>
-        ensures { (units : List (List ℕ)) → holds self.now units → OnOk result (text.new.items ≡ text.old.items ++ rules.asked units line.now) };
+        requires short { length question.now ≤ 2 ^ 23 }
+        ensures holds { (units : List (List ℕ)) → holds self.old units → OnOk result (holds self.new units) }
+        ensures answer { (units : List (List ℕ)) → holds self.old units → OnOk result (text.new.items ≡ text.old.items ++ rules.asked units question.now) };
 
     /// Puts behind a text that all is well.
     fn answer_well(&self, alloc: Global, text: &mut Vec<u8>) -> Result<(), NoMemory>
