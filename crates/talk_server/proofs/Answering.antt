@@ -74,6 +74,12 @@ module _ (rules : UnitRules) (ps : List Bytes) (item : Bytes) where
       let few : length item ≤ MAX_ITEM = subst (λ i. length i ≤ MAX_ITEM) same short in
       told ∙ ap (λ i. before ++ rules.answer (units_in ps) i) (is ∙ same) ∙ ap (λ t. before ++ t) (sym (short-answer first kinds.Unit few (ap kind (sym same) ∙ unit)))
 
+  pub question-told : (own bytes before after : Bytes) (first : Bool) → own ≡ item → bytes ≡ own → length own ≤ MAX_ITEM → kind own ≡ kinds.Question → after ≡ before ++ rules.asked (units_in ps) bytes
+      → after ≡ before ++ item_answer rules first ps item
+  question-told own bytes before after first same is short question told =
+      let few : length item ≤ MAX_ITEM = subst (λ i. length i ≤ MAX_ITEM) same short in
+      told ∙ ap (λ i. before ++ rules.asked (units_in ps) i) (is ∙ same) ∙ ap (λ t. before ++ t) (sym (short-answer first kinds.Question few (ap kind (sym same) ∙ question)))
+
   -- behind an item
   pub same-payload : (b : Bool) → b ≡ accepts rules ps item → (if b then item ∷ [] else []) ≡ payload_of (server_rules rules) ps item
   same-payload b is = ap (λ t. if t then item ∷ [] else []) is

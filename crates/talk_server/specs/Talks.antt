@@ -1,7 +1,7 @@
 -- What a server says to the items of a talk, over the payloads that are held: the header line, and units.
 use Rattle.std.specs.Prelude.{◌+◌, ◌&&◌, not, Bool, true, false, nat_lt, List, [], ◌∷◌, length, drop, if◌then◌else◌, codes}
-use Rattle.file_words.specs.Lines.{Bytes, lines_of}
-use Rattle.talk_items.specs.Items.{counted, ends, is_blank, is_skipped, kind, words}
+use Rattle.file_words.specs.Lines.{Bytes}
+use Rattle.talk_items.specs.Items.{counted, ends, is_blank, kind}
 use Rattle.talk_items.specs.declared.items.ItemKind.{ItemKind}
 use Rattle.talk_items.specs.declared.items.ItemKind.TheVariants as kinds
 use Rattle.talk_items.specs.declared.limits.TheConstants.{MAX_ITEM}
@@ -14,14 +14,6 @@ units_in ps = drop 1 ps
 
 abbrev pub is_too_long : Bytes → Bool
 is_too_long item = nat_lt MAX_ITEM (length item)
-
--- the first line that says something
-abbrev pub first_said : List Bytes → Bytes
-first_said [] = []
-first_said (line ∷ lines) = if is_skipped (words line) then first_said lines else line
-
-abbrev pub said_in : Bytes → Bytes
-said_in item = first_said (lines_of item).ended
 
 abbrev pub is_unit : ItemKind → Bool
 is_unit kinds.Unit = true
@@ -38,7 +30,7 @@ next_refused rules item why = rules.refusal (counted item + 1) why
 
 -- a header line is welcome as the first item of a talk; as any other it has no form
 abbrev pub answer_by : UnitRules → ItemKind → (first : Bool) → List Bytes → Bytes → Bytes
-answer_by rules kinds.Question first units item = rules.asked units (said_in item)
+answer_by rules kinds.Question first units item = rules.asked units item
 answer_by rules kinds.Header true units item = rules.well (length units)
 answer_by rules kinds.Header false units item = rules.refusal 1 (codes "form")
 answer_by rules kinds.Unit first units item = rules.answer units item

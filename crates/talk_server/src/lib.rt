@@ -6,7 +6,6 @@ mod beginning;
 mod faults;
 mod fronts;
 mod opening;
-mod questions;
 mod responding;
 mod serving;
 mod taking;

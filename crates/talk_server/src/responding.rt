@@ -6,7 +6,6 @@ ghost use Rattle.talk_rules.specs.Units.{units_behind};
 ghost use Rattle.talk_server.specs.Serving.{WhereServed};
 ghost use Rattle.talk_server.specs.Talks.{accepts, answer_by, item_answer, next_refused, units_in};
 
-use crate::questions::said_line;
 use adept_io::NoMemory;
 use std::alloc::Global;
 use store_disk::Group;
@@ -54,7 +53,8 @@ impl<H: Holder> Server<H> {
         match self.item.kind() {
             ItemKind::Unit => self.state.answer_unit(self.alloc, self.item.bytes(), text),
             ItemKind::Question => {
-                self.answer_question(text)?;
+                self.state
+                    .answer_question(self.alloc, self.item.bytes(), text)?;
                 Ok(false)
             }
             ItemKind::Header => {
@@ -73,15 +73,6 @@ impl<H: Holder> Server<H> {
             return Ok(());
         }
         group.push(self.item.bytes())
-    }
-
-    // Answers a question.
-    fn answer_question(&self, text: &mut Vec<u8>) -> Result<(), NoMemory>
-        requires short { length self.now.item ≤ MAX_ITEM }
-        ensures { WhereServed H.holds self.now.state self.now.item self.now.is_first (λ first ps item. OnOk result (text.new.items ≡ text.old.items ++ answer_by H.rules ItemKind.Question first (units_in ps) item)) }
-    {
-        let line = said_line(self.alloc, self.item.bytes())?;
-        self.state.answer_question(self.alloc, line, text)
     }
 
     // Answers a header line.

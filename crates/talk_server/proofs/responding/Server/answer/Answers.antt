@@ -5,7 +5,7 @@ use Rattle.talk_items.specs.Items.{kind}
 use Rattle.talk_items.specs.declared.items.ItemKind.TheVariants as kinds
 use Rattle.talk_items.specs.declared.limits.TheConstants.{MAX_ITEM}
 use Rattle.talk_server.specs.Talks.{next_refused, units_in}
-use Rattle.talk_server.proofs.Answering.{long-answer, long-by, short-answer, short-by, unit-told}
+use Rattle.talk_server.proofs.Answering.{long-answer, long-by, question-told, short-answer, short-by, unit-told}
 use Rattle.talk_server.proofs.responding.Server.answer.Goals as goal
 
 pub returns-then-is_too_long-clause-answer : goal.returns-then-is_too_long-clause-answer
@@ -25,11 +25,10 @@ returns-in-Unit-clause-answer g c = λ first ps item s.
 
 pub returns-in_ok-answer_question-in-Question-clause-answer : goal.returns-in_ok-answer_question-in-Question-clause-answer
 returns-in_ok-answer_question-in-Question-clause-answer g c = λ first ps item s.
-    let rules = g.H.Holder.rules in
     let own : length c.args.self.now.item ≤ MAX_ITEM = short-by c.is_too_long.result c.args.self.now.item c.is_too_long.ensures c.if-is_too_long.false in
-    let short : length item ≤ MAX_ITEM = subst (λ i. length i ≤ MAX_ITEM) s.begun_with own in
-    let is = ap kind (sym s.begun_with) ∙ sym c.kind.ensures ∙ c.in-Question.is in
-    c.in_ok-answer_question-in-Question.ensures first ps item s ∙ ap (λ t. c.args.text.now.items ++ t) (sym (short-answer rules ps item first kinds.Question short is))
+    let is : kind c.args.self.now.item ≡ kinds.Question = sym c.kind.ensures ∙ c.in-Question.is in
+    question-told g.H.Holder.rules ps item c.args.self.now.item c.bytes-in-Question.result.now c.args.text.now.items c.answer_question.new.text.items first s.begun_with (c.bytes-in-Question.ensures own) own is
+    (c.in_ok-answer_question-in-Question.ensures.answer (units_in ps) s.keeps)
 
 pub returns-in_ok-answer_header-in-Header-clause-answer : goal.returns-in_ok-answer_header-in-Header-clause-answer
 returns-in_ok-answer_header-in-Header-clause-answer g c = λ first ps item s.
