@@ -35,8 +35,8 @@ read-taken : (units : List Bytes) (unit : Bytes) (d : Contents) → fits (header
     → unit_answer units unit ≡ called_text (held_by (units ++ unit ∷ [])) ++ ok_line (length (units ++ unit ∷ []))
 read-taken units unit d fit is =
     let h = held_by units in
-    ap (λ b. answer_read b (length units) h (unit_read h.contents unit)) fit
-    ∙ (ap (answer_read true (length units) h) is
+    ap (λ b. answer_read b (length units + 1) h (unit_read h.contents unit)) fit
+    ∙ (ap (answer_read true (length units + 1) h) is
     ∙ (ap (λ (x : Held). called_text x ++ ok_line (length units + 1)) (sym (held-next units unit d is))
     ∙ ap (λ n. called_text (held_by (units ++ unit ∷ [])) ++ ok_line n) (sym (length-more units unit))))
 
@@ -51,12 +51,12 @@ answer-taken units unit s taken h =
 pub answer-refused : (units : List Bytes) (unit : Bytes) (r : Refused) → unit_read (held_by units).contents unit ≡ Err r → no_line r.line r.text ≡ unit_answer units unit
 answer-refused units unit r is =
     let h = held_by units in
-    sym (ap (answer_read (fits (header ∷ units) unit) (length units) h) is)
+    sym (ap (answer_read (fits (header ∷ units) unit) (length units + 1) h) is)
 
 pub answer-full : (units : List Bytes) (unit : Bytes) (d : Contents) → fits (header ∷ units) unit ≡ false → unit_read (held_by units).contents unit ≡ Ok d → codes "no full\n" ≡ unit_answer units unit
 answer-full units unit d full is =
     let h = held_by units in
-    sym (ap (λ b. answer_read b (length units) h (unit_read h.contents unit)) full ∙ ap (answer_read false (length units) h) is)
+    sym (ap (λ b. answer_read b (length units + 1) h (unit_read h.contents unit)) full ∙ ap (answer_read false (length units + 1) h) is)
 
 and-false : (a : Bool) → (a && false) ≡ false
 and-false true = refl

@@ -13,7 +13,7 @@ use Rattle.talk_answers.specs.Entries.{if_there}
 use Rattle.talk_answers.specs.Lines.{ok_line, quoted}
 use Rattle.talk_answers.specs.Standings.{actors_text, all_standings, items, standings_of, types_text}
 use Rattle.talk_questions.specs.Questions as question
-use Rattle.talk_state.specs.Answers.{answer_asked, answer_known, asked_text, case_part, entries_of, question_answer, type_part, within}
+use Rattle.talk_state.specs.Answers.{answer_asked, answer_known, asked_text, case_part, entries_of, line_answer, type_part, within}
 use Rattle.talk_state.specs.Held.{held_by, placing_of}
 use Rattle.talk_state.specs.States.{Holds, State}
 use Rattle.talk_state.specs.Telling.{known_in, told}
@@ -83,7 +83,7 @@ module _ (units : List Bytes) (s : State) (h : Holds units s) where
 
 -- what was told where a question's names are known is its answer
 pub answer-told : {X Y : Type 0} (r : Result X Y) (units : List Bytes) (s : State) (line old new : Bytes) (q : question.Asked) (asked : Asked) → Holds units s → Some q ≡ question.question_in line → known_in s.contents q ≡ Some asked
-    → OnOk r (new ≡ old ++ within (told s asked ++ ok_line s.count)) → OnOk r (new ≡ old ++ question_answer units line)
+    → OnOk r (new ≡ old ++ within (told s asked ++ ok_line s.count)) → OnOk r (new ≡ old ++ line_answer units line)
 answer-told (Err e) units s line old new q asked h asks known told_is = tt
 answer-told (Ok x) units s line old new q asked h asks known told_is =
     told_is ∙ ap (λ bs. old ++ bs) (answer-known units s h q asked known ∙ ap (answer_asked units) asks)

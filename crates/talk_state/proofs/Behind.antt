@@ -33,7 +33,7 @@ none xs ys e = ap (drop (length xs)) e ∙ drop-length xs
 pub length-more : {A : Type 0} (xs : List A) (x : A) → length (xs ++ x ∷ []) ≡ length xs + 1
 length-more xs x = omega (arith, length-append xs (x ∷ []))
 
-at-end : {A : Type 0} (xs : List A) (x : A) → slice_get (xs ++ x ∷ []) (length xs) ≡ Some x
+pub at-end : {A : Type 0} (xs : List A) (x : A) → slice_get (xs ++ x ∷ []) (length xs) ≡ Some x
 at-end [] x = refl
 at-end (y ∷ ys) x = at-end ys x
 

@@ -6,3 +6,5 @@ pub mod TakenBy
 pub mod Nothing
 pub mod Answered
 pub mod Asking
+pub mod WhatIf
+pub mod Tried

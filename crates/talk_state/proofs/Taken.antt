@@ -24,7 +24,7 @@ use Rattle.talk_state.proofs.Behind.{called-behind, last-more, length-more, work
 use Rattle.talk_state.proofs.Lengths.{cases-worked, kinds-worked}
 use Rattle.talk_state.specs.Held.{Held, held_after, held_behind, held_by, nothing_held, placed_in, placing_of, run_behind, with_unit}
 use Rattle.talk_state.specs.States.{Holds, IsSound, State}
-use Rattle.talk_state.specs.Working.{CanWork, case_placed, kind_placed, said_called, said_worked, with_last}
+use Rattle.talk_state.specs.Working.{CanTry, CanWork, case_placed, kind_placed, said_called, said_worked, with_last}
 use Rattle.unit_run.specs.Runs.{Placing, types_of}
 
 -- one state is that behind another and a unit, which was read and says this
@@ -64,42 +64,56 @@ cases-said c d (say.Line l) p s even = cases-worked (file_of (settled d)) p.run 
 cases-said c d say.Other p s even = even ∙ ap length (sym s.cases)
 
 -- ---- what it needs is there
-kinds-placed : (s : State) → IsSound s → s.placing.placed.kinds ≡ length s.placing.run.kinds
-kinds-placed s h = ap (λ (p : Placing). p.placed.kinds) h.placing
-
-types-placed : (s : State) → IsSound s → s.placing.placed.types ≡ types_of s.contents.cases.items
-types-placed s h = ap (λ (p : Placing). p.placed.types) h.placing
-
-pub can-work : (s : State) (d : Contents) (said : Said) (n : ℕ) → IsSound s → SaysBehind s.contents d said → IsReady (settled d) → said_effort said ≤ 2 * n → s.long + (5 + n) < 2 ^ 30 → CanWork (file_of (settled d)) said s.placing
-can-work s d say.«Type» n h says ready effort room =
-    let types : length d.types.items ≡ length s.contents.types.items + 1 = ap length says.types ∙ length-more s.contents.types.items says.one in
+pub can-try : (n : ℕ) (c d : Contents) (said : Said) (p : Placing) → CanTry n c p → SaysBehind c d said → IsReady (settled d) → said_effort said ≤ 2 * n → CanWork (file_of (settled d)) said p
+can-try n c d say.«Type» p h says ready effort =
+    let types : length d.types.items ≡ length c.types.items + 1 = ap length says.types ∙ length-more c.types.items says.one in
+    let kinds = h.kinds in
     record {
       one = says.one;
-      last = last-more s.contents.types.items d.types.items says.one says.types;
+      last = last-more c.types.items d.types.items says.one says.types;
       small = says.small;
-      even = kinds-placed s h;
+      even = ap (λ (q : Placing). q.placed.kinds) h.placing;
+      next = omega (arith, types, kinds);
       few = let few = ready.types in omega (arith, few);
-      room = let few = ready.types in let kinds = h.kinds in omega (arith, types, few, kinds);
+      room = let few = ready.types in omega (arith, types, few, kinds);
     }
-can-work s d say.Case n h says ready effort room =
-    let cases : length d.cases.items ≡ length s.contents.cases.items + 1 = ap length says.cases ∙ length-more s.contents.cases.items says.one in
-    let even = kinds-placed s h in
-    let placed : length s.placing.placed.types ≡ length s.contents.cases.items = ap length (types-placed s h) ∙ length-map s.contents.cases.items (λ (k : CaseDecl). k.id.type_no) in
+can-try n c d say.Case p h says ready effort =
+    let cases : length d.cases.items ≡ length c.cases.items + 1 = ap length says.cases ∙ length-more c.cases.items says.one in
+    let even : p.placed.kinds ≡ length p.run.kinds = ap (λ (q : Placing). q.placed.kinds) h.placing in
+    let placed : length p.placed.types ≡ length c.cases.items = ap (λ (q : Placing). length q.placed.types) h.placing ∙ length-map c.cases.items (λ (k : CaseDecl). k.id.type_no) in
     record {
       one = says.one;
-      last = last-more s.contents.cases.items d.cases.items says.one says.cases;
+      last = last-more c.cases.items d.cases.items says.one says.cases;
       there = let there = says.there in let kinds = h.kinds in omega (arith, there, kinds, even);
       room = let few = ready.cases in omega (arith, cases, few, placed);
     }
-can-work s d (say.Line l) n h says ready effort room = record {
+can-try n c d (say.Line l) p h says ready effort = record {
   of = record {
-    types = types-placed s h ∙ ap types_of (sym says.cases);
+    types = ap (λ (q : Placing). q.placed.types) h.placing ∙ ap types_of (sym says.cases);
     placed = ready.placed;
     many = h.cases ∙ ap length (sym says.cases);
   };
-  age = let young = h.young in omega (arith, young, effort, room);
+  age = let age = h.age in omega (arith, age, effort);
 }
-can-work s d say.Other n h says ready effort room = tt
+can-try n c d say.Other p h says ready effort = tt
+
+try-within : (s : State) (n : ℕ) → IsSound s → s.long + n < 2 ^ 30 + 2 ^ 26 → CanTry n s.contents s.placing
+try-within s n h few =
+    let young = h.young in
+    let names = h.names in
+    record {
+      placing = h.placing;
+      kinds = h.kinds;
+      cases = h.cases;
+      room = omega (arith, names, few);
+      age = omega (arith, young, few);
+    }
+
+pub sound-try : (s : State) (n : ℕ) → IsSound s → n < 2 ^ 26 → CanTry n s.contents s.placing
+sound-try s n h few = let short = h.short in try-within s n h (omega (arith, short, few))
+
+pub can-work : (s : State) (d : Contents) (said : Said) (n : ℕ) → IsSound s → SaysBehind s.contents d said → IsReady (settled d) → said_effort said ≤ 2 * n → s.long + (5 + n) < 2 ^ 30 → CanWork (file_of (settled d)) said s.placing
+can-work s d said n h says ready effort room = can-try n s.contents d said s.placing (try-within s n h (omega (arith, room))) says ready effort
 
 -- ---- the state behind is sound
 module _ (s t : State) (d : Contents) (said : Said) (unit : Bytes) (h : IsSound s) (k : Taken s t d said unit) where

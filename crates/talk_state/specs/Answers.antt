@@ -6,22 +6,27 @@ use Rattle.file_names.specs.Names.{place_of}
 use Rattle.file_model.specs.Reading.{file_of}
 use Rattle.file_model.specs.Scripting.{actor_in}
 use Rattle.file_model.specs.declared.files.File.{File}
+use Rattle.file_model.specs.declared.files.Line.{Line}
 use Rattle.file_model.specs.declared.refusals.Refused.{Refused}
 use Rattle.file_model.specs.declared.states.Contents.{Contents}
 use Rattle.file_units.specs.Taking.{Refuses}
-use Rattle.file_units.specs.Units.{unit_read}
+use Rattle.file_units.specs.Units.{said_line, unit_read}
 use Rattle.file_units.specs.declared.held.UnitRefusal.{UnitRefusal}
+use Rattle.line_calls.specs.Calls.{cells_of}
 use Rattle.line_calls.specs.declared.calls.Cells.{Cells}
+use Rattle.line_calls.specs.declared.calls.Cells.TheVariants as cells
 use Rattle.report_text.specs.Report.{case_text, kind_text, text}
 use Rattle.script_run.specs.declared.runs.Run.{Run}
 use Rattle.talk_answers.specs.Entries.{entries, if_both, if_there}
 use Rattle.talk_answers.specs.Lines.{no_line, ok_line, quoted}
 use Rattle.talk_answers.specs.Standings.{actors_text, all_standings, items, standings_of, types_text}
 use Rattle.talk_questions.specs.Questions as asked
+use Rattle.talk_questions.specs.Trials as trials
 use Rattle.talk_rules.specs.Units.{UnitRules, fits, header}
 use Rattle.talk_state.specs.Held.{Held, held_behind, held_by, placing_of}
 use Rattle.talk_state.specs.declared.limits.TheConstants.{MAX_ANSWER}
 use Rattle.unit_run.specs.Runs.{Placing}
+use Rattle.unit_run.specs.Tries.{was_installed}
 
 -- ---- units
 
@@ -40,13 +45,18 @@ entries_of f p called = if_there (entries f p) called
 abbrev pub called_text : Held → Bytes
 called_text h = entries_of (file_of h.contents) (placing_of h) h.called
 
+-- what is answered where so many units are held then
 abbrev pub answer_read : Bool → ℕ → Held → Result Contents Refused → Bytes
 answer_read fit n h (Err r) = no_line r.line r.text
-answer_read true n h (Ok d) = called_text (held_behind h d) ++ ok_line (n + 1)
+answer_read true n h (Ok d) = called_text (held_behind h d) ++ ok_line n
 answer_read false n h (Ok d) = codes "no full\n"
 
+abbrev pub answer_told : ℕ → List Bytes → Bytes → Bytes
+answer_told n units unit = let h = held_by units in answer_read (fits (header ∷ units) unit) n h (unit_read h.contents unit)
+
+-- a unit that is read, and finds room, is one more
 abbrev pub unit_answer : List Bytes → Bytes → Bytes
-unit_answer units unit = let h = held_by units in answer_read (fits (header ∷ units) unit) (length units) h (unit_read h.contents unit)
+unit_answer units unit = answer_told (length units + 1) units unit
 
 -- ---- questions
 
@@ -87,8 +97,61 @@ abbrev pub answer_asked : List Bytes → Option asked.Asked → Bytes
 answer_asked units None = no_line 1 (codes "form")
 answer_asked units (Some q) = answer_known (length units) (asked_text units (held_by units) q)
 
+-- ---- what is tried
+
+-- what the answer to a unit would be, but for how many are held: it is not one of them
+abbrev pub what_if : List Bytes → Bytes → Bytes
+what_if units unit = within (answer_told (length units) units unit)
+
+-- the entries that a unit would get, where it is read
+abbrev pub entries_read : Held → Result Contents Refused → Bytes
+entries_read h (Err r) = []
+entries_read h (Ok d) = called_text (held_behind h d)
+
+-- whether a line has made a new version: it calls a type alone, and that has answered so
+abbrev pub kind_installed : Cells → Run → Bool
+kind_installed (cells.Kind t) r = was_installed t r
+kind_installed (cells.Case c) r = false
+kind_installed (cells.KindAndCase t c) r = false
+kind_installed (cells.KindAndEach t many) r = false
+
+abbrev pub has_installed : Option Line → Run → Bool
+has_installed None r = false
+has_installed (Some l) r = kind_installed (cells_of l.act) r
+
+-- and the entries that a migrate would get behind it
+abbrev pub moved_text : Option Line → Held → (migrate : Bytes) → Bytes
+moved_text l h migrate = if has_installed l h.run then entries_read h (unit_read h.contents migrate) else []
+
+-- of an install, and where that is installed of the migrate behind it; a refusal is that of the install
+abbrev pub answer_moved : ℕ → Held → (migrate : Bytes) → Result Contents Refused → Bytes
+answer_moved n h migrate (Err r) = no_line r.line r.text
+answer_moved n h migrate (Ok d) = let g = held_behind h d in called_text g ++ (moved_text (said_line d) g migrate ++ ok_line n)
+
+abbrev pub move_answer : List Bytes → (install migrate : Bytes) → Bytes
+move_answer units install migrate = let h = held_by units in within (answer_moved (length units) h migrate (unit_read h.contents install))
+
+abbrev pub answer_tried : List Bytes → trials.Trial → Bytes
+answer_tried units (trials.unit u) = what_if units u
+answer_tried units (trials.move a t lines) = move_answer units (trials.install_unit a t lines) (trials.migrate_unit a t)
+answer_tried units trials.no_form = no_line 1 (codes "form")
+answer_tried units trials.no_text = no_line 1 (codes "not-text")
+
+-- ---- both
+
+abbrev pub line_answer : List Bytes → Bytes → Bytes
+line_answer units line = answer_asked units (asked.question_in line)
+
+abbrev pub answer_by : List Bytes → trials.Asking → Option trials.Trial → Bytes
+answer_by units q None = line_answer units q.line
+answer_by units q (Some t) = answer_tried units t
+
+abbrev pub answer_asking : List Bytes → Option trials.Asking → Bytes
+answer_asking units None = no_line 1 (codes "form")
+answer_asking units (Some q) = answer_by units q (trials.trial q)
+
 abbrev pub question_answer : List Bytes → Bytes → Bytes
-question_answer units line = answer_asked units (asked.question_in line)
+question_answer units item = answer_asking units (trials.asking item)
 
 -- ---- all of it
 

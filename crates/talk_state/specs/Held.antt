@@ -19,8 +19,12 @@ pub record Held : Type 0 where
   pub run : Run
   pub called : Option Cells
 
+-- contents and a run
+abbrev pub held_in : Contents → Run → Held
+held_in c r = record { contents = c; run = r; called = None }
+
 abbrev pub nothing_held : Held
-nothing_held = record { contents = no_units; run = no_run; called = None }
+nothing_held = held_in no_units no_run
 
 -- the types and cases that others have more are there
 abbrev pub declared_behind : Contents → Contents → Run → Run

@@ -3,4 +3,5 @@ pub mod Answers
 pub mod Held
 pub mod States
 pub mod Telling
+pub mod Trying
 pub mod Working

@@ -1,10 +1,12 @@
 -- What a unit says, worked.
-use Rattle.std.specs.Prelude.{◌≡◌, ◌+◌, ◌-◌, ◌<◌, ◌≤◌, ◌^◌, List, [], ◌∷◌, ◌++◌, length, slice_get, Option, Some, None, option_map}
+use Rattle.std.specs.Prelude.{◌≡◌, ℕ, ◌+◌, ◌-◌, ◌*◌, ◌<◌, ◌≤◌, ◌^◌, List, [], ◌∷◌, ◌++◌, length, slice_get, Option, Some, None, option_map}
+use Rattle.file_model.specs.Room.{HasRoom}
 use Rattle.file_model.specs.Sizes.{line_effort}
 use Rattle.file_model.specs.declared.files.CaseDecl.{CaseDecl}
 use Rattle.file_model.specs.declared.files.File.{File}
 use Rattle.file_model.specs.declared.files.Line.{Line}
 use Rattle.file_model.specs.declared.files.TypeDecl.{TypeDecl}
+use Rattle.file_model.specs.declared.states.Contents.{Contents}
 use Rattle.file_units.specs.Facts.{IsSmall}
 use Rattle.file_units.specs.declared.held.Said.{Said}
 use Rattle.file_units.specs.declared.held.Said.TheVariants as say
@@ -13,6 +15,7 @@ use Rattle.line_calls.specs.declared.calls.Cells.{Cells}
 use Rattle.line_calls.specs.declared.calls.Cells.TheVariants as cells
 use Rattle.script_run.specs.Calls.{worked}
 use Rattle.script_run.specs.Oldest.{oldest}
+use Rattle.talk_state.specs.Held.{placed_in}
 use Rattle.unit_run.specs.Runs.{IsOf, Placing, with_case, with_kind}
 
 abbrev pub last_of : {A : Type 0} → List A → Option A
@@ -49,6 +52,7 @@ pub record CanDefine (f : File) (p : Placing) : Type 0 where
   pub last : last_of f.types ≡ Some one
   pub small : IsSmall one
   pub even : p.placed.kinds ≡ length p.run.kinds
+  pub next : length f.types ≡ length p.run.kinds + 1
   pub few : length f.types < 2 ^ 32
   pub room : length p.run.kinds + 1 < 2 ^ 32
 
@@ -67,3 +71,12 @@ CanWork f say.«Type» p = CanDefine f p
 CanWork f say.Case p = CanDeclare f p
 CanWork f (say.Line l) p = CanCall f l p
 CanWork f say.Other p = Unit {0}
+
+-- what a unit of so many bytes needs that is tried: the run is that of what was declared, there are numbers for names, and no
+-- case is too old
+pub record CanTry (n : ℕ) (c : Contents) (p : Placing) : Type 0 where
+  pub placing : p ≡ placed_in c p.run
+  pub kinds : length p.run.kinds ≡ length c.types.items
+  pub cases : length p.run.cases ≡ length c.cases.items
+  pub room : HasRoom (n + 6) c
+  pub age : oldest p.run.cases + 2 * n ≤ 4000000000

@@ -1,11 +1,13 @@
 // The answer to a question while it is written.
-ghost use Rattle.std.specs.Prelude.{◌≡◌, ◌++◌, [], map, option_map};
+ghost use Rattle.std.specs.Prelude.{◌≡◌, ◌++◌, [], true, map, option_map, OnOk};
 ghost use Rattle.talk_state.specs.Answering.{if_fits};
+ghost use Rattle.talk_state.specs.Answers.{within};
 
 use crate::limits::MAX_ANSWER;
-use adept_io::{Failed, Sink};
+use crate::telling::tell_refused;
+use adept_io::{Failed, NoMemory, Sink};
 use http_server::Log;
-use std::alloc::Global;
+use std::alloc::{AllocError, Global};
 use std::marker::Model;
 
 // An answer, as a sink. It takes all that is put, and keeps nothing of it once there are more bytes than an answer may have.
@@ -47,6 +49,27 @@ impl Answer {
         ensures { option_map (λ v. v.items) result ≡ if_fits self.put }
     {
         if self.is_over { None } else { Some(self.text) }
+    }
+}
+
+// Puts an answer behind a text, where all of it was put; one that is too long is refused.
+pub(crate) fn add_answer(
+    alloc: Global,
+    answer: Answer,
+    ok: bool,
+    text: &mut Vec<u8>,
+) -> Result<(), NoMemory>
+    ensures { OnOk result ((ok ≡ true) × (text.new.items ≡ text.old.items ++ within answer.put)) }
+{
+    if !ok {
+        return Err(AllocError);
+    }
+    match answer.into_text() {
+        None => tell_refused(alloc, text, 1, b"limit bytes"),
+        Some(answer) => {
+            text.extend_from_slice(&answer)?;
+            Ok(())
+        }
     }
 }
 

@@ -53,14 +53,14 @@ impl Holder for TalkState {
         }
     }
 
-    /// Puts the answer to a question behind a text.
+    /// Puts the answer to a question behind a text. What is held is as before.
     fn answer_question(
-        &self,
+        &mut self,
         alloc: Global,
-        line: &[u8],
+        question: &[u8],
         text: &mut Vec<u8>,
     ) -> Result<(), NoMemory> {
-        self.answer(alloc, line, text)
+        self.answer(alloc, question, text)
     }
 
     /// Puts behind a text that all is well, and how many units are held.

@@ -1,5 +1,5 @@
 //! What a server holds: a file of units, the run of its lines, and the bytes of the units. It takes a unit behind the others
-//! and answers it, and it answers questions, which change nothing.
+//! and answers it, and it answers questions, which change nothing: a unit that is tried is taken back.
 #![tactic(auto)]
 
 mod answers;
@@ -9,6 +9,9 @@ mod questions;
 mod states;
 mod taking;
 mod telling;
+mod texts;
+mod trials;
+mod trying;
 mod working;
 
 pub use adept_io::NoMemory;

@@ -1,14 +1,14 @@
 // Questions of what is held.
-ghost use Rattle.std.specs.Prelude.{◌≡◌, ◌++◌, List, ℕ, OnOk, true};
+ghost use Rattle.std.specs.Prelude.{◌≡◌, ◌≤◌, ◌^◌, ◌++◌, List, ℕ, length, OnOk, true};
 ghost use Rattle.adept_io.specs.Written.{Gives};
 ghost use Rattle.file_model.specs.Reading.{file_of};
 ghost use Rattle.talk_answers.specs.Lines.{ok_line};
 ghost use Rattle.talk_questions.specs.Shown.{shown_question};
-ghost use Rattle.talk_state.specs.Answers.{case_part, entries_of, question_answer, type_part, within};
+ghost use Rattle.talk_state.specs.Answers.{case_part, entries_of, line_answer, question_answer, type_part, within};
 ghost use Rattle.talk_state.specs.States.{Holds};
 ghost use Rattle.talk_state.specs.Telling.{known_in, told};
 
-use crate::answers::Answer;
+use crate::answers::{Answer, add_answer};
 use crate::states::TalkState;
 use crate::telling::tell_refused;
 use adept_io::{NoMemory, Sink};
@@ -18,7 +18,7 @@ use talk_answers::{
     put_actors, put_all_items, put_all_standings, put_entries, put_items_for, put_ok, put_quoted,
     put_report, put_standings_of, put_types,
 };
-use talk_questions::{Question, question_in};
+use talk_questions::{Question, asking_in, question_in, trial_in};
 
 // What is asked for, behind the names that are known.
 #[derive(Clone, Copy)]
@@ -38,14 +38,29 @@ pub(crate) enum Asked {
 }
 
 impl TalkState {
-    // Puts the answer to a question's line behind a text.
+    // Puts the answer to a question behind a text. What is held is as before.
     pub(crate) fn answer(
-        &self,
+        &mut self,
         alloc: Global,
-        line: &[u8],
+        item: &[u8],
         text: &mut Vec<u8>,
     ) -> Result<(), NoMemory>
-        ensures { (units : List (List ℕ)) → Holds units self.now → OnOk result (text.new.items ≡ text.old.items ++ question_answer units line.now) }
+        requires short { length item.now ≤ 2 ^ 23 }
+        ensures holds { (units : List (List ℕ)) → Holds units self.old → OnOk result (Holds units self.new) }
+        ensures answer { (units : List (List ℕ)) → Holds units self.old → OnOk result (text.new.items ≡ text.old.items ++ question_answer units item.now) }
+    {
+        let Some(question) = asking_in(alloc, item)? else {
+            return tell_refused(alloc, text, 1, b"form");
+        };
+        match trial_in(alloc, question)? {
+            None => self.answer_line(alloc, question.line, text),
+            Some(trial) => self.answer_trial(alloc, trial, text),
+        }
+    }
+
+    // Puts behind a text the answer to a question that asks for what is held, by its line.
+    fn answer_line(&self, alloc: Global, line: &[u8], text: &mut Vec<u8>) -> Result<(), NoMemory>
+        ensures { (units : List (List ℕ)) → Holds units self.now → OnOk result (text.new.items ≡ text.old.items ++ line_answer units line.now) }
     {
         if !self.is_whole {
             return Err(AllocError);
@@ -87,16 +102,7 @@ impl TalkState {
         let mut answer = Answer::new(alloc);
         let ok = self.put(&mut answer, true, asked);
         let ok = put_ok(&mut answer, ok, self.count);
-        if !ok {
-            return Err(AllocError);
-        }
-        match answer.into_text() {
-            None => tell_refused(alloc, text, 1, b"limit bytes"),
-            Some(answer) => {
-                text.extend_from_slice(&answer)?;
-                Ok(())
-            }
-        }
+        add_answer(alloc, answer, ok, text)
     }
 
     // The lines of an answer but for its last.

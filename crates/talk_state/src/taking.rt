@@ -11,7 +11,7 @@ use std::alloc::Global;
 use store_disk::MAX_IMAGE;
 
 // Whether an image of so many bytes has room for one more record, and the gate behind it.
-fn has_room(long: u64, len: usize) -> bool
+pub(crate) fn has_room(long: u64, len: usize) -> bool
     requires long { long < 2 ^ 30 }
     requires short { len ≤ 2 ^ 23 }
     ensures { result ≡ nat_lt (long + (5 + len)) (2 ^ 30) }

@@ -1,14 +1,13 @@
-use Rattle.std.proofs.Common.{◌≡◌, ap, sym, ◌∙◌, Some}
-use Rattle.std.specs.Prelude.{option_map}
-use Rattle.talk_questions.specs.Questions.{question_in}
-use Rattle.talk_questions.specs.Shown.{shown_question}
-use Rattle.talk_state.proofs.Asking.{answer-told}
-use Rattle.talk_state.specs.Telling.{known_in}
+use Rattle.std.proofs.Common.{length, subst}
+use Rattle.std.specs.Prelude.{IfSome}
+use Rattle.talk_questions.specs.Shown.{shown_asking, shown_trial}
+use Rattle.talk_questions.specs.Trials.{IsShort, IsWithin}
+use Rattle.talk_state.proofs.Tried.{within-more}
 use Rattle.talk_state.proofs.states.TalkState.answer.Goals as goal
 
-pub returns-in-Some-known : goal.returns-in-Some-known
-returns-in-Some-known c = λ units h.
-    let q = shown_question c.in-Some.question in
-    let asks : Some q ≡ question_in c.args.line.now = ap (option_map shown_question) (sym c.in-Some.is) ∙ c.in_ok-question.ensures in
-    let known : known_in c.args.self.now.contents q ≡ Some c.in-Some-known.asked = sym c.in-Some-known.ensures in
-    answer-told c.tell.result units c.args.self.now c.args.line.now c.args.text.now.items c.tell.new.text.items q c.in-Some-known.asked h asks known c.tell.ensures
+pub answer_trial-requires : goal.answer_trial-requires
+answer_trial-requires c =
+    let n = length c.args.item.now in
+    let within = subst (λ o. IfSome o (λ q. IsWithin n (shown_asking q))) c.in-Some.is c.in_ok-question.ensures.short in
+    let less = within-more n 8388608 (shown_asking c.in-Some.question) c.requires.short within in
+    record { short = subst (λ o. IfSome o (λ t. IsShort 8388608 (shown_trial t))) c.in-Some-2.is (c.in_ok-trial_in.ensures.short 8388608 less) }

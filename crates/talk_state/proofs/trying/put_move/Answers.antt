@@ -1,0 +1,19 @@
+use Rattle.std.proofs.Common.{◌≡◌, length}
+use Rattle.adept_io.proofs.Sent.{gives_then}
+use Rattle.file_units.specs.Units.{unit_read}
+use Rattle.report_words.proofs.Rows.{gives_as}
+use Rattle.talk_state.proofs.WhatIf.{can-move, move-told}
+use Rattle.talk_state.proofs.trying.put_move.Goals as goal
+
+pub put_moved-requires : goal.put_moved-requires
+put_moved-requires g c =
+    let taken = c.in-Ok.ensures.taken in
+    let before = c.args.file.now in
+    can-move (length c.args.install.now) (length c.args.migrate.now) before c.take_unit.new.self (unit_read before c.args.install.now) c.in-Ok.said c.args.run.now c.requires taken.1 c.file.ensures.ready c.in-Ok.ensures.effort c.in-Ok.ensures.names
+
+pub returns-in_ok-ok-in-Ok-clause-answer : goal.returns-in_ok-ok-in-Ok-clause-answer
+returns-in_ok-ok-in-Ok-clause-answer g c =
+    let taken = c.in-Ok.ensures.taken in
+    let before = c.args.file.now in
+    gives_as _ _ _ _ _ _ _ _ (gives_then _ _ _ _ _ _ _ _ _ _ c.in_ok-ok-in-Ok.ensures.entries c.put_ok.ensures)
+    (move-told before c.take_unit.new.self (unit_read before c.args.install.now) c.in-Ok.said c.args.run.now c.requires.placing taken.1 c.args.count c.args.migrate.now)
