@@ -9,7 +9,7 @@ use Rattle.file_facts.specs.Facts.{ArePlaced}
 use Rattle.file_model.specs.declared.files.CaseDecl.{CaseDecl}
 use Rattle.file_model.specs.declared.files.File.{File}
 use Rattle.file_words.specs.Lines.{Bytes}
-use Rattle.script_run.specs.Calls.{call_case, call_kind, changed_at, each_of, put_back}
+use Rattle.script_run.specs.Calls.{call_case, call_kind, changed_at, each_of}
 use Rattle.script_run.specs.declared.runs.ClosedCase.{ClosedCase}
 use Rattle.script_run.specs.declared.runs.ClosedKind.{ClosedKind}
 use Rattle.talk_answers.specs.Entries.{case_entry, if_both, if_there, kind_entry}
@@ -17,23 +17,10 @@ use Rattle.talk_told.specs.Told.{case_more, cases_more, kind_more, kinds_more}
 use Rattle.talk_told.proofs.Entries.{case-called, case-left, kind-called, kind-left}
 use Rattle.type_core.specs.declared.events.KindEvent.{KindEvent}
 use Rattle.unit_run.proofs.Placed.{PlacedFrom, placed-from, with_one}
+use Rattle.unit_run.proofs.PutBack.{changed_at-none, changed_at-suc, got-none}
 use Rattle.unit_run.specs.Runs.{types_of}
 
 -- ---- lists
-got-none : {X : Type 0} (i : ℕ) → slice_get {X = X} [] i ≡ None
-got-none zero = refl
-got-none (suc i) = refl
-
-pub changed_at-none : {X : Type 0} (g : X → X) (i : ℕ) → changed_at g i [] ≡ []
-changed_at-none g i = ap (put_back g i []) (got-none i)
-
-pub changed_at-suc : {X : Type 0} (g : X → X) (i : ℕ) (x : X) (xs : List X) → changed_at g (suc i) (x ∷ xs) ≡ x ∷ changed_at g i xs
-changed_at-suc g i x xs = by (slice_get xs i)
-  where
-    by : (o : Option _) → put_back g (suc i) (x ∷ xs) o ≡ x ∷ put_back g i xs o
-    by None = refl
-    by (Some y) = refl
-
 none-there : {X : Type 0} (text : X → Bytes) (o : Option X) → o ≡ None → if_there text o ≡ []
 none-there text None is = refl
 none-there text (Some x) is = absurd (cc)

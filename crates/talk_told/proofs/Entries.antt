@@ -1,8 +1,7 @@
 -- One entry more of a journal is its last one.
-use Rattle.std.proofs.Common.{◌≡◌, ℕ, ◌+◌, ◌-◌, List, [], ◌∷◌, ◌++◌, length, refl, ap, sym, ◌∙◌, arith, append_assoc, append-nil, Some}
+use Rattle.std.proofs.Common.{◌≡◌, ℕ, ◌+◌, List, [], ◌∷◌, ◌++◌, length, ap, sym, ◌∙◌, append_assoc, append-nil}
 use Rattle.std.proofs.Math.Seq.{drop-append_seam, drop-length}
-use Rattle.std.proofs.lemmas.List.{length-append}
-use Rattle.std.specs.Prelude.{slice_get, codes}
+use Rattle.std.specs.Prelude.{codes}
 use Rattle.case_core.specs.Machine.{next_case}
 use Rattle.case_core.specs.declared.events.Event.{Event}
 use Rattle.file_words.specs.Lines.{Bytes}
@@ -14,20 +13,11 @@ use Rattle.script_run.specs.Calls.{call_case, call_kind}
 use Rattle.script_run.specs.Entries.{CaseEntry, KindEntry}
 use Rattle.script_run.specs.declared.runs.ClosedCase.{ClosedCase}
 use Rattle.script_run.specs.declared.runs.ClosedKind.{ClosedKind}
-use Rattle.talk_answers.specs.Entries.{case_entry, if_there, kind_entry, last_entry}
+use Rattle.talk_answers.proofs.Last.{last-of}
+use Rattle.talk_answers.specs.Entries.{case_entry, case_numbered, kind_entry, kind_numbered}
 use Rattle.talk_told.specs.Told.{case_more, case_name, entries_more, kind_more, kind_name}
 use Rattle.type_core.specs.Machine.{next_kind}
 use Rattle.type_core.specs.declared.events.KindEvent.{KindEvent}
-
-at-end : {X : Type 0} (xs : List X) (x : X) → slice_get (xs ++ x ∷ []) (length xs) ≡ Some x
-at-end [] x = refl
-at-end (y ∷ ys) x = at-end ys x
-
-last-of : {X : Type 0} (line : ℕ → X → Bytes) (journal : List X) (e : X) → last_entry line (journal ++ e ∷ []) ≡ line (length journal + 1) e
-last-of line journal e =
-    let long : length (journal ++ e ∷ []) ≡ length journal + 1 = omega (arith, length-append journal (e ∷ [])) in
-    let at : length (journal ++ e ∷ []) - 1 ≡ length journal = omega (arith, long) in
-    ap (if_there (line (length (journal ++ e ∷ [])))) (ap (slice_get (journal ++ e ∷ [])) at ∙ at-end journal e) ∙ ap (λ n. line n e) long
 
 pub one-more : {X : Type 0} (name : Bytes) (line : ℕ → X → Bytes) (journal : List X) (e : X) → entries_more name line journal (journal ++ e ∷ []) ≡ name ++ line (length journal + 1) e
 one-more name line journal e =
@@ -48,13 +38,13 @@ pub kind-called : (f : File) (t a : ℕ) (e : KindEvent) (k : ClosedKind) → ki
 kind-called f t a e k =
     let entry : KindEntry = record { caller = a; event = e; reply = (next_kind k.machine e).1 } in
     one-more (kind_name f t) (kind_line f) k.journal entry ∙ kind-named (codes "type ") (type_text f t) (codes " ") (kind_line f (length k.journal + 1) entry)
-    ∙ sym (last-of (λ n x. (codes "type " ++ type_text f t) ++ (codes " " ++ kind_line f n x)) k.journal entry)
+    ∙ sym (last-of (kind_numbered f t) k.journal entry)
 
 pub case-called : (f : File) (d : CaseDecl) (a : ℕ) (e : Event) (c : ClosedCase) → case_more f d c (call_case a e c) ≡ case_entry f d (call_case a e c)
 case-called f d a e c =
     let entry : CaseEntry = record { caller = a; event = e; reply = (next_case c.machine e).1 } in
     one-more (case_name d) (case_line f) c.journal entry ∙ case-named (codes "case ") d.name (codes " ") (case_line f (length c.journal + 1) entry)
-    ∙ sym (last-of (λ n x. codes "case " ++ (d.name ++ (codes " " ++ case_line f n x))) c.journal entry)
+    ∙ sym (last-of (case_numbered f d) c.journal entry)
 
 -- one that was not
 pub kind-left : (f : File) (t : ℕ) (k : ClosedKind) → kind_more f t k k ≡ []

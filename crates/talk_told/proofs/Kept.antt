@@ -21,7 +21,7 @@ use Rattle.script_run.specs.declared.runs.Run.{Run}
 use Rattle.talk_state.proofs.Lengths.{cases-worked, kinds-worked}
 use Rattle.talk_state.specs.Held.{line_worked, run_behind}
 use Rattle.talk_told.specs.Told.{HasVersion}
-use Rattle.talk_told.proofs.Changed.{changed_at-none, changed_at-suc}
+use Rattle.unit_run.proofs.PutBack.{changed_at-none, changed_at-suc}
 use Rattle.talk_told.proofs.Held.{IsRunOf, run-case, run-line, run-type}
 use Rattle.type_core.proofs.Versions.{by-event, sound-defined}
 use Rattle.type_core.specs.KindModel.{KindModel}
