@@ -38,7 +38,7 @@ one_more g cs places i low =
     ap (changed_all g cs) front ∙ fold-append (λ xs place. changed_at g place xs) cs (take i places) (get_or places i 0 ∷ [])
 
 -- the first that passes
-at-position : (P : CaseDecl → Bool) (k : ℕ) (ds : List CaseDecl) (p : ℕ) → position_from P k ds ≡ Some p → (d : CaseDecl) × (slice_get ds (p - k) ≡ Some d) × (P d ≡ true) × (k ≤ p)
+pub at-position : (P : CaseDecl → Bool) (k : ℕ) (ds : List CaseDecl) (p : ℕ) → position_from P k ds ≡ Some p → (d : CaseDecl) × (slice_get ds (p - k) ≡ Some d) × (P d ≡ true) × (k ≤ p)
 at-position P k [] p is = absurd (cc (is))
 at-position P k (x ∷ ds) p is = go (P x) refl (at-position P (k + 1) ds p) is
   where

@@ -1,3 +1,4 @@
 pub mod Placed
 pub mod Each
 pub mod Called
+pub mod PutBack

@@ -2,6 +2,8 @@
 #![tactic(auto)]
 
 mod runs;
+mod tries;
 
 pub use runs::UnitRun;
+pub use tries::KindBefore;
 pub use wsm_lists::NoMemory;

@@ -21,8 +21,8 @@ use wsm_sound::{CaseId, Version};
 /// The types and the cases of a file, in order of declaration, behind the calls of its lines.
 #[derive(Drop)]
 pub struct UnitRun {
-    run: Working,
-    places: CasePlaces,
+    pub(crate) run: Working,
+    pub(crate) places: CasePlaces,
 }
 
 impl Model for UnitRun {
