@@ -18,6 +18,7 @@ HEADER = b"adept 3\n"
 LONGEST = 8388608
 NAME = re.compile(rb"[A-Za-z_][A-Za-z0-9_.-]{0,63}$")
 REFUSED = re.compile(rb"adept: line (\d+): (.*)\n$")
+BEHIND_IF = re.compile(rb"[ \t]*\?[ \t]+if")
 STATE = re.compile(rb"state (\d+ (?:running|finished) own=\d+|none)$")
 # Questions, with how many names stand behind the word.
 QUESTIONS = {b"report": (0,), b"type": (1,), b"case": (1,), b"cases": (0, 1), b"items": (0, 1), b"types": (0,), b"actors": (0,),
@@ -62,6 +63,14 @@ class Report:
             for name, part in parts.items():
                 for line in part.journal[len(before[name].journal) if name in before else 0:]:
                     yield b"%s %s %s" % (kind, name, line)
+
+
+def is_text(line):
+    try:
+        line.decode()
+    except UnicodeDecodeError:
+        return False
+    return True
 
 
 def role_text(word):
@@ -110,7 +119,7 @@ class Model:
         if len(data) > LONGEST:
             return b"no %d limit bytes\n" % (1 + self.within(data))
         if item.is_question():
-            lines = self.question(item.said)
+            lines = self.question(item)
         elif is_first and talks.words_of(item.said[0][:-1]) in talks.HEADERS:
             lines = []
         else:
@@ -134,29 +143,56 @@ class Model:
             return b"no %d limit bytes\n" % (1 + self.within(data))
         return b"no %d unended\n" % (1 + len(said))
 
-    def unit(self, data):
-        """The entries of a unit, or why it is refused."""
-        status, text, said = self.play(self.file() + data)
+    def tried(self, held, old, data):
+        """The entries of a unit behind a file and its report, or why it is refused; and the file and the report with it."""
+        status, text, said = self.play(held + data)
         if status:
             number, why = REFUSED.match(said).groups()
-            lines = data.split(b"\n")[:int(number) - self.file().count(b"\n")]
-            return b"%d %s" % (sum(not talks.is_skipped(talks.words_of(line)) for line in lines), why)
-        old, self.report = self.report, Report(text)
-        self.units.append(data)
-        self.last = list(self.report.behind(old))
-        return self.last
+            lines = data.split(b"\n")[:int(number) - held.count(b"\n")]
+            return b"%d %s" % (sum(not talks.is_skipped(talks.words_of(line)) for line in lines), why), held, old
+        report = Report(text)
+        return list(report.behind(old)), held + data, report
 
-    def question(self, said):
+    def unit(self, data):
+        """The entries of a unit, or why it is refused."""
+        found, held, self.report = self.tried(self.file(), self.report, data)
+        if isinstance(found, list):
+            self.units.append(data)
+            self.last = found
+        return found
+
+    def question(self, item):
         """What a question asks for, or why it is refused."""
-        words = talks.words_of(said[0][:-1])
-        try:
-            said[0].decode()
-        except UnicodeDecodeError:
+        line, words = item.said[0], talks.words_of(item.said[0][:-1])
+        behind = b"".join(item.lines[item.lines.index(line) + 1:])
+        if words[:2] == [b"?", b"if"]:
+            return self.what_if(words[2:], BEHIND_IF.sub(b"", line, count=1) + behind)
+        if words[:2] == [b"?", b"move"]:
+            return self.move(line, words[2:], behind)
+        if not is_text(line):
             return b"1 form"
-        if len(said) > 1 or len(words) < 2 or words[0] != b"?" or len(words) - 2 not in QUESTIONS.get(words[1], ()) or not all(map(NAME.match, words[2:])):
+        if len(words) < 2 or words[0] != b"?" or len(words) - 2 not in QUESTIONS.get(words[1], ()) or not all(map(NAME.match, words[2:])):
             return b"1 form"
         asked = getattr(self, words[1].decode() + "_asked")(*words[2:])
         return b"1 unknown" if asked is None else asked
+
+    def what_if(self, words, unit):
+        """What a unit would be answered."""
+        if not words or words[0] == b"?" or words[0].startswith(b"#"):
+            return b"1 form"
+        return self.tried(self.file(), self.report, unit)[0]
+
+    def move(self, line, words, behind):
+        """What an install would be answered, and where it is installed what a migrate would be behind it."""
+        if not is_text(line):
+            return b"1 not-text"
+        if len(words) != 2 or words[0] in (talks.GROUP, *talks.LINES) or words[0].startswith(b"#"):
+            return b"1 form"
+        actor, kind = words
+        installed, held, report = self.tried(self.file(), self.report, b"%s install %s\n%s" % (actor, kind, behind))
+        if isinstance(installed, bytes) or b" -> installed " not in installed[0]:
+            return installed
+        return installed + self.tried(held, report, b"%s migrate %s\n" % (actor, kind))[0]
 
     def report_asked(self):
         return self.report.lines

@@ -22,12 +22,26 @@ FEW = 20
 NOISE = [b"", b" \t ", b"# a comment", b"#", b"\r", b"?", b"? ?", b"? count", b"? last", b"? lines", b"? items", b"? report", b"? cases", b"? types",
          b"? actors", b"? count more", b"? case c", b"? case", b"? type t", b"? cases t", b"? items nobody", b"? report\r", b"\xff", b"? \xff", b"# \xff",
          b"adept 3", b"phase", b"phase more", b"end", b"a", b"ann change", b"type", b"type \"x", b"case a a", b"actor actor", b"fly \"a b",
-         b"?count", b"? \"count\"", b"ann start", b"\x00", b"actor \xc3\xa9", b"? count # not a comment"]
+         b"?count", b"? \"count\"", b"ann start", b"\x00", b"actor \xc3\xa9", b"? count # not a comment", b"? if", b"? if ? count", b"? if # no unit",
+         b"? if adept 3", b"? if phase", b"? if fly \xff", b"? if actor zoe", b"? move a \xff", b"? move", b"? move a a a"]
+
+
+def asked_first(lines, chance):
+    """Lines, of which some units are tried before they come; of an install also what would move."""
+    found, rest = serves.talks.items(b"".join(line + b"\n" for line in lines))
+    for data in found:
+        words = data.split()
+        if words[1:2] == [b"install"] and chance.random() < 0.5:
+            yield b"? move %s %s\n" % (words[0], words[2]) + data.split(b"\n", 1)[1]
+        if chance.random() < 0.2:
+            yield b"? if " + data
+        yield data
+    yield rest
 
 
 def made(chance):
     """A talk."""
-    lines = growing.Maker(chance).made().split(b"\n")[:-1]
+    lines = b"".join(asked_first(growing.Maker(chance).made().split(b"\n")[:-1], chance)).split(b"\n")[:-1]
     lines = lines[chance.randint(0, 1):]
     names = [words[1] for words in (line.split() for line in lines) if len(words) > 1 and words[0] in (b"actor", b"case", b"type")]
     noise = [*NOISE, *(b"? items " + name for name in names), *(b"? case " + name for name in names), *(b"? cases " + name for name in names),

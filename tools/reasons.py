@@ -13,7 +13,7 @@ from processes import WORD, Entry
 # With more units than these calls are not explained: all that is held would have to be read.
 MOST_UNITS = 20000
 QUESTIONS = ["? report", "? type TYPE", "? case CASE", "? cases", "? cases TYPE", "? items", "? items ACTOR", "? types",
-             "? actors", "? count", "? last", "? lines"]
+             "? actors", "? count", "? last", "? lines", "? if UNIT", "? move ACTOR TYPE"]
 NAMED = {"type": "type", "case": "case", "cases": "type", "items": "actor"}
 
 

@@ -54,7 +54,7 @@ class Server:
         self.unsent += COUNT
         self.flush()
         while not self.has_ended:
-            if any(is_end for _, is_end in self.receive()):
+            for _ in self.receive():
                 os.set_blocking(self.input, False)
                 os.set_blocking(self.output, False)
                 return True
@@ -149,8 +149,8 @@ class Client:
 class Hub:
     """The clients of a server, from the first to the last."""
 
-    def __init__(self, server, listener, signals, number, rights=None, has_times=True, patience=60):
-        self.server, self.listener, self.signals, self.number, self.rights = server, listener, signals, number, rights
+    def __init__(self, server, listener, number, rights=None, has_times=True, patience=60):
+        self.server, self.listener, self.number, self.rights = server, listener, number, rights
         self.has_times, self.patience, self.is_stopping, self.is_full = has_times, patience, False, False
         self.clients, self.changed = set(), set()
         # one place for each item that came and was not handed on, in the order in which they came; and what was
@@ -163,14 +163,14 @@ class Hub:
         """Serves until the server ends, or a signal stops it."""
         self.selector.register(self.server.output, READ, self.on_answers)
         self.selector.register(self.listener, READ, self.on_connection)
-        self.selector.register(self.signals.told, READ, self.on_signal)
-        while not self.server.has_ended:
-            for key, events in self.selector.select(1 if any(client.out for client in self.clients) else None):
-                key.data(events)
-            self.drop_those_who_take_nothing()
-            self.go_on()
-            if self.is_stopping and not self.clients:
-                self.server.close_input()
+        with self.signals():
+            while not self.server.has_ended:
+                for key, events in self.selector.select(1 if any(client.out for client in self.clients) else None):
+                    key.data(events)
+                self.drop_those_who_take_nothing()
+                self.go_on()
+                if self.is_stopping and not self.clients:
+                    self.server.close_input()
 
     def go_on(self):
         """Hands on what has come and sends what there is, until nothing more changes."""
@@ -181,8 +181,16 @@ class Hub:
                 self.look_at(client)
             self.hand_on()
 
-    def on_signal(self, _):
-        self.signals.told.recv(4096)
+    def signals(self):
+        """Lets signals wake the loop; as a context it gives them back."""
+        told, wakes = socket.socketpair()
+        for end in told, wakes:
+            end.setblocking(False)
+        self.selector.register(told, READ, functools.partial(self.on_signal, told))
+        return Signals(wakes)
+
+    def on_signal(self, told, _):
+        told.recv(4096)
         if not self.is_stopping:
             self.is_stopping = True
             self.stop_listening()
@@ -405,15 +413,14 @@ class Hub:
 
 
 class Signals:
-    """Signals that stop the work are told by a socket and do nothing else, until the context ends."""
+    """Signals that stop the work wake a loop and do nothing else, until the context ends."""
+
+    def __init__(self, wakes):
+        self.wakes = wakes
 
     def __enter__(self):
-        self.told, self.wakes = socket.socketpair()
-        for end in self.told, self.wakes:
-            end.setblocking(False)
-        signal.set_wakeup_fd(self.wakes.fileno())
         self.before = [signal.signal(number, lambda *_: None) for number in STOPS]
-        return self
+        signal.set_wakeup_fd(self.wakes.fileno())
 
     def __exit__(self, *_):
         signal.set_wakeup_fd(-1)
