@@ -3,14 +3,19 @@
 
 use adept_io::{StdSink, StdSource};
 use command_words::{WordFault, words};
-use log_fit::{Unfit, fit_input};
+use log_fit::{RecordFault, Unfit, WrongRecord, fit_input};
 use standard_streams::hold_streams;
+use std::io;
 use std::process::ExitCode;
 
 fn main(rt: HostRuntime) -> ExitCode {
     match work(&rt) {
         Ok(()) => ExitCode::SUCCESS,
-        Err(why) => ExitCode::from(why.status()),
+        Err(why) => {
+            // The status tells how it ended; where nothing can be said beside it, it stays the same.
+            let _ = tell(&rt, why);
+            ExitCode::from(why.status())
+        }
     }
 }
 
@@ -28,4 +33,17 @@ fn work(rt: &HostRuntime) -> Result<(), Unfit> {
     let mut source = StdSource::new(rt.stdin());
     let mut sink = StdSink::new(rt.stdout());
     fit_input(rt.alloc(), &words, &mut source, &mut sink)
+}
+
+// Says on standard error why a log is refused; of all other ends the status says all.
+fn tell(rt: &HostRuntime, why: Unfit) -> io::Result<()> {
+    match why {
+        Unfit::NoLog => eprintln!(rt; "fit: no log"),
+        Unfit::Wrong(WrongRecord { index, why }) => match why {
+            RecordFault::Head => eprintln!(rt; "fit: record {index}: header"),
+            RecordFault::Form => eprintln!(rt; "fit: record {index}: form"),
+            RecordFault::Cases => eprintln!(rt; "fit: record {index}: limit cases"),
+        },
+        _ => Ok(()),
+    }
 }

@@ -68,3 +68,4 @@ module _ {S K : Type 0} (left : S → Option (List ℕ)) (read_faults : S → �
       by (Err unfit.Refused) (told, still) = ((known (λ a. a ≡ Err unfit.Refused) told, still), (calm, few, end))
       by (Err unfit.NoVersion) (told, still) = ((known (λ a. a ≡ Err unfit.NoVersion) told, still), (calm, few, end))
       by (Err unfit.NoLog) (told, still) = ((known (λ a. a ≡ Err unfit.NoLog) told, still), (calm, few, end))
+      by (Err (unfit.Wrong r)) (told, still) = ((known (λ a. a ≡ Err (unfit.Wrong r)) told, still), (calm, few, end))

@@ -10,6 +10,8 @@ use Rattle.file_words.specs.Lines.{Bytes}
 use Rattle.log_fit.specs.Fit.{fits_told}
 use Rattle.log_fit.specs.declared.fits.CaseFit.{CaseFit}
 use Rattle.log_records.specs.Told.{told}
+use Rattle.log_records.specs.declared.faults.RecordFault.TheVariants as fault
+use Rattle.log_records.specs.declared.faults.WrongRecord.{WrongRecord}
 use Rattle.wsm_schema.specs.SchemaModel.{plain}
 use Rattle.wsm_schema.specs.Tree.{act, nothing, part}
 use Rattle.wsm_schema.specs.declared.states.State.TheVariants as state
@@ -23,7 +25,7 @@ without_b = first_version 0 (plain 0 1 (part (act 2) nothing))
 abbrev with_b : VersionModel
 with_b = first_version 0 (plain 0 1 (part (act 2) (part (act 3) nothing)))
 
-abbrev fit_on : VersionModel → Bytes → Result (List CaseFit) ℕ
+abbrev fit_on : VersionModel → Bytes → Result (List CaseFit) WrongRecord
 fit_on v log = fits_told v (told (codes "start" ∷ codes "finish" ∷ codes "A" ∷ codes "B" ∷ []) [] log)
 
 abbrev log : Bytes
@@ -57,6 +59,6 @@ unfolding next_record records_from strip_bom is_utf8 chars lib.Utf8.encode
 unknown_node = refl
 
 -- the first wrong record alone is told
-pub third_is_wrong : fit_on with_b (codes "case,event,node,user,choice,writes\nx,start,A,1,,\nx,stop,A,1,,\nx,stop,A,1,,\n") ≡ Err 3
+pub third_is_wrong : fit_on with_b (codes "case,event,node,user,choice,writes\nx,start,A,1,,\nx,stop,A,1,,\nx,stop,A,1,,\n") ≡ Err (record { index = 3; why = fault.Form })
 unfolding next_record records_from strip_bom is_utf8 chars lib.Utf8.encode
 third_is_wrong = refl

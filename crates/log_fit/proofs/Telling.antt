@@ -1,5 +1,5 @@
 -- The records of a log that were told so far, and those behind them.
-use Rattle.std.proofs.Common.{◌≡◌, ◌<◌, ◌≤◌, ℕ, length, map, if◌then◌else◌, ◌+◌, Bool, true, false, List, [], ◌∷◌, ◌++◌, Some, None, Result, Ok, Err, refl, sym, ap, ◌∙◌, arith}
+use Rattle.std.proofs.Common.{◌≡◌, ◌<◌, ◌≤◌, ℕ, length, map, if◌then◌else◌, ◌+◌, Bool, true, false, List, [], ◌∷◌, ◌++◌, Some, None, Ok, Err, refl, sym, ap, ◌∙◌, arith}
 use Rattle.std.specs.Prelude.{not}
 use Rattle.std.proofs.Common.{append_assoc}
 use Rattle.std.proofs.lemmas.Bool.{ltb-false}
@@ -13,30 +13,31 @@ use Rattle.log_fit.proofs.Takings.{all_fits, empty, few_events}
 use Rattle.log_fit.specs.ProgressModel.{ProgressModel}
 use Rattle.log_records.specs.Forms.{record_of}
 use Rattle.log_records.specs.Records.{Fields}
-use Rattle.log_records.specs.Told.{are_too_many, told_by, told_from, with_first}
+use Rattle.log_records.specs.Told.{Told, are_too_many, told_by, told_from, with_first}
+use Rattle.log_records.specs.declared.faults.RecordFault.TheVariants as fault
 use Rattle.log_records.specs.declared.records.LogRecord.{LogRecord}
 use Rattle.wsm_lists.specs.Rows.{AllRows}
 use Rattle.wsm_sound.specs.VersionModel.{VersionModel}
 
 -- records in front of what is told
-abbrev pub behind : List LogRecord → Result (List LogRecord) ℕ → Result (List LogRecord) ℕ
+abbrev pub behind : List LogRecord → Told → Told
 behind done (Ok rs) = Ok (done ++ rs)
-behind done (Err at) = Err at
+behind done (Err wrong) = Err wrong
 
-behind-first : (done : List LogRecord) (r : LogRecord) (more : Result (List LogRecord) ℕ) → behind done (with_first r more) ≡ behind (done ++ r ∷ []) more
+behind-first : (done : List LogRecord) (r : LogRecord) (more : Told) → behind done (with_first r more) ≡ behind (done ++ r ∷ []) more
 behind-first done r (Ok rs) = ap Ok (sym (append_assoc done (r ∷ []) rs))
-behind-first done r (Err at) = refl
+behind-first done r (Err wrong) = refl
 
 -- the records told so far, what they came to, and what those that are left tell
-pub record IsReached (v : VersionModel) (nodes elements : List Bytes) (whole : Result (List LogRecord) ℕ) (at : ℕ) (names : List Bytes) (rows : List ProgressModel) (left : List Fields) : Type 0 where
+pub record IsReached (v : VersionModel) (nodes elements : List Bytes) (whole : Told) (at : ℕ) (names : List Bytes) (rows : List ProgressModel) (left : List Fields) : Type 0 where
   pub done : List LogRecord
   pub table : IsTable v done names rows
   pub rest : whole ≡ behind done (told_from nodes elements at names left)
   pub counted : at ≡ length done + 2
 
-behind-none : (more : Result (List LogRecord) ℕ) → more ≡ behind [] more
+behind-none : (more : Told) → more ≡ behind [] more
 behind-none (Ok rs) = refl
-behind-none (Err at) = refl
+behind-none (Err wrong) = refl
 
 turned : (a b : Bool) → a ≡ not b → a ≡ false → b ≡ true
 turned a true e f = refl
@@ -54,7 +55,7 @@ few_cases names ok room fine = ltb-false 4096 (length names) (turned_back ok (ar
 pub start : (v : VersionModel) (nodes elements : List Bytes) (left : List Fields) (names : List Bytes) (rows : List ProgressModel) → names ≡ [] → rows ≡ [] → IsReached v nodes elements (told_from nodes elements 2 [] left) 2 names rows left
 start v nodes elements left names rows none no_rows = rw (none, no_rows) (record { done = []; table = empty v; rest = behind-none (told_from nodes elements 2 [] left); counted = omega arith })
 
-module _ (v : VersionModel) (nodes elements : List Bytes) (whole : Result (List LogRecord) ℕ) (at : ℕ) (names : List Bytes) (rows : List ProgressModel) (left : List Fields) (t : IsReached v nodes elements whole at names rows left) where
+module _ (v : VersionModel) (nodes elements : List Bytes) (whole : Told) (at : ℕ) (names : List Bytes) (rows : List ProgressModel) (left : List Fields) (t : IsReached v nodes elements whole at names rows left) where
   -- each case has a row
   pub even : length rows ≡ length names
   even = ap length t.table.come ∙ length-map names (row_of v t.done)
@@ -72,16 +73,16 @@ module _ (v : VersionModel) (nodes elements : List Bytes) (whole : Result (List 
 
   module _ (fs : Fields) (rest : List Fields) (first : left ≡ fs ∷ rest) where
     -- a record that is not of the form
-    pub wrong : record_of nodes elements fs ≡ None → fits_told v whole ≡ Err at
+    pub wrong : record_of nodes elements fs ≡ None → fits_told v whole ≡ Err (record { index = at; why = fault.Form })
     wrong is = ap (fits_told v) (t.rest ∙ ap (λ ls. behind t.done (told_from nodes elements at names ls)) first ∙ ap (behind t.done) (ap (told_by at names (λ more. told_from nodes elements (at + 1) more rest)) is))
 
     module _ (r : LogRecord) (is : record_of nodes elements fs ≡ Some r) where
-      told : whole ≡ behind t.done (if are_too_many (noted names r.case) then Err at else with_first r (told_from nodes elements (at + 1) (noted names r.case) rest))
+      told : whole ≡ behind t.done (if are_too_many (noted names r.case) then Err (record { index = at; why = fault.Cases }) else with_first r (told_from nodes elements (at + 1) (noted names r.case) rest))
       told = t.rest ∙ ap (λ ls. behind t.done (told_from nodes elements at names ls)) first ∙ ap (behind t.done) (ap (told_by at names (λ more. told_from nodes elements (at + 1) more rest)) is)
 
       -- one of a case too many
-      pub crowded : (ok : Bool) → ok ≡ not (are_too_many (noted names r.case)) → ok ≡ false → fits_told v whole ≡ Err at
-      crowded ok room full = ap (fits_told v) (told ∙ ap (λ b. behind t.done (if b then Err at else with_first r (told_from nodes elements (at + 1) (noted names r.case) rest))) (turned ok _ room full))
+      pub crowded : (ok : Bool) → ok ≡ not (are_too_many (noted names r.case)) → ok ≡ false → fits_told v whole ≡ Err (record { index = at; why = fault.Cases })
+      crowded ok room full = ap (fits_told v) (told ∙ ap (λ b. behind t.done (if b then Err (record { index = at; why = fault.Cases }) else with_first r (told_from nodes elements (at + 1) (noted names r.case) rest))) (turned ok _ room full))
 
       -- and one that is right
       pub moved : (ok : Bool) → ok ≡ not (are_too_many (noted names r.case)) → ok ≡ true → (next : ℕ) (more : List Bytes) (new : List ProgressModel) → next ≡ at + 1 → more ≡ noted names r.case → IsTable v (t.done ++ r ∷ []) more new
@@ -90,7 +91,7 @@ module _ (v : VersionModel) (nodes elements : List Bytes) (whole : Result (List 
         done = t.done ++ r ∷ [];
         table = table;
         rest =
-            told ∙ ap (λ b. behind t.done (if b then Err at else with_first r (told_from nodes elements (at + 1) (noted names r.case) rest))) (turned_back ok _ room fine)
+            told ∙ ap (λ b. behind t.done (if b then Err (record { index = at; why = fault.Cases }) else with_first r (told_from nodes elements (at + 1) (noted names r.case) rest))) (turned_back ok _ room fine)
             ∙ behind-first t.done r (told_from nodes elements (at + 1) (noted names r.case) rest)
             ∙ rw (up, named) refl;
         counted = omega (arith, up, t.counted, length-append t.done (r ∷ []));

@@ -13,17 +13,19 @@ use Rattle.log_fit.specs.Versions.{version_of}
 use Rattle.log_fit.specs.declared.fits.CaseFit.{CaseFit}
 use Rattle.log_fit.specs.declared.unfit.Unfit.{Unfit}
 use Rattle.log_fit.specs.declared.unfit.Unfit.TheVariants as unfit
+use Rattle.log_records.specs.declared.faults.WrongRecord.{WrongRecord}
 use Rattle.wsm_sound.specs.VersionModel.{VersionModel}
 
 -- the most bytes of an input
 abbrev pub most_input : ℕ
 most_input = 33554432
 
--- a wrong record, or no log
-abbrev pub table_of : File → Result (List CaseFit) ℕ → Result Bytes Unfit
+-- a wrong record
+abbrev pub table_of : File → Result (List CaseFit) WrongRecord → Result Bytes Unfit
 table_of f (Ok fits) = Ok (table f fits)
-table_of f (Err at) = Err unfit.NoLog
+table_of f (Err wrong) = Err (unfit.Wrong wrong)
 
+-- no log
 abbrev pub with_log : File → VersionModel → Option Bytes → Result Bytes Unfit
 with_log f v None = Err unfit.NoLog
 with_log f v (Some log) = table_of f (fit v f log)

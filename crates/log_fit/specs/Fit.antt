@@ -10,7 +10,8 @@ use Rattle.file_model.specs.declared.files.File.{File}
 use Rattle.file_names.specs.Names.{noted}
 use Rattle.file_words.specs.Lines.{Bytes}
 use Rattle.log_fit.specs.declared.fits.CaseFit.{CaseFit}
-use Rattle.log_records.specs.Told.{told}
+use Rattle.log_records.specs.Told.{Told, told}
+use Rattle.log_records.specs.declared.faults.WrongRecord.{WrongRecord}
 use Rattle.log_records.specs.declared.records.LogEvent.{LogEvent}
 use Rattle.log_records.specs.declared.records.LogEvent.TheVariants as logged
 use Rattle.log_records.specs.declared.records.LogRecord.{LogRecord}
@@ -70,10 +71,10 @@ names_in records = fold (λ names r. noted names r.case) [] records
 abbrev pub fits_of : VersionModel → List LogRecord → List CaseFit
 fits_of v records = map (λ name. case_fit v name (of_case name records)) (names_in records)
 
--- the fits of a log, or the place of its first wrong record
-abbrev pub fits_told : VersionModel → Result (List LogRecord) ℕ → Result (List CaseFit) ℕ
+-- the fits of a log, or its first wrong record
+abbrev pub fits_told : VersionModel → Told → Result (List CaseFit) WrongRecord
 fits_told v (Ok records) = Ok (fits_of v records)
-fits_told v (Err at) = Err at
+fits_told v (Err wrong) = Err wrong
 
-abbrev pub fit : VersionModel → File → Bytes → Result (List CaseFit) ℕ
+abbrev pub fit : VersionModel → File → Bytes → Result (List CaseFit) WrongRecord
 fit v f log = fits_told v (told f.nodes f.elements log)

@@ -14,6 +14,7 @@ status_of unfit.NoMemory = 5
 status_of unfit.TooLong = 6
 status_of unfit.NoVersion = 8
 status_of unfit.NoLog = 9
+status_of (unfit.Wrong r) = 9
 
 -- of a process file that is refused
 abbrev pub of_file : FileRefusal → Unfit

@@ -1,6 +1,7 @@
 // How far cases go.
 use case_core::Reply;
 use file_model::Name64;
+use log_records::WrongRecord;
 use wsm_lists::{Listing, NoMemory};
 
 /// How far a case goes.
@@ -21,8 +22,8 @@ pub type Fits = Listing<CaseFit>;
 /// Why a log is not worked.
 #[derive(Clone, Copy, PartialEq, Eq, Debug)]
 pub enum FitRefusal {
-    /// The record at this place, from 1, is the first that is not of the form or brings one case too many.
-    Bad { index: u32 },
+    /// The first record that is not of the form or brings one case too many.
+    Wrong(WrongRecord),
     /// There was not enough memory.
     NoMemory,
 }

@@ -3,15 +3,22 @@ ghost use Rattle.std.specs.Prelude.{◌≡◌, ◌≤◌, [], Ok, length, IfOk, 
 ghost use Rattle.file_model.specs.Sizes.{HasNumbers};
 ghost use Rattle.log_fit.specs.Fit.{fit, fits_told};
 ghost use Rattle.log_fit.specs.Outcomes.{Tells};
+ghost use Rattle.log_fit.specs.declared.fits.FitRefusal.TheVariants as refusal;
 ghost use Rattle.log_records.specs.Told.{told_from};
 
 use crate::fits::{FitRefusal, Fits};
 use crate::tables::CaseTable;
 use csv::ByteRecord;
 use file_model::File;
-use log_records::{LogReader, NamePlaces, is_head, record_of};
+use log_records::{LogReader, NamePlaces, RecordFault, WrongRecord, is_head, record_of};
 use std::alloc::Global;
 use wsm_sound::Version;
+
+fn wrong(index: u32, why: RecordFault) -> FitRefusal
+    ensures { result ≡ refusal.Wrong (record { index = index; why = why }) }
+{
+    FitRefusal::Wrong(WrongRecord { index, why })
+}
 
 // How far the cases go that the records behind the first name.
 fn fit_behind(
@@ -30,10 +37,10 @@ fn fit_behind(
     let mut index = 2;
     while reader.next(&mut row)? {
         let Some(record) = record_of(alloc, nodes, elements, &row)? else {
-            return Err(FitRefusal::Bad { index });
+            return Err(wrong(index, RecordFault::Form));
         };
         if !table.take(alloc, version, record)? {
-            return Err(FitRefusal::Bad { index });
+            return Err(wrong(index, RecordFault::Cases));
         }
         index += 1;
     }
@@ -54,10 +61,10 @@ pub fn fit(alloc: Global, version: &Version, file: &File, log: &[u8]) -> Result<
     let mut reader = LogReader::new(alloc, log);
     let mut row = ByteRecord::new(alloc);
     if !reader.next(&mut row)? {
-        return Err(FitRefusal::Bad { index: 1 });
+        return Err(wrong(1, RecordFault::Head));
     }
     if !is_head(&row) {
-        return Err(FitRefusal::Bad { index: 1 });
+        return Err(wrong(1, RecordFault::Head));
     }
     fit_behind(alloc, version, &nodes, &elements, reader)
 }

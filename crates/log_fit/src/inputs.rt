@@ -126,7 +126,7 @@ fn fit_version<K: Sink>(
     };
     match fit(alloc, version, file, log) {
         Ok(fits) => put_table(file, &fits, sink),
-        Err(FitRefusal::Bad { .. }) => Err(Unfit::NoLog),
+        Err(FitRefusal::Wrong(record)) => Err(Unfit::Wrong(record)),
         Err(FitRefusal::NoMemory) => Err(Unfit::NoMemory),
     }
 }

@@ -20,4 +20,5 @@ mod writing;
 pub use fits::{CaseFit, FitRefusal, Fits};
 pub use fitting::fit;
 pub use inputs::fit_input;
+pub use log_records::{RecordFault, WrongRecord};
 pub use unfit::Unfit;

@@ -2,6 +2,8 @@
 ghost use Rattle.std.specs.Prelude.{◌≡◌};
 ghost use Rattle.log_fit.specs.Statuses.{status_of};
 
+use log_records::WrongRecord;
+
 /// Why the table of an input is not written.
 #[derive(Clone, Copy, Debug, PartialEq, Eq)]
 pub enum Unfit {
@@ -19,8 +21,10 @@ pub enum Unfit {
     TooLong,
     /// The file has no such type, or the type no such version.
     NoVersion,
-    /// There is no log, or it has a wrong record.
+    /// There is no log.
     NoLog,
+    /// The first record of the log that is wrong.
+    Wrong(WrongRecord),
 }
 
 impl Unfit {
@@ -36,7 +40,7 @@ impl Unfit {
             Unfit::NoMemory => 5,
             Unfit::TooLong => 6,
             Unfit::NoVersion => 8,
-            Unfit::NoLog => 9,
+            Unfit::NoLog | Unfit::Wrong(_) => 9,
         }
     }
 }

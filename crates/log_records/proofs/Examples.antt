@@ -6,6 +6,7 @@ use Rattle.csv.specs.Reading.{records_from, strip_bom}
 use Rattle.file_words.specs.Lines.{Bytes}
 use Rattle.log_records.specs.Records.{records_of}
 use Rattle.log_records.specs.Told.{told}
+use Rattle.log_records.specs.declared.faults.RecordFault.TheVariants as fault
 use Rattle.log_records.specs.declared.records.LogEvent.TheVariants as event
 use Rattle.wsm_lists.specs.declared.values.Value.TheVariants as value
 
@@ -29,38 +30,38 @@ unfolding next_record records_from strip_bom is_utf8 chars lib.Utf8.encode
 right = refl
 
 -- the first wrong record
-pub no_record : told nodes elements [] ≡ Err 1
+pub no_record : told nodes elements [] ≡ Err (record { index = 1; why = fault.Head })
 unfolding next_record records_from strip_bom
 no_record = refl
 
-pub other_titles : told nodes elements (codes "case,event,node,user,choice\n") ≡ Err 1
+pub other_titles : told nodes elements (codes "case,event,node,user,choice\n") ≡ Err (record { index = 1; why = fault.Head })
 unfolding next_record records_from strip_bom
 other_titles = refl
 
-pub other_event : told nodes elements (head ++ codes "x,start,A,1,,\nx,stop,A,1,,\nx,end,A,-1,,\n") ≡ Err 3
+pub other_event : told nodes elements (head ++ codes "x,start,A,1,,\nx,stop,A,1,,\nx,end,A,-1,,\n") ≡ Err (record { index = 3; why = fault.Form })
 unfolding next_record records_from strip_bom
 other_event = refl
 
-pub seven_fields : told nodes elements (head ++ codes "x,start,A,1,,,\n") ≡ Err 2
+pub seven_fields : told nodes elements (head ++ codes "x,start,A,1,,,\n") ≡ Err (record { index = 2; why = fault.Form })
 unfolding next_record records_from strip_bom
 seven_fields = refl
 
-pub writes_of_a_start : told nodes elements (head ++ codes "x,start,A,1,,d=1\n") ≡ Err 2
+pub writes_of_a_start : told nodes elements (head ++ codes "x,start,A,1,,d=1\n") ≡ Err (record { index = 2; why = fault.Form })
 unfolding next_record records_from strip_bom
 writes_of_a_start = refl
 
-pub two_spaces : told nodes elements (head ++ codes "x,end,A,1,,d=1  d=2\n") ≡ Err 2
+pub two_spaces : told nodes elements (head ++ codes "x,end,A,1,,d=1  d=2\n") ≡ Err (record { index = 2; why = fault.Form })
 unfolding next_record records_from strip_bom is_utf8 chars lib.Utf8.encode
 two_spaces = refl
 
-pub tab : told nodes elements (head ++ codes "x,end,A,1,,d=1\td=2\n") ≡ Err 2
+pub tab : told nodes elements (head ++ codes "x,end,A,1,,d=1\td=2\n") ≡ Err (record { index = 2; why = fault.Form })
 unfolding next_record records_from strip_bom is_utf8 chars lib.Utf8.encode
 tab = refl
 
-pub unknown_element : told nodes elements (head ++ codes "x,end,A,1,,g=1\n") ≡ Err 2
+pub unknown_element : told nodes elements (head ++ codes "x,end,A,1,,g=1\n") ≡ Err (record { index = 2; why = fault.Form })
 unfolding next_record records_from strip_bom is_utf8 chars lib.Utf8.encode
 unknown_element = refl
 
-pub wide_user : told nodes elements (head ++ codes "x,end,A,4294967296,,\n") ≡ Err 2
+pub wide_user : told nodes elements (head ++ codes "x,end,A,4294967296,,\n") ≡ Err (record { index = 2; why = fault.Form })
 unfolding next_record records_from strip_bom
 wide_user = refl

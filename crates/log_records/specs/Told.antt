@@ -6,6 +6,8 @@ use Rattle.file_words.specs.Lines.{Bytes}
 use Rattle.file_words.specs.Words.{is}
 use Rattle.log_records.specs.Forms.{Cells, cells_of, record_of}
 use Rattle.log_records.specs.Records.{Fields, records_of}
+use Rattle.log_records.specs.declared.faults.RecordFault.TheVariants as fault
+use Rattle.log_records.specs.declared.faults.WrongRecord.{WrongRecord}
 use Rattle.log_records.specs.declared.records.LogRecord.{LogRecord}
 
 -- the first record names the fields
@@ -22,24 +24,31 @@ is_head fs = are_titles (cells_of fs)
 abbrev pub are_too_many : List Bytes → Bool
 are_too_many names = nat_lt MAX_CASES (length names)
 
-abbrev pub with_first : LogRecord → Result (List LogRecord) ℕ → Result (List LogRecord) ℕ
+-- the records behind the first, or the first wrong one
+abbrev pub Told : Type 0
+Told = Result (List LogRecord) WrongRecord
+
+abbrev pub with_first : LogRecord → Told → Told
 with_first r (Ok rs) = Ok (r ∷ rs)
-with_first r (Err at) = Err at
+with_first r (Err wrong) = Err wrong
 
 -- a record at a place, where the cases with these names came before, and what the records behind it tell then
-abbrev pub told_by : ℕ → List Bytes → (List Bytes → Result (List LogRecord) ℕ) → Option LogRecord → Result (List LogRecord) ℕ
-told_by at names rest None = Err at
-told_by at names rest (Some r) = if are_too_many (noted names r.case) then Err at else with_first r (rest (noted names r.case))
+abbrev pub told_by : ℕ → List Bytes → (List Bytes → Told) → Option LogRecord → Told
+told_by at names rest None = Err (record { index = at; why = fault.Form })
+told_by at names rest (Some r) = if are_too_many (noted names r.case) then Err (record { index = at; why = fault.Cases }) else with_first r (rest (noted names r.case))
 
-abbrev pub told_from : (nodes elements : List Bytes) → ℕ → List Bytes → List Fields → Result (List LogRecord) ℕ
+abbrev pub told_from : (nodes elements : List Bytes) → ℕ → List Bytes → List Fields → Told
 told_from nodes elements at names [] = Ok []
 told_from nodes elements at names (fs ∷ rest) =
     told_by at names (λ more. told_from nodes elements (at + 1) more rest) (record_of nodes elements fs)
 
--- records are counted from 1; without a first one, that is where one is missing
-abbrev pub told_behind : (nodes elements : List Bytes) → List Fields → Result (List LogRecord) ℕ
-told_behind nodes elements [] = Err 1
-told_behind nodes elements (fs ∷ rest) = if is_head fs then told_from nodes elements 2 [] rest else Err 1
+-- the first record, which is counted as 1, names the fields
+abbrev pub headless : Told
+headless = Err (record { index = 1; why = fault.Head })
 
-abbrev pub told : (nodes elements : List Bytes) → Bytes → Result (List LogRecord) ℕ
+abbrev pub told_behind : (nodes elements : List Bytes) → List Fields → Told
+told_behind nodes elements [] = headless
+told_behind nodes elements (fs ∷ rest) = if is_head fs then told_from nodes elements 2 [] rest else headless
+
+abbrev pub told : (nodes elements : List Bytes) → Bytes → Told
 told nodes elements log = told_behind nodes elements (records_of log)

@@ -2,11 +2,13 @@
 #![tactic(auto)]
 
 mod cells;
+mod faults;
 mod places;
 mod readers;
 mod records;
 
 pub use cells::{is_head, record_of};
+pub use faults::{RecordFault, WrongRecord};
 pub use places::NamePlaces;
 pub use readers::LogReader;
 pub use records::{LogEvent, LogRecord};
