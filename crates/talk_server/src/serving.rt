@@ -18,7 +18,7 @@ use turn_loop::{TalkFault, serve_turns};
 
 /// Answers a talk over what a disk holds, which is worked again first. Each item is answered by what is held then: the units
 /// of the disk, and those of the talk that were accepted before it; and each that is accepted is on the disk before its
-/// answer is written.
+/// answer is written. What is held at the end is forgotten, not given back: the process is to end behind this call.
 pub fn serve<H: Holder + Drop, S: Source, K: Sink, D: Disk>(
     alloc: Global,
     source: &mut S,
@@ -46,7 +46,7 @@ pub fn serve<H: Holder + Drop, S: Source, K: Sink, D: Disk>(
     let (state, gate) = open::<H, D>(alloc, disk)?;
     let mut server = Server::new(alloc, state);
     let end = serve_turns(alloc, source, sink, disk, gate, &mut server);
-    // The process ends behind a server: what it holds goes back with it as one, not piece by piece.
+    // What a server holds goes back with the process as one, not piece by piece.
     forget(server);
     match end {
         Ok(()) => Ok(()),
