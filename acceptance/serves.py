@@ -547,6 +547,21 @@ def kept_for_lines(serve):
         wants(said()[:2], (1, b""))
 
 
+def lines_without_streams(serve):
+    """tools/lines needs no input; where it cannot write it says so, 1; what it prints has never a message in it."""
+    serve.run(SMALL)
+    whole, printed = read(serve.path()), HEADER + SMALL
+    torn = b"lines: damaged %d\n" % (whole.index(b"\1\0\0\0\x0dann") - len(MARK))
+    for held, ways, wanted in (
+            (whole, "<&-", (0, printed, b"")), (whole, "2>&-", (0, printed, b"")), (whole, ">/dev/full", (1, b"", b"lines: cannot write: No space left on device\n")),
+            (whole, ">&-", (1, b"", b"lines: cannot write: Bad file descriptor\n")), (whole[:-1], "<&-", (1, printed, b"lines: damaged %d\n" % (len(whole) - 1 - len(MARK)))),
+            (whole[:-2], "", (1, printed[:-len(b"ann create c\n")], torn)), (whole[:-2], "2>&-", (1, printed[:-len(b"ann create c\n")], b"")),
+            (whole[:-2], "2>/dev/full", (1, printed[:-len(b"ann create c\n")], b"")), (whole[:-2], "<&- >&- 2>&-", (1, b"", b""))):
+        write(serve.path(), held)
+        done = subprocess.run(["sh", "-c", 'exec "$@" ' + ways, "sh", os.path.join(TOP, "tools", "lines"), serve.path()], capture_output=True, check=False)
+        wants((ways, done.returncode, done.stdout, done.stderr), (ways, *wanted))
+
+
 # What befalls single calls of the system, by strace.
 
 # The calls whose fault counts, and what the first of them is that the program makes by itself.
@@ -630,7 +645,7 @@ def interrupted_calls(serve):
 TRACED = [failing_calls, stopped_at_calls, interrupted_calls]
 CHECKS = [closed_streams, words, no_store, held_store, foreign_files, begun_stores, damaged_stores, changed_stores, behind_the_list, long_stores,
           opened_on_a_copy, unread_answers, reader_that_goes_away, unreadable_input, impatient_streams, failing_store, little_memory,
-          opened_with_little_memory, long_items, new_files, odd_folder, many_questions, kept_for_lines]
+          opened_with_little_memory, long_items, new_files, odd_folder, many_questions, kept_for_lines, lines_without_streams]
 
 
 def of_old(program):
@@ -655,6 +670,12 @@ def checked(program, check):
             return str(why)
 
 
+def has_strace(program):
+    """Whether there is a strace that can trace the program, which ends with 2 where it has no words."""
+    run = ["strace", "-qq", "-o", "/dev/null", program]
+    return shutil.which("strace") is not None and subprocess.run(run, capture_output=True, check=False).returncode == 2
+
+
 def tried(program, player):
     """For each case of the server its name and what differs. `player` is the command whose `play` a second reading asks."""
     for name, talk, answers, before in cases():
@@ -662,10 +683,9 @@ def tried(program, player):
     for name, talk, answers, _ in cases():
         if name.startswith("examples"):
             yield name + ", as play has it", None if answering.answers(player, talk)[0] == answers else "another reading answers otherwise"
-    run = ["strace", "-qq", "-o", "/dev/null", program]
-    has_strace = shutil.which("strace") is not None and subprocess.run(run, capture_output=True, check=False).returncode == 2
-    if not has_strace:
+    traced = TRACED if has_strace(program) else []
+    if not traced:
         print("not tried serves, %s: there is no strace that can trace" % ", ".join(check.__name__ for check in TRACED), flush=True)
-    for check in CHECKS + (TRACED if has_strace else []):
+    for check in CHECKS + traced:
         yield "serve: " + (check.__doc__ or "").splitlines()[0], checked(program, check)
     yield from of_old(program)

@@ -4,9 +4,11 @@ The talks of the server (serves.py) are said to it by one client, with the same 
 not mixed; and whoever goes away, takes no answers, or may not say what it says, harms nobody else.  What holds where the server is
 killed under the load of many clients is tried by trials/share.
 """
+import fcntl
 import os
 import random
 import re
+import selectors
 import signal
 import socket
 import stat
@@ -62,9 +64,9 @@ BEFORE = b"type t\nact A\nact B\nend\nactor nor\nactor nora\ncase c t\nnora crea
 class Share:
     """tools/share at work in a folder."""
 
-    def __init__(self, program, folder, *words):
+    def __init__(self, program, folder, *words, before=()):
         self.program, self.store, self.socket = program, os.path.join(folder, "store"), os.path.join(folder, "socket")
-        self.child = subprocess.Popen([SHARE, "--program", program, *words, self.store, self.socket], stdin=subprocess.DEVNULL, stderr=subprocess.PIPE)
+        self.child = subprocess.Popen([*before, SHARE, "--program", program, *words, self.store, self.socket], stdin=subprocess.DEVNULL, stderr=subprocess.PIPE)
         until = time.time() + WAIT
         while not (self.is_there() or self.child.poll() is not None or time.time() > until):
             time.sleep(0.01)
@@ -103,6 +105,13 @@ class Share:
         self.child.send_signal(signal.SIGTERM)
         return self.wait()
 
+    def kill(self):
+        """Kills it, and waits until its server has ended by itself, which holds the store until then."""
+        self.child.kill()
+        self.wait()
+        with open(self.store, "rb") as store:
+            fcntl.flock(store, fcntl.LOCK_EX)
+
     def answers(self, *numbers):
         """What --answers prints."""
         return subprocess.run([SHARE, "--program", self.program, "--answers", self.store, *map(str, numbers)], stdout=subprocess.PIPE, timeout=WAIT, check=True).stdout
@@ -127,6 +136,18 @@ def told(client, count=None):
     return found
 
 
+def rest(client):
+    """The bytes that still come of a client's answers, up to the end."""
+    found, data = b"", b"-"
+    while data:
+        try:
+            data = client.recv(1 << 16)
+        except ConnectionError:
+            data = b""
+        found += data
+    return found
+
+
 def ask(client, *pieces, count=1):
     """The answers to what is sent in pieces."""
     for piece in pieces:
@@ -134,6 +155,11 @@ def ask(client, *pieces, count=1):
         if len(pieces) > 1:
             time.sleep(0.02)
     return told(client, count)
+
+
+def shell(ways):
+    """What stands before a command whose streams are these."""
+    return ["sh", "-c", 'exec "$@" ' + ways, "sh"]
 
 
 def last_lines(answers):
@@ -335,21 +361,34 @@ def first_words(unit):
 
 def files_of_rights(program, folder):
     """A file of rights that is wrong is told with its line, and nothing is served."""
-    for text, why in ((b"ann\n", b"line 1: it is"), (b"# x\nann may cook\n", b"line 2: there is no kind cook"), (b"ann can cases\n", b"line 1: it is")):
+    for text, why in ((b"ann\n", b"line 1: it is"), (b"# x\nann may cook\n", b"line 2: there is no kind cook"), (b"ann can cases\n", b"line 1: it is"),
+                      (b"ann as bob phase\n", b"line 1: no actor is named phase"), (b"ann as # bob\n", b"line 1: no actor is named #"), (b"ann as \xff\n", b"utf-8")):
         with open(os.path.join(folder, "rights"), "wb") as file:
             file.write(text)
         status, said = Share(program, folder, "--as", file.name).wait()
         wants((status, why in said, os.path.exists(os.path.join(folder, "store"))), (1, True, False))
 
 
+def reaches(share, user):
+    """Whether a user of the system can connect; where there can be no other, this one."""
+    try:
+        share.connect(user if os.geteuid() == 0 else None).close()
+        return True
+    except PermissionError:
+        return False
+
+
 def sockets(program, folder):
     """The socket has the rights that are told; a stale one is replaced, and whatever else is there is left."""
+    os.chmod(folder, 0o755)
     path = os.path.join(folder, "socket")
     with socket.socket(socket.AF_UNIX) as stale:
         stale.bind(path)
     for words, mode in (((), 0o600), (("--mode", "660"), 0o660)):
         share = Share(program, folder, *words)
         wants(stat.S_IMODE(os.stat(path).st_mode), mode)
+        # who is nobody there has the group of who is root
+        wants(reaches(share, NOBODY), os.geteuid() != 0 or mode != 0o600)
         second = subprocess.run([SHARE, "--program", program, share.store + "2", path], stderr=subprocess.PIPE, timeout=WAIT, check=False)
         wants((second.returncode, second.stderr), (1, b"share: somebody listens at %s\n" % path.encode()))
         third = subprocess.run([SHARE, "--program", program, share.store, path + "2"], stderr=subprocess.PIPE, timeout=WAIT, check=False)
@@ -383,6 +422,162 @@ def to_a_server(program, folder):
     wants((client.returncode, output, said), (1, b"", b"share: the talk has ended before all was answered\n"))
 
 
+def streams_of_a_client(program, folder):
+    """Where --to cannot read what it is given, or not write what it is answered, it ends with 1, and what it sent is worked."""
+    share = Share(program, folder)
+
+    def said(ways, given):
+        done = subprocess.run([*shell(ways), SHARE, "--to", share.socket], input=given, stdout=subprocess.PIPE, stderr=subprocess.PIPE, timeout=WAIT, check=False)
+        return done.returncode, done.stdout, done.stderr
+
+    for ways in "0>/dev/null", "<&-":
+        wants((ways, *said(ways, b"")), (ways, 1, b"", b"share: cannot read: Bad file descriptor\n"))
+    for number, (ways, why) in enumerate(((">/dev/full", b"No space left on device"), (">&-", b"Bad file descriptor"), ("| true", b"Broken pipe"))):
+        status, output, message = said(ways, b"actor a%d\n" % number + b"? report\n" * 2000)
+        wants((ways, output, message), (ways, b"", b"share: cannot write: %s\n" % why))
+        wants((ways, status), (ways, 0 if ways == "| true" else 1))
+    reader, writer = os.pipe()
+    os.set_blocking(reader, False)
+    os.write(writer, b"? count\n")
+    done = subprocess.run([SHARE, "--to", share.socket], stdin=reader, stdout=subprocess.PIPE, stderr=subprocess.PIPE, timeout=WAIT, check=False)
+    wants((done.returncode, done.stdout, done.stderr), (1, b"ok 3\n", b"share: cannot read: Resource temporarily unavailable\n"))
+    os.close(reader)
+    os.close(writer)
+    wants(share.stop(), (0, b""))
+
+
+def streams_of_its_own(program, folder):
+    """It needs no standard streams, and its clients are told all the same where nobody takes its messages."""
+    for ways in "<&- >&- 2>&-", "<&- 2>/dev/full":
+        share = Share(program, folder, before=shell(ways))
+        client = share.connect()
+        wants(ask(client, b"? count\n"), [b"ok 0\n"])
+        os.kill(share.server(), signal.SIGSTOP)
+        client.sendall(b"actor ann\n")
+        time.sleep(0.1)
+        os.kill(share.server(), signal.SIGKILL)
+        wants(told(client), [b"no 1 ended\n"])
+        wants(share.wait(), (137, b""))
+
+
+def more_clients_than_files(program, folder):
+    """Where more clients come than can be connected, those who come later wait until others have gone."""
+    share = Share(program, folder, before=["sh", "-c", 'ulimit -n 24; exec "$@"', "sh"])
+    clients = [share.connect() for _ in range(60)]
+    with selectors.DefaultSelector() as selector:
+        for number, client in enumerate(clients):
+            client.sendall(b"actor a%d\n" % number)
+            selector.register(client, selectors.EVENT_READ)
+        while selector.get_map():
+            for key, _ in selector.select(WAIT):
+                wants(told(key.fileobj, 1)[0][:3], b"ok ")
+                selector.unregister(key.fileobj)
+                key.fileobj.close()
+    wants(ask(share.connect(), b"? count\n"), [b"ok 60\n"])
+    wants(share.stop(), (0, b""))
+
+
+def in_order(program, folder):
+    """Items are handed on in the order in which they came, whoever sent them."""
+    share = Share(program, folder)
+    clients = [share.connect() for _ in range(3)]
+    for client in clients:
+        wants(ask(client, b"? count\n"), [b"ok 0\n"])
+    os.kill(share.server(), signal.SIGSTOP)
+    order = [0, 1, 2, 2, 0, 1, 1, 0, 2]
+    for number, who in enumerate(order):
+        clients[who].sendall(b"actor a%d-%d\n" % (number, who))
+        time.sleep(0.05)
+    os.kill(share.server(), signal.SIGCONT)
+    for who, client in enumerate(clients):
+        wants(told(client, 3), [b"ok %d\n" % (number + 1) for number, one in enumerate(order) if one == who])
+    share.stop()
+    wants([unit.split(b"\n")[1] for unit in units(share.store)], [b"actor a%d-%d" % each for each in enumerate(order)])
+
+
+def tool_is_killed(program, folder):
+    """Where tools/share itself is killed its server ends, no unit is there in part or twice, --answers tells of each, and the next one goes on."""
+    chance, sent, got = random.Random(time.time()), {}, {}
+    for turn in range(3):
+        share = Share(program, folder)
+        clients = [share.connect() for _ in range(3)]
+        for who, client in enumerate(clients):
+            names = [b"%d-%d-%d" % (turn, who, number) for number in range(50)]
+            sent.update((name, b"# %s\n%s" % (name, chance.choice((b"actor a%s\n", b"type t%s\nact A\nend\n")) % name)) for name in names)
+            client.sendall(b"".join(sent[name] for name in names) + b"type half\nact A\n")
+        heard = [client.recv(chance.choice((1, 100, 1000))) for client in clients]
+        share.kill()
+        for who, client in enumerate(clients):
+            answers = serves.answers_in(heard[who] + rest(client))
+            got.update((b"%d-%d-%d" % (turn, who, number), answer) for number, answer in enumerate(answers))
+        wants(os.path.exists(share.socket), True)
+    share = Share(program, folder)
+    wants(share.stop(), (0, b""))
+    held = units(share.store)
+    wants([int(unit.split(b"\n")[0].split()[-1]) for unit in held], sorted({int(unit.split(b"\n")[0].split()[-1]) for unit in held}))
+    names = [unit.split(b"\n")[1][2:] for unit in held]
+    wants([unit.split(b"\n", 1)[1] for unit in held], [sent[name] for name in names])
+    later = dict(zip(names, serves.answers_in(re.sub(rb"(?m)^\| .*\n", b"", share.answers()))))
+    wants((len(later), {name: later.get(name) for name in got}), (len(names), got))
+
+
+def answers_of_stores(program, folder):
+    """--answers tells what a store holds, also while it is in use; it makes none, and tells nothing of one that is damaged."""
+    share = Share(program, folder)
+    wants(len(ask(share.connect(), b"type t\nact A\nend\nactor ann\nactor ann\n", count=3)), 3)
+    both = [b"| type t\n| act A\n| end\ntype t 1 - define -> defined\nok 1\n", b"| actor ann\nok 2\n"]
+    wants(STAMP.sub(b"", share.answers()), b"".join(both))
+    wants(share.stop(), (0, b""))
+    wants([STAMP.sub(b"", share.answers(*numbers)) for numbers in ((), (1,), (2,), (3,), (2, 1))], [b"".join(both), *both, b"", b"".join(both)])
+    for name, held, why in (("none", None, b"there is no store"), ("torn", serves.read(share.store)[:-3], b"damaged"), ("letter", b"a letter\n", serves.NO_STORE)):
+        path = os.path.join(folder, name)
+        if held:
+            serves.write(path, held)
+        done = subprocess.run([SHARE, "--program", program, "--answers", path], stdout=subprocess.PIPE, stderr=subprocess.PIPE, timeout=WAIT, check=False)
+        wants((name, done.returncode, done.stdout, why in done.stderr), (name, 1, b"", True))
+        wants(os.path.exists(path), held is not None)
+
+
+def block(begins):
+    """The block of docs/SERVE.md that begins so."""
+    text = serves.read(os.path.join(TOP, "docs", "SERVE.md")).decode()
+    return next(found for found in re.findall(r"^```\n(.*?)^```$", text, re.M | re.S) if found.startswith(begins))
+
+
+def as_a_service(program, folder):
+    """The unit and the lines of cron that docs/SERVE.md shows do what it says: a stop answers what has come, and backups are what tools/lines prints."""
+    unit = dict(line.split("=", 1) for line in block("[Unit]").split("\n") if "=" in line)
+    wants((unit["KillMode"], {"2", "9"} <= set(unit["RestartPreventExitStatus"].split())), ("mixed", True))
+    places = {"/opt/rushowa": TOP, "/etc/ward.rights": os.path.join(folder, "rights"), "/var/lib/ward/store": os.path.join(folder, "store"),
+              "/run/ward/socket": os.path.join(folder, "socket"), "/var/backups/ward": folder}
+
+    def here(text):
+        for place, other in places.items():
+            text = text.replace(place, other)
+        return text
+
+    serves.write(os.path.join(folder, "rights"), block("# a line for each right").encode() + b"%s may actors\n" % stamps.name_of(os.geteuid()).encode())
+    words = here(unit["ExecStart"]).split()
+    share = Share(program, folder, *words[1:-2])
+    wants([words[0], *words[-2:]], [SHARE, share.store, share.socket])
+    wants(stat.S_IMODE(os.stat(share.socket).st_mode), 0o666)
+    wants(ask(share.connect(), b"actor ann\ncase c t\n? count\n", count=3), [b"ok 1\n", NOT_YOURS, b"ok 1\n"])
+    for line in block("10 3 * * *").splitlines():
+        subprocess.run(here(line.split(None, 6)[6].replace("\\%", "%")), shell=True, timeout=WAIT, check=True)
+    backups = [name for name in os.listdir(folder) if name.endswith(".adept")]
+    wants((len(backups), {serves.read(os.path.join(folder, name)) for name in backups}), (2, {share.lines()}))
+    wants(share.stop(), (0, b""))
+
+
+def accept_fails(program, folder):
+    """Where a connection is refused by the system for want of room it is taken a second later."""
+    share = Share(program, folder, before=["strace", "-D", "-qq", "-o", "/dev/null", "-e", "trace=accept4", "-e", "inject=accept4:error=ENFILE:when=3..5"])
+    for _ in range(4):
+        with share.connect() as client:
+            wants(ask(client, b"? count\n"), [b"ok 0\n"])
+    wants(share.stop(), (0, b""))
+
+
 def three_desks(program, folder):
     """The ward of examples/desks: three clients at once, until all patients have gone."""
     share = Share(program, folder)
@@ -391,8 +586,10 @@ def three_desks(program, folder):
     wants(share.stop()[0], 0)
 
 
-CHECKS = [groups_in_pieces, goes_away_in_a_group, long_items, takes_nothing, is_killed, is_silent, stamps_and_numbers, rights_of_users,
-          files_of_rights, sockets, to_a_server, three_desks]
+CHECKS = [groups_in_pieces, in_order, goes_away_in_a_group, long_items, takes_nothing, more_clients_than_files, is_killed, is_silent, tool_is_killed,
+          stamps_and_numbers, answers_of_stores, rights_of_users, files_of_rights, sockets, streams_of_its_own, to_a_server, streams_of_a_client, as_a_service,
+          three_desks]
+TRACED = [accept_fails]
 
 
 def checked(program, check):
@@ -429,9 +626,10 @@ def made_talks(program, player, seed):
 
 def tried(program, player):
     """For each case of tools/share its name and what differs."""
+    traced = TRACED if serves.has_strace(program) else []
     for name, talk, answers, before in serves.cases():
         yield "shared: " + name, shared(program, talk, answers, before)
-    for check in CHECKS:
+    for check in CHECKS + traced:
         yield "share: " + check.__doc__.splitlines()[0], checked(program, check)
     yield from made_talks(program, player, random.SystemRandom().randrange(10 ** 9))
 

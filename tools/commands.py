@@ -11,8 +11,16 @@ def version():
     return subprocess.run([os.path.join(HERE, "version")], stdout=subprocess.PIPE, check=True).stdout.decode()
 
 
+def say(message):
+    """Writes a message to standard error; where that fails there is nobody to tell."""
+    try:
+        print(message, file=sys.stderr, flush=True)
+    except OSError:
+        os.dup2(os.open(os.devnull, os.O_WRONLY), 2)
+
+
 def fail(status, message):
-    print(message, file=sys.stderr)
+    say(message)
     sys.exit(status)
 
 
@@ -67,8 +75,26 @@ def read(words, doc):
         return fail(3, "%s: cannot read %s" % (os.path.basename(sys.argv[0]), words[0]))
 
 
+def hold_streams():
+    """A standard stream that is closed is one that fails, and no file is ever opened in its place; messages then go nowhere."""
+    for number, name, mode, held in (0, "stdin", "r", os.O_WRONLY), (1, "stdout", "w", os.O_RDONLY), (2, "stderr", "w", os.O_WRONLY):
+        if getattr(sys, name) is None:
+            # the lowest number that is free
+            opened = os.open(os.devnull, held)
+            if opened != number:
+                os.dup2(opened, number)
+                os.close(opened)
+            setattr(sys, name, open(number, mode, encoding="utf-8"))
+
+
+def unwritten():
+    """What is left for standard output must go somewhere."""
+    os.dup2(os.open(os.devnull, os.O_WRONLY), 1)
+
+
 def run(main, doc):
     """Runs a script on its words; --help and --version are answered here."""
+    hold_streams()
     words = sys.argv[1:]
     try:
         if words in (["-h"], ["--help"]):
@@ -79,7 +105,7 @@ def run(main, doc):
             main(words)
         sys.stdout.flush()
     except BrokenPipeError:
-        # Whoever reads has seen enough. What is left must go somewhere.
-        os.dup2(os.open(os.devnull, os.O_WRONLY), sys.stdout.fileno())
+        # whoever reads has seen enough
+        unwritten()
     except KeyboardInterrupt:
         sys.exit(130)

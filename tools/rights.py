@@ -11,10 +11,13 @@
 A user says the lines whose first word is one of the actors behind `as`.  Lines that declare types, actors and cases, and among
 the actors' lines installs and migrations, are said by users alone who have that kind behind `may`.  Questions are everybody's.
 """
+import processes
 
 KINDS = {b"type": "types", b"actor": "actors", b"case": "cases"}
 ACTS = {b"install": "installs", b"migrate": "migrations"}
 NAMED = {*KINDS.values(), *ACTS.values()}
+# Words that are no actor's name, since a line that begins so says something else.
+TAKEN = (*processes.RESERVED, "?")
 
 
 class Rights:
@@ -33,12 +36,14 @@ class Rights:
         user, verb, names = words[0], words[1:2], words[2:]
         if not names or verb not in (["as"], ["may"]):
             raise ValueError("line %d: it is `USER as ACTOR..` or `USER may KIND..`" % number)
-        unknown = [name for name in names if name not in NAMED] if verb == ["may"] else []
-        if unknown:
-            raise ValueError("line %d: there is no kind %s; there are %s" % (number, unknown[0], ", ".join(sorted(NAMED))))
         if verb == ["may"]:
+            for name in set(names) - NAMED:
+                raise ValueError("line %d: there is no kind %s; there are %s" % (number, name, ", ".join(sorted(NAMED))))
             self.kinds.setdefault(user, set()).update(names)
         else:
+            for name in names:
+                if name in TAKEN or name.startswith("#"):
+                    raise ValueError("line %d: no actor is named %s" % (number, name))
             self.actors.setdefault(user, set()).update(name.encode() for name in names)
 
     def allow(self, user, words):

@@ -149,8 +149,8 @@ class Client:
 class Hub:
     """The clients of a server, from the first to the last."""
 
-    def __init__(self, server, listener, number, rights=None, has_times=True, patience=60):
-        self.server, self.listener, self.number, self.rights = server, listener, number, rights
+    def __init__(self, server, number, rights=None, has_times=True, patience=60):
+        self.server, self.listener, self.number, self.rights = server, None, number, rights
         self.has_times, self.patience, self.is_stopping, self.is_full = has_times, patience, False, False
         self.clients, self.changed = set(), set()
         # one place for each item that came and was not handed on, in the order in which they came; and what was
@@ -159,18 +159,20 @@ class Hub:
 
     # From beginning to end.
 
-    def run(self):
-        """Serves until the server ends, or a signal stops it."""
+    def run(self, listener):
+        """Serves until the server ends, or a signal stops it (within `signals`)."""
+        self.listener = listener
         self.selector.register(self.server.output, READ, self.on_answers)
         self.selector.register(self.listener, READ, self.on_connection)
-        with self.signals():
-            while not self.server.has_ended:
-                for key, events in self.selector.select(1 if any(client.out for client in self.clients) else None):
-                    key.data(events)
-                self.drop_those_who_take_nothing()
-                self.go_on()
-                if self.is_stopping and not self.clients:
-                    self.server.close_input()
+        while not self.server.has_ended:
+            ready = self.selector.select(1 if self.is_full or any(client.out for client in self.clients) else None)
+            self.listen_again()
+            for key, events in ready:
+                key.data(events)
+            self.drop_those_who_take_nothing()
+            self.go_on()
+            if self.is_stopping and not self.clients:
+                self.server.close_input()
 
     def go_on(self):
         """Hands on what has come and sends what there is, until nothing more changes."""
@@ -182,7 +184,7 @@ class Hub:
             self.hand_on()
 
     def signals(self):
-        """Lets signals wake the loop; as a context it gives them back."""
+        """Lets signals wake the loop and stop it; as a context it gives them back."""
         told, wakes = socket.socketpair()
         for end in told, wakes:
             end.setblocking(False)
@@ -219,9 +221,15 @@ class Hub:
         except (BlockingIOError, ConnectionError):
             pass
         except OSError:
-            # as many are connected as the system allows
+            # as many are connected as the system allows: who comes now waits
             self.is_full = True
             self.selector.unregister(self.listener)
+
+    def listen_again(self):
+        """Tries again to let those in who wait, where there was no room for them."""
+        if self.is_full and not self.is_stopping:
+            self.is_full = False
+            self.selector.register(self.listener, READ, self.on_connection)
 
     def accept(self):
         client = Client(self.listener.accept()[0])
@@ -271,9 +279,6 @@ class Hub:
         client.out.clear()
         client.has_ended = client.is_gone = True
         client.connection.close()
-        if self.is_full and not self.is_stopping:
-            self.is_full = False
-            self.selector.register(self.listener, READ, self.on_connection)
 
     def drop_those_who_take_nothing(self):
         late = time.monotonic() - self.patience
