@@ -8,6 +8,7 @@ import importlib.machinery
 import importlib.util
 import os
 import random
+import subprocess
 import sys
 import tempfile
 
@@ -141,7 +142,7 @@ def answers():
 
 
 def cut_back():
-    """A store is cut back to a place, with what stood in front of it."""
+    """A store is cut back to a place, with what stood in front of it; it keeps its rights, and a link to it stays one."""
     payloads = [stores.HEADER, b"# 1 0\na\n", b"# 1 2\nb\n", b"# 4 0\nc\n"]
     image = stores.MARK + b"".join(map(server.record, payloads)) + b"\0"
     for place, left in ((1, 0), 1), ((1, 1), 2), ((1, 2), 2), ((1, 3), 3), ((4, 0), 3), ((4, 1), 4), ((9, 9), 4):
@@ -149,10 +150,35 @@ def cut_back():
             path = os.path.join(folder, "store")
             with open(path, "wb") as file:
                 file.write(image)
-            server.cut_back(path, place)
+            os.chmod(path, 0o640)
+            os.symlink("store", os.path.join(folder, "link"))
+            server.cut_back(os.path.join(folder, "link"), place)
             with open(path, "rb") as file:
                 wants([*stores.payloads(file)], payloads[:left])
-            wants(os.listdir(folder), ["store"])
+            wants((sorted(os.listdir(folder)), os.path.islink(os.path.join(folder, "link")), os.stat(path).st_mode & 0o777), (["link", "store"], True, 0o640))
+
+
+# Runs a line of code in which `put` is the client, without a broker.
+PUT = """
+import importlib.machinery, importlib.util, sys
+sys.dont_write_bytecode = True
+loader = importlib.machinery.SourceFileLoader("put", %r)
+put = importlib.util.module_from_spec(importlib.util.spec_from_loader("put", loader))
+loader.exec_module(put)
+put.commands.hold_streams()
+"""
+
+
+def streams():
+    """A client that cannot print what it is answered ends with 4, and one that cannot read what it is to put with 3."""
+    for line, ways, status, said in (
+            ("put.put_out(b'ok 1')", ">/dev/full", 4, "put: cannot write: No space left on device\n"),
+            ("put.put_out(b'ok 1')", ">&-", 4, "put: cannot write: Bad file descriptor\n"),
+            ("put.put_out(b'ok 1')", "", 0, ""), ("put.Source(0).next(lambda: None)", "<&-", 3, "put: cannot read\n"),
+            ("put.Source(0).next(lambda: None)", "0>/dev/null", 3, "put: cannot read\n")):
+        code = PUT % os.path.join(DEPLOY, "put") + line
+        done = subprocess.run(["sh", "-c", 'exec "$@" ' + ways, "sh", sys.executable, "-c", code], stdin=subprocess.DEVNULL, capture_output=True, text=True, check=False)
+        wants((line, ways, done.returncode, done.stderr, done.stdout), (line, ways, status, said, "" if status else "ok 1"))
 
 
 # A worker over a log in memory.
@@ -347,7 +373,7 @@ class Asked:
         self.headers = {"client": client, "number": number}
 
 
-ALONE = [goes, parts, cutting, long_items, messages, sent_twice, places, answers, cut_back]
+ALONE = [goes, parts, cutting, long_items, messages, sent_twice, places, answers, cut_back, streams]
 WORKERS = [worked, goes_on, unanswered, lost, ahead, asked]
 
 

@@ -10,6 +10,9 @@ import signal
 import sys
 import time
 
+sys.path.insert(0, os.path.join(os.path.dirname(os.path.realpath(__file__)), "..", "..", "tools"))
+import commands
+
 try:
     import pika
     import pika.exceptions
@@ -44,7 +47,7 @@ def needs_pika():
 
 
 def said(what):
-    print("%s: %s" % (os.path.basename(sys.argv[0]), what), file=sys.stderr, flush=True)
+    commands.say("%s: %s" % (os.path.basename(sys.argv[0]), what))
 
 
 def patient(call, seconds=PATIENCE):

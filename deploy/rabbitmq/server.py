@@ -2,6 +2,7 @@
 import fcntl
 import os
 import selectors
+import stat
 import subprocess
 import sys
 import time
@@ -91,9 +92,11 @@ def record(payload):
 
 def cut_back(path, place):
     """Leaves of a store the units in front of a place in the log: a copy that ends there takes its place, whole or not at all."""
+    path = os.path.realpath(path)
     copied = path + ".cut"
     with open(path, "rb") as store, open(copied, "wb") as copy:
         fcntl.flock(store, fcntl.LOCK_EX | fcntl.LOCK_NB)
+        os.fchmod(copy.fileno(), stat.S_IMODE(os.fstat(store.fileno()).st_mode))
         copy.write(stores.MARK)
         for number, payload in enumerate(stores.payloads(store)):
             if number and partitions.place_in(payload) >= place:
@@ -103,6 +106,6 @@ def cut_back(path, place):
         copy.flush()
         os.fsync(copy.fileno())
         os.replace(copied, path)
-    folder = os.open(os.path.dirname(os.path.abspath(path)), os.O_RDONLY)
+    folder = os.open(os.path.dirname(path), os.O_RDONLY)
     os.fsync(folder)
     os.close(folder)
