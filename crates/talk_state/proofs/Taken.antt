@@ -1,5 +1,5 @@
 -- A state behind a unit that was taken.
-use Rattle.std.proofs.Common.{◌≡◌, ℕ, ◌+◌, ◌-◌, ◌*◌, ◌<◌, ◌≤◌, ◌^◌, true, List, [], ◌∷◌, ◌++◌, length, take, ap, sym, subst, ◌∙◌, arith, append-nil, Ok}
+use Rattle.std.proofs.Common.{◌≡◌, ℕ, ◌+◌, ◌-◌, ◌*◌, ◌<◌, ◌≤◌, ◌^◌, true, List, [], ◌∷◌, ◌++◌, length, take, ap, sym, subst, ◌∙◌, arith, append-nil, Result, Ok}
 use Rattle.std.proofs.Math.Seq.{take-append_seam}
 use Rattle.std.proofs.lemmas.Grind.{flat_map-append}
 use Rattle.std.proofs.lemmas.List.{length-append, length-map}
@@ -9,9 +9,10 @@ use Rattle.file_model.specs.Reading.{file_of}
 use Rattle.file_model.specs.Room.{count_of_names}
 use Rattle.file_model.specs.declared.files.CaseDecl.{CaseDecl}
 use Rattle.file_model.specs.declared.files.Line.{Line}
+use Rattle.file_model.specs.declared.refusals.Refused.{Refused}
 use Rattle.file_model.specs.declared.states.Contents.{Contents}
 use Rattle.file_units.specs.Facts.{IsReady}
-use Rattle.file_units.specs.Taking.{SaysBehind, said_effort}
+use Rattle.file_units.specs.Taking.{Says, SaysBehind, said_effort}
 use Rattle.file_units.specs.Units.{settled, unit_read}
 use Rattle.file_units.specs.declared.held.Said.{Said}
 use Rattle.file_units.specs.declared.held.Said.TheVariants as say
@@ -97,23 +98,24 @@ can-try n c d (say.Line l) p h says ready effort = record {
 }
 can-try n c d say.Other p h says ready effort = tt
 
-try-within : (s : State) (n : ℕ) → IsSound s → s.long + n < 2 ^ 30 + 2 ^ 26 → CanTry n s.contents s.placing
-try-within s n h few =
+pub can-say : (n : ℕ) (c after : Contents) (read : Result Contents Refused) (said : Said) (p : Placing) → CanTry n c p → Says c read after said → IsReady after → said_effort said ≤ 2 * n → CanWork (file_of after) said p
+can-say n c after read said p h says ready effort =
+    let d = says.behind in
+    let so : IsReady (settled d) = subst IsReady says.settles ready in
+    subst (λ (x : Contents). CanWork (file_of x) said p) (sym says.settles) (can-try n c d said p h says.says so effort)
+
+-- a unit can be tried for which there is room
+pub sound-try : (s : State) (n : ℕ) → IsSound s → s.long + n < 2 ^ 30 → CanTry n s.contents s.placing
+sound-try s n h room =
     let young = h.young in
     let names = h.names in
     record {
       placing = h.placing;
       kinds = h.kinds;
       cases = h.cases;
-      room = omega (arith, names, few);
-      age = omega (arith, young, few);
+      room = omega (arith, names, room);
+      age = omega (arith, young, room);
     }
-
-pub sound-try : (s : State) (n : ℕ) → IsSound s → n < 2 ^ 26 → CanTry n s.contents s.placing
-sound-try s n h few = let short = h.short in try-within s n h (omega (arith, short, few))
-
-pub can-work : (s : State) (d : Contents) (said : Said) (n : ℕ) → IsSound s → SaysBehind s.contents d said → IsReady (settled d) → said_effort said ≤ 2 * n → s.long + (5 + n) < 2 ^ 30 → CanWork (file_of (settled d)) said s.placing
-can-work s d said n h says ready effort room = can-try n s.contents d said s.placing (try-within s n h (omega (arith, room))) says ready effort
 
 -- ---- the state behind is sound
 module _ (s t : State) (d : Contents) (said : Said) (unit : Bytes) (h : IsSound s) (k : Taken s t d said unit) where

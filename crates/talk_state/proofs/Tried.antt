@@ -1,5 +1,5 @@
 -- What is told of a state, where a unit or a move is tried on it, is what its units tell.
-use Rattle.std.proofs.Common.{◌≡◌, ℕ, ◌+◌, ◌≤◌, ◌^◌, OnOk, arith, Bool, true, false, List, [], ◌∷◌, ◌++◌, length, refl, ap, sym, ◌∙◌, Option, Some, None, Result, Ok, Err}
+use Rattle.std.proofs.Common.{◌≡◌, ℕ, ◌+◌, ◌≤◌, ◌^◌, OnOk, arith, Bool, true, false, List, [], ◌∷◌, ◌++◌, length, refl, ap, ◌∙◌, Some, None, Result, Ok, Err}
 use Rattle.std.specs.Prelude.{codes, nat_lt}
 use Rattle.adept_io.specs.Written.{Gives}
 use Rattle.file_model.specs.declared.states.Contents.{Contents}

@@ -1,16 +1,14 @@
 -- What is put of a unit that is tried is what it would be answered.
-use Rattle.std.proofs.Common.{◌≡◌, ◌≢◌, ℕ, ◌+◌, ◌*◌, ◌≤◌, ◌<◌, ◌^◌, Bool, true, false, List, [], ◌∷◌, ◌++◌, length, refl, ap, sym, subst, ◌∙◌, arith, append-nil, append_assoc, if◌then◌else◌, Option, Some, None, Result, Ok, Err}
-use Rattle.std.proofs.lemmas.List.{length-map}
-use Rattle.std.specs.Prelude.{◌-◌, codes, option_map, slice_get, IfOk}
+use Rattle.std.proofs.Common.{◌≡◌, ◌≢◌, ℕ, ◌+◌, ◌*◌, ◌≤◌, Bool, true, false, List, [], ◌∷◌, ◌++◌, length, refl, ap, sym, subst, ◌∙◌, arith, append-nil, append_assoc, if◌then◌else◌, Option, Some, None, Result, Ok, Err}
+use Rattle.std.specs.Prelude.{◌-◌, option_map, slice_get, IfOk}
 use Rattle.adept_io.proofs.Sent.{gives_then}
 use Rattle.adept_io.specs.Written.{Gives}
 use Rattle.report_words.proofs.Rows.{gives_as}
 use Rattle.file_model.specs.Reading.{file_of}
-use Rattle.file_model.specs.Room.{HasRoom, count_of_names}
+use Rattle.file_model.specs.Room.{count_of_names}
 use Rattle.file_model.specs.Sizes.{line_effort}
 use Rattle.file_model.specs.declared.files.Act.{Act}
 use Rattle.file_model.specs.declared.files.Act.TheVariants as act
-use Rattle.file_model.specs.declared.files.CaseDecl.{CaseDecl}
 use Rattle.file_model.specs.declared.files.File.{File}
 use Rattle.file_model.specs.declared.files.Line.{Line}
 use Rattle.file_model.specs.declared.files.TypeDecl.{TypeDecl}
@@ -25,7 +23,6 @@ use Rattle.file_units.specs.declared.held.UnitRefusal.{UnitRefusal}
 use Rattle.file_units.specs.declared.held.UnitRefusal.TheVariants as refusal
 use Rattle.file_words.specs.Lines.{Bytes}
 use Rattle.line_calls.specs.Calls.{cells_of}
-use Rattle.line_calls.specs.declared.calls.Cells.{Cells}
 use Rattle.line_calls.specs.declared.calls.Cells.TheVariants as cells
 use Rattle.script_run.specs.Calls.{acted, worked}
 use Rattle.script_run.specs.Oldest.{oldest}
@@ -36,11 +33,11 @@ use Rattle.talk_answers.specs.Entries.{entries, if_there, kind_entry}
 use Rattle.talk_answers.specs.Lines.{ok_line}
 use Rattle.talk_state.proofs.Behind.{at-end, called-behind, worked-behind}
 use Rattle.talk_state.proofs.Lengths.{cases-worked, kinds-worked}
-use Rattle.talk_state.proofs.Taken.{can-try}
-use Rattle.talk_state.specs.Answers.{answer_moved, answer_read, called_text, entries_of, entries_read, has_installed, kind_installed, moved_text}
-use Rattle.talk_state.specs.Held.{Held, called_by, held_behind, held_in, placed_in, placing_of, run_behind}
+use Rattle.talk_state.proofs.Taken.{can-say, can-try}
+use Rattle.talk_state.specs.Answers.{answer_moved, answer_read, called_text, entries_of, entries_read, kind_installed, moved_text}
+use Rattle.talk_state.specs.Held.{Held, held_behind, held_in, placed_in, placing_of}
 use Rattle.talk_state.specs.Trying.{CanInstall, CanMove, behind_text, line_behind, made_text, moved_said, refusal_text, said_text}
-use Rattle.talk_state.specs.Working.{CanCall, CanDefine, CanTry, CanWork, kind_placed, last_of, said_called, said_worked, with_last}
+use Rattle.talk_state.specs.Working.{CanDefine, CanTry, kind_placed, last_of, said_called, said_worked, with_last}
 use Rattle.type_core.specs.declared.events.KindEvent.TheVariants as kind_event
 use Rattle.unit_run.proofs.PutBack.{kind-back}
 use Rattle.unit_run.specs.Runs.{Placing, types_of}
@@ -141,12 +138,6 @@ module _ (c after : Contents) (read : Result Contents Refused) (said : Said) (p 
       ∙ (ap (λ es. called_text g ++ (es ++ ok_line n)) more ∙ sym (ap (answer_moved n h m) says.is_read)))
 
 -- ---- what a unit needs that is tried is there
-pub can-say : (n : ℕ) (c after : Contents) (read : Result Contents Refused) (said : Said) (p : Placing) → CanTry n c p → Says c read after said → IsReady after → said_effort said ≤ 2 * n → CanWork (file_of after) said p
-can-say n c after read said p h says ready effort =
-    let d = says.behind in
-    let so : IsReady (settled d) = subst IsReady says.settles ready in
-    subst (λ (x : Contents). CanWork (file_of x) said p) (sym says.settles) (can-try n c d said p h says.says so effort)
-
 can-install : (n m : ℕ) (c d : Contents) (l : Line) (p : Placing) → CanTry (n + m) c p → SaysBehind c d (say.Line l) → IsReady (settled d) → line_effort l ≤ 2 * n → count_of_names (settled d) ≤ count_of_names c + n
     → CanInstall m (settled d) l p
 can-install n m c d l p h says ready effort names =

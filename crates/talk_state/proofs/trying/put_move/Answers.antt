@@ -1,4 +1,4 @@
-use Rattle.std.proofs.Common.{◌≡◌, length}
+use Rattle.std.proofs.Common.{length}
 use Rattle.adept_io.proofs.Sent.{gives_then}
 use Rattle.file_units.specs.Units.{unit_read}
 use Rattle.report_words.proofs.Rows.{gives_as}

@@ -1,11 +1,11 @@
-use Rattle.std.proofs.Common.{◌≡◌, ap, length, subst, sym}
+use Rattle.std.proofs.Common.{ap, length, subst, sym}
 use Rattle.adept_io.proofs.Sent.{gives_then}
 use Rattle.file_model.specs.declared.files.File.{File}
 use Rattle.file_units.specs.Units.{unit_read}
 use Rattle.report_words.proofs.Rows.{gives_as}
-use Rattle.talk_state.proofs.WhatIf.{can-say, unit-told}
+use Rattle.talk_state.proofs.Taken.{can-say}
+use Rattle.talk_state.proofs.WhatIf.{unit-told}
 use Rattle.talk_state.specs.Answers.{entries_of}
-use Rattle.talk_state.specs.Trying.{said_text}
 use Rattle.talk_state.specs.Working.{CanWork, said_called, said_worked}
 use Rattle.talk_state.proofs.trying.put_unit.Goals as goal
 

@@ -1,9 +1,24 @@
-use Rattle.std.proofs.Common.{◌≡◌, true, ◌∷◌, [], ◌++◌, sym, subst, ◌∙◌, rules}
-use Rattle.talk_state.proofs.Taken.{taken-holds, taken-sound}
+use Rattle.std.proofs.Common.{◌≡◌, ◌+◌, ◌<◌, ◌^◌, true, ◌∷◌, [], ◌++◌, length, sym, subst, ◌∙◌, arith, rules}
+use Rattle.std.proofs.lemmas.Bool.{ltb-true}
+use Rattle.file_model.specs.declared.files.File.{File}
+use Rattle.file_units.specs.Units.{unit_read}
+use Rattle.talk_state.proofs.Taken.{can-say, sound-try, taken-holds, taken-sound}
 use Rattle.talk_state.proofs.TakenBy.{not_false, taken-by}
 use Rattle.talk_state.specs.States.{Holds, State}
+use Rattle.talk_state.specs.Working.{CanWork}
 use Rattle.talk_state.proofs.states.TalkState.take.Goals as goal
 use Rattle.talk_state.proofs.states.TalkState.take.Goals.{in-Line+in-End-3, in-Line+in-Change-3, in-Line+in-Install-3, in-Line+in-Create-3, in-Type-3}
+
+pub work-requires : goal.work-requires
+work-requires c =
+    let n = length c.args.unit.now in
+    let before = c.self.inside.file in
+    let long = c.self.inside.long in
+    let taken = c.in-Ok.ensures.taken in
+    let room : long + (5 + n) < 2 ^ 30 = ltb-true (long + (5 + n)) (2 ^ 30) (sym c.has_room-has_room.ensures ∙ taken.0) in
+    let whole : c.self.inside.is_whole ≡ true = first_of (cc c.if-not-self.false, search rules, search (rules, not_false)) in
+    subst (λ (f : File). CanWork f c.in-Ok.said c.self.inside.run) (sym c.file.ensures.file)
+    (can-say n before c.take_unit.new.self (unit_read before c.args.unit.now) c.in-Ok.said c.self.inside.run (sound-try _ n (c.self.invariant whole) (omega (arith, room))) taken.1 c.file.ensures.ready c.in-Ok.ensures.effort)
 
 pub invariant_of-self-in_ok-extend_from_slice-in-Ok-4 : goal.invariant_of-self-in_ok-extend_from_slice-in-Ok-4
 invariant_of-self-in_ok-extend_from_slice-in-Ok-4 c =
