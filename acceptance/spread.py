@@ -116,6 +116,7 @@ def sent_twice():
     sent = [("a", 1), ("a", 1), ("b", 1), ("a", 2), ("a", 1), ("b", 7), ("b", 6), ("b", 8), (None, 9), ("c", None), ("c", 1)]
     wants([counted.counts(*each) for each in sent], [True, False, True, True, False, True, False, True, False, False, True])
     wants([counted.has("b", 8), counted.has("b", 9), counted.has("d", 0), counted.has(None, 0), counted.has("d", 1)], [True, False, True, True, False])
+    wants([counted.has("b", "9"), counted.has([], 9), counted.has("b", None), counted.has(7, 9)], [True] * 4)
 
 
 def places():

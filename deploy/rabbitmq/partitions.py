@@ -136,8 +136,8 @@ class Counted:
         return True
 
     def has(self, client, number):
-        """Whether the client's message of that number has been met."""
-        return self.numbers.get(client, 0) >= number
+        """Whether the client's message of that number has been met; who tells none is behind nothing."""
+        return not (isinstance(client, str) and isinstance(number, int)) or self.numbers.get(client, 0) >= number
 
 
 def units_in(body):
