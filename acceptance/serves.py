@@ -642,7 +642,23 @@ def interrupted_calls(serve):
         wants(read(serve.path()), framed([HEADER, *accepted(SMALL, SMALL_ANSWERS)]))
 
 
-TRACED = [failing_calls, stopped_at_calls, interrupted_calls]
+def lines_that_cannot_be_read(serve):
+    """Where a read of a store fails tools/lines says so, 1, and prints a beginning by whole units."""
+    units = [b"# %s\nactor a%d\n" % (b"x" * 1000, number) for number in range(60)]
+    serve.run(b"".join(units))
+    beginnings = [b"", *(HEADER + b"".join(units[:count]) for count in range(len(units) + 1))]
+    statuses = collections.Counter()
+    for number in range(1, 24):
+        before = ["strace", "-qq", "-o", "/dev/null", "-P", serve.path(), "-e", "trace=read,pread64", "-e", "inject=read:error=EIO:when=%d" % number]
+        done = subprocess.run([*before, os.path.join(TOP, "tools", "lines"), serve.path()], capture_output=True, check=False)
+        statuses[done.returncode] += 1
+        wants((number, done.stdout in beginnings), (number, True))
+        said = b"lines: cannot read %s: Input/output error\n" % os.fsencode(serve.path())
+        wants((number, done.stderr, done.stdout == beginnings[-1]), (number, said if done.returncode else b"", not done.returncode))
+    wants((statuses[1] > 3, statuses[0] > 0), (True, True))
+
+
+TRACED = [failing_calls, stopped_at_calls, interrupted_calls, lines_that_cannot_be_read]
 CHECKS = [closed_streams, words, no_store, held_store, foreign_files, begun_stores, damaged_stores, changed_stores, behind_the_list, long_stores,
           opened_on_a_copy, unread_answers, reader_that_goes_away, unreadable_input, impatient_streams, failing_store, little_memory,
           opened_with_little_memory, long_items, new_files, odd_folder, many_questions, kept_for_lines, lines_without_streams]

@@ -29,16 +29,20 @@ def at_a_terminal(command, folder, environment):
 
 
 def typed(command, lines, folder, environment):
-    """Runs a command at a terminal where lines are typed, each behind a prompt, and then Ctrl-D: its status, and what stands there."""
+    """Runs a command at a terminal where lines are typed, each behind a prompt, and then Ctrl-D, until it ends: its status, and what stands there."""
     ours, theirs = pty.openpty()
     started = subprocess.Popen(command, cwd=folder, env=environment, stdin=theirs, stdout=theirs, stderr=theirs, start_new_session=True)
     os.close(theirs)
     shown = b""
     for line in [*(line.encode() + b"\n" for line in lines), b"\x04"]:
-        while not shown.endswith((b"> ", b"\n  ")):
+        try:
+            while not shown.endswith((b"> ", b"\n  ")):
+                shown += os.read(ours, 4096)
+            os.write(ours, line)
             shown += os.read(ours, 4096)
-        os.write(ours, line)
-        shown += os.read(ours, 4096)
+        except OSError:
+            # the command has ended
+            break
     shown += read_all(ours)
     os.close(ours)
     return started.wait(), re.sub(r"\x1b\[\?2004[hl]", "", shown.decode().replace("\r\n", "\n"))
