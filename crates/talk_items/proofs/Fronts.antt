@@ -1,12 +1,14 @@
 -- The first words of a line tell all, and the first bytes of a word.
-use Rattle.std.proofs.Common.{◌≡◌, ◌==◌, ℕ, ◌<◌, ◌≤◌, Bool, true, false, if◌then◌else◌, List, [], ◌∷◌, ◌++◌, length, take, refl, sym, ap, ◌∙◌, arith, length-append}
+use Rattle.std.proofs.Common.{◌≡◌, ◌==◌, ℕ, suc, ◌<◌, ◌≤◌, Bool, true, false, if◌then◌else◌, List, [], ◌∷◌, ◌++◌, length, take, refl, subst, sym, ap, ◌∙◌, arith, length-append}
 use Rattle.arrayvec.specs.ArrayVec.{ArrayVec}
 use Rattle.std.specs.Prelude.{◌↔◌, map, Result, Ok, Err, IsOk, OnErr, OnOk, Option, Some, None}
 use Rattle.std.specs.List.{filter}
+use Rattle.std.proofs.lemmas.Bool.{eqb-true}
 use Rattle.std.proofs.lemmas.List.{append-nil, length-take, take-append-le, take_all, map-append}
 use Rattle.file_words.specs.Lines.{Bytes}
 use Rattle.file_words.specs.Words.{behind, cuts, is_word}
 use Rattle.talk_items.specs.Cuts.{Cut, cut_more, with_last}
+use Rattle.talk_items.specs.Fronts.{TellAll, tell_enough}
 use Rattle.talk_items.specs.Items.{begins_with_change, ends_line, is_end, is_skipped, kind_of, opens, place_behind, question_opens, unit_opens, what_if_opens}
 use Rattle.talk_items.specs.Keywords.{keyword}
 use Rattle.talk_items.specs.Scans.{counted_with, first_with}
@@ -15,6 +17,7 @@ use Rattle.talk_items.specs.declared.items.Place.{Place}
 use Rattle.talk_items.specs.declared.items.Place.TheVariants as places
 use Rattle.talk_items.specs.declared.keywords.Keyword.{Keyword}
 use Rattle.talk_items.specs.declared.keywords.Keyword.TheVariants as keywords
+use Rattle.talk_items.proofs.PlainWords.{not-full}
 
 begins-any : (w : Keyword) (xs ys : List Keyword) → begins_with_change (w ∷ xs) ≡ begins_with_change (w ∷ ys)
 begins-any keywords.Change xs ys = refl
@@ -78,20 +81,52 @@ kind-front (w ∷ []) = refl
 kind-front (w ∷ v ∷ []) = refl
 kind-front (w ∷ v ∷ u ∷ ws) = kind-any w v u (take 1 ws) ws
 
-pub ends-front : (place : Place) (ws : List Keyword) → ends_line place (take 4 ws) ≡ ends_line place ws
-ends-front places.Front ws = rw (skipped-front ws, opens-front ws) refl
-ends-front places.Group ws = end-front ws
+pub four-tell : (ws : List Keyword) → TellAll (take 4 ws) ws
+four-tell ws = record { skipped = skipped-front ws; open_it = opens-front ws; end_it = end-front ws; kind = kind-front ws }
 
-pub place-front : (place : Place) (ws : List Keyword) → place_behind place (take 4 ws) ≡ place_behind place ws
-place-front places.Front ws = rw (opens-front ws) refl
-place-front places.Group ws = rw (end-front ws) refl
+pub four_told : (some ws : List Keyword) → some ≡ take 4 ws → TellAll some ws
+four_told some ws is = subst (λ l. TellAll l ws) (sym is) (four-tell ws)
 
-pub first-front : (first : Option ItemKind) (ws : List Keyword) → first_with first (take 4 ws) ≡ first_with first ws
-first-front None ws = rw (skipped-front ws, kind-front ws) refl
-first-front (Some kind) ws = refl
+-- the first four words tell all, whatever stands behind them
+long-tell : (front behind : List Keyword) → length front ≡ 4 → TellAll front (front ++ behind)
+long-tell front behind long =
+    subst (λ l. TellAll l (front ++ behind)) (take-append-le 4 front behind (omega (arith, long)) ∙ take_all 4 front (omega (arith, long))) (four-tell (front ++ behind))
 
-pub counted-front : (count len : ℕ) (ws : List Keyword) → counted_with count len (take 4 ws) ≡ counted_with count len ws
-counted-front count len ws = rw (skipped-front ws) refl
+pub enough-tell : (front behind : List Keyword) → tell_enough front ≡ true → TellAll front (front ++ behind)
+enough-tell [] behind is = absurd cc
+enough-tell (keywords.Question ∷ ws) behind is = long-tell (keywords.Question ∷ ws) behind (ap suc (eqb-true (length ws) 3 is))
+enough-tell (keywords.Adept ∷ ws) behind is = long-tell (keywords.Adept ∷ ws) behind (ap suc (eqb-true (length ws) 3 is))
+enough-tell (w ∷ []) behind is = absurd cc
+enough-tell (keywords.Comment ∷ v ∷ ws) behind is = record { skipped = refl; open_it = refl; end_it = refl; kind = refl }
+enough-tell (w ∷ v ∷ ws) behind is = record { skipped = refl; open_it = unit-any w v ws (ws ++ behind); end_it = end-any w v ws (ws ++ behind); kind = refl }
+
+pub all-tell : (ws : List Keyword) → TellAll ws ws
+all-tell ws = record { skipped = refl; open_it = refl; end_it = refl; kind = refl }
+
+-- where they do not there are less than four
+pub not-enough : (ws : List Keyword) → tell_enough ws ≡ false → length ws ≤ 4 → length ws < 4
+not-enough [] is few = omega arith
+not-enough (keywords.Question ∷ ws) is few = omega (arith, not-full (length ws) 3 false (sym is) refl (omega (arith, few)))
+not-enough (keywords.Adept ∷ ws) is few = omega (arith, not-full (length ws) 3 false (sym is) refl (omega (arith, few)))
+not-enough (w ∷ []) is few = omega arith
+not-enough (w ∷ v ∷ ws) is few = absurd cc
+
+-- and what they tell
+module _ {some all : List Keyword} (tell : TellAll some all) where
+  pub ends-told : (place : Place) → ends_line place some ≡ ends_line place all
+  ends-told places.Front = rw (tell.skipped, tell.open_it) refl
+  ends-told places.Group = tell.end_it
+
+  pub place-told : (place : Place) → place_behind place some ≡ place_behind place all
+  place-told places.Front = rw tell.open_it refl
+  place-told places.Group = rw tell.end_it refl
+
+  pub first-told : (first : Option ItemKind) → first_with first some ≡ first_with first all
+  first-told None = rw (tell.skipped, tell.kind) refl
+  first-told (Some kind) = refl
+
+  pub counted-told : (count len : ℕ) → counted_with count len some ≡ counted_with count len all
+  counted-told count len = rw tell.skipped refl
 
 -- a word is told by its first bytes
 pub keyword-front : (w : Bytes) → keyword (take 8 w) ≡ keyword w

@@ -2,7 +2,7 @@
 use Rattle.std.proofs.Common.{◌≡◌, ◌==◌, inl, inr, ℕ, ◌<◌, ◌≤◌, Bool, true, false, IsTrue, List, [], ◌∷◌, ◌++◌, length, take, drop, drop-cons, get_or, sym, ap, ◌∙◌, append_assoc, arith}
 use Rattle.std.specs.Prelude.{map}
 use Rattle.std.proofs.lemmas.Bool.{cases_lt, eq-eqb}
-use Rattle.std.proofs.lemmas.List.{append-nil, take-append-le, take_all}
+use Rattle.std.proofs.lemmas.List.{append-nil}
 use Rattle.file_words.specs.Lines.{Bytes}
 use Rattle.file_words.specs.Words.{bare_end, begins_word, words_of}
 use Rattle.file_words.proofs.WordSplits.{bare_whole, first_word_split}
@@ -17,18 +17,15 @@ bare-word line begins some no_quote =
     first_word_split line begins some ∙ ap (λ n. take n line ∷ words_of (drop n line)) (bare_whole line no_quote)
 
 -- one word more
-pub word-more : (front : List Keyword) (line word more rest whole : Bytes) → take 4 (front ++ map keyword (words_of line)) ≡ take 4 (map keyword (words_of whole)) → words_of line ≡ word ∷ words_of more → words_of rest ≡ words_of more
-    → take 4 ((front ++ keyword word ∷ []) ++ map keyword (words_of rest)) ≡ take 4 (map keyword (words_of whole))
+pub word-more : (front : List Keyword) (line word more rest whole : Bytes) → front ++ map keyword (words_of line) ≡ map keyword (words_of whole) → words_of line ≡ word ∷ words_of more → words_of rest ≡ words_of more
+    → (front ++ keyword word ∷ []) ++ map keyword (words_of rest) ≡ map keyword (words_of whole)
 word-more front line word more rest whole so_far first same =
-    ap (take 4) (append_assoc front (keyword word ∷ []) (map keyword (words_of rest)) ∙ ap (λ ws. front ++ keyword word ∷ map keyword ws) same ∙ ap (λ ws. front ++ map keyword ws) (sym first)) ∙ so_far
+    append_assoc front (keyword word ∷ []) (map keyword (words_of rest)) ∙ ap (λ ws. front ++ keyword word ∷ map keyword ws) same ∙ ap (λ ws. front ++ map keyword ws) (sym first) ∙ so_far
 
 -- all of them
-pub words-full : (front behind : List Keyword) (whole : Bytes) → take 4 (front ++ behind) ≡ take 4 (map keyword (words_of whole)) → length front ≡ 4 → front ≡ take 4 (map keyword (words_of whole))
-words-full front behind whole so_far full = sym (take_all 4 front (omega (arith, full))) ∙ sym (take-append-le 4 front behind (omega (arith, full))) ∙ so_far
-
-pub words-ended : (front : List Keyword) (line whole : Bytes) → take 4 (front ++ map keyword (words_of line)) ≡ take 4 (map keyword (words_of whole)) → length line ≡ 0 → length front ≤ 4 → front ≡ take 4 (map keyword (words_of whole))
-words-ended front [] whole so_far none few = sym (take_all 4 front few) ∙ ap (take 4) (sym (append-nil front)) ∙ so_far
-words-ended front (b ∷ line) whole so_far none few = absurd (omega (arith, none))
+pub words-ended : (front : List Keyword) (line whole : Bytes) → front ++ map keyword (words_of line) ≡ map keyword (words_of whole) → length line ≡ 0 → front ≡ map keyword (words_of whole)
+words-ended front [] whole so_far none = sym (append-nil front) ∙ so_far
+words-ended front (b ∷ line) whole so_far none = absurd (omega (arith, none))
 
 -- no quotation mark stands behind the bare bytes
 pub no-quote : (line more : Bytes) → more ≡ drop (bare_end line) line → begins_quoted more ≡ false → bare_end line < length line → get_or line (bare_end line) 0 ≡ 34 → ⊥

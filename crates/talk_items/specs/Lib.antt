@@ -1,4 +1,5 @@
 pub mod Cuts
+pub mod Fronts
 pub mod Items
 pub mod Keywords
 pub mod Scans

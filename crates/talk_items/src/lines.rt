@@ -1,5 +1,6 @@
 // A line that is read byte by byte.
-ghost use Rattle.std.specs.Prelude.{◌≡◌, ◌==◌, ◌∷◌, ◌++◌, [], length, take};
+ghost use Rattle.std.specs.Prelude.{◌≡◌, ◌==◌, ◌∷◌, ◌++◌, [], length};
+ghost use Rattle.talk_items.specs.Fronts.{TellAll};
 ghost use Rattle.talk_items.specs.Items.{words};
 
 use crate::keywords::Keyword;
@@ -51,9 +52,9 @@ impl Line {
         }
     }
 
-    // The rest of the line, behind which another begins. Answers what the first words of the line are.
+    // The rest of the line, behind which another begins. Answers what as many of its words are as tell what the line is.
     pub(crate) fn end(&mut self, rest: &[u8]) -> ArrayVec<Keyword, WORDS>
-        ensures words { result.items ≡ take 4 (words (self.old ++ rest.now)) }
+        ensures words { TellAll result.items (words (self.old ++ rest.now)) }
         ensures next { self.new ≡ [] }
     {
         if self.is_empty() {
@@ -89,7 +90,7 @@ impl Line {
 
     // What the first words of the line are.
     fn into_first(self) -> ArrayVec<Keyword, WORDS>
-        ensures { result.items ≡ take 4 (words self) }
+        ensures { TellAll result.items (words self) }
     {
         let Line {
             words,

@@ -1,7 +1,9 @@
 // A whole line whose first words have no quoted texts.
-ghost use Rattle.std.specs.Prelude.{◌≡◌, ◌≤◌, length, IsTrue, IfSome};
+ghost use Rattle.std.specs.Prelude.{◌≡◌, ◌≤◌, length, map, IsTrue, IfSome};
 ghost use Rattle.file_words.specs.Words.{bare_end, begins_word, is_bare, words_of};
-ghost use Rattle.talk_items.specs.Cuts.{begins_quoted, first_words};
+ghost use Rattle.talk_items.specs.Cuts.{begins_quoted};
+ghost use Rattle.talk_items.specs.Fronts.{TellAll, tell_enough};
+ghost use Rattle.talk_items.specs.Keywords.{keyword};
 
 use crate::keywords::{Keyword, keyword_of};
 use crate::limits::WORDS;
@@ -45,13 +47,25 @@ fn begins_quoted(line: &[u8]) -> bool
     matches!(line, [b'"', ..])
 }
 
-// What the first words of a line are, unless one of them has a quoted text.
+// Whether so many words of a line tell what it is: two do, but not behind `?` or `adept`.
+fn tell_enough(words: &[Keyword]) -> bool
+    ensures { result ≡ tell_enough words.now }
+{
+    match words {
+        [Keyword::Question, rest @ ..] => rest.len() == WORDS - 1,
+        [Keyword::Adept, rest @ ..] => rest.len() == WORDS - 1,
+        [_, _, ..] => true,
+        _ => false,
+    }
+}
+
+// What as many words of a line are as tell what it is, unless one of them has a quoted text.
 pub(crate) fn plain_words(line: &[u8]) -> Option<ArrayVec<Keyword, WORDS>>
-    ensures { IfSome result (λ words. words.items ≡ first_words (words_of line.now)) }
+    ensures { IfSome result (λ words. TellAll words.items (map keyword (words_of line.now))) }
 {
     let mut words = ArrayVec::new();
     let mut rest = without_blanks(line);
-    while !rest.is_empty() && !words.is_full() {
+    while !rest.is_empty() && !tell_enough(words.as_slice()) {
         let (word, more) = rest.split_at(bare_end(rest));
         if begins_quoted(more) {
             return None;

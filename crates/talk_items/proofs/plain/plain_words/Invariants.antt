@@ -1,12 +1,12 @@
 use Rattle.std.proofs.Common.{◌≡◌, ◌≤◌, ◌++◌, IsTrue, length}
-use Rattle.std.specs.Prelude.{map, take}
+use Rattle.std.specs.Prelude.{map}
 use Rattle.file_words.specs.Words.{begins_word, words_of}
 use Rattle.talk_items.specs.Keywords.{keyword}
 use Rattle.talk_items.proofs.plain.plain_words.Given as goal
 
 abbrev pub invariant-loop-words : goal.invariant-loop-words
 invariant-loop-words l = record {
-  first : take 4 (l.words.items ++ map keyword (words_of l.rest)) ≡ take 4 (map keyword (words_of l.line));
+  first : l.words.items ++ map keyword (words_of l.rest) ≡ map keyword (words_of l.line);
   begins : IsTrue (begins_word l.rest);
   few : length l.words.items ≤ 4;
 }

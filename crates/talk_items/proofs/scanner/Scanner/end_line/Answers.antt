@@ -4,8 +4,9 @@ use Rattle.file_words.specs.Lines.{Bytes, lines_of}
 use Rattle.talk_items.specs.Items.{ends, ends_line, place_behind, place_of, words}
 use Rattle.talk_items.specs.declared.items.Place.TheVariants as places
 use Rattle.talk_items.specs.declared.limits.TheConstants.{MAX_ITEM}
+use Rattle.talk_items.specs.Fronts.{TellAll}
 use Rattle.talk_items.specs.Scans.{IsScan, counted_with, first_with}
-use Rattle.talk_items.proofs.Fronts.{counted-front, ends-front, first-front, place-front}
+use Rattle.talk_items.proofs.Fronts.{counted-told, ends-told, first-told, place-told}
 use Rattle.talk_items.proofs.Scanned.{ends-feed, feed-scanned, few-counted, part-scanned}
 use Rattle.talk_items.proofs.scanner.Scanner.end_line.Goals as goal
 
@@ -22,11 +23,11 @@ invariant_of-self c =
     let part : IsScan (bytes ++ rest) i.place i.first i.counted (min (i.len + length rest) (MAX_ITEM + 1)) (i.line ++ rest) =
     part-scanned bytes i.place i.first i.counted i.len i.line rest (min (i.len + length rest) (MAX_ITEM + 1)) (i.line ++ rest) c.self.invariant c.requires refl refl in
     let scan = feed-scanned (bytes ++ rest) i.place i.first i.counted (min (i.len + length rest) (MAX_ITEM + 1)) (i.line ++ rest) next part (omega (arith, c.longer-self-inside.ensures)) in
-    let front = c.as_slice-words.ensures.value ∙ c.end-first_words.ensures.words in
+    let tell = subst (λ l. TellAll l line) (sym c.as_slice-words.ensures.value) c.end-first_words.ensures.words in
     let noted : (bytes ++ rest) ++ 10 ∷ [] ≡ map (λ p. p.0) c.note-2.new.log.items = ap (λ (l : Bytes). l ++ 10 ∷ []) (sym c.note.ensures) ∙ sym c.note-2.ensures in
-    let place = sym (place-front i.place line) ∙ ap (place_behind i.place) (sym front) ∙ sym c.place_behind-self-inside.ensures in
-    let first = sym (first-front i.first line) ∙ ap (first_with i.first) (sym front) ∙ sym c.first_with-self-inside.ensures in
-    let count = sym (counted-front i.counted next line) ∙ ap (counted_with i.counted next) (sym front) ∙ sym c.counted_with-self-inside.ensures in
+    let place = sym (place-told tell i.place) ∙ sym c.place_behind-self-inside.ensures in
+    let first = sym (first-told tell i.first) ∙ sym c.first_with-self-inside.ensures in
+    let count = sym (counted-told tell i.counted next) ∙ sym c.counted_with-self-inside.ensures in
     subst (λ l. IsScan l c.place_behind-self-inside.result c.first_with-self-inside.result c.counted_with-self-inside.result next c.end-first_words.new.self) noted
     (subst (λ p. IsScan ((bytes ++ rest) ++ 10 ∷ []) p c.first_with-self-inside.result c.counted_with-self-inside.result next c.end-first_words.new.self) place
     (subst (λ f. IsScan ((bytes ++ rest) ++ 10 ∷ []) (place_behind i.place line) f c.counted_with-self-inside.result next c.end-first_words.new.self) first
@@ -41,6 +42,6 @@ returns-clause-ends c =
     let part : IsScan (bytes ++ rest) i.place i.first i.counted (min (i.len + length rest) (MAX_ITEM + 1)) (i.line ++ rest) =
     part-scanned bytes i.place i.first i.counted i.len i.line rest (min (i.len + length rest) (MAX_ITEM + 1)) (i.line ++ rest) c.self.invariant c.requires refl refl in
     let line = words (i.line ++ rest) in
-    c.ends_line-is_end.ensures ∙ ap (ends_line i.place) (c.as_slice-words.ensures.value ∙ c.end-first_words.ensures.words) ∙ ends-front i.place line
+    c.ends_line-is_end.ensures ∙ ends-told (subst (λ l. TellAll l line) (sym c.as_slice-words.ensures.value) c.end-first_words.ensures.words) i.place
     ∙ ap (λ p. ends_line p line) part.stands ∙ ap (λ l. ends_line (place_of places.Front (lines_of (bytes ++ rest)).ended) (words l)) part.left
     ∙ sym (ends-feed (bytes ++ rest)) ∙ ap (λ l. ends (l ++ rest) 10) c.self.view_is
