@@ -17,7 +17,8 @@ returns-then-not-branch-clause-bad c =
     let first : c.loop-row.reader ≡ fields_of c.next.new.row ∷ c.next.new.self = c.in_ok-next.ensures.found c.if-branch.true in
     let is : record_of c.args.nodes.now c.args.elements.now (fields_of c.next.new.row) ≡ Some c.in-Some.record = sym c.in_ok-record.ensures ∙ c.in-Some.is in
     let full : c.in_ok-take.field-0 ≡ false = search rules in
-    crowded c.args.version.now c.args.nodes.now c.args.elements.now _ c.loop-row.index c.loop-row.table.names c.loop-row.table.rows.items c.loop-row.reader c.loop-row.invariant.reached (fields_of c.next.new.row) c.next.new.self first c.in-Some.record is c.in_ok-take.field-0 c.in_ok-take.ensures.room full
+    rw c.wrong-then-not-branch.ensures (
+    crowded c.args.version.now c.args.nodes.now c.args.elements.now _ c.loop-row.index c.loop-row.table.names c.loop-row.table.rows.items c.loop-row.reader c.loop-row.invariant.reached (fields_of c.next.new.row) c.next.new.self first c.in-Some.record is c.in_ok-take.field-0 c.in_ok-take.ensures.room full)
 
 pub loop-row-preserved : goal.loop-row-preserved
 loop-row-preserved c =
