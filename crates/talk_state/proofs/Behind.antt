@@ -15,7 +15,6 @@ use Rattle.file_units.specs.Units.{said_line, settled}
 use Rattle.file_units.specs.declared.held.Said.{Said}
 use Rattle.file_units.specs.declared.held.Said.TheVariants as say
 use Rattle.line_calls.specs.declared.calls.Cells.TheVariants as cells
-use Rattle.script_run.specs.Calls.{worked}
 use Rattle.script_run.specs.Serial.{defined}
 use Rattle.script_run.specs.declared.runs.Run.{Run}
 use Rattle.talk_state.proofs.Lengths.{kinds-worked}

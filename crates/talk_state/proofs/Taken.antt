@@ -8,7 +8,6 @@ use Rattle.std.specs.Prelude.{flat_map}
 use Rattle.file_model.specs.Reading.{file_of}
 use Rattle.file_model.specs.Room.{count_of_names}
 use Rattle.file_model.specs.declared.files.CaseDecl.{CaseDecl}
-use Rattle.file_model.specs.declared.files.Line.{Line}
 use Rattle.file_model.specs.declared.refusals.Refused.{Refused}
 use Rattle.file_model.specs.declared.states.Contents.{Contents}
 use Rattle.file_units.specs.Facts.{IsReady}

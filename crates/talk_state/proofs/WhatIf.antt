@@ -1,9 +1,6 @@
 -- What is put of a unit that is tried is what it would be answered.
-use Rattle.std.proofs.Common.{◌≡◌, ◌≢◌, ℕ, ◌+◌, ◌*◌, ◌≤◌, Bool, true, false, List, [], ◌∷◌, ◌++◌, length, refl, ap, sym, subst, ◌∙◌, arith, append-nil, append_assoc, if◌then◌else◌, Option, Some, None, Result, Ok, Err}
-use Rattle.std.specs.Prelude.{◌-◌, option_map, slice_get, IfOk}
-use Rattle.adept_io.proofs.Sent.{gives_then}
-use Rattle.adept_io.specs.Written.{Gives}
-use Rattle.report_words.proofs.Rows.{gives_as}
+use Rattle.std.proofs.Common.{◌≡◌, ◌≢◌, ℕ, ◌+◌, ◌*◌, ◌≤◌, Bool, true, false, List, [], ◌∷◌, ◌++◌, length, refl, ap, sym, subst, ◌∙◌, arith, append-nil, append_assoc, if◌then◌else◌, Some, None, Result, Ok, Err}
+use Rattle.std.specs.Prelude.{◌-◌, option_map, slice_get}
 use Rattle.file_model.specs.Reading.{file_of}
 use Rattle.file_model.specs.Room.{count_of_names}
 use Rattle.file_model.specs.Sizes.{line_effort}
@@ -214,8 +211,3 @@ made-alone c t m q is = sym (append-nil (entries (file_of c) q (cells.Kind t))) 
 
 pub made-with : (c : Contents) (t : ℕ) (m : Bytes) (q : Placing) → was_installed t q.run ≡ true → entries (file_of c) q (cells.Kind t) ++ entries_read (held_in c q.run) (unit_read c m) ≡ made_text c t m q
 made-with c t m q is = made-by c t m q true is
-
-pub made-put : {S E : Type 0} (written : S → Option (List ℕ)) (faults : S → ℕ) (r : Result Bool E) (ok : Bool) (a b d : S) (t u v : List ℕ) → Gives written faults true ok a b t → IfOk r (λ well. Gives written faults ok well b d u) → t ++ u ≡ v
-    → IfOk r (λ well. Gives written faults true well a d v)
-made-put written faults (Ok well) ok a b d t u v first second same = gives_as written faults true well a d (t ++ u) v (gives_then written faults true ok well a b d t u first second) same
-made-put written faults (Err e) ok a b d t u v first second same = tt

@@ -2,9 +2,10 @@ use Rattle.std.proofs.Common.{◌≡◌, true, ◌++◌, ap, sym, ◌∙◌, rul
 use Rattle.file_model.specs.declared.files.File.{File}
 use Rattle.file_units.specs.Units.{unit_read}
 use Rattle.line_calls.specs.declared.calls.Cells.TheVariants as cells
+use Rattle.talk_answers.proofs.GivenIf.{if_given-then}
 use Rattle.talk_answers.specs.Entries.{entries}
 use Rattle.talk_state.proofs.TakenBy.{not_false}
-use Rattle.talk_state.proofs.WhatIf.{made-put, made-with}
+use Rattle.talk_state.proofs.WhatIf.{made-with}
 use Rattle.talk_state.specs.Answers.{entries_read}
 use Rattle.talk_state.specs.Held.{held_in}
 use Rattle.unit_run.specs.Tries.{was_installed}
@@ -19,4 +20,4 @@ returns-clause-entries g c =
     let has : c.was_installed.result ≡ true = first_of (cc c.if-not-was_installed.false, search rules, search (rules, not_false)) in
     let installed : was_installed t q.run ≡ true = sym c.was_installed.ensures ∙ has in
     let same = ap (λ (f : File). entries f q (cells.Kind t) ++ entries_read (held_in before q.run) (unit_read before m)) c.file.ensures.file ∙ made-with before t m q installed in
-    made-put _ _ _ _ _ _ _ _ _ _ c.put_entries-ok.ensures c.put_read.ensures.entries same
+    if_given-then g.K.Sink.written g.K.Sink.faults true c.put_entries-ok.result c.args.sink.now c.put_entries-ok.new.sink _ _ _ _ c.put_read.result same c.put_entries-ok.ensures c.put_read.ensures.entries

@@ -1,4 +1,4 @@
-use Rattle.std.proofs.Common.{length}
+use Rattle.std.proofs.Common.{true, length}
 use Rattle.adept_io.proofs.Sent.{gives_then}
 use Rattle.file_units.specs.Units.{unit_read}
 use Rattle.report_words.proofs.Rows.{gives_as}
@@ -15,5 +15,10 @@ pub returns-in_ok-ok-in-Ok-clause-answer : goal.returns-in_ok-ok-in-Ok-clause-an
 returns-in_ok-ok-in-Ok-clause-answer g c =
     let taken = c.in-Ok.ensures.taken in
     let before = c.args.file.now in
-    gives_as _ _ _ _ _ _ _ _ (gives_then _ _ _ _ _ _ _ _ _ _ c.in_ok-ok-in-Ok.ensures.entries c.put_ok.ensures)
+    let written = g.K.Sink.written in
+    let faults = g.K.Sink.faults in
+    let ok = c.in_ok-ok-in-Ok.ok in
+    let old = c.args.sink.now in
+    let moved_to = c.put_moved.new.sink in
+    gives_as written faults true c.put_ok.result old c.put_ok.new.sink _ _ (gives_then written faults true ok c.put_ok.result old moved_to c.put_ok.new.sink _ _ c.in_ok-ok-in-Ok.ensures.entries c.put_ok.ensures)
     (move-told before c.take_unit.new.self (unit_read before c.args.install.now) c.in-Ok.said c.args.run.now c.requires.placing taken.1 c.args.count c.args.migrate.now)

@@ -1,4 +1,4 @@
-use Rattle.std.proofs.Common.{ap, length, subst, sym}
+use Rattle.std.proofs.Common.{true, ap, length, subst, sym}
 use Rattle.adept_io.proofs.Sent.{gives_then}
 use Rattle.file_model.specs.declared.files.File.{File}
 use Rattle.file_units.specs.Units.{unit_read}
@@ -22,6 +22,12 @@ returns-in_ok-ok-in-Ok-clause-answer g c =
     let before = c.args.file.now in
     let said = c.in-Ok.said in
     let p = c.args.run.now in
+    let written = g.K.Sink.written in
+    let faults = g.K.Sink.faults in
+    let ok = c.in_ok-ok-in-Ok.ok in
+    let old = c.args.sink.now in
+    let said_to = c.put_said.new.sink in
     let same = ap (λ (f : File). entries_of f (said_worked f said p) (said_called f said)) c.file.ensures.file in
-    gives_as _ _ _ _ _ _ _ _ (gives_then _ _ _ _ _ _ _ _ _ _ (gives_as _ _ _ _ _ _ _ _ c.in_ok-ok-in-Ok.ensures.entries same) c.put_ok.ensures)
+    let entries = gives_as written faults true ok old said_to _ _ c.in_ok-ok-in-Ok.ensures.entries same in
+    gives_as written faults true c.put_ok.result old c.put_ok.new.sink _ _ (gives_then written faults true ok c.put_ok.result old said_to c.put_ok.new.sink _ _ entries c.put_ok.ensures)
     (unit-told before c.take_unit.new.self (unit_read before c.args.unit.now) said p c.requires.placing taken.1 c.args.has_room c.args.count taken.0)
