@@ -26,7 +26,7 @@ FORMS = {
                   "read NODE ELEMENT", "read NODE ELEMENT optional", "unread NODE ELEMENT", "write NODE ELEMENT",
                   "unwrite NODE ELEMENT", "role NODE ROLE", "end"],
 }
-NAME = "has letters, digits, `_`, `-` and `.`, of which the first is a letter or `_`"
+NAME = "has letters from `a` to `z`, small or capital, digits, `_`, `-` and `.`, of which the first is a letter or `_`"
 # What a word in capitals stands for, and what it looks like.
 KINDS = {
     "TYPE": ("the name of a type", NAME), "ACTOR": ("the name of an actor", NAME), "CASE": ("the name of a case", NAME),
@@ -78,8 +78,11 @@ def differ(word, token):
     if is_kind(token):
         if re.match(LOOKS.get(token, r"[A-Za-z_][\w.-]*$"), word, re.A):
             return 0.1 if word in KEYWORDS else 0
-        # A value that was written with blanks is several words.
-        return 0.6 if token == "PAIR" else 0.8
+        if token == "PAIR":
+            # A value that was written with blanks is several words.
+            return 0.3 if "=" in word else 0.6
+        # What has no digits is rather no role.
+        return 0.8 if token != "ROLE" or re.search(r"\d", word) else 1.25
     if word == token:
         return 0
     return 0.6 if word.lower() == token or difflib.SequenceMatcher(None, word, token).ratio() >= 0.6 else 1
@@ -137,7 +140,7 @@ def difference(words, place):
 def kind_of(token, word):
     """What a word in capitals stands for and what it looks like, as far as a word that is none of it was meant so."""
     name, equals, value = word.partition("=")
-    if token != "PAIR" or not equals or not re.match(r"[A-Za-z_][\w.-]*$", name, re.A) or not value:
+    if token != "PAIR" or not equals or not re.match(r"[A-Za-z_][\w.-]*$", name, re.A) or not re.match(r'"|[-+.,\d]+$', value):
         return KINDS[token]
     return TEXT if value.startswith('"') else INTEGER
 
@@ -151,6 +154,11 @@ def belongs(words, place, here):
     """Whether a line that stands at one place looks like one of another: by its form, or by its first word alone."""
     begins = not beginning(words[0], here) and beginning(words[0], place) and difference(words, here) >= 1
     return has_form(words, place) or bool(begins)
+
+
+def longer(form):
+    """The forms that go on behind the last word of one."""
+    return list(dict.fromkeys(other for forms in FORMS.values() for other in forms if other.startswith(form + " ")))
 
 
 def beginning(word, place):

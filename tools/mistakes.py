@@ -8,6 +8,7 @@ import re
 import time
 
 import faults
+import habits
 import line_forms
 from asking import Unanswered, text_of as decoded
 from line_forms import KINDS, is_kind, nearest
@@ -252,7 +253,7 @@ def out_of_place(draft, at, words, here):
         return says % (opened.number, kind, before), [opened], None
     if place == "script" and "declaration" in at_other:
         draft.move(at, draft.before_phases())
-        says = "`%s` declares something, and stands before the first `phase` (line %d)."
+        says = "`%s` declares something, and stands before the first `phase` (line %d); where the file begins with `adept 3`, anywhere."
         return says % (words[0], here.first_phase.number or at), [], None
     if place == "declaration" and "script" in at_other:
         draft.put(at, "phase")
@@ -323,6 +324,11 @@ def form(draft, at, why):
         draft.write(row, words[0], draft.name(), *words[2:])
         says = "In format 3 a line that begins with `%s` declares something or begins a phase, so no actor has that name."
         return Mistake(row, why, words[1:2], [says % words[1]])
+    slip = habits.slip(words, here.place(words), lambda made: draft.has_form(at, made))
+    if slip:
+        says, faulty, meant = slip
+        draft.write(row, *meant)
+        return Mistake(row, why, faulty, [says])
     misplaced = out_of_place(draft, at, words, here)
     if misplaced:
         says, beside, key = misplaced
@@ -372,22 +378,31 @@ def fitted(draft, at, words, steps, here):
 def misformed(draft, at, why, fit, text, candidates):
     """What to say of words that are not those of a form: each that is refused in its place, is missing or is too many."""
     wrong = [step for step in fit.steps if not fit.is_kept(step)]
-    says, last = [], ()
+    says, parts, last = [], [], ()
     for place, token in wrong:
         if place is None:
             before = [step[0] for step in fit.steps[:fit.steps.index((None, token))] if step[0] is not None]
             where = "Behind `%s`" % fit.words[before[-1]] if before else "At the front"
             says.append("%s %s is missing." % (where, described(token)))
-        elif token is None:
-            says.append("`%s` is one word too many." % fit.words[place])
-        else:
-            # Words that follow one another and are to be of one kind are told as one, as `fever = 38`.
-            first = last[0] if last and last[1:] == (place - 1, token) else place
-            says[len(says) - (first != place):] = [instead(" ".join(fit.words[first:place + 1]), place, token, candidates)]
-            last = (first, place, token)
+            continue
+        # Values that follow one another are told as one, as `fever = 38`, and so are words too many.
+        first = last[0] if token in (None, "PAIR") and last[1:] == (place - 1, token) else place
+        says[len(says) - (first != place):] = [refused(fit.words[first:place + 1], place, token, candidates)]
+        parts[len(parts) - (first != place):] = [(fit.words, first, place + 1, token)]
+        last = (first, place, token)
     mend(draft.rows[at], fit.made, any(token and is_kind(token) for _, token in wrong))
     faulty = [fit.words[place] for place, _ in wrong if place is not None]
-    return Mistake(draft.rows[at], why, faulty, [*says, "The form: `%s`." % text])
+    hints = [hint for part in parts for hint in habits.hints(*part, draft.format)]
+    longer = [other for other in line_forms.longer(text) if any(token is None for _, token in wrong)]
+    forms = ", or ".join("`%s`" % form for form in [text, *longer])
+    return Mistake(draft.rows[at], why, faulty, [*says, "The form: %s." % forms, *hints])
+
+
+def refused(words, place, token, candidates):
+    """What is wrong with words that stand where a form has a token, or none."""
+    if token is not None:
+        return instead(" ".join(words), place, token, candidates)
+    return "`%s` %s too many." % (" ".join(words), "is one word" if len(words) == 1 else "are %d words" % len(words))
 
 
 def mend(row, made, is_made_up):
