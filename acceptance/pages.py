@@ -30,6 +30,33 @@ ann end c a e="</script><script>alert(1)</script>"
 """
 
 
+# A case of which a node went, one was moved, and another reads, writes and waits for something else.
+OWN = """adept 1
+type t
+act a role 2
+act b
+act d
+act g
+element e int
+write a e
+read d e
+end
+actor ann roles 2
+case c t
+phase
+ann create c
+ann change c
+delete g
+move d after a
+role b 3
+write b e
+unwrite a e
+unread d e
+insert n after a
+end
+"""
+
+
 def page_of(command, *words, given=None):
     done = subprocess.run([PAGE, "--program", command[0], *words], input=given, stdout=subprocess.PIPE, stderr=subprocess.PIPE)
     return done.returncode, done.stdout.decode(), done.stderr.decode()
@@ -83,7 +110,17 @@ def single(command):
     wedding = os.path.join(TOP, "examples", "wedding-cake")
     status, page, _ = page_of(command, "--report", wedding + ".report", wedding + ".adept")
     own = data_of(page)["cases"][0]["schema"]["own"]
-    return None if status == 0 and {"sift-flour", "write-card", "candles"} <= set(own) and "dough" not in own else "own nodes: %r" % own
+    if status or not {"sift-flour", "write-card", "candles"} <= set(own) or "dough" in own:
+        return "own nodes: %r" % own
+    return own_differs(data_of(page_of(command, given=OWN.encode())[1])["cases"][0]["schema"])
+
+
+def own_differs(schema):
+    """What is told otherwise of the changes of a case."""
+    wanted = {"own": ["n"], "gone": ["g"], "moved": ["d"], "besides": {"b": {"role": [3], "writes": ["e"]}},
+              "lost": {"a": {"writes": ["e"]}, "d": {"reads": ["e"]}}}
+    found = {name: schema[name] for name in wanted}
+    return None if found == wanted else "own changes: wanted %r, got %r" % (wanted, found)
 
 
 def of_store(command, server):
