@@ -3,6 +3,7 @@
 What a store holds of a file was written down from the forms of docs/STORE.md by another program than the one that is
 tried: for each record its payload.
 """
+import collections
 import fcntl
 import os
 import re
@@ -11,12 +12,16 @@ import stat
 import subprocess
 import tempfile
 
+import serves
+
 HERE = os.path.dirname(os.path.abspath(__file__))
 TOP = os.path.dirname(HERE)
 SECONDS = 300
 # What stands in front of the image on a file, and what a store may be made under before it has its name.
 MARK = b"rushowa store 1\n"
 OTHER = re.compile(r"\.rushowa-\d+$")
+# The first call behind those with which a store is opened.
+OPENED = "fdatasync("
 # How long the image of a store may be.
 LIMIT = 1 << 30
 NOBODY = 65534
@@ -426,21 +431,23 @@ def stops_while_made(keep):
     wants([name for name in ("openat", "pwrite64", "fsync", "link", "unlink", "fdatasync") if not names[name]], [])
 
 
-def fails_while_made(keep):
-    """Where a call fails while a store is made it is told so, and its name is no file's or that of one with the whole mark."""
-    for name in "pwrite64", "fsync", "link":
-        for number in 1, 2, 3:
-            keep.clear()
-            status, output, message = keep.run(SEQUENCE, before=keep.injected(name, "error=EIO", number))
-            if status == 0:
-                break
-            wants((status, output), (7 if b"failed" in message else 11, b""))
-            text = b"the store failed; run the same command again" if status == 7 else b"cannot open the store"
-            wants(message, b"keep: %s: %s: Input/output error (os error 5)\n" % (text, keep.path().encode()))
-            wants([other for other in keep.names() if other != "store"], [])
-            if os.path.exists(keep.path()):
-                keep.read()
-            wants(keep.run(SEQUENCE), keep.done(SEQUENCE))
+def failing_calls(keep):
+    """Each call of the system that fails is told: 3 and 4 of streams, 11 while the store is opened, 7 behind it; the next run goes on."""
+    reason = "%s: Input/output error (os error 5)" % keep.path()
+    said = {3: "cannot read", 4: "cannot write", 7: "the store failed; run the same command again: " + reason, 11: "cannot open the store: " + reason}
+    wants(keep.run(SEQUENCE, before=serves.traced(keep.path("told"))), keep.done(SEQUENCE))
+    statuses, is_open = collections.Counter(), False
+    for name, number, line in list(serves.calls_in(keep.path("told"))):
+        keep.clear()
+        is_open = is_open or line.startswith(OPENED)
+        status = serves.status_of(line, is_open)
+        got = keep.run(SEQUENCE, before=keep.injected(name, "error=EIO", number))
+        wants((name, number, *got), (name, number, status, b"", b"keep: %s\n" % said[status].encode()))
+        statuses[status] += 1
+        wants([other for other in keep.names() if other != "store" and (name != "unlink" or not OTHER.match(other))], [])
+        wants(keep.run(SEQUENCE), keep.done(SEQUENCE))
+        wants(keep.read(), image(payloads_of(STORED[0][1])))
+    wants((statuses[3], statuses[4], statuses[7], statuses[11] > 10), (3, 1, 7, True))
 
 
 def fails(keep):
@@ -503,7 +510,7 @@ def no_report(keep):
 CHECKS = [is_stored, goes_on, grows, names_are_not_stored, is_damaged, words, no_text, refused_file, no_store, no_report, other_files, beginnings, is_made, links,
           is_too_long, is_too_long_a_file, little_memory, older, folder_without_reading]
 # These have strace stop a run, or fail one of its calls.
-TRACED = [stops_while_made, fails_while_made, fails, interrupted, syncs_its_folder]
+TRACED = [stops_while_made, failing_calls, fails, interrupted, syncs_its_folder]
 
 
 def tried(command, player):

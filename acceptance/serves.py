@@ -576,19 +576,36 @@ def injected(name, how, number):
     return ["strace", "-f", "-qq", "-o", "/dev/null", "-e", "trace=" + name, "-e", "inject=%s:%s:when=%d" % (name, how, number)]
 
 
-def calls(serve):
-    """The calls of a run over a new store: the name of each, its number among those of that name, and the status where it fails."""
-    wants(serve.run(SMALL, before=["strace", "-f", "-qq", "-o", serve.path("told"), "-e", "trace=" + CALLS]), (0, SMALL_ANSWERS, b""))
-    lines = [line.split(None, 1)[1] for line in read(serve.path("told")).decode().splitlines()]
-    clear(serve)
-    counted, has_begun, is_open = collections.Counter(), False, False
-    for line in lines:
+def traced(told):
+    """Before a run: its calls are told in that file."""
+    return ["strace", "-f", "-qq", "-o", told, "-e", "trace=" + CALLS]
+
+
+def calls_in(told):
+    """The calls of a run that it makes by itself: the name of each, its number among those of that name, and its line."""
+    counted, has_begun = collections.Counter(), False
+    for line in [line.split(None, 1)[1] for line in read(told).decode().splitlines()]:
         name = line.split("(")[0]
         counted[name] += 1
         has_begun = has_begun or line.startswith(FIRST)
-        is_open = is_open or OPENED in line
         if has_begun:
-            yield name, counted[name], 3 if line.startswith((FIRST, "read(0,")) else 4 if line.startswith("write(1,") else 7 if is_open else 11
+            yield name, counted[name], line
+
+
+def status_of(line, opened):
+    """The status where a call fails: 3 and 4 of streams, 7 behind the calls with which a store is opened, and 11 of these."""
+    return 3 if line.startswith((FIRST, "read(0,")) else 4 if line.startswith("write(1,") else 7 if opened else 11
+
+
+def calls(serve):
+    """The calls of a run over a new store: the name of each, its number among those of that name, and the status where it fails."""
+    wants(serve.run(SMALL, before=traced(serve.path("told"))), (0, SMALL_ANSWERS, b""))
+    found = list(calls_in(serve.path("told")))
+    clear(serve)
+    is_open = False
+    for name, number, line in found:
+        is_open = is_open or OPENED in line
+        yield name, number, status_of(line, is_open)
 
 
 def clear(serve):
