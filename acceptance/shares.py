@@ -58,6 +58,10 @@ ATTEMPTS = [
     ("another's stamp", [b"# 2030-01-01T00:00:00Z nora 900000\nnor start c B\n"], [None]),
     ("a group that goes on behind the end", [b"nor change c\ninsert Y after nothing\nend\nnora start c A\nend\n"], [None, NOT_YOURS, NOT_YOURS]),
 ]
+# Words, and what stands behind them, of lines that are hard to cut into items.
+WORDS = [b"?", b"?", b"if", b"if", b"move", b"type", b"actor", b"case", b"phase", b"change", b"install", b"end", b"end", b"ann", b"c", b"act", b"A", b"#x", b"#", b'"a b"', b'"',
+         b'x="', b'\\"', b'"\\', b"adept", b"3", b"\r", b"\xff", b"\x0b", b"\x00", b"?x", b"count"]
+BLANKS = [b" ", b" ", b"\t", b"  ", b""]
 BEFORE = b"type t\nact A\nact B\nend\nactor nor\nactor nora\ncase c t\nnora create c\n"
 
 
@@ -203,6 +207,29 @@ def goes_away_in_a_group(program, folder):
     wants(told(rest), [b"ok 3\n", b"no 3 unended\n"])
     wants(share.stop()[0], 0)
     wants(b"act A" in share.lines(), False)
+
+
+def odd_line(chance):
+    """A line of a few words that tell what it is, or nearly do."""
+    words = [chance.choice(WORDS) + chance.choice(BLANKS) for _ in range(chance.randrange(7))]
+    return b"".join([chance.choice(BLANKS), *words, chance.choice((b"\n", b"\n", b"\r\n"))])
+
+
+def same_items(program, folder):
+    """What comes is cut into the same items as by the server: a question behind each is one by itself."""
+    for seed in random.Random(time.time()).sample(range(10 ** 9), 3):
+        chance = random.Random(seed)
+        items, _ = talks.items(b"".join(odd_line(chance) for _ in range(300)))
+        talk = b"".join(item + b"? count\n" for item in items)
+        cutter, cut, at = talks.Cutter(), [], 0
+        while at < len(talk):
+            size = chance.choice((1, 3, 50, 4000))
+            cut += [each.data for each in cutter.take(talk[at:at + size])]
+            at += size
+        wants((seed, cut), (seed, [each for item in items for each in (item, b"? count\n")]))
+        _, output, _ = serves.Serve(program, folder).run(talk)
+        answers = serves.answers_in(output)
+        wants((seed, len(answers), [answer for answer in answers[1::2] if len(answer) > 1 or not answer[0].startswith(b"ok ")]), (seed, 2 * len(items), []))
 
 
 def long_items(program, folder):
@@ -521,6 +548,24 @@ def tool_is_killed(program, folder):
     wants((len(later), {name: later.get(name) for name in got}), (len(names), got))
 
 
+def is_stopped(program, folder):
+    """Where it is stopped all that has come is worked, also of who has just connected, and answered to its client; the rest of a group is not."""
+    share = Share(program, folder)
+    names = [[b"a%d-%d" % (who, number) for number in range(60)] for who in range(4)]
+    clients = [share.connect() for _ in names]
+    for client, mine in zip(clients, names):
+        client.sendall(b"".join(b"actor %s\n" % name for name in mine) + b"type half\nact A\n")
+    clients[0].recv(1, socket.MSG_PEEK)
+    share.child.send_signal(signal.SIGTERM)
+    answers = [serves.answers_in(rest(client)) for client in clients]
+    wants(share.wait(), (0, b""))
+    held = [unit.split(b"\n")[1][len(b"actor "):] for unit in units(share.store)]
+    for mine, told_of_it in zip(names, answers):
+        wants([name for name in held if name in mine], mine)
+        wants(told_of_it, [[b"ok %d" % (held.index(name) + 1)] for name in mine])
+    wants(len(held), sum(map(len, names)))
+
+
 def answers_of_stores(program, folder):
     """--answers tells what a store holds, also while it is in use; it makes none, and tells nothing of one that is damaged."""
     share = Share(program, folder)
@@ -586,7 +631,7 @@ def three_desks(program, folder):
     wants(share.stop()[0], 0)
 
 
-CHECKS = [groups_in_pieces, in_order, goes_away_in_a_group, long_items, takes_nothing, more_clients_than_files, is_killed, is_silent, tool_is_killed,
+CHECKS = [groups_in_pieces, in_order, goes_away_in_a_group, same_items, long_items, takes_nothing, more_clients_than_files, is_stopped, is_killed, is_silent, tool_is_killed,
           stamps_and_numbers, answers_of_stores, rights_of_users, files_of_rights, sockets, streams_of_its_own, to_a_server, streams_of_a_client, as_a_service,
           three_desks]
 TRACED = [accept_fails]
