@@ -54,7 +54,7 @@ class Server:
         self.unsent += COUNT
         self.flush()
         while not self.has_ended:
-            for _ in self.receive():
+            if any(is_end for _, is_end in self.receive()):
                 os.set_blocking(self.input, False)
                 os.set_blocking(self.output, False)
                 return True

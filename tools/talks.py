@@ -9,7 +9,7 @@ VERBS = (b"change", b"install")
 HEADERS = ([b"adept", b"1"], [b"adept", b"2"], [b"adept", b"3"])
 # How many bytes an item may have; how many words of a line tell what it is, and no word that does has so many bytes.
 LONGEST, TELLING, LONG_WORD = 8388608, 5, 1024
-WORD = re.compile(rb"[^ \t]+")
+WORD, RUN = re.compile(rb"[^ \t]+"), re.compile(rb"[ \t]+|[^ \t\"\\]+|[\"\\]")
 # The last line of an answer, behind the line feed in front of it.
 LAST_LINE = re.compile(rb"\n(?:ok|no)(?: .*)?(?=\n)")
 
@@ -24,17 +24,18 @@ class Words:
         self.word, self.quoted, self.escaped = bytearray(), False, False
 
     def take(self, piece):
-        for code in piece:
+        for found in RUN.finditer(piece):
+            run = found[0]
             if len(self.found) == self.most:
                 return
-            if not self.quoted and code in b" \t":
+            if not self.quoted and run[0] in b" \t":
                 self.end_word()
                 continue
-            if len(self.word) != self.longest:
-                self.word.append(code)
-            if code == ord('"') and not self.escaped:
+            if self.longest is None or len(self.word) < self.longest:
+                self.word += run[:self.longest]
+            if run == b'"' and not self.escaped:
                 self.quoted = not self.quoted
-            self.escaped = self.quoted and code == ord("\\") and not self.escaped
+            self.escaped = self.quoted and run == b"\\" and not self.escaped
 
     def end_word(self):
         self.found += [bytes(self.word)] if self.word else []
