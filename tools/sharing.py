@@ -149,8 +149,8 @@ class Client:
 class Hub:
     """The clients of a server, from the first to the last."""
 
-    def __init__(self, server, number, rights=None, has_times=True, patience=60):
-        self.server, self.listener, self.number, self.rights = server, None, number, rights
+    def __init__(self, server, listener, signals, number, rights=None, has_times=True, patience=60):
+        self.server, self.listener, self.signals, self.number, self.rights = server, listener, signals, number, rights
         self.has_times, self.patience, self.is_stopping, self.is_full = has_times, patience, False, False
         self.clients, self.changed = set(), set()
         # one place for each item that came and was not handed on, in the order in which they came; and what was
@@ -159,11 +159,11 @@ class Hub:
 
     # From beginning to end.
 
-    def run(self, listener):
-        """Serves until the server ends, or a signal stops it (within `signals`)."""
-        self.listener = listener
+    def run(self):
+        """Serves until the server ends, or a signal stops it."""
         self.selector.register(self.server.output, READ, self.on_answers)
         self.selector.register(self.listener, READ, self.on_connection)
+        self.selector.register(self.signals.told, READ, self.on_signal)
         while not self.server.has_ended:
             ready = self.selector.select(1 if self.is_full or any(client.out for client in self.clients) else None)
             self.listen_again()
@@ -183,16 +183,8 @@ class Hub:
                 self.look_at(client)
             self.hand_on()
 
-    def signals(self):
-        """Lets signals wake the loop and stop it; as a context it gives them back."""
-        told, wakes = socket.socketpair()
-        for end in told, wakes:
-            end.setblocking(False)
-        self.selector.register(told, READ, functools.partial(self.on_signal, told))
-        return Signals(wakes)
-
-    def on_signal(self, told, _):
-        told.recv(4096)
+    def on_signal(self, _):
+        self.signals.told.recv(4096)
         if not self.is_stopping:
             self.is_stopping = True
             self.stop_listening()
@@ -418,14 +410,15 @@ class Hub:
 
 
 class Signals:
-    """Signals that stop the work wake a loop and do nothing else, until the context ends."""
-
-    def __init__(self, wakes):
-        self.wakes = wakes
+    """Signals that stop the work are told by a socket and do nothing else, until the context ends."""
 
     def __enter__(self):
-        self.before = [signal.signal(number, lambda *_: None) for number in STOPS]
+        self.told, self.wakes = socket.socketpair()
+        for end in self.told, self.wakes:
+            end.setblocking(False)
         signal.set_wakeup_fd(self.wakes.fileno())
+        self.before = [signal.signal(number, lambda *_: None) for number in STOPS]
+        return self
 
     def __exit__(self, *_):
         signal.set_wakeup_fd(-1)
