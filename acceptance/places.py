@@ -16,7 +16,8 @@ CLAUSE = re.compile(r"(?<![.\w])act\.[A-Z]\w*")
 NAMED = re.compile(r"\buse\b[^;]*\bAct(::|\s+as\b)")
 # The reader's make acts from the words of a line, or say which acts a file may have; others still go by acts in proofs.
 READER = {"file_model", "file_facts", "file_state", "file_units", "unit_files", "audit_facts"}
-WITH_CLAUSES = READER | {"line_calls", "adept_actor", "crew_run", "store_calls", "store_runs", "talk_told", "case_audit"}
+WITH_CLAUSES = READER | {"line_calls", "adept_actor", "crew_run", "store_calls", "store_runs", "talk_told", "talk_answers",
+                         "talk_state", "case_audit"}
 # Text, and whether an arm is matched on in it.
 SEEN = [("match act { Act::Start { id, node } => 1, _ => 2 }", True), ("Act::Create { .. } | Act::Migrate { .. } => None,", True),
         ("Act::Install { ops, .. } if ops.is_empty() => 1,", True), ("if let Act::Create { id } = act {", True),
