@@ -260,8 +260,9 @@ def out_of_place(draft, at, words, here):
         return "What actors do stands behind a line `phase`, which is missing before this line.", [], None
     if at_other:
         draft.drop(at)
-        kind = "type" if "type" in at_other and place == "declaration" else "group `change` or `install`"
-        return "A line `%s` stands inside a %s, and none is open here." % (words[0], kind), [], "nothing open"
+        kinds = ["type"] if "type" in at_other and (place == "declaration" or here.format == "3") else []
+        kinds += ["group `change` or `install`"] if "operation" in at_other and (place == "script" or not kinds) else []
+        return "A line `%s` stands inside a %s, and none is open here." % (words[0], " or a ".join(kinds or ["type"])), [], "nothing open"
     return None
 
 
