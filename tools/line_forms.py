@@ -132,6 +132,12 @@ def nearest(words, place, most=4):
     return sorted(found, key=lambda one: one[0])[:most]
 
 
+def is_alike(words, steps):
+    """Whether a line was perhaps meant to have a form: a word is like a word of it, or two are of the kinds that it has there."""
+    met = [token for place, token in steps if place is not None and token is not None and differ(words[place], token) < 0.8]
+    return len(met) > 1 or any(not is_kind(token) for token in met)
+
+
 def difference(words, place):
     """The least difference from the forms at a place; below 0.5 the line has one."""
     return min(cost for cost, _, _ in compared(words, place))

@@ -120,6 +120,12 @@ class Here:
         is_script = words[0] not in RESERVED if self.format == "3" else self.first_phase
         return "script" if is_script else "declaration"
 
+    def forms(self, words):
+        """All forms of the lines that may stand where one with these words does."""
+        place = self.place(words)
+        both = self.format == "3" and place in ("script", "declaration")
+        return list(dict.fromkeys([*line_forms.FORMS["declaration"], *line_forms.FORMS["script"]])) if both else line_forms.FORMS[place]
+
 
 class Draft:
     """A file as it was mended so far, and the program that is asked about it. `before` are lines that are no part of it and stand
@@ -336,11 +342,11 @@ def form(draft, at, why):
         return Mistake(row, why, words[:1], [says], beside, key)
     candidates = nearest(words, here.place(words))
     for _, text, steps in candidates:
-        fit = fitted(draft, at, words, steps, here)
+        fit = fitted(draft, at, words, steps, here) if line_forms.is_alike(words, steps) else None
         if fit:
             return misformed(draft, at, why, fit, text, candidates)
     draft.drop(at)
-    begin = line_forms.beginning(words[0], here.place(words)) or line_forms.FORMS[here.place(words)]
+    begin = line_forms.beginning(words[0], here.place(words)) or here.forms(words)
     says = "The line has none of the forms for its place. They are: %s."
     return Mistake(row, why, [], [says % ", ".join("`%s`" % one for one in begin)])
 

@@ -14,6 +14,9 @@ from processes import WORD, Entry
 MOST_UNITS = 20000
 QUESTIONS = ["? report", "? type TYPE", "? case CASE", "? cases", "? cases TYPE", "? items", "? items ACTOR", "? types",
              "? actors", "? count", "? last", "? lines", "? if UNIT", "? move ACTOR TYPE"]
+# What people type who want to know what to type, or to go.
+LOST = (b"help", b"exit", b"quit", b"bye", b"h", b"q")
+WAY = "What is said are lines of a process file; `?` alone tells what may be asked, docs/SERVE.md all, and Ctrl-D ends the talk."
 NAMED = {"type": "type", "case": "case", "cases": "type", "items": "actor"}
 
 
@@ -99,6 +102,9 @@ def told(ask, server, lines, answer):
     talk, and `server` is asked about lines that are not its own."""
     refused, is_question = asking.REFUSED.match(answer[-1]), talks.words_of(lines[0].rstrip(b"\n"))[0] == b"?"
     units = units_of(lines)
+    if refused and len(lines) == 1 and lines[0].strip() in LOST:
+        yield WAY
+        return
     if not refused:
         yield from of_calls(ask, server, units if is_question else None, answer) if units else []
         return
