@@ -4,6 +4,7 @@ What is refused is asked of a program (asking.py): of the file as it is, and the
 that the next one is told. A mend is no advice: it is the least that lets the program read on. What is said to a server is a
 file too, behind names that are declared already.
 """
+import difflib
 import re
 import time
 
@@ -54,12 +55,12 @@ def text_of(row):
     return decoded(row.text).rstrip("\r")
 
 
-def known(names):
-    """Names that are known, as words; of many those that come first."""
+def known(names, word):
+    """Names that are known where a word is none of them, as words; of many those that are most like it."""
     if not names:
         return "none is known here"
-    listed = ", ".join("`%s`" % name for name in names[:MOST_NAMES])
-    return "known here: " + listed + (" and %d more" % (len(names) - MOST_NAMES) if len(names) > MOST_NAMES else "")
+    shown = difflib.get_close_matches(word, names, MOST_NAMES, 0) if len(names) > MOST_NAMES else names
+    return "known here: " + ", ".join("`%s`" % name for name in shown) + (" and %d more" % (len(names) - MOST_NAMES) if len(names) > MOST_NAMES else "")
 
 
 def in_line(row):
@@ -150,9 +151,9 @@ class Draft:
         except Unanswered as why:
             raise Stopped(str(why)) from None
 
-    def known(self, kind, here):
-        """The names of a kind that are known before a row, as words."""
-        return known(list(dict.fromkeys([*self.declared.get(kind, ()), *here.names[kind]])))
+    def known(self, kind, word, here):
+        """The names of a kind that are known before a row, as words, where a word is none of them."""
+        return known(list(dict.fromkeys([*self.declared.get(kind, ()), *here.names[kind]])), word)
 
     def has_form(self, at, words):
         """Whether the program finds a form for the line, were it these words; a group is not read before it is closed."""
@@ -483,7 +484,7 @@ def unknown(draft, at, why):
             continue
         rows = [other for other in draft.rows if other.number and other.number > row.number and word in words_of(text_of(other))]
         later = [other for other in rows if words_of(text_of(other))[:2] == [kind, word]]
-        says.append("No %s `%s` is declared before this line; %s." % (kind, word, draft.known(kind, here)))
+        says.append("No %s `%s` is declared before this line; %s." % (kind, word, draft.known(kind, word, here)))
         if later:
             says.append("Line %d declares it: put that line before this one." % later[0].number)
             draft.move(draft.rows.index(later[0]), draft.declaring(draft.rows.index(row)))

@@ -94,7 +94,7 @@ def of_question(ask, lines, refusal):
         yield from ["The questions that begin so:", *begin] if begin else ["The questions are:", *QUESTIONS]
     elif refusal == "unknown" and words[0] in NAMED and len(words) > 1:
         kind = NAMED[words[0]]
-        yield "No %s `%s` is declared; %s." % (kind, telling.shown(words[1]), mistakes.known(Names(ask).known()[kind]))
+        yield "No %s `%s` is declared; %s." % (kind, telling.shown(words[1]), mistakes.known(Names(ask).known()[kind], words[1]))
 
 
 def told(ask, server, lines, answer):
