@@ -1,6 +1,7 @@
 """Tries tools/page on the examples: what stands in a page is what the file and its report say, and it loads nothing.
 
-A page of a store is that of the file that it holds, and so are its tables (tools/table). What a browser shows of a page is tried
+A page of a store is that of the file that it holds, and so are its tables (tools/table), also while a server that is shared has the
+store. What a browser shows of a page is tried
 by trials/page.
 """
 import glob
@@ -9,10 +10,11 @@ import os
 import re
 import subprocess
 import tempfile
+import time
 
 HERE = os.path.dirname(os.path.realpath(__file__))
 TOP = os.path.dirname(HERE)
-PAGE, TABLE = (os.path.join(TOP, "tools", name) for name in ("page", "table"))
+PAGE, TABLE, EXPLAIN, SHARE = (os.path.join(TOP, "tools", name) for name in ("page", "table", "explain", "share"))
 # A file of format 3, which a server makes the same of.
 GROWING = os.path.join(TOP, "examples", "help-desk.adept")
 TEXT = """adept 1
@@ -149,6 +151,27 @@ def of_store(command, server):
     return None
 
 
+def while_shared(server):
+    """What is said of a store otherwise where it is in use, by a server that is shared, than where it is at rest."""
+    def said(tool):
+        return subprocess.run([tool, "--program", server, "--store", store], stdout=subprocess.PIPE, stderr=subprocess.STDOUT).stdout
+
+    tools = PAGE, TABLE, EXPLAIN
+    with tempfile.TemporaryDirectory(prefix="acceptance-") as folder, open(GROWING, "rb") as file:
+        store = os.path.join(folder, "store")
+        subprocess.run([server, store], stdin=file, stdout=subprocess.DEVNULL, check=True)
+        at_rest = [said(tool) for tool in tools]
+        sharing = subprocess.Popen([SHARE, "--program", server, store], stdin=subprocess.DEVNULL, stderr=subprocess.DEVNULL)
+        try:
+            while sharing.poll() is None and not os.path.exists(store + ".socket"):
+                time.sleep(0.01)
+            in_use = [said(tool) for tool in tools]
+        finally:
+            sharing.terminate()
+            sharing.wait()
+    return next(("%s: %r" % (os.path.basename(tool), found[:200]) for tool, right, found in zip(tools, at_rest, in_use) if found != right), None)
+
+
 def tried(command, server):
     """The name of each case with what differs, or None. Stores are made where there is a server."""
     for path in sorted(glob.glob(os.path.join(TOP, "examples", "*.adept"))):
@@ -156,5 +179,6 @@ def tried(command, server):
     yield "pages", single(command)
     if server:
         yield "page and tables of a store", of_store(command, server)
+        yield "page, tables and explanations of a store in use", while_shared(server)
     else:
         print("not tried pages of stores: there is no proved serve_main", flush=True)
