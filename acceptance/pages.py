@@ -1,8 +1,7 @@
 """Tries tools/page on the examples: what stands in a page is what the file and its report say, and it loads nothing.
 
 A page of a store is that of the file that it holds, and so are its tables (tools/table), also while a server that is shared has the
-store. What a browser shows of a page is tried
-by trials/page.
+store. What a browser shows of a page is tried by trials/page.
 """
 import glob
 import json
