@@ -284,7 +284,7 @@ def not_newer(call):
 
 
 def version_limit(call):
-    return ["A type has 256 versions at most."]
+    return ["A type has 256 versions at most: a type of another name begins anew."]
 
 
 SAYS = {"not-ready": not_ready, "not-running": not_running, "not-allowed": not_allowed, "not-holder": not_holder, "no-node": no_node,
