@@ -8,6 +8,8 @@ NUMBER = re.compile(r"[-+.,\d]+$")
 # What begins a comment elsewhere, and is no name; behind other words these alone.
 REMARK, REMARK_BEHIND = re.compile(r"//|--|;|%|/\*|\*|<!--"), re.compile("#|//")
 QUOTES = re.compile("[\u2018-\u201f\u00ab\u00bb'`]")
+QUESTION = "A line that begins with `?` asks a server (./serve): a file has none."
+NAMED_ROLES = "Roles have names in a file that begins with `adept 3`."
 COMMENT = "A comment is a line of its own, which begins with `#`."
 
 
@@ -17,7 +19,9 @@ def slip(words, place, has_form):
 
 
 def remark(words, has_form):
-    """A comment in another way, or one behind a line."""
+    """A question, a comment in another way, or one behind a line."""
+    if words[0].startswith("?"):
+        return QUESTION, words, []
     if REMARK.match(words[0]):
         return COMMENT, words, []
     at = next((place for place, word in enumerate(words) if place and REMARK_BEHIND.match(word)), None)
@@ -47,7 +51,7 @@ def hints(words, first, last, token, format):
     if token == "PAIR":
         return of_value(" ".join(words[first:last]))
     if token == "ROLE" and format != "3" and NAMED.match(words[first]):
-        return ["Roles have names in a file that begins with `adept 3`."]
+        return [NAMED_ROLES]
     if token is None:
         return of_blanks(words[first - 1:last])
     return of_blanks(words[first - 1:]) if token == "role" else []

@@ -210,6 +210,7 @@ def header(draft, at, why):
         says.append("A byte order mark stands before it: save the file as UTF-8 without one.")
     if any(line_forms.has_form(words, place) for place in ("declaration", "type")) and words[0] != "adept":
         draft.put(at, "adept 2")
+        raise_format(draft, draft.rows[at])
         return Mistake(row, why, [], [*says, "It is missing before this line."])
     if at < len(draft.rows):
         draft.rows[at].text = b"adept 2"
@@ -217,6 +218,19 @@ def header(draft, at, why):
         draft.put(at, "adept 2")
     wrong = [word for word, right in zip(words, ["adept", None]) if word != right] if len(words) == 2 else words
     return Mistake(row, why, wrong, says)
+
+
+def raise_format(draft, header):
+    """Lets a file be one of format 3 where the program reads further then, and says whether it does."""
+    before, text = draft.ask(), header.text
+    header.text = b"adept 3"
+    after = draft.ask()
+    if before is None or after is not None and after[0] <= before[0]:
+        header.text = text
+        return False
+    draft.format = "3"
+    line_forms.of_format("3")
+    return True
 
 
 def unended(draft, at, why):
@@ -398,12 +412,15 @@ def misformed(draft, at, why, fit, text, candidates):
         says[len(says) - (first != place):] = [refused(fit.words[first:place + 1], place, token, candidates)]
         parts[len(parts) - (first != place):] = [(fit.words, first, place + 1, token)]
         last = (first, place, token)
-    mend(draft.rows[at], fit.made, any(token and is_kind(token) for _, token in wrong))
     faulty = [fit.words[place] for place, _ in wrong if place is not None]
     hints = [hint for part in parts for hint in habits.hints(*part, draft.format)]
+    header = Here(draft.rows[:at]).header
+    is_raised = habits.NAMED_ROLES in hints and raise_format(draft, header)
+    if not is_raised:
+        mend(draft.rows[at], fit.made, any(token and is_kind(token) for _, token in wrong))
     longer = [other for other in line_forms.longer(text) if any(token is None for _, token in wrong)]
     forms = ", or ".join("`%s`" % form for form in [text, *longer])
-    return Mistake(draft.rows[at], why, faulty, [*says, "The form: %s." % forms, *hints])
+    return Mistake(draft.rows[at], why, faulty, [*says, "The form: %s." % forms, *hints], [header] if is_raised else [])
 
 
 def refused(words, place, token, candidates):
