@@ -19,12 +19,15 @@ import time
 
 import answering
 import chatter
+import explains
 import serves
 import stamps
 import talks
+import terminals
 from serves import Differs, wants
 
-TOP = os.path.dirname(os.path.dirname(os.path.abspath(__file__)))
+HERE = os.path.dirname(os.path.abspath(__file__))
+TOP = os.path.dirname(HERE)
 SHARE, LINES = (os.path.join(TOP, "tools", name) for name in ("share", "lines"))
 WAIT = 600
 TALKS = 4
@@ -449,6 +452,21 @@ def to_a_server(program, folder):
     wants((client.returncode, output, said), (1, b"", b"share: the talk has ended before all was answered\n"))
 
 
+def at_a_terminal(program, folder):
+    """A client at a terminal is told why a call is refused as by ./serve, and in colours."""
+    share, case = Share(program, folder), os.path.join(HERE, "explaining", "typed-calls")
+    lines, said = (serves.read(os.path.join(case, name)).decode().splitlines() for name in ("typed", "told"))
+    environment = {name: value for name, value in os.environ.items() if name != "NO_COLOR"}
+    for more in {"NO_COLOR": "1"}, {}:
+        status, shown = terminals.typed([SHARE, "--to", share.socket], lines, folder, {**environment, "TERM": "xterm", **more})
+        wants((status, "\x1b[32mok " in shown), (0, not more))
+        wants(explains.first_missing(said, shown.splitlines()) if more else None, None)
+        share.stop()
+        os.remove(share.store)
+        share = Share(program, folder)
+    share.stop()
+
+
 def streams_of_a_client(program, folder):
     """Where --to cannot read what it is given, or not write what it is answered, it ends with 1, and what it sent is worked."""
     share = Share(program, folder)
@@ -632,7 +650,7 @@ def three_desks(program, folder):
 
 
 CHECKS = [groups_in_pieces, in_order, goes_away_in_a_group, same_items, long_items, takes_nothing, more_clients_than_files, is_stopped, is_killed, is_silent, tool_is_killed,
-          stamps_and_numbers, answers_of_stores, rights_of_users, files_of_rights, sockets, streams_of_its_own, to_a_server, streams_of_a_client, as_a_service,
+          stamps_and_numbers, answers_of_stores, rights_of_users, files_of_rights, sockets, streams_of_its_own, to_a_server, at_a_terminal, streams_of_a_client, as_a_service,
           three_desks]
 TRACED = [accept_fails]
 
