@@ -1,20 +1,9 @@
 -- The beginning of a line of a journal tells its caller: names hold no space, and actors have names of their own.
-use Rattle.std.proofs.Common.{◌≡◌, ◌≢◌, ℕ, suc, ◌+◌, ◌-◌, ◌≤◌, ◌==◌, ne_eqb, Bool, true, false, List, [], ◌∷◌, ◌++◌, length, take, Option, Some, refl, sym, ap, ◌∙◌, subst, arith, lit≤, inl, inr, append_assoc, if◌then◌else◌}
-use Rattle.std.specs.Prelude.{codes, decimal, slice_get}
-use Rattle.std.proofs.lemmas.Option.{slice_get_cases}
+use Rattle.std.proofs.Common.{◌≡◌, ◌≢◌, ℕ, suc, ◌+◌, ◌-◌, ◌≤◌, ◌==◌, ne_eqb, Bool, true, false, List, [], ◌∷◌, ◌++◌, length, take, Option, Some, refl, sym, ap, ◌∙◌, subst, arith, lit≤, inl, inr, append_assoc, if◌then◌else◌, ◌&&◌, eq-eqb, eqb-true, codes, decimal, slice_get}
 use Rattle.std.proofs.lemmas.Slice.Eq.{bytes_eq-Decides}
-use Rattle.file_facts.proofs.Cases.{row-at}
-use Rattle.file_model.specs.declared.files.ActorDecl.{ActorDecl}
-use Rattle.file_model.specs.declared.files.File.{File}
-use Rattle.file_words.specs.Lines.{Bytes}
-use Rattle.legal_run.specs.Legal.{IsActor}
-use Rattle.report_text.specs.Journals.{line_start}
-use Rattle.report_words.specs.Words.{actor_name, caller_text}
-use Rattle.wsm_lists.specs.Rows.{AllRows}
-use Rattle.audit_model.proofs.KindReaders.{TellsCallers}
-use Rattle.audit_model.specs.Printed.{begins, caller_from}
-use Rattle.audit_facts.specs.Facts.{IsAuditable, IsNamed}
+use Rattle.audit_model.proofs.Common.{actor_name, ActorDecl, AllRows, begins, both_ways, Bytes, caller_from, caller_in, caller_text, case_shown, CaseEntry, cases_Bool, cut-together, ended, ending, event_text, File, IsActor, IsAuditable, IsNamed, IsOneLine, kind_event_text, kind_reply_text, kind_shown, KindEntry, line_start, lines_of, reply_text, row-at, slice_get_cases}
 use Rattle.audit_model.proofs.OneLine.{name-without}
+use Rattle.audit_model.proofs.OneLineTexts.{start-one}
 
 -- ---- beginnings
 -- what begins a text, and its rest
@@ -106,5 +95,39 @@ module _ (f : File) (auditable : IsAuditable f) where
           near-next : b ≢ a → b + 1 ≤ a
           near-next other = omega (arith, near, other)
 
-  pub tells-callers : TellsCallers f
+  tells-callers : (k a : ℕ) (rest : Bytes) → IsActor f a → caller_in f k (line_start f k a ++ rest) ≡ Some a
   tells-callers k a rest actor = found k a rest actor 1 f.actors (lit≤ tt) (omega arith) actor.0
+
+  pub tells-kind : (k : ℕ) (e : KindEntry) → IsActor f e.caller → caller_in f k (kind_shown f k e) ≡ Some e.caller
+  tells-kind k e actor = tells-callers k e.caller (kind_event_text e.event ++ (codes " -> " ++ kind_reply_text f e.reply)) actor
+
+  pub tells-case : (k : ℕ) (e : CaseEntry) → IsActor f e.caller → caller_in f k (case_shown f k e) ≡ Some e.caller
+  tells-case k e actor = tells-callers k e.caller (event_text f e.event ++ (codes " -> " ++ reply_text f e.reply)) actor
+
+-- ---- whose call a line shows is seen at its beginning, whatever stands behind the line
+pub other-way : (x y : ℕ) → (x == y) ≡ (y == x)
+other-way x y =
+    elim (cases_Bool (y == x)) [
+      | inl same ↦ eq-eqb x y (sym (eqb-true y x same)) ∙ sym same
+      | inr other ↦ elim (cases_Bool (x == y)) [ inl too ↦ absurd (both_ways _ other (eq-eqb y x (sym (eqb-true x y too)))) | inr no_more ↦ no_more ∙ sym other ]
+    ]
+
+-- what holds no line feed begins a line or what begins with the line
+begins-line : (front line more : Bytes) → IsOneLine front → begins front (line ++ 10 ∷ more) ≡ begins front line
+begins-line [] line more one = refl
+begins-line (x ∷ xs) [] more (not, one) = rw (other-way 10 x ∙ not) refl
+begins-line (x ∷ xs) (y ∷ ys) more (not, one) = ap (λ test. (y == x) && test) (begins-line xs ys more one)
+
+module _ (f : File) (auditable : IsAuditable f) where
+  caller-line : (k : ℕ) (line more : Bytes) (a : ℕ) (ds : List ActorDecl) → ((b : ℕ) → IsOneLine (line_start f k b)) → caller_from f k (line ++ 10 ∷ more) a ds ≡ caller_from f k line a ds
+  caller-line k line more a [] one = refl
+  caller-line k line more a (d ∷ ds) one =
+      ap (λ test. if test then Some a else caller_from f k (line ++ 10 ∷ more) (a + 1) ds) (begins-line (line_start f k a) line more (one a))
+      ∙ ap (λ o. if begins (line_start f k a) line then Some a else o) (caller-line k line more (a + 1) ds one)
+
+  -- so the rest of a text shows the caller of its first line
+  pub caller-of-first : (k : ℕ) (text m : Bytes) (rest : List Bytes) → ended text ≡ m ∷ rest → caller_in f k m ≡ caller_in f k text
+  caller-of-first k text m rest is =
+      let more : Bytes = ending rest ++ (lines_of text).left in
+      let there : text ≡ m ++ 10 ∷ more = sym (cut-together text) ∙ (ap (λ ls. ending ls ++ (lines_of text).left) is ∙ append_assoc m (10 ∷ ending rest) (lines_of text).left) in
+      sym (ap (caller_in f k) there ∙ caller-line k m more 1 f.actors (start-one f auditable k))

@@ -1,21 +1,11 @@
 -- Reports that are right and wrong.
-use Rattle.std.proofs.Common.{◌≡◌, ℕ, List, [], ◌∷◌, None, Some, ◌++◌, refl}
-use Rattle.std.specs.Prelude.{codes}
+use Rattle.std.proofs.Common.{◌≡◌, ℕ, List, [], ◌∷◌, None, Some, ◌++◌, refl, codes}
 use Rattle.std.specs.Fmt.{digits}
-use Rattle.file_model.specs.declared.files.Act.{Act}
-use Rattle.file_model.specs.declared.files.Act.TheVariants as act
-use Rattle.file_model.specs.declared.files.CaseDecl.{CaseDecl}
-use Rattle.file_model.specs.declared.files.File.{File}
-use Rattle.file_model.specs.declared.files.Line.{Line}
-use Rattle.file_model.specs.declared.files.TypeDecl.{TypeDecl}
-use Rattle.file_words.specs.Lines.{Bytes}
-use Rattle.line_readers.specs.FirstWrong.{first_wrong}
+use Rattle.audit_model.proofs.Common.{Act, Bytes, CaseDecl, CaseId, File, first_wrong, Line, plain, report_reader, SchemaModel, TypeDecl}
 use Rattle.report_words.specs.Migrations.{has_fate}
-use Rattle.wsm_schema.specs.SchemaModel.{SchemaModel, plain}
 use Rattle.wsm_schema.specs.Tree.{act as activity, nothing, part}
 use Rattle.wsm_sound.specs.Faults.{fault_of}
-use Rattle.wsm_sound.specs.declared.versions.CaseId.{CaseId}
-use Rattle.audit_model.specs.ReportReader.{report_reader}
+use Rattle.file_model.specs.declared.files.Act.TheVariants as act
 
 -- ann creates the case, and works its two nodes
 abbrev schema : SchemaModel

@@ -1,33 +1,9 @@
 -- A line of a journal, right or wrong.
-use Rattle.std.proofs.Common.{◌≡◌, ℕ, ◌+◌, ◌<◌, ◌≤◌, ◌==◌, Bool, true, false, List, [], ◌∷◌, ◌++◌, length, Option, Some, None, length-append, refl, sym, ap, ◌∙◌, subst, arith, if◌then◌else◌}
-use Rattle.std.proofs.lemmas.Option.{same_Some}
-use Rattle.std.specs.Prelude.{option_map}
-use Rattle.audit_facts.specs.Facts.{IsAuditable}
-use Rattle.audit_model.proofs.CallerLines.{caller-of-first}
-use Rattle.audit_model.specs.Asked.{Asked}
-use Rattle.audit_model.specs.Journaled.{GrowsTo, Journaled, LineJudged, StopsAt, behind_them, next_of, rest}
-use Rattle.audit_model.specs.Judging.{FollowedBy}
-use Rattle.audit_model.specs.Lines.{actor_of}
-use Rattle.audit_model.specs.Printed.{begins, caller_from, caller_in}
-use Rattle.file_model.specs.declared.files.ActorDecl.{ActorDecl}
-use Rattle.file_model.specs.declared.files.File.{File}
-use Rattle.file_words.specs.Lines.{Bytes}
-use Rattle.legal_run.specs.Legal.{IsActor}
+use Rattle.std.proofs.Common.{◌≡◌, ℕ, ◌+◌, ◌<◌, ◌≤◌, ◌==◌, Bool, true, false, List, [], ◌∷◌, ◌++◌, length, Option, Some, None, length-append, refl, sym, ap, ◌∙◌, subst, arith, if◌then◌else◌, option_map}
+use Rattle.audit_model.proofs.Common.{actor_of, ActorDecl, AreTurns, Asked, begins, behind_them, Bytes, caller_from, caller_in, ended, Entry, entry, File, first-is, first_by, Followed, followed, FollowedBy, front_of, GrowsTo, IsActor, IsAuditable, IsOneLine, Journaled, left_of, line_start, LineJudged, next_of, one_taken, queue_of, Reaches, rest, rest-differs, rest-line, rest-wrong, rest_journal, same_front, same_Some, shown, StopsAt}
+use Rattle.audit_model.proofs.Callers.{caller-of-first}
 use Rattle.line_followers.proofs.JournalLines.{caller-none, event-none, first-none}
-use Rattle.line_followers.proofs.Rests.{rest-differs, rest-line, rest-wrong}
 use Rattle.line_followers.proofs.Turns.{IsTurn, turn-none, turn-taken}
-use Rattle.line_followers.specs.Follows.{Reaches, left_of}
-use Rattle.line_followers.specs.Rests.{rest_journal}
-use Rattle.line_followers.specs.Turns.{AreTurns, front_of, one_taken, queue_of}
-use Rattle.line_readers.proofs.Owed.{first-is}
-use Rattle.line_readers.specs.FirstWrong.{ended}
-use Rattle.line_readers.specs.Journals.{shown}
-use Rattle.line_readers.specs.Owed.{first_by}
-use Rattle.line_readers.specs.Readers.{IsOneLine}
-use Rattle.report_text.specs.Journals.{line_start}
-use Rattle.text_follower.specs.Followed.{Followed, followed, same_front}
-use Rattle.turn_cell.specs.History.{entry}
-use Rattle.turn_cell.specs.declared.journal.Entry.{Entry}
 
 -- ---- a caller that is found is an actor
 caller-range : (f : File) (k : ℕ) (text : Bytes) (a c : ℕ) (ds : List ActorDecl) → caller_from f k text a ds ≡ Some c → (a ≤ c) × (c < a + length ds)
@@ -40,6 +16,19 @@ caller-range f k text a c (d ∷ ds) is = by (begins (line_start f k a) text) is
 
 caller-actor : (f : File) (k : ℕ) (text : Bytes) (a : ℕ) → caller_in f k text ≡ Some a → IsActor f a × (a < length f.actors + 1)
 caller-actor f k text a is = let (low, high) = caller-range f k text 1 a f.actors is in ((low, omega (arith, high)), omega (arith, high))
+
+-- the actor whose next line is shown
+pub next-is : (queues : List (List Asked)) (o : Option ℕ) (a : ℕ) (c : Asked) → next_of queues o ≡ Some (a, c) → (o ≡ Some a) × (cs : List Asked) × (queue_of queues a ≡ c ∷ cs)
+next-is queues None a c is = absurd (cc (is))
+next-is queues (Some b) a c is = by (queue_of queues b) refl is
+  where
+    by : (queue : List Asked) → queue_of queues b ≡ queue → option_map {U = ℕ × Asked} (λ l. (b, l)) (front_of queue) ≡ Some (a, c) → (Some b ≡ Some a) × (cs : List Asked) × (queue_of queues a ≡ c ∷ cs)
+    by [] at none = absurd (cc (none))
+    by (x ∷ xs) at some =
+        let pair : (b, x) ≡ (a, c) = same_Some (b, x) (a, c) some in
+        let actor : b ≡ a = ap (λ (p : ℕ × Asked). p.0) pair in
+        let first : x ≡ c = ap (λ (p : ℕ × Asked). p.1) pair in
+        (ap Some actor, xs, subst (λ n. queue_of queues n ≡ c ∷ xs) actor (at ∙ ap (λ y. y ∷ xs) first))
 
 -- what is asked of a journal so that its lines can be judged: the first line of an actor is the same to it, an entry whose state and event are such
 -- stands in one line and tells its caller, and a line feed ends what is printed
@@ -94,19 +83,6 @@ module _ {M E R W S L C : Type 0} {Kept : S → Type 0} {Good : E → Type 0} (j
   differs-there from old phase a c others e actor kept good caller first event not later =
       rest-differs j.after j.reply j.actor j.event (caller_in j.file) j.shown (next_place from) (j.machine from) (j.lines phase) later a (j.line c) (j.lines others) e old (line_by from a e)
       refl (h.one (next_place from) a (j.machine from) e actor kept good) (shows-caller from old (Some a) caller) (h.first a phase c others first) event not
-
-  -- the actor whose next line is shown
-  next-is : (queues : List (List Asked)) (o : Option ℕ) (a : ℕ) (c : Asked) → next_of queues o ≡ Some (a, c) → (o ≡ Some a) × (cs : List Asked) × (queue_of queues a ≡ c ∷ cs)
-  next-is queues None a c is = absurd (cc (is))
-  next-is queues (Some b) a c is = by (queue_of queues b) refl is
-    where
-      by : (queue : List Asked) → queue_of queues b ≡ queue → option_map {U = ℕ × Asked} (λ l. (b, l)) (front_of queue) ≡ Some (a, c) → (Some b ≡ Some a) × (cs : List Asked) × (queue_of queues a ≡ c ∷ cs)
-      by [] at none = absurd (cc (none))
-      by (x ∷ xs) at some =
-          let pair : (b, x) ≡ (a, c) = same_Some (b, x) (a, c) some in
-          let actor : b ≡ a = ap (λ (p : ℕ × Asked). p.0) pair in
-          let first : x ≡ c = ap (λ (p : ℕ × Asked). p.1) pair in
-          (ap Some actor, xs, subst (λ n. queue_of queues n ≡ c ∷ xs) actor (at ∙ ap (λ y. y ∷ xs) first))
 
   pub line-judged : (from to : C) (old new : Followed) (queues : List (List Asked)) (phase : List Asked) (a : ℕ) (c : Asked) (e : E) (stands : Bool)
       → Kept (j.machine from) → Good e → next_of queues (caller_in j.file (next_place from) (left_of old)) ≡ Some (a, c) → AreTurns actor_of (length j.file.actors) queues phase → j.event (j.line c) ≡ Some e

@@ -1,45 +1,27 @@
 -- A case keeps values that stand in one line, where events bring such: so do its replies.
-use Rattle.std.proofs.Common.{◌≡◌, ℕ, ◌==◌, Bool, true, false, ◌||◌, not, List, [], ◌∷◌, filter_map, fold, map, Option, Some, None, Result, Ok, Err, refl, if◌then◌else◌}
-use Rattle.std.specs.Option.{option_or}
-use Rattle.std.specs.Prelude.{IfSome, nat_lt}
-use Rattle.case_core.specs.CaseModel.{CaseModel, LiveModel, created_on, is_finished, replay_of_case, state_of, value_now}
-use Rattle.case_core.specs.Machine.{case_after, case_reply, change_with, changed, end_on, end_refusal, ended_reply, ended_trail, event_on, failed_at, hold_refusal, holder_of, may_work, migrate_live, migrate_refusal, migrate_with, migrated, misfit, or_reply, overlap_reply, overlap_with, reads_now, repeats, start_entry, start_on, start_refusal, taken, when_reply, with_live, with_trail, withdraw_on, wrong_reply}
-use Rattle.case_core.specs.declared.events.Event.{Event}
-use Rattle.case_core.specs.declared.events.Event.TheVariants as event
-use Rattle.case_core.specs.declared.replies.Reply.{Reply}
-use Rattle.case_core.specs.declared.replies.Reply.TheVariants as reply
+use Rattle.std.proofs.Common.{◌≡◌, ℕ, ◌==◌, Bool, true, false, ◌||◌, not, List, [], ◌∷◌, filter_map, fold, map, Option, Some, None, Result, Ok, Err, refl, IfSome, nat_lt}
+use Rattle.audit_model.proofs.Common.{AllRows, card_at, case_after, case_reply, CaseModel, change_with, changed, changed_by, created_on, cut_by, cut_entry, end_on, end_refusal, ended_reply, ended_trail, Event, event_on, failed_at, Fault, flat_of, hold_refusal}
+use Rattle.audit_model.proofs.Common.{holder_of, if-either, is_finished, is_one_of, IsOneLineRead, IsOneLineValue, IsOneLineWrite, KeptCase, KeptEntry, KeptLive, KeptTrail, key_eq, key_lt, later_or, LiveModel, loop_nodes, may_work, migrate_live, rows-filter}
+use Rattle.audit_model.proofs.Common.{migrate_refusal, migrate_with, migrated, misfit, Name, option_or, or_reply, overlap_reply, overlap_with, pushed, put_row, reads_now, repeats, replay_of_case, Reply, rows-append, SchemaModel, ShowsOneLine}
+use Rattle.audit_model.proofs.Common.{start_entry, start_on, start_refusal, state_of, taken, TrailModel, Value, value_below, value_in, value_now, VersionModel, when_reply, with_live, with_trail, withdraw_on, WritesValues, Written, written_by}
+use Rattle.audit_model.proofs.Common.{wrong_reply, wrote}
 use Rattle.case_writes.specs.Writes.{by_element, wrong_elements}
-use Rattle.wsm_foot.specs.declared.names.Name.{Name}
-use Rattle.wsm_lists.proofs.Lists.{rows-append}
 use Rattle.wsm_lists.specs.Keys.{first}
-use Rattle.wsm_lists.specs.Rows.{AllRows, key_eq, key_lt, put_row}
-use Rattle.wsm_lists.specs.Values.{Written, value_in}
-use Rattle.wsm_lists.specs.declared.values.Value.{Value}
 use Rattle.wsm_ops.specs.declared.operations.Op.{Op}
-use Rattle.wsm_schema.specs.Flat.{card_at, flat_of, loop_nodes}
 use Rattle.wsm_schema.specs.Marks.{is_start_of}
 use Rattle.wsm_schema.specs.Replay.{fits_choice, is_in_state}
-use Rattle.wsm_schema.specs.SchemaModel.{SchemaModel}
-use Rattle.wsm_schema.specs.Trail.{TrailModel, cut_by, cut_entry, is_one_of, later_or, pushed, value_below, written_by, wrote}
 use Rattle.wsm_schema.specs.declared.cards.Card.{Card}
 use Rattle.wsm_schema.specs.declared.entries.Entry.{Entry}
+use Rattle.wsm_trail.specs.Withdrawn.{withdrawn}
+use Rattle.case_core.specs.declared.events.Event.TheVariants as event
+use Rattle.case_core.specs.declared.replies.Reply.TheVariants as reply
 use Rattle.wsm_schema.specs.declared.entries.Entry.TheVariants as entry
 use Rattle.wsm_schema.specs.declared.states.State.TheVariants as state
-use Rattle.wsm_sound.specs.Faults.{changed_by}
-use Rattle.wsm_sound.specs.VersionModel.{VersionModel}
-use Rattle.wsm_sound.specs.declared.faults.Fault.{Fault}
-use Rattle.wsm_trail.specs.Withdrawn.{withdrawn, without_start}
-use Rattle.audit_facts.specs.Facts.{IsOneLineValue, IsOneLineWrite}
-use Rattle.audit_model.specs.Kept.{IsOneLineRead, KeptCase, KeptEntry, KeptLive, KeptTrail, ShowsOneLine, WritesValues}
 
 -- ---- trails
 value_in-one : (e : ℕ) (ws : Written) → AllRows IsOneLineWrite ws → IfSome (value_in e ws) IsOneLineValue
 value_in-one e [] all = tt
-value_in-one e (w ∷ ws) all = by (w.0 == e) (value_in-one e ws all.1)
-  where
-    by : (test : Bool) → IfSome (value_in e ws) IsOneLineValue → IfSome (if test then Some w.1 else value_in e ws) IsOneLineValue
-    by true more = all.0
-    by false more = more
+value_in-one e (w ∷ ws) all = if-either (λ o. IfSome o IsOneLineValue) (w.0 == e) (Some w.1) (value_in e ws) (λ is. all.0) (λ not. value_in-one e ws all.1)
 
 later-one : (a b : Option Value) → IfSome a IsOneLineValue → IfSome b IsOneLineValue → IfSome (later_or a b) IsOneLineValue
 later-one None b h k = k
@@ -47,11 +29,8 @@ later-one (Some v) b h k = h
 
 below-one : (e p : ℕ) (es : List (ℕ × Entry)) → AllRows KeptEntry es → IfSome (value_below e p es) IsOneLineValue
 below-one e p [] all = tt
-below-one e p (x ∷ xs) all = later-one (value_below e p xs) _ (below-one e p xs all.1) (by (nat_lt x.0 p))
-  where
-    by : (test : Bool) → IfSome (if test then value_in e (written_by x.1) else None) IsOneLineValue
-    by true = value_in-one e (written_by x.1) all.0
-    by false = tt
+below-one e p (x ∷ xs) all = later-one (value_below e p xs) _ (below-one e p xs all.1)
+    (if-either (λ o. IfSome o IsOneLineValue) (nat_lt x.0 p) (value_in e (written_by x.1)) None (λ is. value_in-one e (written_by x.1) all.0) (λ not. tt))
 
 pushed-kept : (e : Entry) (t : TrailModel) → AllRows IsOneLineWrite (written_by e) → KeptTrail t → KeptTrail (pushed e t)
 pushed-kept e t one kept = rows-append KeptEntry t.entries ((t.next, e) ∷ []) kept (one, tt)
@@ -61,21 +40,9 @@ wrote-kept p [] all = tt
 wrote-kept p (w ∷ ws) all = all
 
 cut-kept : (body : List ℕ) (p : ℕ) (e : Entry) → AllRows IsOneLineWrite (written_by e) → IfSome (cut_entry body p e) KeptEntry
-cut-kept body p (entry.Start n user reads) one = by (is_one_of n body)
-  where
-    by : (test : Bool) → IfSome (if test then None else Some (p, entry.Start n user reads)) KeptEntry
-    by true = tt
-    by false = one
-cut-kept body p (entry.End n writes choice) one = by (is_one_of n body)
-  where
-    by : (test : Bool) → IfSome (if test then wrote p writes else Some (p, entry.End n writes choice)) KeptEntry
-    by true = wrote-kept p writes one
-    by false = one
-cut-kept body p (entry.Again n writes) one = by (is_one_of n body)
-  where
-    by : (test : Bool) → IfSome (if test then wrote p writes else Some (p, entry.Again n writes)) KeptEntry
-    by true = wrote-kept p writes one
-    by false = one
+cut-kept body p (entry.Start n user reads) one = if-either (λ o. IfSome o KeptEntry) (is_one_of n body) None (Some (p, entry.Start n user reads)) (λ is. tt) (λ not. one)
+cut-kept body p (entry.End n writes choice) one = if-either (λ o. IfSome o KeptEntry) (is_one_of n body) (wrote p writes) (Some (p, entry.End n writes choice)) (λ is. wrote-kept p writes one) (λ not. one)
+cut-kept body p (entry.Again n writes) one = if-either (λ o. IfSome o KeptEntry) (is_one_of n body) (wrote p writes) (Some (p, entry.Again n writes)) (λ is. wrote-kept p writes one) (λ not. one)
 cut-kept body p (entry.Wrote writes) one = one
 
 cuts-kept : (body : List ℕ) (es : List (ℕ × Entry)) → AllRows KeptEntry es → AllRows KeptEntry (filter_map (λ (e : ℕ × Entry). cut_entry body e.0 e.1) es)
@@ -89,12 +56,9 @@ cuts-kept body (e ∷ es) all = by (cut_entry body e.0 e.1) refl (cut-kept body 
 -- ---- writes in order
 put-kept : (w : ℕ × Value) (ws : Written) → IsOneLineWrite w → AllRows IsOneLineWrite ws → AllRows IsOneLineWrite (put_row first w ws)
 put-kept w [] one all = (one, tt)
-put-kept w (x ∷ xs) one all = by (key_lt (first x) (first w)) (key_eq (first x) (first w)) (put-kept w xs one all.1)
-  where
-    by : (less same : Bool) → AllRows IsOneLineWrite (put_row first w xs) → AllRows IsOneLineWrite (if less then x ∷ put_row first w xs else (if same then w ∷ xs else w ∷ x ∷ xs))
-    by true same more = (all.0, more)
-    by false true more = (one, all.1)
-    by false false more = (one, all)
+put-kept w (x ∷ xs) one all =
+    if-either (AllRows IsOneLineWrite) (key_lt (first x) (first w)) (x ∷ put_row first w xs) _ (λ less. (all.0, put-kept w xs one all.1))
+    (λ not. if-either (AllRows IsOneLineWrite) (key_eq (first x) (first w)) (w ∷ xs) (w ∷ x ∷ xs) (λ same. (one, all.1)) (λ other. (one, all)))
 
 sorted-kept : (ws sorted : Written) → AllRows IsOneLineWrite ws → AllRows IsOneLineWrite sorted → AllRows IsOneLineWrite (fold (λ kept w. put_row first w kept) sorted ws)
 sorted-kept [] sorted all done = done
@@ -160,18 +124,10 @@ end-good l node user writes choice (Some c) one kept =
     (ended-kept l node (by_element writes) choice (repeats c choice) (sorted-kept writes [] one tt) kept, ended-reply-one (repeats c choice))
 
 -- a start that is taken away takes no value away
-left-kept : (node : ℕ) (es : List (ℕ × Entry)) → AllRows KeptEntry es → AllRows KeptEntry (without_start node es)
-left-kept node [] kept = tt
-left-kept node (e ∷ es) kept = by (is_start_of node e.1) refl (left-kept node es kept.1)
-  where
-    by : (test : Bool) → is_start_of node e.1 ≡ test → AllRows KeptEntry (without_start node es) → AllRows KeptEntry (without_start node (e ∷ es))
-    by true is more = rw is more
-    by false is more = rw is (kept.0, more)
-
 withdraw-good : (l : LiveModel) (node user : ℕ) (o : Option Card) → KeptLive l → GoodStep (withdraw_on l node user o)
 withdraw-good l node user None kept = (kept, tt)
 withdraw-good l node user (Some c) kept =
-    or-good (hold_refusal l node user) l (with_trail l (withdrawn node l.trail), reply.Withdrawn) (hold_refusal-one l node user) kept (left-kept node l.trail.entries kept, tt)
+    or-good (hold_refusal l node user) l (with_trail l (withdrawn node l.trail), reply.Withdrawn) (hold_refusal-one l node user) kept (rows-filter KeptEntry (λ e. not (is_start_of node e.1)) l.trail.entries kept, tt)
 
 misfit-one : (l : LiveModel) (o : Option ℕ) → IfSome (misfit l o) ShowsOneLine
 misfit-one l None = tt

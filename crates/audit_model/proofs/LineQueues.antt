@@ -1,45 +1,24 @@
 -- What stands first in an actor's queues are the calls of its next line.
-use Rattle.std.proofs.Common.{◌≡◌, ◌≢◌, ℕ, zero, suc, ◌+◌, ◌<◌, ◌≤◌, ◌==◌, eqb, eq-eqb, ne_eqb, Bool, true, false, List, [], ◌∷◌, ◌++◌, filter, length, take, Option, Some, None, refl, sym, ap, ◌∙◌, subst, arith, inl, inr, if◌then◌else◌}
-use Rattle.std.specs.Prelude.{get_or, nat_lt, slice_get}
-use Rattle.std.proofs.lemmas.Bool.{and_from, eqb-true, lt-ltb}
+use Rattle.std.proofs.Common.{◌≡◌, ◌≢◌, ℕ, zero, suc, ◌+◌, ◌<◌, ◌≤◌, ◌==◌, eqb, eq-eqb, ne_eqb, Bool, true, false, List, [], ◌∷◌, ◌++◌, filter, length, take, Option, Some, None, refl, sym, ap, ◌∙◌, subst, arith, inl, inr, if◌then◌else◌, get_or, nat_lt, slice_get}
+use Rattle.std.proofs.lemmas.Bool.{eqb-true, lt-ltb}
 use Rattle.std.proofs.lemmas.List.{take_all}
-use Rattle.std.proofs.lemmas.List.Sums.{count_by_more_no, count_by_more_yes}
-use Rattle.std.proofs.lemmas.Option.{get_or_from_slice_get, same_Some, slice_get_cases, slice_get_within}
+use Rattle.audit_model.proofs.Common.{AllRows, and_from, and_told, AreCallsOf, AreCallsOfLines, AreOf, ArePlaced, Asked, asked, asked_among, asks, call_of, calls_case, calls_kind, case_event_in as event_of_case, case_event_of, CaseDecl, CaseEntry, CaseId}
+use Rattle.audit_model.proofs.Common.{cases_of_type, cells-same, cells_in, count_by_more_no, count_by_more_yes, declared-typed, Entry, entry, Event, File, first_of, get_or_from_slice_get, has_case, has_id, has_kind, is_case, is_install, keeps}
+use Rattle.audit_model.proofs.Common.{IsDeclared, IsKnownAct, IsKnownCall, IsPlain, IsWorkable, kind_event-same, kind_event_in as event_of_kind, kind_event_of, KindEntry, KindEvent, known-call, Line, plain-call, Reply, rest_of, roles_of, same_Some, slice_get_cases, slice_get_within, told, told_by, told_each, told_in, VersionModel}
 use mathlib.Core.Logic.{dite}
 use native.Mathlib.Decide.{ℕ_discrete}
-use Rattle.case_core.specs.declared.events.Event.{Event}
-use Rattle.case_core.specs.declared.events.Event.TheVariants as event
-use Rattle.case_core.specs.declared.replies.Reply.{Reply}
-use Rattle.file_facts.proofs.Cases.{declared-typed}
 use Rattle.file_facts.proofs.Lists.{any-at}
-use Rattle.file_facts.specs.Facts.{ArePlaced, IsDeclared, IsKnownAct, IsWorkable}
-use Rattle.file_model.specs.CaseCounts.{cases_of_type, has_id}
-use Rattle.file_model.specs.declared.files.CaseDecl.{CaseDecl}
-use Rattle.file_model.specs.declared.files.File.{File}
-use Rattle.file_model.specs.declared.files.Line.{Line}
-use Rattle.legal_run.specs.LineCalls.{AreOf, AreCallsOf, AreCallsOfLines, asked, told, told_each}
-use Rattle.line_calls.proofs.Facts.{cells-same, kind_event-same, known-call, plain-call}
-use Rattle.line_calls.specs.Calls.{asked_among, call_of, case_event_in as event_of_case, cells_in, has_case, has_kind, is_case, kind_event_in as event_of_kind}
-use Rattle.line_calls.specs.Known.{IsKnownCall, IsPlain, is_install}
 use Rattle.line_calls.specs.declared.calls.Call.{Call}
-use Rattle.line_calls.specs.declared.calls.Call.TheVariants as call
-use Rattle.line_calls.specs.declared.calls.Told.TheVariants as tell
-use Rattle.line_calls.specs.Files.{roles_of}
-use Rattle.script_run.specs.Entries.{CaseEntry, KindEntry}
-use Rattle.turn_cell.specs.History.{entry}
-use Rattle.turn_cell.specs.declared.journal.Entry.{Entry}
-use Rattle.type_core.specs.declared.events.KindEvent.{KindEvent}
-use Rattle.type_core.specs.declared.events.KindEvent.TheVariants as kind_event
-use Rattle.type_core.specs.declared.replies.KindReply.TheVariants as kind_answer
-use Rattle.wsm_lists.specs.Rows.{AllRows}
-use Rattle.wsm_sound.specs.VersionModel.{VersionModel}
-use Rattle.wsm_sound.specs.declared.versions.CaseId.{CaseId}
-use Rattle.audit_model.proofs.CaseCalls.{FitCase, not-told, to_case}
-use Rattle.audit_model.proofs.KindCalls.{FitKind, keeps, to_kind}
-use Rattle.audit_model.specs.Asked.{Asked, and_told, asks, case_event_in, case_event_of, first_of, kind_event_in, kind_event_of, rest_of, told_by, told_in}
-use Rattle.audit_model.specs.Owed.{calls_case, calls_kind}
+use Rattle.audit_model.proofs.Calls.{FitCase, not-told, to_case}
+use Rattle.audit_model.proofs.Calls.{FitKind, to_kind}
+use Rattle.audit_model.specs.Asked.{case_event_in, kind_event_in}
 use Rattle.audit_model.proofs.OwnLines.{OwnTelling, asked_own, own_left, own_then, own_version}
 use Rattle.audit_model.proofs.Queues.{CaseQueues, KindQueues, calls_along, calls_at, calls_in, cases_left, cases_then, id_at, kinds_left, kinds_then, of_each, of_one, of_type}
+use Rattle.case_core.specs.declared.events.Event.TheVariants as event
+use Rattle.line_calls.specs.declared.calls.Call.TheVariants as call
+use Rattle.line_calls.specs.declared.calls.Told.TheVariants as tell
+use Rattle.type_core.specs.declared.events.KindEvent.TheVariants as kind_event
+use Rattle.type_core.specs.declared.replies.KindReply.TheVariants as kind_answer
 
 -- ---- places of a type have cases
 some-case : (cases : List CaseDecl) → ArePlaced cases → (t i n : ℕ) → n ≤ length cases → i < cases_of_type t (take n cases) → IsDeclared (id_at t i) cases
@@ -93,13 +72,6 @@ entry-is {M} {E} {R} {W} {S} x a e r one two three =
     let here : Entry M E R W S → Entry M E R W S = λ y. y in
     ap (λ n. here (entry n x.event x.reply)) one ∙ (ap (λ y. here (entry a y x.reply)) two ∙ ap (λ y. here (entry a e y)) three)
 
--- the first of a queue that fits lines
-record FirstFits {X Y : Type 0} (FitsLines : List X → List Y → Type 0) (xs : List X) (rest : List Y) : Type 0 where
-  first : X
-  others : List X
-  queue : xs ≡ first ∷ others
-  more : FitsLines others rest
-
 module _ (f : File) (workable : IsWorkable f) (a : ℕ) where
   abbrev pub IsOfActor : KindEntry → Type 0
   IsOfActor e = (e.caller ≡ a) × TellsVersion e
@@ -135,6 +107,13 @@ module _ (f : File) (workable : IsWorkable f) (a : ℕ) where
   asked-kind K r l ls ready b roles t low calls =
       first-kind K (call_of b roles l.act) t (K t) l (filter (to_kind t) ls) refl (sym (kind_event-same b roles l.act)) (subst (FitKind (K t)) (keeps (to_kind t) l ls calls) (ready.kinds t low)) (ready.own t low)
 
+  -- where it is asked for the newest version, it told one
+  newest-first : (K : KindQueues) (k : Call) (t : ℕ) → event_of_kind k ≡ Some kind_event.Newest → (h : IsAsked K k t) → (v : VersionModel) × (K t ≡ entry a kind_event.Newest (kind_answer.Is v) ∷ h.others)
+  newest-first K k t newest h =
+      let event : h.first.event ≡ kind_event.Newest = same_Some h.first.event kind_event.Newest (sym h.event ∙ newest) in
+      let (v, reply) = h.tells event in
+      (v, h.queue ∙ ap (λ e. e ∷ h.others) (entry-is h.first a kind_event.Newest (kind_answer.Is v) h.caller event reply))
+
   -- ---- the first of a case
   record IsTold (C : CaseQueues) (ver : Option VersionModel) (k : Call) (c : CaseId) : Type 0 where
     first : CaseEntry
@@ -168,14 +147,8 @@ module _ (f : File) (workable : IsWorkable f) (a : ℕ) where
     tells-first : (t : ℕ) → t < length f.types → has_kind t (cells_in k) ≡ true → event_of_kind k ≡ Some kind_event.Newest → asked_among (cells_in k) ≡ Some t → TellsFirst t
     tells-first t low calls newest asking =
         let h = asks_kind t low calls in
-        let event : h.first.event ≡ kind_event.Newest = same_Some h.first.event kind_event.Newest (sym h.event ∙ newest) in
-        let (v, reply) = h.tells event in
-        let is : h.first ≡ entry a kind_event.Newest (kind_answer.Is v) = entry-is h.first a kind_event.Newest (kind_answer.Is v) h.caller event reply in
-        let queue : K t ≡ entry a kind_event.Newest (kind_answer.Is v) ∷ h.others = h.queue ∙ ap (λ e. e ∷ h.others) is in
+        let (v, queue) = newest-first K k t newest h in
         record { version = v; others = h.others; queue = queue; is = told_first t low asking ∙ ap (λ es. first_of (told_in es)) queue }
-
-    of-type : (t : ℕ) (e : KindEntry) (es : List KindEntry) → K t ≡ e ∷ es → of_type t (K t) ≡ of_type t (e ∷ es)
-    of-type t e es is = ap (of_type t) is
 
     -- the first of a case is a call of the actor
     record TellsOne (c : CaseId) (e : Event) : Type 0 where
@@ -251,10 +224,7 @@ module _ (f : File) (workable : IsWorkable f) (a : ℕ) where
   -- what is told behind the first of a type
   told-rest : (K : KindQueues) (k : Call) (t : ℕ) → event_of_kind k ≡ Some kind_event.Newest → IsAsked K k t → rest_of (told_in (K t)) ≡ told_in (rest_of (K t))
   told-rest K k t newest h =
-      let event : h.first.event ≡ kind_event.Newest = same_Some h.first.event kind_event.Newest (sym h.event ∙ newest) in
-      let (v, reply) = h.tells event in
-      let is : h.first ≡ entry a kind_event.Newest (kind_answer.Is v) = entry-is h.first a kind_event.Newest (kind_answer.Is v) h.caller event reply in
-      let queue : K t ≡ entry a kind_event.Newest (kind_answer.Is v) ∷ h.others = h.queue ∙ ap (λ e. e ∷ h.others) is in
+      let (v, queue) = newest-first K k t newest h in
       ap (λ es. rest_of (told_in es)) queue ∙ sym (ap (λ es. told_in (rest_of es)) queue)
 
   told-install : (K : KindQueues) (t u : ℕ) (e : KindEvent) → is_install e ≡ true → IsAsked K (call.Kind u e) t → told_in (K t) ≡ told_in (rest_of (K t))
@@ -318,11 +288,7 @@ module _ (f : File) (workable : IsWorkable f) (a : ℕ) where
   -- there is a version for each line that asks
   pub version-there : (K : KindQueues) (r : OwnTelling) (l : Line) (ls : List Line) (t : ℕ) → AsksReady K r (l ∷ ls) → t < length f.types → calls_kind t l.act ≡ true → kind_event_in l.act ≡ Some kind_event.Newest → asks l.act ≡ Some t → (v : VersionModel) × (own_version r (asks l.act) ≡ Some v)
   version-there K r l ls t ready low calls newest asking =
-      let h = asked-kind K r l ls ready 0 [] t low calls in
-      let event : h.first.event ≡ kind_event.Newest = same_Some h.first.event kind_event.Newest (sym h.event ∙ newest) in
-      let (v, reply) = h.tells event in
-      let is : h.first ≡ entry a kind_event.Newest (kind_answer.Is v) = entry-is h.first a kind_event.Newest (kind_answer.Is v) h.caller event reply in
-      let queue : K t ≡ entry a kind_event.Newest (kind_answer.Is v) ∷ h.others = h.queue ∙ ap (λ e. e ∷ h.others) is in
+      let (v, queue) = newest-first K (call_of 0 [] l.act) t newest (asked-kind K r l ls ready 0 [] t low calls) in
       (v, version-first K r (l ∷ ls) (asks l.act) t ready low asking ∙ ap (λ es. first_of (told_in es)) queue)
 
   -- ---- lines one after another

@@ -1,37 +1,12 @@
 -- Lines that ask little: what their events weigh, and how old a case is behind them.
-use Rattle.std.proofs.Common.{◌≡◌, ℕ, zero, suc, ◌+◌, ◌<◌, ◌≤◌, ◌==◌, Bool, true, false, List, [], ◌∷◌, ◌++◌, length, length-append, map, Some, refl, sym, ap, ◌∙◌, subst, arith, if◌then◌else◌}
-use Rattle.std.proofs.lemmas.List.Sums.{sum_by-cons}
-use Rattle.std.specs.Prelude.{filter, slice_set}
-use Rattle.audit_facts.specs.Facts.{IsAuditable, WritesOneLine}
-use Rattle.audit_model.specs.Asked.{Asked, Telling, asked_lines, asked_phases, asks, case_event_of, kind_event_of, left_to_tell, told_at, version_for}
-use Rattle.audit_model.specs.Owed.{calls_kind, owed_kind}
+use Rattle.std.proofs.Common.{◌≡◌, ℕ, zero, suc, ◌+◌, ◌<◌, ◌≤◌, ◌==◌, Bool, true, false, List, [], ◌∷◌, ◌++◌, length, length-append, map, Some, refl, sym, ap, ◌∙◌, subst, arith, if◌then◌else◌, filter, slice_set}
+use Rattle.audit_model.proofs.Common.{actor_of, AllRows, AreTurns, Asked, asked_lines, asked_phases, asks, behind_front, both-phases, call_of, calls_kind, case-light as call-case-light, case_after, case_event_of, CaseEntry, ClosedCase, Event, File, filled, filled-many}
+use Rattle.audit_model.proofs.Common.{filter-phases, how_many, if-either, IsAuditable, IsKnown, IsModest, IsModestLine, IsSteady, IsWorkable, KeptCase, kind-light as call-kind-light, kind_event_of, KindEvent, known-light, left_to_tell, Line, line_of, rows-filter}
+use Rattle.audit_model.proofs.Common.{lines_in, not_created, one_taken, owed_kind, queue_of, roles_of, sum_by-cons, Telling, told_at, version_for, weight as kind_weight, WritesOneLine, WritesValues}
 use Rattle.audit_model.proofs.KeptValues.{case-kept}
-use Rattle.audit_model.proofs.KindCalls.{rows-filter}
-use Rattle.audit_model.proofs.Live.{filter-phases}
-use Rattle.audit_model.specs.Kept.{KeptCase, WritesValues}
+use Rattle.audit_model.proofs.Runs.{phases-asked}
 use Rattle.case_core.proofs.AgesOfSteps.{age-next_case}
 use Rattle.case_core.specs.Ages.{weight}
-use Rattle.case_core.specs.CaseModel.{not_created}
-use Rattle.case_core.specs.Machine.{case_after}
-use Rattle.case_core.specs.declared.events.Event.{Event}
-use Rattle.file_facts.specs.Facts.{IsKnown, IsWorkable, lines_in}
-use Rattle.file_model.specs.declared.files.CaseDecl.{CaseDecl}
-use Rattle.file_model.specs.declared.files.File.{File}
-use Rattle.file_model.specs.declared.files.Line.{Line}
-use Rattle.line_calls.proofs.Facts.{case-light as call-case-light, kind-light as call-kind-light, known-light}
-use Rattle.line_calls.specs.Calls.{call_of}
-use Rattle.line_calls.specs.Files.{roles_of}
-use Rattle.line_followers.proofs.Dues.{filled-many}
-use Rattle.line_followers.specs.Filled.{filled}
-use Rattle.line_followers.specs.Turns.{AreTurns, behind_front, one_taken, queue_of}
-use Rattle.line_readers.specs.Owed.{how_many}
-use Rattle.script_run.specs.Entries.{CaseEntry}
-use Rattle.script_run.specs.declared.runs.ClosedCase.{ClosedCase}
-use Rattle.type_core.specs.Machine.{weight as kind_weight}
-use Rattle.type_core.specs.declared.events.KindEvent.{KindEvent}
-use Rattle.wsm_lists.specs.Rows.{AllRows}
-use Rattle.audit_model.specs.Journaled.{IsSteady}
-use Rattle.audit_model.specs.Lines.{IsModest, IsModestLine, actor_of, line_of}
 
 -- ---- the queues of actors
 module _ {L : Type 0} (P : L → Type 0) where
@@ -94,33 +69,15 @@ steady-on from to e made (kept, young) writes light machine journal =
     )
 
 -- ---- the lines of a file
-lines-modest : (types actors : ℕ) (cases : List CaseDecl) (lines : List Line) → AllRows (IsKnown types actors cases) lines → AllRows WritesOneLine lines → AllRows IsModestLine lines
-lines-modest types actors cases [] known writes = tt
-lines-modest types actors cases (l ∷ ls) (one, known) (shown, writes) = ((shown, λ a roles. known-light a roles types cases l.act one.act), lines-modest types actors cases ls known writes)
-
-phases-modest : (types actors : ℕ) (cases : List CaseDecl) (phases : List (List Line)) → AllRows (AllRows (IsKnown types actors cases)) phases → AllRows (AllRows WritesOneLine) phases → AllRows (AllRows IsModestLine) phases
-phases-modest types actors cases [] known writes = tt
-phases-modest types actors cases (lines ∷ phases) (one, known) (shown, writes) = (lines-modest types actors cases lines one shown, phases-modest types actors cases phases known writes)
-
-asked-modest : (q : Telling) (lines : List Line) → AllRows IsModestLine lines → AllRows IsModest (asked_lines q lines)
-asked-modest q [] all = tt
-asked-modest q (l ∷ ls) (one, all) = (one, asked-modest (told_at q l.actor (asks l.act)) ls all)
-
-script-modest : (q : Telling) (phases : List (List Line)) → AllRows (AllRows IsModestLine) phases → AllRows (AllRows IsModest) (asked_phases q phases)
-script-modest q [] all = tt
-script-modest q (lines ∷ phases) (one, all) = (asked-modest q lines one, script-modest (left_to_tell q lines) phases all)
-
 pub file-modest : (f : File) (q : Telling) → IsWorkable f → IsAuditable f → AllRows (AllRows IsModest) (asked_phases q f.phases)
-file-modest f q workable auditable = script-modest q f.phases (phases-modest (length f.types) (length f.actors) f.cases f.phases workable.known auditable.writes)
+file-modest f q workable auditable =
+    phases-asked IsModestLine q f.phases
+    (both-phases (IsKnown (length f.types) (length f.actors) f.cases) WritesOneLine IsModestLine (λ l known writes. (writes, λ a roles. known-light a roles (length f.types) f.cases l.act known.act)) f.phases workable.known auditable.writes)
 
 -- ---- how many lines are owed
 few-filtered : {L : Type 0} (p : L → Bool) (ls : List L) → length (filter p ls) ≤ length ls
 few-filtered p [] = omega arith
-few-filtered {L} p (l ∷ ls) = by (p l) (few-filtered p ls)
-  where
-    by : (test : Bool) → length (filter p ls) ≤ length ls → length (if test then l ∷ filter p ls else filter p ls) ≤ suc (length ls)
-    by true few = omega (arith, few)
-    by false few = omega (arith, few)
+few-filtered {L} p (l ∷ ls) = let few = few-filtered p ls in if-either (λ (xs : List L). length xs ≤ suc (length ls)) (p l) (l ∷ filter p ls) (filter p ls) (λ is. omega (arith, few)) (λ not. omega (arith, few))
 
 few-called : {L : Type 0} (p : L → Bool) (phases : List (List L)) → how_many (map (λ lines. filter p lines) phases) ≤ how_many phases
 few-called p [] = omega arith

@@ -1,27 +1,16 @@
 -- Texts without a line feed.
-use Rattle.std.proofs.Common.{◌≡◌, ℕ, zero, suc, ◌+◌, ◌≤◌, ◌==◌, ne_eqb, Bool, true, false, ◌||◌, not, List, [], ◌∷◌, ◌++◌, flat_map, Option, Some, None, refl, arith, lit≤, inl, inr, if◌then◌else◌}
-use Rattle.std.specs.Fmt.{decimal, digit_glyph, digits, digits_onto, signed_decimal}
-use Rattle.std.specs.List.{list_all}
-use Rattle.std.specs.Prelude.{ℤ, pos, negsuc, ◌/◌, ◌%◌, nat_lt, slice_get}
-use Rattle.std.proofs.lemmas.Bool.{and_parts, eqb-true, leb-true, or_cases}
-use Rattle.fault_words.specs.FaultWords.{name_or, named}
-use Rattle.file_facts.proofs.Cases.{row-at}
-use Rattle.file_words.specs.Lines.{Bytes, CutLines, lines_of, onto_lines, put_first}
+use Rattle.std.proofs.Common.{◌≡◌, ℕ, zero, suc, ◌+◌, ◌≤◌, ◌==◌, ne_eqb, Bool, true, false, ◌||◌, not, List, [], ◌∷◌, ◌++◌, flat_map, Option, Some, None, refl, arith, lit≤, inl, inr, decimal, ℤ, pos, negsuc, ◌/◌, ◌%◌, nat_lt, slice_get}
+use Rattle.std.specs.Fmt.{digits}
+use Rattle.std.proofs.lemmas.Bool.{eqb-true, leb-true}
+use Rattle.audit_model.proofs.Common.{if-either, AllRows, and_parts, Bytes, CutLines, digit_glyph, digits_onto, ended, escaped, is_escaped, IsName, IsOneLine, IsOneLineValue, lines_of, list_all, name_or, named, onto_lines, or_cases, put_first, row-at, rows-append, signed_decimal, Value, value_text}
 use Rattle.file_words.specs.Names.{in_name, in_range, is_digit, starts_name}
-use Rattle.line_readers.specs.FirstWrong.{ended}
-use Rattle.line_readers.specs.Readers.{IsOneLine}
-use Rattle.report_words.specs.Words.{escaped, is_escaped, value_text}
-use Rattle.wsm_lists.proofs.Lists.{rows-append}
-use Rattle.wsm_lists.specs.Rows.{AllRows}
-use Rattle.wsm_lists.specs.declared.values.Value.{Value}
 use Rattle.wsm_lists.specs.declared.values.Value.TheVariants as value
-use Rattle.audit_facts.specs.Facts.{IsName, IsOneLineValue}
 
 -- a byte that is no line feed
 abbrev pub Stays : ℕ → Type 0
 Stays b = (b == 10) ≡ false
 
-abbrev stays : ℕ → Bool
+abbrev pub stays : ℕ → Bool
 stays b = not (b == 10)
 
 not-not : (test : Bool) → not test ≡ true → test ≡ false
@@ -59,19 +48,14 @@ ended-one (b ∷ bs) = line-first b (lines_of bs) (ended-one bs) (b == 10) refl
 
 -- ---- numbers
 glyph-stays : (d : ℕ) → Stays (digit_glyph false d)
-glyph-stays d = by (nat_lt d 10)
-  where
-    by : (test : Bool) → Stays (if test then 48 + d else 87 + d)
-    by true = ne_eqb (48 + d) 10 (λ same. omega (arith, same))
-    by false = ne_eqb (87 + d) 10 (λ same. omega (arith, same))
+glyph-stays d = if-either Stays (nat_lt d 10) (48 + d) (87 + d) (λ low. ne_eqb (48 + d) 10 (λ same. omega (arith, same))) (λ high. ne_eqb (87 + d) 10 (λ same. omega (arith, same)))
 
 onto-one : (k n : ℕ) (acc : Bytes) → IsOneLine acc → IsOneLine (digits_onto k 10 false n acc)
 onto-one zero n acc one = one
-onto-one (suc k) n acc one = by (n / 10 == 0) (onto-one k (n / 10) (digit_glyph false (n % 10) ∷ acc) (glyph-stays (n % 10), one))
-  where
-    by : (test : Bool) → IsOneLine (digits_onto k 10 false (n / 10) (digit_glyph false (n % 10) ∷ acc)) → IsOneLine (if test then digit_glyph false (n % 10) ∷ acc else digits_onto k 10 false (n / 10) (digit_glyph false (n % 10) ∷ acc))
-    by true more = (glyph-stays (n % 10), one)
-    by false more = more
+onto-one (suc k) n acc one =
+    let more = digit_glyph false (n % 10) ∷ acc in
+    let kept : IsOneLine more = (glyph-stays (n % 10), one) in
+    if-either IsOneLine (n / 10 == 0) more (digits_onto k 10 false (n / 10) more) (λ last. kept) (λ not. onto-one k (n / 10) more kept)
 
 pub decimal-one : (n : ℕ) → IsOneLine (decimal n)
 unfolding digits
@@ -131,11 +115,7 @@ named-one names all n = by (slice_get names n) refl
 
 -- ---- values
 escaped-one : (b : ℕ) → Stays b → IsOneLine (escaped b)
-escaped-one b one = by (is_escaped b)
-  where
-    by : (test : Bool) → IsOneLine (if test then 92 ∷ b ∷ [] else b ∷ [])
-    by true = (refl, (one, tt))
-    by false = (one, tt)
+escaped-one b one = if-either IsOneLine (is_escaped b) (92 ∷ b ∷ []) (b ∷ []) (λ is. (refl, (one, tt))) (λ not. (one, tt))
 
 escapes-one : (t : Bytes) → IsOneLine t → IsOneLine (flat_map escaped t)
 escapes-one [] one = tt

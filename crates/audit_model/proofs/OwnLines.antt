@@ -1,16 +1,10 @@
 -- The lines of one actor, with the versions that it was told.
 use Rattle.std.proofs.Common.{◌≡◌, ◌≢◌, ℕ, ◌==◌, eqb, eq-eqb, ne_eqb, Bool, true, false, ◌&&◌, List, [], ◌∷◌, ◌++◌, filter, Option, Some, None, refl, sym, ap, ◌∙◌, if◌then◌else◌}
 use Rattle.std.proofs.lemmas.Bool.{eqb-true}
-use Rattle.std.proofs.lemmas.List.Elements.{filter-append}
-use Rattle.file_model.specs.declared.files.Line.{Line}
+use Rattle.audit_model.proofs.Common.{drops, keeps, filter-swap, all_owed, Asked, asked_lines, asked_phases, asks, by-append, CaseId, filter-append, first_of, left_to_tell, Line, lines_by, owed_case, rest_of, Telling, told_at, version_for, VersionModel}
 use Rattle.legal_run.specs.LineCalls.{lines_of}
-use Rattle.line_readers.proofs.Owed.{by-append}
-use Rattle.line_readers.specs.Owed.{all_owed, lines_by}
-use Rattle.wsm_sound.specs.VersionModel.{VersionModel}
-use Rattle.wsm_sound.specs.declared.versions.CaseId.{CaseId}
-use Rattle.audit_model.proofs.CaseCalls.{asked_actor, to_case}
-use Rattle.audit_model.proofs.KindCalls.{actor_of, drops, filter-swap, keeps, owed_in, to_kind}
-use Rattle.audit_model.specs.Asked.{Asked, Telling, asked_lines, asked_phases, asks, first_of, left_to_tell, owed_case, rest_of, told_at, version_for}
+use Rattle.audit_model.proofs.Calls.{asked_actor, to_case}
+use Rattle.audit_model.proofs.Calls.{actor_of, owed_in, to_kind}
 
 -- what an actor is told by each type
 abbrev pub OwnTelling : Type 0

@@ -1,21 +1,6 @@
 -- A journal, phase by phase.
 use Rattle.std.proofs.Common.{◌≡◌, ℕ, ◌+◌, ◌<◌, true, false, List, [], ◌∷◌, ◌++◌, append_assoc, append-nil, drop, get_or, length, Some, None, refl, sym, ap, ◌∙◌, subst, arith}
-use Rattle.std.proofs.lemmas.List.{drop_all, drop_more}
-use Rattle.audit_model.specs.Asked.{Asked}
-use Rattle.audit_model.specs.Journaled.{GrowsTo, InPhase, InPhases, Journaled, LineJudged, PhaseJudged, StopsAt, behind_them, rest}
-use Rattle.audit_model.specs.Lines.{actor_of}
-use Rattle.audit_model.specs.Printed.{caller_in}
-use Rattle.line_followers.proofs.Dues.{AreSame, filled-many, same-follows, same-journal}
-use Rattle.line_followers.proofs.Reaching.{follows-on, reaches-here}
-use Rattle.line_followers.proofs.Rests.{phase-over, reaches-last, reaches-same, rest-done, rest-on}
-use Rattle.line_followers.specs.Filled.{filled}
-use Rattle.line_followers.specs.Follows.{Follows}
-use Rattle.line_followers.specs.Turns.{AreTurns}
-use Rattle.line_readers.specs.Journals.{journal}
-use Rattle.line_readers.specs.Owed.{how_many}
-use Rattle.line_readers.specs.Readers.{Reader}
-use Rattle.text_follower.specs.Followed.{Followed}
-use Rattle.turn_cell.specs.declared.journal.Entry.{Entry}
+use Rattle.audit_model.proofs.Common.{actor_of, AreSame, AreTurns, Asked, behind_them, caller_in, drop_all, drop_more, Entry, filled, filled-many, Followed, Follows, follows-on, GrowsTo, how_many, InPhase, InPhases, journal, Journaled, LineJudged, phase-over, PhaseJudged, reaches-here, reaches-last, reaches-same, Reader, rest, rest-done, rest-on, same-follows, same-journal, StopsAt}
 
 filled-twice : {L : Type 0} (ps : List (List L)) → filled (filled ps) ≡ filled ps
 filled-twice [] = refl

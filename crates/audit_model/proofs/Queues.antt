@@ -1,21 +1,11 @@
 -- The calls of an actor's lines, taken from what types and cases have of the actor: each line takes the first of those that it calls.
-use Rattle.std.proofs.Common.{◌≡◌, ◌≢◌, ℕ, zero, suc, ◌+◌, ◌<◌, ◌≤◌, ◌==◌, eqb, eq-eqb, ne_eqb, Bool, true, false, ◌&&◌, List, [], ◌∷◌, ◌++◌, append-nil, take, refl, sym, ap, ◌∙◌, subst, arith, append_assoc, if◌then◌else◌}
-use Rattle.std.proofs.lemmas.Bool.{and_from, and_parts, eqb-true, ltb-false, ltb-true}
-use Rattle.std.specs.Prelude.{nat_lt}
+use Rattle.std.proofs.Common.{◌≡◌, ◌≢◌, ℕ, zero, suc, ◌+◌, ◌<◌, ◌≤◌, ◌==◌, eqb, eq-eqb, ne_eqb, Bool, true, false, ◌&&◌, List, [], ◌∷◌, ◌++◌, append-nil, take, refl, sym, ap, ◌∙◌, subst, arith, append_assoc, if◌then◌else◌, nat_lt}
+use Rattle.std.proofs.lemmas.Bool.{eqb-true, ltb-false, ltb-true}
+use Rattle.audit_model.proofs.Common.{Act, and_from, and_parts, Call, calls_case, calls_kind, calls_of_case, calls_of_case-append, calls_of_kind, calls_of_kind-append, CaseEntry, CaseId, Cells, cells_of, done_by, has_case, has_kind, is_case, KindEntry, Line, of_case, of_kind, rest_of, Trace}
 use mathlib.Core.Logic.{dite}
 use native.Mathlib.Decide.{ℕ_discrete}
-use Rattle.file_model.specs.declared.files.Act.{Act}
-use Rattle.file_model.specs.declared.files.Line.{Line}
-use Rattle.legal_run.proofs.OnMachines.{calls_of_case-append, calls_of_kind-append}
-use Rattle.legal_run.specs.Legal.{Trace, done_by}
-use Rattle.legal_run.specs.LineCalls.{Call, calls_of_case, calls_of_kind, lines_of, of_case, of_kind}
-use Rattle.line_calls.specs.Calls.{cells_of, has_case, has_kind, is_case}
-use Rattle.line_calls.specs.declared.calls.Cells.{Cells}
+use Rattle.legal_run.specs.LineCalls.{lines_of}
 use Rattle.line_calls.specs.declared.calls.Cells.TheVariants as cells
-use Rattle.script_run.specs.Entries.{CaseEntry, KindEntry}
-use Rattle.wsm_sound.specs.declared.versions.CaseId.{CaseId}
-use Rattle.audit_model.specs.Asked.{rest_of}
-use Rattle.audit_model.specs.Owed.{calls_case, calls_kind}
 
 abbrev pub KindQueues : Type 0
 KindQueues = ℕ → List KindEntry
@@ -198,28 +188,6 @@ if-split : {X : Type 0} (test : Bool) (xs : List X) → (if test then ahead xs e
 if-split true xs = ahead-rest xs
 if-split false xs = refl
 
-kinds-split : (ls : List Line) (K : KindQueues) (C : CaseQueues) (t : ℕ) → calls_of_kind t (calls_along K C ls) ++ kinds_left K ls t ≡ K t
-kinds-split [] K C t = refl
-kinds-split (l ∷ ls) K C t =
-    let here = calls_at K C l.act in
-    let later = calls_along (kinds_then K l.act) (cases_then C l.act) ls in
-    let left = kinds_left (kinds_then K l.act) ls t in
-    ap (λ xs. xs ++ left) (calls_of_kind-append t here later)
-    ∙ (append_assoc (calls_of_kind t here) (calls_of_kind t later) left
-    ∙ (ap (λ xs. calls_of_kind t here ++ xs) (kinds-split ls (kinds_then K l.act) (cases_then C l.act) t)
-    ∙ (ap (λ xs. xs ++ kinds_then K l.act t) (kind-taken K C t (cells_of l.act)) ∙ if-split (calls_kind t l.act) (K t))))
-
-cases-split : (ls : List Line) (K : KindQueues) (C : CaseQueues) (c : CaseId) → calls_of_case c (calls_along K C ls) ++ cases_left C ls c ≡ C c
-cases-split [] K C c = refl
-cases-split (l ∷ ls) K C c =
-    let here = calls_at K C l.act in
-    let later = calls_along (kinds_then K l.act) (cases_then C l.act) ls in
-    let left = cases_left (cases_then C l.act) ls c in
-    ap (λ xs. xs ++ left) (calls_of_case-append c here later)
-    ∙ (append_assoc (calls_of_case c here) (calls_of_case c later) left
-    ∙ (ap (λ xs. calls_of_case c here ++ xs) (cases-split ls (kinds_then K l.act) (cases_then C l.act) c)
-    ∙ (ap (λ xs. xs ++ cases_then C l.act c) (case-taken K C c (cells_of l.act)) ∙ if-split (calls_case c l.act) (C c))))
-
 -- ---- phases one after another, for all actors
 abbrev pub traces_of : List (List Line) → (ℕ → KindQueues) → (ℕ → CaseQueues) → List Trace
 traces_of [] K C = []
@@ -232,27 +200,35 @@ take-traces_of (suc k) [] K C = refl
 take-traces_of (suc k) (lines ∷ phases) K C =
     ap (λ ts. (λ (a : ℕ). calls_along (K a) (C a) (lines_of a lines)) ∷ ts) (take-traces_of k phases (λ a. kinds_left (K a) (lines_of a lines)) (λ a. cases_left (C a) (lines_of a lines)))
 
--- what an actor did is a beginning of what there is of it
+-- what the calls of one type or one case are, and what is left of them
+module _ {X : Type 0} (calls_of : List Call → List X) (append : (xs ys : List Call) → calls_of (xs ++ ys) ≡ calls_of xs ++ calls_of ys) (none : calls_of [] ≡ []) (queue : KindQueues → CaseQueues → List X) (calls : Act → Bool)
+    (next : (K : KindQueues) (C : CaseQueues) (x : Act) → queue (kinds_then K x) (cases_then C x) ≡ (if calls x then rest_of (queue K C) else queue K C))
+    (taken : (K : KindQueues) (C : CaseQueues) (x : Act) → calls_of (calls_at K C x) ≡ (if calls x then ahead (queue K C) else [])) where
+  split : (ls : List Line) (K : KindQueues) (C : CaseQueues) → calls_of (calls_along K C ls) ++ queue (kinds_left K ls) (cases_left C ls) ≡ queue K C
+  split [] K C = ap (λ xs. xs ++ queue K C) none
+  split (l ∷ ls) K C =
+      let here = calls_at K C l.act in
+      let K_then = kinds_then K l.act in
+      let C_then = cases_then C l.act in
+      let left = queue (kinds_left K_then ls) (cases_left C_then ls) in
+      ap (λ xs. xs ++ left) (append here (calls_along K_then C_then ls))
+      ∙ (append_assoc (calls_of here) (calls_of (calls_along K_then C_then ls)) left
+      ∙ (ap (λ xs. calls_of here ++ xs) (split ls K_then C_then ∙ next K C l.act) ∙ (ap (λ xs. xs ++ (if calls l.act then rest_of (queue K C) else queue K C)) (taken K C l.act) ∙ if-split (calls l.act) (queue K C))))
+
+  -- what an actor did is a beginning of what there is of it
+  begin : (phases : List (List Line)) (K : ℕ → KindQueues) (C : ℕ → CaseQueues) (a : ℕ) → (left : List X) × (calls_of (done_by a (traces_of phases K C)) ++ left ≡ queue (K a) (C a))
+  begin [] K C a = (queue (K a) (C a), ap (λ xs. xs ++ queue (K a) (C a)) none)
+  begin (lines ∷ phases) K C a =
+      let own = lines_of a lines in
+      let here = calls_along (K a) (C a) own in
+      let rest = traces_of phases (λ b. kinds_left (K b) (lines_of b lines)) (λ b. cases_left (C b) (lines_of b lines)) in
+      let (left, more) = begin phases (λ b. kinds_left (K b) (lines_of b lines)) (λ b. cases_left (C b) (lines_of b lines)) a in (
+        left,
+        ap (λ xs. xs ++ left) (append here (done_by a rest)) ∙ (append_assoc (calls_of here) (calls_of (done_by a rest)) left ∙ (ap (λ xs. calls_of here ++ xs) more ∙ split own (K a) (C a))),
+      )
+
 pub kinds-begin : (phases : List (List Line)) (K : ℕ → KindQueues) (C : ℕ → CaseQueues) (a t : ℕ) → (left : List KindEntry) × (calls_of_kind t (done_by a (traces_of phases K C)) ++ left ≡ K a t)
-kinds-begin [] K C a t = (K a t, refl)
-kinds-begin (lines ∷ phases) K C a t =
-    let own = lines_of a lines in
-    let here = calls_along (K a) (C a) own in
-    let rest = traces_of phases (λ b. kinds_left (K b) (lines_of b lines)) (λ b. cases_left (C b) (lines_of b lines)) in
-    let (left, more) = kinds-begin phases (λ b. kinds_left (K b) (lines_of b lines)) (λ b. cases_left (C b) (lines_of b lines)) a t in (
-      left,
-      ap (λ xs. xs ++ left) (calls_of_kind-append t here (done_by a rest)) ∙ (append_assoc (calls_of_kind t here) (calls_of_kind t (done_by a rest)) left
-          ∙ (ap (λ xs. calls_of_kind t here ++ xs) more ∙ kinds-split own (K a) (C a) t)),
-    )
+kinds-begin phases K C a t = begin (calls_of_kind t) (calls_of_kind-append t) refl (λ Q R. Q t) (calls_kind t) (λ Q R x. refl) (λ Q R x. kind-taken Q R t (cells_of x)) phases K C a
 
 pub cases-begin : (phases : List (List Line)) (K : ℕ → KindQueues) (C : ℕ → CaseQueues) (a : ℕ) (c : CaseId) → (left : List CaseEntry) × (calls_of_case c (done_by a (traces_of phases K C)) ++ left ≡ C a c)
-cases-begin [] K C a c = (C a c, refl)
-cases-begin (lines ∷ phases) K C a c =
-    let own = lines_of a lines in
-    let here = calls_along (K a) (C a) own in
-    let rest = traces_of phases (λ b. kinds_left (K b) (lines_of b lines)) (λ b. cases_left (C b) (lines_of b lines)) in
-    let (left, more) = cases-begin phases (λ b. kinds_left (K b) (lines_of b lines)) (λ b. cases_left (C b) (lines_of b lines)) a c in (
-      left,
-      ap (λ xs. xs ++ left) (calls_of_case-append c here (done_by a rest)) ∙ (append_assoc (calls_of_case c here) (calls_of_case c (done_by a rest)) left
-          ∙ (ap (λ xs. calls_of_case c here ++ xs) more ∙ cases-split own (K a) (C a) c)),
-    )
+cases-begin phases K C a c = begin (calls_of_case c) (calls_of_case-append c) refl (λ Q R. R c) (calls_case c) (λ Q R x. refl) (λ Q R x. case-taken Q R c (cells_of x)) phases K C a

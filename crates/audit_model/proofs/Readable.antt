@@ -1,43 +1,17 @@
 -- Types and cases as journals whose lines are read.
-use Rattle.std.proofs.Common.{◌≡◌, ℕ, ◌+◌, ◌<◌, ◌==◌, Bool, true, false, List, [], ◌∷◌, ◌++◌, length, map, Option, Some, None, refl, sym, ap, ◌∙◌, subst, arith, if◌then◌else◌}
-use Rattle.std.specs.Prelude.{IfSome}
-use Rattle.audit_facts.specs.Facts.{IsAuditable, IsOneLineWrite, WritesOneLine}
+use Rattle.std.proofs.Common.{◌≡◌, ℕ, ◌+◌, ◌<◌, ◌==◌, Bool, true, false, List, [], ◌∷◌, ◌++◌, length, map, Option, Some, None, refl, sym, ap, ◌∙◌, subst, arith, if◌then◌else◌, IfSome}
+use Rattle.audit_model.proofs.Common.{actor_of, AllRows, Asked, call_of, call_writes, case_event_in, case_event_of, case_journal, case_made, CaseDecl, CaseEntry, cases, ClosedCase, ClosedKind, Event, File, filled, first_by, Followed, Follows}
+use Rattle.audit_model.proofs.Common.{follows-mapped, GrowsTo, IsAuditable, IsOneLineWrite, IsWorkable, KeptCase, kind_behind, kind_journal, KindEntry, KindEvent, KindModel, kinds, Line, line_of, not_created, owed_case, owed_kind, roles_of, StopsAt}
+use Rattle.audit_model.proofs.Common.{version_event, VersionModel, with_others, writes-same, WritesOneLine, WritesValues}
 use Rattle.audit_model.proofs.JournalRight.{IsReadable}
-use Rattle.audit_model.proofs.Live.{case-line-one, kind-line-one, tells-case, tells-kind}
+use Rattle.audit_model.proofs.Live.{case-line-one, kind-line-one}
+use Rattle.audit_model.proofs.Callers.{tells-case, tells-kind}
 use Rattle.audit_model.proofs.Phases.{journal-stopped, journal-whole, journal_from}
 use Rattle.audit_model.proofs.Texts.{case-line, kind-line}
-use Rattle.audit_model.specs.Asked.{Asked, case_event_of, owed_case}
-use Rattle.audit_model.specs.Journaled.{GrowsTo, StopsAt, cases, kinds}
-use Rattle.audit_model.specs.Kept.{KeptCase, WritesValues}
-use Rattle.audit_model.specs.Lines.{actor_of, line_of}
-use Rattle.audit_model.specs.Owed.{owed_kind}
-use Rattle.audit_model.specs.ReportReader.{case_journal, case_made, kind_behind, kind_journal}
-use Rattle.case_core.specs.CaseModel.{not_created}
-use Rattle.case_core.specs.declared.events.Event.{Event}
-use Rattle.file_facts.specs.Facts.{IsWorkable}
-use Rattle.file_model.specs.declared.files.CaseDecl.{CaseDecl}
-use Rattle.file_model.specs.declared.files.File.{File}
-use Rattle.file_model.specs.declared.files.Line.{Line}
-use Rattle.line_calls.proofs.Facts.{writes-same}
-use Rattle.line_calls.specs.Calls.{call_of, case_event_in, version_event}
-use Rattle.line_calls.specs.Files.{roles_of}
-use Rattle.line_calls.specs.Known.{call_writes}
 use Rattle.line_calls.specs.declared.calls.Call.{Call}
-use Rattle.line_calls.specs.declared.calls.Call.TheVariants as call
 use Rattle.line_calls.specs.declared.calls.Told.{Told}
+use Rattle.line_calls.specs.declared.calls.Call.TheVariants as call
 use Rattle.line_calls.specs.declared.calls.Told.TheVariants as tell
-use Rattle.line_followers.proofs.Reaching.{follows-mapped}
-use Rattle.line_followers.specs.Filled.{filled}
-use Rattle.line_followers.specs.Follows.{Follows}
-use Rattle.line_readers.specs.Owed.{first_by, with_others}
-use Rattle.script_run.specs.Entries.{CaseEntry, KindEntry}
-use Rattle.script_run.specs.declared.runs.ClosedCase.{ClosedCase}
-use Rattle.script_run.specs.declared.runs.ClosedKind.{ClosedKind}
-use Rattle.text_follower.specs.Followed.{Followed}
-use Rattle.type_core.specs.KindModel.{KindModel}
-use Rattle.type_core.specs.declared.events.KindEvent.{KindEvent}
-use Rattle.wsm_lists.specs.Rows.{AllRows}
-use Rattle.wsm_sound.specs.VersionModel.{VersionModel}
 
 -- ---- the first line of an actor, without what was told
 first-line : (a : ℕ) (phase : List Asked) (c : Asked) (others : List Asked) → first_by actor_of a phase ≡ Some (c, others) → first_by (λ (l : Line). l.actor) a (map line_of phase) ≡ Some (line_of c, map line_of others)
@@ -101,7 +75,7 @@ module _ (f : File) (workable : IsWorkable f) (auditable : IsAuditable f) where
     none = first-line-none;
     some = some-lines;
     one = λ k a s e actor kept good. kind-line-one f workable auditable k a s e actor tt tt;
-    tells = tells-kind f workable auditable;
+    tells = tells-kind f auditable;
     ends = kind-line f;
   }
 
@@ -111,7 +85,7 @@ module _ (f : File) (workable : IsWorkable f) (auditable : IsAuditable f) where
     none = λ a phase is. is;
     some = λ phase some. some;
     one = case-line-one f workable auditable;
-    tells = tells-case f workable auditable;
+    tells = tells-case f auditable;
     ends = case-line f;
   }
 

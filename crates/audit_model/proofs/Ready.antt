@@ -1,51 +1,26 @@
 -- The types that are read have told each actor what its lines ask for.
-use Rattle.std.proofs.Common.{◌≡◌, ℕ, ◌<◌, ◌==◌, eq-eqb, Bool, true, false, List, [], ◌∷◌, ◌++◌, filter, length, Some, slice_get, inl, inr, refl, sym, ap, ◌∙◌, subst, arith, if◌then◌else◌}
+use Rattle.std.proofs.Common.{◌≡◌, ℕ, ◌<◌, ◌==◌, eq-eqb, Bool, true, false, List, [], ◌∷◌, ◌++◌, filter, length, Some, slice_get, inl, inr, refl, sym, ap, ◌∙◌, subst, arith}
 use Rattle.std.proofs.lemmas.Bool.{eqb-true}
-use Rattle.std.proofs.lemmas.Option.{slice_get_cases}
-use Rattle.file_facts.proofs.Cases.{row-at}
-use Rattle.file_facts.specs.Facts.{IsKnown, IsSound, IsWorkable}
-use Rattle.file_model.specs.declared.files.File.{File}
-use Rattle.file_model.specs.declared.files.Line.{Line}
-use Rattle.file_model.specs.declared.files.TypeDecl.{TypeDecl}
-use Rattle.file_words.specs.Lines.{Bytes}
-use Rattle.legal_run.proofs.Places.{there-as}
-use Rattle.legal_run.specs.Legal.{IsActor}
+use Rattle.audit_model.proofs.Common.{AllRows, answers-whole, Asked, asked-known, asked_among, asked_lines, asked_phases, asks, by-event, Bytes, call_of, calls_of, cells_in, ClosedKind, defined, drops, Entry, entry, File, has_kind, if-either, IsActor, IsKnown}
+use Rattle.audit_model.proofs.Common.{IsLegal, IsSound, IsWhole, IsWorkable, journal_of, keeps, kind_after, kind_event_in as event_of_kind, kind_event_of, kind_reply, KindEntry, KindModel, known-call, left_to_tell, Line, newest-told, newest_of, not_defined}
+use Rattle.audit_model.proofs.Common.{owed_kind, program, row-at, slice_get_cases, sound-defined, Telling, telling, there-as, told_at, TypeDecl, version_for, VersionModel}
 use Rattle.legal_run.specs.LineCalls.{lines_of}
-use Rattle.line_calls.proofs.Facts.{asked-known, known-call}
-use Rattle.line_calls.specs.Calls.{asked_among, call_of, cells_in, has_kind, kind_event_in as event_of_kind}
 use Rattle.line_calls.specs.declared.calls.Call.{Call}
-use Rattle.line_calls.specs.declared.calls.Call.TheVariants as call
-use Rattle.line_calls.specs.declared.calls.Told.TheVariants as tell
-use Rattle.line_readers.proofs.Answers.{IsWhole, answers-whole}
-use Rattle.script_run.specs.Entries.{KindEntry}
-use Rattle.script_run.specs.Serial.{defined, program}
-use Rattle.script_run.specs.declared.runs.ClosedKind.{ClosedKind}
-use Rattle.turn_cell.specs.History.{IsLegal, calls_of, entry}
-use Rattle.turn_cell.specs.declared.journal.Entry.{Entry}
-use Rattle.type_core.proofs.Versions.{by-event, newest-told, sound-defined}
-use Rattle.type_core.specs.KindModel.{KindModel, not_defined}
-use Rattle.type_core.specs.Machine.{kind_after, kind_reply, newest_of}
-use Rattle.type_core.specs.declared.events.KindEvent.TheVariants as kind_event
-use Rattle.wsm_lists.specs.Rows.{AllRows}
-use Rattle.wsm_sound.specs.VersionModel.{VersionModel}
-use Rattle.audit_model.proofs.KindCalls.{FitKind, actor_of, keeps, drops, to_kind}
-use Rattle.audit_model.proofs.KindRuns.{not-own, owed-actors}
-use Rattle.audit_model.specs.Asked.{Asked, Telling, asked_lines, asked_phases, asks, kind_event_of, left_to_tell, told_at, version_for}
-use Rattle.audit_model.specs.Owed.{owed_kind}
-use Rattle.audit_model.specs.ReportReader.{journal_of, telling}
+use Rattle.audit_model.proofs.Calls.{FitKind, actor_of, to_kind}
+use Rattle.audit_model.proofs.Runs.{not-own, owed-actors}
 use Rattle.audit_model.proofs.LineQueues.{AsksReady, IsOfActor, TellsVersion, asks-then, version-there}
 use Rattle.audit_model.proofs.OwnLines.{OwnTelling, Same, other-then, own-owed_kind, own-then, own-version, own_lines, own_then}
 use Rattle.audit_model.proofs.Queues.{KindQueues, kinds_then}
 use Rattle.audit_model.proofs.TakenParts.{KindTaken}
+use Rattle.line_calls.specs.declared.calls.Call.TheVariants as call
+use Rattle.line_calls.specs.declared.calls.Told.TheVariants as tell
+use Rattle.type_core.specs.declared.events.KindEvent.TheVariants as kind_event
 
 -- ---- the entries of an actor
 pub calls-rows : {M E R W S : Type 0} (P : Entry M E R W S → Type 0) (a : ℕ) (es : List (Entry M E R W S)) → AllRows P es → AllRows (λ (e : Entry M E R W S). (e.caller ≡ a) × P e) (calls_of a es)
 calls-rows P a [] all = tt
-calls-rows P a (e ∷ es) (one, all) = by (e.caller == a) refl (calls-rows P a es all)
-  where
-    by : (test : Bool) → (e.caller == a) ≡ test → AllRows (λ x. (x.caller ≡ a) × P x) (calls_of a es) → AllRows (λ x. (x.caller ≡ a) × P x) (if test then e ∷ calls_of a es else calls_of a es)
-    by true own more = ((eqb-true e.caller a own, one), more)
-    by false other more = more
+calls-rows P a (e ∷ es) (one, all) =
+    if-either (AllRows (λ x. (x.caller ≡ a) × P x)) (e.caller == a) (e ∷ calls_of a es) (calls_of a es) (λ own. ((eqb-true e.caller a own, one), calls-rows P a es all)) (λ other. calls-rows P a es all)
 
 -- a type with a version tells one to each who asks
 tells-all : (s : KindModel) (es : List KindEntry) → IsLegal kind_after kind_reply s es → 0 < length s.versions → AllRows TellsVersion es

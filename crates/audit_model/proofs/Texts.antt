@@ -1,16 +1,10 @@
 -- Texts as the lines that they are.
-use Rattle.std.proofs.Common.{◌≡◌, ℕ, ◌+◌, ◌==◌, Bool, true, false, List, [], ◌∷◌, ◌++◌, append-nil, Option, refl, sym, ap, ◌∙◌, append_assoc}
-use Rattle.std.specs.Prelude.{codes}
-use Rattle.file_model.specs.declared.files.File.{File}
-use Rattle.file_words.specs.Lines.{Bytes, CutLines, lines_of, onto_lines}
-use Rattle.line_readers.proofs.Journals.{lines_from}
-use Rattle.line_readers.proofs.Lines.{cut-together}
-use Rattle.line_readers.specs.FirstWrong.{ended}
-use Rattle.line_readers.specs.Readers.{ending}
-use Rattle.report_text.specs.Journals.{journal_line, line_start, numbered, kind_line, case_line, event_text, reply_text, kind_event_text, kind_reply_text}
-use Rattle.script_run.specs.Entries.{CaseEntry, KindEntry}
-use Rattle.turn_cell.specs.declared.journal.Entry.{Entry}
-use Rattle.audit_model.specs.Printed.{shown_line, kind_shown, case_shown}
+use Rattle.std.proofs.Common.{◌≡◌, ℕ, ◌+◌, ◌==◌, Bool, true, false, List, [], ◌∷◌, ◌++◌, append-nil, Option, refl, sym, ap, ◌∙◌, append_assoc, flat_map, Some, None, codes, decimal, sum_by}
+use Rattle.audit_model.proofs.Common.{Bytes, case_head, case_line, case_shown, case_totals, CaseDecl, CaseEntry, cut-together, CutLines, end_text, ended, ending, Entry, event_text, File, first_line, item_text, items_line, journal_line}
+use Rattle.audit_model.proofs.Common.{kind_event_text, kind_line, kind_reply_text, kind_shown, KindEntry, line_start, lines_from, lines_of, LiveModel, marking_line, numbered, onto_lines, reply_text, Run, shown_line, state_line, summary, type_text}
+use Rattle.audit_model.proofs.Common.{values_line, with_fate}
+use Rattle.case_core.specs.Shown.{items_of}
+use Rattle.report_words.specs.declared.totals.Fate.TheVariants as fate
 
 pub ending-append : (xs ys : List Bytes) → ending (xs ++ ys) ≡ ending xs ++ ending ys
 ending-append [] ys = refl
@@ -71,3 +65,24 @@ line-feed = record { before = []; is = refl }
 
 pub ending-lines : (text : Bytes) → EndsLine text → ending (ended text) ≡ text
 ending-lines text h = whole-lines text h.before h.is
+
+-- ---- texts of a report that are whole lines
+pub head-ends : (f : File) (d : CaseDecl) → EndsLine (case_head f d)
+head-ends f d = ends-behind (codes "case ") _ (ends-behind d.name _ (ends-behind (codes " " ++ type_text f d.id.type_no) (codes "\n") line-feed))
+
+pub end-ends : (f : File) (o : Option LiveModel) → EndsLine (end_text f o)
+end-ends f None = record { before = codes "state none"; is = refl }
+end-ends f (Some l) =
+    ends-behind (state_line l) (marking_line f l ++ (values_line f l ++ items_line f l))
+    (ends-behind (marking_line f l) (values_line f l ++ items_line f l)
+    (ends-behind (values_line f l) (items_line f l)
+    (ends-behind (codes "items") (flat_map (item_text f) (items_of l) ++ codes "\n") (ends-behind (flat_map (item_text f) (items_of l)) (codes "\n") line-feed))))
+
+pub summary-ends : (f : File) (r : Run) → EndsLine (summary f r)
+summary-ends f r =
+    ends-behind (case_totals r.cases) _ (ends-behind (codes "migrated=") _ (ends-behind (decimal (sum_by (with_fate fate.Migrated) r.cases)) _
+    (ends-behind (codes " blocked=") _ (ends-behind (decimal (sum_by (with_fate fate.Blocked) r.cases)) _
+    (ends-behind (codes " overlap=") _ (ends-behind (decimal (sum_by (with_fate fate.Overlap) r.cases)) (codes "\n") line-feed))))))
+
+pub header-ends : (f : File) → EndsLine (first_line f)
+header-ends f = ends-behind (codes "adept report ") _ (ends-behind (decimal f.format) (codes "\n") line-feed)

@@ -1,56 +1,26 @@
 -- What is taken of the report is the report of a legal run.
-use Rattle.std.proofs.Common.{◌≡◌, ℕ, zero, suc, ◌≤◌, ◌==◌, eq-eqb, Bool, true, false, All, List, [], ◌∷◌, ◌++◌, append-nil, filter, length, take, Option, Some, None, slice_get, inl, inr, refl, sym, ap, ◌∙◌, subst, arith, if◌then◌else◌}
-use Rattle.std.specs.List.{list_any}
-use Rattle.std.proofs.lemmas.Bool.{and_from, eqb-true, or_cases}
-use Rattle.std.proofs.lemmas.List.{length-map, take-map}
-use Rattle.std.proofs.lemmas.List.Elements.{All-cons, All-nil}
+use Rattle.std.proofs.Common.{◌≡◌, ℕ, zero, suc, ◌≤◌, ◌==◌, eq-eqb, Bool, true, false, List, [], ◌∷◌, ◌++◌, append-nil, filter, length, take, Option, Some, None, slice_get, inl, inr, refl, sym, ap, ◌∙◌, subst, arith, if◌then◌else◌}
+use Rattle.std.proofs.lemmas.Bool.{eqb-true}
+use Rattle.audit_model.proofs.Common.{All-rows, all-rows-map, all_owed, all_rows, AllRows, and_from, answers-whole, AreTraces, Asked, asked_phases, Bytes, calls_case, calls_kind, calls_of, calls_of_case, calls_of_kind, case_after, case_event_of, case_reply}
+use Rattle.audit_model.proofs.Common.{CaseDecl, CaseEntry, CaseId, ClosedCase, ClosedKind, done_by, ending, Entry, entry, File, filter-rows, first_wrong, Fit, has_id, HasCalls, ids-distinct, IsActor, IsAuditable, IsDeclared, IsFirstWrong, take-known}
+use Rattle.audit_model.proofs.Common.{IsKnown, IsLegal, IsLegalCase, IsLegalKind, IsReport, IsSound, IsWhole, IsWorkable, kind_after, kind_event_of, kind_reply, KindEntry, Legal, length-map, Line, lines_by, list_any, not_created, not_defined, or_cases, owed_case, owed_kind, program, report_reader, row-at, Run, sound-defined, state_after, take-map, Takes, telling, Trace, TypeDecl}
 use mathlib.Core.List.{IsPrefix}
-use Rattle.case_core.specs.CaseModel.{not_created}
-use Rattle.case_core.specs.Machine.{case_after, case_reply}
-use Rattle.file_facts.proofs.Cases.{ids-distinct, row-at}
-use Rattle.file_facts.specs.Facts.{IsDeclared, IsKnown, IsSound, IsWorkable}
-use Rattle.file_model.specs.declared.files.CaseDecl.{CaseDecl}
-use Rattle.file_model.specs.declared.files.File.{File}
-use Rattle.file_model.specs.declared.files.Line.{Line}
-use Rattle.file_model.specs.declared.files.TypeDecl.{TypeDecl}
-use Rattle.file_words.specs.Lines.{Bytes}
-use Rattle.legal_run.specs.Legal.{AreTraces, HasCalls, IsActor, IsLegalCase, IsLegalKind, Legal, Trace, done_by}
-use Rattle.legal_run.specs.LineCalls.{calls_of_case, calls_of_kind, lines_of}
-use Rattle.line_readers.proofs.Answers.{Fit, IsWhole, answers-whole}
-use Rattle.line_readers.proofs.Taking.{Takes}
-use Rattle.line_readers.specs.Owed.{all_owed, lines_by}
-use Rattle.line_readers.specs.Readers.{ending}
-use Rattle.script_run.specs.Entries.{CaseEntry, KindEntry}
-use Rattle.script_run.specs.Serial.{program}
-use Rattle.script_run.specs.declared.runs.ClosedCase.{ClosedCase}
-use Rattle.script_run.specs.declared.runs.ClosedKind.{ClosedKind}
-use Rattle.script_run.specs.declared.runs.Run.{Run}
+use Rattle.legal_run.specs.LineCalls.{lines_of}
 use Rattle.turn_cell.proofs.Histories.{calls_of-append}
-use Rattle.turn_cell.specs.History.{IsLegal, calls_of, entry, state_after}
-use Rattle.turn_cell.specs.declared.journal.Entry.{Entry}
-use Rattle.type_core.proofs.Versions.{sound-defined}
-use Rattle.type_core.specs.KindModel.{not_defined}
-use Rattle.type_core.specs.Machine.{kind_after, kind_reply}
-use Rattle.type_core.specs.declared.events.KindEvent.TheVariants as kind_event
-use Rattle.type_core.specs.declared.replies.KindReply.TheVariants as kind_answer
-use Rattle.wsm_lists.specs.Rows.{AllRows}
-use Rattle.wsm_sound.specs.declared.versions.CaseId.{CaseId}
-use Rattle.audit_model.proofs.CaseCalls.{FitCase, asked_actor, fit-case_phases, to_case}
-use Rattle.audit_model.proofs.CaseReaders.{report-whole}
-use Rattle.audit_model.proofs.CaseRuns.{case-actors, length-asked, take-asked, take-known, told-all, told-front}
-use Rattle.audit_model.proofs.KindCalls.{actor_of, fit-phases, owed_in, take-traces}
-use Rattle.audit_model.proofs.KindRuns.{not-own}
-use Rattle.audit_model.specs.Asked.{Asked, asked_phases, case_event_of, kind_event_of, owed_case}
-use Rattle.audit_model.specs.Owed.{calls_case, calls_kind, owed_kind}
-use Rattle.audit_model.specs.ReportReader.{report_reader, telling}
-use Rattle.audit_model.specs.Reports.{IsReport}
+use Rattle.audit_model.proofs.Calls.{FitCase, asked_actor, fit-case_phases, to_case}
+use Rattle.audit_model.proofs.Readers.{report-whole, report-taken}
+use Rattle.audit_model.proofs.Runs.{case-actors, length-asked, take-asked, told-all, told-front}
+use Rattle.audit_model.proofs.Calls.{actor_of, fit-phases, owed_in, take-traces}
+use Rattle.audit_model.proofs.Runs.{not-own}
 use Rattle.audit_model.proofs.LineQueues.{AsksReady, CasesReady, KnownOwn, lines-done}
-use Rattle.audit_model.proofs.Live.{filter-rows}
+use Rattle.audit_model.proofs.Live.{report-live}
 use Rattle.audit_model.proofs.OwnLines.{OwnTelling, asked_own, own-owed_case, own_left, own_lines}
 use Rattle.audit_model.proofs.Queues.{CaseQueues, KindQueues, cases-begin, cases_left, kinds-begin, kinds_left, same-id, take-traces_of, traces_of}
-use Rattle.audit_model.proofs.Ready.{kind_queues, kinds-ready, whole-kind}
+use Rattle.audit_model.proofs.Ready.{calls-rows, kind_queues, kinds-ready, whole-kind}
 use Rattle.audit_model.proofs.TakenParts.{CaseTaken, CasesTaken, KindTaken, KindsTaken, kind-at, run-of}
-use Rattle.file_model.specs.CaseCounts.{has_id}
+use Rattle.line_readers.proofs.FirstWrong.{first-wrong}
+use Rattle.type_core.specs.declared.events.KindEvent.TheVariants as kind_event
+use Rattle.type_core.specs.declared.replies.KindReply.TheVariants as kind_answer
 
 -- ---- beginnings of one list that are equally long
 same-beginnings : {X : Type 0} (xs ys left more zs : List X) → xs ++ left ≡ zs → ys ++ more ≡ zs → length xs ≡ length ys → xs ≡ ys
@@ -75,16 +45,9 @@ module _ {M E R W S L : Type 0} (after : S → E → S) (reply : S → E → R) 
   fit-same xs ys left more zs ls one two fit_x fit_y = same-beginnings xs ys left more zs one two (fit-length xs ls fit_x ∙ sym (fit-length ys ls fit_y))
 
 calls-own : {M E R W S : Type 0} (a : ℕ) (es : List (Entry M E R W S)) → AllRows (λ (e : Entry M E R W S). e.caller ≡ a) (calls_of a es)
-calls-own a [] = tt
-calls-own a (e ∷ es) = by (e.caller == a) refl (calls-own a es)
-  where
-    by : (test : Bool) → (e.caller == a) ≡ test → AllRows (λ x. x.caller ≡ a) (calls_of a es) → AllRows (λ x. x.caller ≡ a) (if test then e ∷ calls_of a es else calls_of a es)
-    by true own more = (eqb-true e.caller a own, more)
-    by false other more = more
-
-All-rows : {X : Type 0} (P : X → Type 0) (xs : List X) → AllRows P xs → All P xs
-All-rows P [] all = All-nil P
-All-rows P (x ∷ xs) (one, all) = All-cons P x xs one (All-rows P xs all)
+calls-own {M} {E} {R} {W} {S} a es =
+    let any = λ (e : Entry M E R W S). Unit {0} in
+    all-rows-map (λ (e : Entry M E R W S). (e.caller ≡ a) × any e) (λ e. e.caller ≡ a) (λ e one. one.0) (calls_of a es) (calls-rows any a es (all_rows any (λ e. tt) es))
 
 -- ---- the journal of a case by its id
 abbrev journal_for : CaseId → List CaseDecl → List ClosedCase → List CaseEntry
@@ -138,7 +101,7 @@ module _ (f : File) (workable : IsWorkable f) where
             (λ a actor. (done a actor).asking) (λ a actor. (done a actor).telling),
       )
 
-  module _ (r : Run) (kind_part case_part : List Bytes) (kinds : KindsTaken f 0 f.types kind_part r.kinds) (cases : CasesTaken f (asked_phases (telling r.kinds) f.phases) f.cases case_part r.cases) where
+  module _ (r : Run) (kind_part case_part : List Bytes) (kinds : KindsTaken f 0 f.types kind_part r.kinds) (cases : CasesTaken f (asked_phases (telling r.kinds) f.phases) case_part r.cases) where
     each-kind : (t : ℕ) (d : TypeDecl) (k : ClosedKind) → slice_get f.types t ≡ Some d → slice_get r.kinds t ≡ Some k → (part : List Bytes) × KindTaken f t d part k
     each-kind = kind-at f kind_part r.kinds kinds
 
@@ -300,3 +263,8 @@ module _ (f : File) (workable : IsWorkable f) where
   taken-report ls r is =
       let h = run-of f ls r is in
       (r, legal-run r h.kind_part h.case_part h.kinds h.cases, report-whole f r h.kind_part h.case_part h.kinds.text h.cases.text ∙ ap ending (sym h.lines))
+
+-- the reader of reports finds the first line that no legal run's report has
+pub first-wrong-line : (f : File) → IsWorkable f → IsAuditable f → (report : Bytes) → IsFirstWrong (IsReport f) report (first_wrong (report_reader f) report)
+first-wrong-line f workable auditable report =
+    first-wrong (IsReport f) (report_reader f) (report-live f workable auditable) (report-taken f workable auditable) (taken-report f workable) report

@@ -1,20 +1,18 @@
 -- The lines of the script with the versions that their actors were told.
-use Rattle.std.specs.Prelude.{ℕ, ◌==◌, ◌&&◌, List, [], ◌∷◌, filter, map, Option, Some, None, if◌then◌else◌}
-use Rattle.case_core.specs.declared.events.Event.{Event}
-use Rattle.file_model.specs.declared.files.Act.{Act}
-use Rattle.file_model.specs.declared.files.File.{File}
-use Rattle.file_model.specs.declared.files.Line.{Line}
+use Rattle.std.specs.Prelude.{ℕ, Bool, List, filter, map, ◌≤◌, ◌==◌, ◌&&◌, [], ◌∷◌, Option, Some, None, if◌then◌else◌}
+use Rattle.audit_model.specs.Common.{Act, CaseId, File, Line, call_of, call_weight, WritesOneLine, answered_version, calls_of, Event, KindEntry, KindEvent, KindReply, roles_of, VersionModel}
 use Rattle.line_calls.specs.Calls as line
-use Rattle.script_run.specs.Calls.{answered_version}
-use Rattle.line_calls.specs.Files.{roles_of}
-use Rattle.script_run.specs.Entries.{KindEntry}
-use Rattle.turn_cell.specs.History.{calls_of}
-use Rattle.type_core.specs.declared.events.KindEvent.{KindEvent}
 use Rattle.type_core.specs.declared.events.KindEvent.TheVariants as kind_event
-use Rattle.type_core.specs.declared.replies.KindReply.{KindReply}
-use Rattle.wsm_sound.specs.VersionModel.{VersionModel}
-use Rattle.wsm_sound.specs.declared.versions.CaseId.{CaseId}
-use Rattle.audit_model.specs.Owed.{calls_case}
+
+-- ---- what is owed to one type, and to one case: the script lines that call it, phase by phase. Each does so once
+abbrev pub calls_kind : ℕ → Act → Bool
+calls_kind t x = line.has_kind t (line.cells_of x)
+
+abbrev pub calls_case : CaseId → Act → Bool
+calls_case c x = line.has_case c (line.cells_of x)
+
+abbrev pub owed_kind : File → ℕ → List (List Line)
+owed_kind f t = map (λ lines. filter (λ l. calls_kind t l.act) lines) f.phases
 
 -- the event of a type that a line is
 abbrev pub kind_event_in : Act → Option KindEvent
@@ -91,3 +89,17 @@ case_event_in roles a v x = line.case_event_in v (line.call_of a roles x)
 
 abbrev pub case_event_of : File → Asked → Option Event
 case_event_of f l = case_event_in (roles_of f l.0.actor) l.0.actor l.1 l.0.act
+
+-- ---- a line of the script with what its actor was told
+abbrev pub line_of : Asked → Line
+line_of l = l.0
+
+abbrev pub actor_of : Asked → ℕ
+actor_of l = l.0.actor
+
+-- what is asked of lines: the values that one writes stand in one line, and its call is light, whoever makes it
+abbrev pub IsModestLine : Line → Type 0
+IsModestLine l = WritesOneLine l × ((a : ℕ) (roles : List ℕ) → call_weight (call_of a roles l.act) ≤ 768)
+
+abbrev pub IsModest : Asked → Type 0
+IsModest l = IsModestLine l.0

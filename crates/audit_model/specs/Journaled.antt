@@ -1,34 +1,18 @@
 -- How far a journal is gone along, of a type or of a case.
-use Rattle.std.specs.Prelude.{◌≡◌, ℕ, ◌+◌, ◌*◌, ◌≤◌, suc, Bool, true, false, List, ◌∷◌, ◌++◌, drop, length, map, Option, Some, None, option_map}
-use Rattle.audit_model.specs.Asked.{Asked, case_event_of, kind_event_of}
+use Rattle.std.specs.Prelude.{◌≡◌, ◌==◌, Bool, length, ℕ, ◌+◌, ◌*◌, ◌≤◌, suc, true, false, List, ◌∷◌, ◌++◌, drop, map, Option, Some, None, option_map}
+use Rattle.audit_model.specs.Common.{Bytes, Followed, followed, left_of, same_front, age, AreTurns, case_after, case_line, case_reply, CaseModel, ClosedCase, ClosedKind, CountedCase, Entry, Event, File, Follows, front_of, kind_after, kind_line, kind_reply, KindEvent, KindModel, KindReply, Line, queue_of, Reaches, Reader, Reply, rest_journal, with_entries}
+use Rattle.audit_model.specs.Asked.{actor_of, Asked, case_event_of, kind_event_of, line_of}
 use Rattle.audit_model.specs.Kept.{KeptCase}
-use Rattle.audit_model.specs.Lines.{actor_of, line_of}
 use Rattle.audit_model.specs.Printed.{caller_in, case_shown, kind_shown}
-use Rattle.audit_model.specs.ReportReader.{cases_reader, kinds_reader}
-use Rattle.case_core.specs.Ages.{age}
-use Rattle.case_core.specs.CaseModel.{CaseModel}
-use Rattle.case_core.specs.Instances.{CountedCase}
-use Rattle.case_core.specs.Machine.{case_after, case_reply}
-use Rattle.case_core.specs.declared.events.Event.{Event}
-use Rattle.case_core.specs.declared.replies.Reply.{Reply}
+use Rattle.audit_model.specs.ReportReader.{case_reader, in_row, kind_reader}
 use Rattle.case_core.specs.declared.views.View.{View}
-use Rattle.file_model.specs.declared.files.File.{File}
-use Rattle.file_model.specs.declared.files.Line.{Line}
-use Rattle.file_words.specs.Lines.{Bytes}
-use Rattle.line_followers.specs.Follows.{Follows, Reaches}
-use Rattle.line_followers.specs.Rests.{rest_journal, with_entries}
-use Rattle.line_followers.specs.Turns.{AreTurns, front_of, queue_of}
-use Rattle.line_readers.specs.Readers.{Reader}
-use Rattle.report_text.specs.Journals.{case_line, kind_line}
-use Rattle.script_run.specs.declared.runs.ClosedCase.{ClosedCase}
-use Rattle.script_run.specs.declared.runs.ClosedKind.{ClosedKind}
-use Rattle.text_follower.specs.Followed.{Followed}
-use Rattle.turn_cell.specs.declared.journal.Entry.{Entry}
-use Rattle.type_core.specs.KindModel.{KindModel}
-use Rattle.type_core.specs.Machine.{kind_after, kind_reply}
-use Rattle.type_core.specs.declared.events.KindEvent.{KindEvent}
-use Rattle.type_core.specs.declared.replies.KindReply.{KindReply}
 
+-- ---- what is found of a report, piece by piece
+-- A piece was followed: the place moved as far as the text is the piece, and it is told whether all of it stands there.
+abbrev pub FollowedBy : Bytes → Followed → Followed → Bool → Type 0
+FollowedBy piece old new stands = (new ≡ followed piece old) × (stands ≡ (same_front piece (left_of old) == length piece))
+
+-- ---- how far a journal is gone along, of a type or of a case
 -- a machine with its journal, as who reads its lines has them: what the lines of the script are to it, whose each is and which event, and
 -- how an entry is shown, and printed
 pub record Journaled (M E R W S L C : Type 0) : Type 0 where
@@ -127,9 +111,12 @@ next_of queues (Some a) = option_map (λ l. (a, l)) (front_of (queue_of queues a
 abbrev pub IsSteady : ClosedCase → Type 0
 IsSteady c = KeptCase c.machine × (age c.machine ≤ 768 * length c.journal)
 
--- so many types were gone along, and so many cases
+-- so many of a row were gone along, of the types, and of the cases
+abbrev pub InRow : {D A : Type 0} → (ℕ → D → Reader A) → List D → Followed → Followed → List A → ℕ → Type 0
+InRow one ds old new xs n = Reaches (in_row one 0 ds) old (in_row one n (drop n ds)) new (λ more. xs ++ more)
+
 abbrev pub InKinds : File → Followed → Followed → List ClosedKind → ℕ → Type 0
-InKinds f old new ks n = Reaches (kinds_reader f 0 f.types) old (kinds_reader f n (drop n f.types)) new (λ more. ks ++ more)
+InKinds f old new ks n = InRow (kind_reader f) f.types old new ks n
 
 abbrev pub InCases : File → List (List Asked) → Followed → Followed → List ClosedCase → ℕ → Type 0
-InCases f phases old new cs n = Reaches (cases_reader f phases f.cases) old (cases_reader f phases (drop n f.cases)) new (λ more. cs ++ more)
+InCases f phases old new cs n = InRow (λ n d. case_reader f phases d) f.cases old new cs n

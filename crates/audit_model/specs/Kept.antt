@@ -1,15 +1,8 @@
 -- What is shown of values stands in one line: of events, of replies, and of what a case keeps.
 use Rattle.std.specs.Prelude.{ℕ, Option, IfSome}
-use Rattle.audit_facts.specs.Facts.{IsOneLineValue, IsOneLineWrite}
-use Rattle.case_core.specs.CaseModel.{CaseModel, LiveModel}
-use Rattle.case_core.specs.declared.events.Event.{Event}
-use Rattle.case_core.specs.declared.replies.Reply.{Reply}
-use Rattle.case_core.specs.declared.replies.Reply.TheVariants as reply
-use Rattle.line_calls.specs.Known.{written}
-use Rattle.wsm_lists.specs.Rows.{AllRows}
-use Rattle.wsm_lists.specs.declared.values.Value.{Value}
-use Rattle.wsm_schema.specs.Trail.{TrailModel, written_by}
+use Rattle.audit_model.specs.Common.{AllRows, CaseModel, Event, IsOneLineValue, IsOneLineWrite, LiveModel, Reply, TrailModel, Value, written, written_by}
 use Rattle.wsm_schema.specs.declared.entries.Entry.{Entry}
+use Rattle.case_core.specs.declared.replies.Reply.TheVariants as reply
 
 -- what a reply shows of values
 abbrev pub IsOneLineRead : ℕ × Option Value → Type 0

@@ -1,9 +1,7 @@
+pub mod Common
 pub mod Reports
-pub mod Owed
 pub mod Asked
 pub mod Printed
 pub mod ReportReader
 pub mod Kept
-pub mod Lines
-pub mod Judging
 pub mod Journaled

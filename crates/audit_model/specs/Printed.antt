@@ -1,10 +1,6 @@
 -- The lines of journals as they are printed, without their line feeds, and whose call a line shows.
 use Rattle.std.specs.Prelude.{ℕ, ◌+◌, Bool, List, [], ◌∷◌, ◌++◌, length, take, Option, Some, None, if◌then◌else◌, bytes_eq, codes}
-use Rattle.file_model.specs.declared.files.ActorDecl.{ActorDecl}
-use Rattle.file_model.specs.declared.files.File.{File}
-use Rattle.file_words.specs.Lines.{Bytes}
-use Rattle.report_text.specs.Journals.{line_start, event_text, reply_text, kind_event_text, kind_reply_text}
-use Rattle.script_run.specs.Entries.{CaseEntry, KindEntry}
+use Rattle.audit_model.specs.Common.{ActorDecl, Bytes, CaseEntry, event_text, File, kind_event_text, kind_reply_text, KindEntry, line_start, reply_text}
 
 abbrev pub shown_line : File → ℕ → ℕ → Bytes → Bytes → Bytes
 shown_line f k caller event reply = line_start f k caller ++ (event ++ (codes " -> " ++ reply))

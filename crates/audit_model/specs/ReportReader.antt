@@ -1,33 +1,17 @@
 -- The report of a file as a reader.
 use Rattle.std.specs.Prelude.{ℕ, ◌+◌, List, [], ◌∷◌, ◌++◌, Option, Some, None, slice_get}
-use Rattle.case_core.specs.CaseModel.{CaseModel, not_created}
-use Rattle.case_core.specs.Machine.{case_after, case_reply}
-use Rattle.file_model.specs.declared.files.CaseDecl.{CaseDecl}
-use Rattle.file_model.specs.declared.files.File.{File}
-use Rattle.file_model.specs.declared.files.Line.{Line}
-use Rattle.file_model.specs.declared.files.TypeDecl.{TypeDecl}
-use Rattle.file_words.specs.Lines.{Bytes}
-use Rattle.line_readers.specs.FirstWrong.{ended}
-use Rattle.line_readers.specs.Journals.{journal}
-use Rattle.line_readers.specs.Owed.{how_many}
-use Rattle.line_readers.specs.Readers.{Reader, done, expected, and_then, mapped}
-use Rattle.report_text.specs.Ends.{end_text}
-use Rattle.report_text.specs.Journals.{kind_line}
-use Rattle.report_text.specs.Report.{first_line, type_head, case_head, summary}
-use Rattle.script_run.specs.Entries.{CaseEntry, KindEntry}
-use Rattle.script_run.specs.Serial.{defined}
-use Rattle.script_run.specs.declared.runs.ClosedCase.{ClosedCase}
-use Rattle.script_run.specs.declared.runs.ClosedKind.{ClosedKind}
-use Rattle.script_run.specs.declared.runs.Run.{Run}
-use Rattle.type_core.specs.KindModel.{KindModel}
-use Rattle.type_core.specs.Machine.{kind_after, kind_reply}
-use Rattle.audit_model.specs.Owed.{owed_kind}
-use Rattle.audit_model.specs.Asked.{Asked, Telling, asked_phases, case_event_of, kind_event_of, owed_case, told_to}
+use Rattle.audit_model.specs.Common.{and_then, Bytes, case_after, case_head, case_reply, CaseDecl, CaseEntry, CaseModel, ClosedCase, ClosedKind, defined, done, end_text, ended, expected, File, first_line, how_many, journal, kind_after, kind_line, kind_reply, KindEntry, KindModel, Line, mapped, not_created, Reader, Run, summary, type_head, TypeDecl}
+use Rattle.audit_model.specs.Asked.{Asked, asked_phases, case_event_of, kind_event_of, owed_case, owed_kind, Telling, told_to}
 use Rattle.audit_model.specs.Printed.{caller_in, case_shown, kind_shown}
 
 -- the lines of a text
 abbrev pub given : {A : Type 0} → Bytes → A → Reader A
 given text a = expected (ended text) a
+
+-- readers of the items of a list, each by its number, one behind another
+abbrev pub in_row : {D A : Type 0} → (ℕ → D → Reader A) → ℕ → List D → Reader (List A)
+in_row one n [] = done []
+in_row one n (d ∷ ds) = and_then (one n d) (λ a. mapped (λ xs. a ∷ xs) (in_row one (n + 1) ds))
 
 -- ---- a type: its line, its definition, and its journal
 abbrev pub kind_behind : ClosedKind → List KindEntry × KindModel → ClosedKind
@@ -47,8 +31,7 @@ abbrev pub kind_reader : File → ℕ → TypeDecl → Reader ClosedKind
 kind_reader f t d = and_then (given (type_head d ++ defined_line f (defined t d)) (defined t d)) (kind_journal f t)
 
 abbrev pub kinds_reader : File → ℕ → List TypeDecl → Reader (List ClosedKind)
-kinds_reader f t [] = done []
-kinds_reader f t (d ∷ ds) = and_then (kind_reader f t d) (λ k. mapped (λ ks. k ∷ ks) (kinds_reader f (t + 1) ds))
+kinds_reader f t ds = in_row (kind_reader f) t ds
 
 -- the versions that each actor was told
 abbrev pub journal_of : Option ClosedKind → List KindEntry
@@ -69,8 +52,7 @@ abbrev pub case_reader : File → List (List Asked) → CaseDecl → Reader Clos
 case_reader f phases d = and_then (and_then (given (case_head f d) d) (case_journal f phases)) (λ c. given (end_text f c.machine.live) c)
 
 abbrev pub cases_reader : File → List (List Asked) → List CaseDecl → Reader (List ClosedCase)
-cases_reader f phases [] = done []
-cases_reader f phases (d ∷ ds) = and_then (case_reader f phases d) (λ c. mapped (λ cs. c ∷ cs) (cases_reader f phases ds))
+cases_reader f phases ds = in_row (λ n d. case_reader f phases d) 0 ds
 
 -- ---- the report
 abbrev pub cases_behind : File → List ClosedKind → Reader Run

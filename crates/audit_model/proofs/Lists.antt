@@ -1,0 +1,60 @@
+-- Facts about tests, about rows of lists, and about those that pass a test.
+use Rattle.std.proofs.Common.{◌≡◌, ℕ, zero, suc, Bool, true, false, All, List, [], ◌∷◌, filter, map, take, refl, sym, ap, ◌∙◌, if◌then◌else◌}
+use Rattle.std.proofs.lemmas.List.Elements.{All-cons, All-head, All-nil, All-tail}
+use Rattle.wsm_lists.proofs.Lists.{all-rows-map, both_rows, rows-map}
+use Rattle.wsm_lists.specs.Rows.{AllRows}
+
+-- by what a test says
+pub by-test : (P : Bool → Type 0) (test : Bool) → (test ≡ true → P true) → (test ≡ false → P false) → P test
+by-test P true one two = one refl
+by-test P false one two = two refl
+
+pub if-either : {X : Type 0} (P : X → Type 0) (test : Bool) (a b : X) → (test ≡ true → P a) → (test ≡ false → P b) → P (if test then a else b)
+if-either P test a b one two = by-test (λ t. P (if t then a else b)) test one two
+
+-- ---- filters in either order
+pub keeps : {X : Type 0} (p : X → Bool) (x : X) (xs : List X) → p x ≡ true → filter p (x ∷ xs) ≡ x ∷ filter p xs
+keeps p x xs is = ap (λ test. if test then x ∷ filter p xs else filter p xs) is
+
+pub drops : {X : Type 0} (p : X → Bool) (x : X) (xs : List X) → p x ≡ false → filter p (x ∷ xs) ≡ filter p xs
+drops p x xs is = ap (λ test. if test then x ∷ filter p xs else filter p xs) is
+
+pub filter-swap : {X : Type 0} (p q : X → Bool) (xs : List X) → filter p (filter q xs) ≡ filter q (filter p xs)
+filter-swap p q [] = refl
+filter-swap {X} p q (x ∷ xs) = by (p x) (q x) refl refl (filter-swap p q xs)
+  where
+    by : (b c : Bool) → p x ≡ b → q x ≡ c → filter p (filter q xs) ≡ filter q (filter p xs) → filter p (filter q (x ∷ xs)) ≡ filter q (filter p (x ∷ xs))
+    by true true one two more =
+        ap (filter p) (keeps q x xs two) ∙ (keeps p x (filter q xs) one ∙ (ap (λ (ys : List X). x ∷ ys) more ∙ (sym (keeps q x (filter p xs) two) ∙ ap (filter q) (sym (keeps p x xs one)))))
+    by true false one two more = ap (filter p) (drops q x xs two) ∙ (more ∙ (sym (drops q x (filter p xs) two) ∙ ap (filter q) (sym (keeps p x xs one))))
+    by false true one two more = ap (filter p) (keeps q x xs two) ∙ (drops p x (filter q xs) one ∙ (more ∙ ap (filter q) (sym (drops p x xs one))))
+    by false false one two more = ap (filter p) (drops q x xs two) ∙ (more ∙ ap (filter q) (sym (drops p x xs one)))
+
+-- what holds of those that pass a test
+pub filter-rows : {X : Type 0} (P Q : X → Type 0) (p : X → Bool) → ((x : X) → P x → p x ≡ true → Q x) → (xs : List X) → AllRows P xs → AllRows Q (filter p xs)
+filter-rows P Q p h [] all = tt
+filter-rows P Q p h (x ∷ xs) (one, all) = if-either (AllRows Q) (p x) (x ∷ filter p xs) (filter p xs) (λ is. (h x one is, filter-rows P Q p h xs all)) (λ not. filter-rows P Q p h xs all)
+
+pub filter-phases : {X : Type 0} (P Q : X → Type 0) (p : X → Bool) → ((x : X) → P x → p x ≡ true → Q x) → (xss : List (List X)) → AllRows (AllRows P) xss → AllRows (AllRows Q) (map (λ xs. filter p xs) xss)
+filter-phases P Q p h xss all = rows-map (AllRows Q) (λ xs. filter p xs) xss (all-rows-map (AllRows P) (λ xs. AllRows Q (filter p xs)) (λ xs some. filter-rows P Q p h xs some) xss all)
+
+pub rows-filter : {X : Type 0} (P : X → Type 0) (p : X → Bool) (xs : List X) → AllRows P xs → AllRows P (filter p xs)
+rows-filter P p xs all = filter-rows P P p (λ x one is. one) xs all
+
+-- two facts about each row, in lists of lists
+pub both-phases : {X : Type 0} (P Q R : X → Type 0) → ((x : X) → P x → Q x → R x) → (xss : List (List X)) → AllRows (AllRows P) xss → AllRows (AllRows Q) xss → AllRows (AllRows R) xss
+both-phases P Q R h xss p q = both_rows (AllRows P) (AllRows Q) (AllRows R) (λ xs one two. both_rows P Q R h xs one two) xss p q
+
+-- ---- rows
+pub rows-All : {X : Type 0} (P : X → Type 0) (xs : List X) → All P xs → AllRows P xs
+rows-All P [] all = tt
+rows-All P (x ∷ xs) all = (All-head P x xs all, rows-All P xs (All-tail P x xs all))
+
+pub All-rows : {X : Type 0} (P : X → Type 0) (xs : List X) → AllRows P xs → All P xs
+All-rows P [] all = All-nil P
+All-rows P (x ∷ xs) (one, all) = All-cons P x xs one (All-rows P xs all)
+
+pub take-known : {X : Type 0} (P : X → Type 0) (n : ℕ) (xs : List X) → AllRows P xs → AllRows P (take n xs)
+take-known P zero xs all = tt
+take-known P (suc n) [] all = tt
+take-known P (suc n) (x ∷ xs) (one, all) = (one, take-known P n xs all)
