@@ -1,13 +1,7 @@
 -- The queues that are filled from the lines of a phase are whose turn it is.
-use Rattle.std.proofs.Common.{◌≡◌, ℕ, zero, suc, ◌+◌, ◌<◌, ◌≤◌, List, [], ◌∷◌, ◌++◌, append-nil, append_assoc, length, refl, sym, ap, ◌∙◌, subst, arith}
-use Rattle.std.proofs.lemmas.List.{length-replicate, set_past}
-use Rattle.std.specs.Prelude.{fold, replicate, slice_get}
-use Rattle.case_audit.specs.Queues.{all_turns, no_queues, with_turn}
-use Rattle.audit_model.specs.Asked.{Asked}
-use Rattle.case_audit.proofs.QueueLists.{At, behind, where-at, within}
-use Rattle.audit_model.specs.Lines.{actor_of}
-use Rattle.line_followers.proofs.Turns.{turn-added, turn-foreign}
-use Rattle.line_followers.specs.Turns.{AreTurns, queue_in, queue_of}
+use Rattle.std.proofs.Common.{ℕ, ◌+◌, List, [], ◌∷◌, ◌++◌, append-nil, append_assoc, length, sym, subst, fold}
+use Rattle.case_audit.proofs.Common.{actor_of, all_turns, AreTurns, Asked, length-replicate, no_queues, set_past, turn-added, turn-foreign, with_turn}
+use Rattle.case_audit.proofs.QueueLists.{At, behind, none-in, where-at, within}
 
 module _ (actors : ℕ) where
   turn-more : (queues : List (List Asked)) (done : List Asked) (l : Asked) → AreTurns actor_of actors queues done → AreTurns actor_of actors (with_turn queues l) (done ++ l ∷ [])
@@ -23,13 +17,5 @@ module _ (actors : ℕ) where
       subst (λ xs. AreTurns actor_of actors (fold with_turn (with_turn queues l) ls) xs) (append_assoc done (l ∷ []) ls)
       (turns-from (with_turn queues l) (done ++ l ∷ []) ls (turn-more queues done l turns))
 
-  none-owed : (n a : ℕ) → queue_of {L = Asked} (replicate n []) a ≡ []
-  none-owed n a = by n a
-    where
-      by : (n a : ℕ) → queue_in {L = Asked} (slice_get (replicate n []) a) ≡ []
-      by zero a = refl
-      by (suc n) zero = refl
-      by (suc n) (suc a) = by n a
-
   pub all-turns : (phase : List Asked) → AreTurns actor_of actors (all_turns actors phase) phase
-  all-turns phase = turns-from (no_queues actors) [] phase (length-replicate (actors + 1) [], λ a low. none-owed (actors + 1) a)
+  all-turns phase = turns-from (no_queues actors) [] phase (length-replicate (actors + 1) [], λ a low. none-in (actors + 1) a)

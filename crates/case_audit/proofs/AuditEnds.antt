@@ -1,21 +1,16 @@
 -- How an audit ends follows from how its bytes were got, and how they were judged.
-use Rattle.std.proofs.Common.{◌≡◌, ℕ, ◌+◌, ◌≤◌, true, false, ◌||◌, List, ◌++◌, append-nil, length, length-append, Option, Some, None, Result, Ok, Err, IfSome, refl, sym, ap, ◌∙◌, subst, arith}
+use Rattle.std.proofs.Common.{◌≡◌, ℕ, ◌+◌, ◌≤◌, true, false, ◌||◌, List, ◌++◌, append-nil, length, length-append, Option, Some, None, Result, Ok, Err, IfSome, refl, sym, ap, ◌∙◌, subst, arith, nat_lt}
 use Rattle.std.proofs.lemmas.Bool.{le-ltb, lt-ltb}
 use Rattle.std.specs.Io.KnownBytes.{Appends, Consumes, IsAtEnd}
-use Rattle.std.specs.Prelude.{nat_lt}
+use Rattle.case_audit.proofs.Common.{EndsAudit, file, file_part, FileRefusal, is_too_long, IsRefused, IsVerdictOn, most_bytes, most_in_file, most_in_report, report_part, Tells as TellsFile, TellsBytes, TellsOne, verdict_text}
 use Rattle.adept_io.specs.Counts.{Rose}
 use Rattle.adept_io.specs.Read.{ConsumesMany, ConsumesUpTo}
 use Rattle.adept_io.specs.Written.{AppendsPrefix}
-use Rattle.case_audit.specs.Endings.{EndsAudit, IsRefused, IsVerdictOn, Tells, TellsBytes, TellsOne}
-use Rattle.case_audit.specs.Parts.{file_part, is_too_long, most_bytes, most_in_file, most_in_report, report_part}
+use Rattle.case_audit.specs.Endings.{Tells}
 use Rattle.case_audit.specs.Statuses.{of_file}
-use Rattle.case_audit.specs.Verdicts.{verdict_text}
 use Rattle.case_audit.specs.declared.reports.Verdict.{Verdict}
 use Rattle.case_audit.specs.declared.unaudited.Unaudited.{Unaudited}
 use Rattle.case_audit.specs.declared.unaudited.Unaudited.TheVariants as why
-use Rattle.file_model.specs.Outcomes.{Tells as TellsFile}
-use Rattle.file_model.specs.Reading.{file}
-use Rattle.file_model.specs.declared.refusals.FileRefusal.{FileRefusal}
 use Rattle.file_model.specs.declared.refusals.FileRefusal.TheVariants as refusal
 
 -- what holds of bytes that were read to the end holds of what the source had left

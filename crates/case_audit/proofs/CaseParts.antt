@@ -1,20 +1,7 @@
 -- A case's part of a report: its line, its journal, then its end.
-use Rattle.std.proofs.Common.{◌≡◌, true, false, List, ◌++◌, Some, None, refl, subst}
-use Rattle.std.specs.Prelude.{Option}
-use Rattle.audit_model.specs.Asked.{Asked}
-use Rattle.audit_model.specs.ReportReader.{case_journal, case_reader, given}
-use Rattle.audit_model.proofs.Fronts.{given-follows, given-stops, given-then, given-wrong}
-use Rattle.audit_model.specs.Judging.{FollowedBy}
-use Rattle.audit_model.proofs.WholeLines.{end-ends, head-ends}
-use Rattle.file_model.specs.declared.files.CaseDecl.{CaseDecl}
-use Rattle.file_model.specs.declared.files.File.{File}
-use Rattle.line_followers.proofs.Reaching.{follows-stopped, follows-then}
-use Rattle.line_followers.specs.Follows.{Follows}
-use Rattle.line_readers.specs.Readers.{Reader, and_then}
-use Rattle.report_text.specs.Ends.{end_text}
-use Rattle.report_text.specs.Report.{case_head}
-use Rattle.script_run.specs.declared.runs.ClosedCase.{ClosedCase}
-use Rattle.text_follower.specs.Followed.{Followed}
+use Rattle.std.proofs.Common.{true, false, List, Some, None, Option}
+use Rattle.case_audit.proofs.Common.{and_then, Asked, case_head, case_journal, case_reader, CaseDecl, ClosedCase, end-ends, end_text, File, Followed, FollowedBy, Follows, follows-stopped, follows-then, given-follows, given-stops, given-then, given-wrong, head-ends, Reader}
+use Rattle.audit_model.specs.ReportReader.{given}
 
 module _ (f : File) (phases : List (List Asked)) (d : CaseDecl) where
   abbrev headed : Reader ClosedCase

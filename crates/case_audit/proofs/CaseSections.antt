@@ -1,30 +1,7 @@
 -- The cases of a report, joined in their order.
 use Rattle.std.proofs.Common.{◌≡◌, ℕ, zero, suc, ◌+◌, ◌<◌, List, [], ◌∷◌, ◌++◌, length, length-append, get_or, slice_get, Option, Some, None, Result, Ok, Err, IfOk, OnOk, refl, sym, ap, ◌∙◌, subst, arith}
-use Rattle.std.proofs.lemmas.Option.{same_Some, slice_get-get_or}
-use Rattle.std.specs.List.{AllZip, range_with_len}
-use Rattle.audit_model.specs.Asked.{Asked, owed_case}
-use Rattle.audit_model.specs.ReportReader.{case_reader, cases_reader}
-use Rattle.case_audit.proofs.OwedOf.{owed-filled}
-use Rattle.case_audit.specs.Owing.{calls_decl, numbers, owed_of}
-use Rattle.case_audit.specs.Sharing.{given}
-use Rattle.case_audit.specs.declared.owed.Owed.{Owed}
-use Rattle.audit_model.proofs.ReadersInRow.{case-on, case-stops}
-use Rattle.audit_model.specs.Journaled.{InCases}
-use Rattle.case_audit.specs.Sections.{AreModest, AreSections, HasScript, IsCaseAt, IsModestOwed, IsSection}
-use Rattle.case_audit.specs.declared.sections.Section.{Section}
-use Rattle.file_model.specs.declared.files.CaseDecl.{CaseDecl}
-use Rattle.file_model.specs.declared.files.File.{File}
-use Rattle.file_words.specs.Lines.{Bytes}
-use Rattle.line_followers.specs.Filled.{filled}
-use Rattle.line_followers.specs.Follows.{Follows}
-use Rattle.script_run.specs.declared.runs.ClosedCase.{ClosedCase}
-use Rattle.text_follower.specs.Followed.{Followed}
-
--- what is owed at an index is modest
-pub modest-at : (owed : List Owed) (i : ℕ) (o : Owed) → AreModest owed → i < length owed → o ≡ get_or owed i o → IsModestOwed o
-modest-at [] i o all low is = absurd (omega (arith, low))
-modest-at (x ∷ xs) zero o (one, all) low is = subst IsModestOwed (sym is) one
-modest-at (x ∷ xs) (suc i) o (one, all) low is = modest-at xs i o all (omega (arith, low)) is
+use Rattle.case_audit.proofs.Common.{IsModestScript, few-filled, called-rows, IsModest, CanAudit, AreOwed, AllZip, AreSections, Asked, Bytes, calls_decl, case_reader, CaseDecl, cases_reader, ClosedCase, File, filled, Followed, Follows, given, HasScript, InCases, IsCaseAt, IsSection, numbers, Owed, owed_case, owed_of, range_with_len, row-on, row-stops, same_Some, Section, slice_get-get_or}
+use Rattle.case_audit.proofs.OwedOf.{each-owed, owed-filled, owed-many}
 
 decl-at : (cs : List CaseDecl) (i : ℕ) → i < length cs → (d : CaseDecl) × (slice_get cs i ≡ Some d) × (d ≡ get_or cs i d)
 decl-at [] i low = absurd (omega (arith, low))
@@ -33,6 +10,15 @@ decl-at (x ∷ xs) (suc i) low = decl-at xs i (omega (arith, low))
 
 pub followed-is : (s : Followed) (text : Bytes) (n : ℕ) → s.text ≡ text → n ≡ s.at → s ≡ record { text = text; at = n }
 followed-is s text n same at = ap (λ t. record { text = t; at = s.at }) same ∙ ap (λ m. record { text = text; at = m }) (sym at)
+
+-- what the script's lines owe to the cases of a file that can be judged
+pub are-owed : (f : File) (owed : List Owed) (script : List (List Asked)) → CanAudit f → IsModestScript script → numbers owed ≡ given calls_decl f.cases script → AreOwed f owed
+are-owed f owed script file (modest, few) same = record {
+  file = file;
+  modest = each-owed calls_decl script IsModestScript (λ d. (called-rows IsModest (λ l. calls_decl d l) script modest, few-filled (λ l. calls_decl d l) script few)) f.cases owed same;
+  many = owed-many calls_decl script f.cases owed same;
+  script = (script, same);
+}
 
 module _ (f : File) (owed : List Owed) where
   -- ---- one case
@@ -61,13 +47,13 @@ module _ (f : File) (owed : List Owed) where
       → InCases f phases first old cs (length cs) → IsCaseAt f owed (length cs) old new (Some case) → InCases f phases first new (cs ++ case ∷ []) (length (cs ++ case ∷ []))
   sections-on phases first old new cs case same low begun at =
       let (d, there, is) = decl-at f.cases (length cs) low in
-      subst (λ n. InCases f phases first new (cs ++ case ∷ []) n) (sym (length-append cs (case ∷ []))) (case-on f phases first old new cs (length cs) d case low is begun (at phases d same there))
+      subst (λ n. InCases f phases first new (cs ++ case ∷ []) n) (sym (length-append cs (case ∷ []))) (row-on (λ n e. case_reader f phases e) f.cases first old new cs (length cs) d case low is begun (at phases d same there))
 
   pub sections-stop : (phases : List (List Asked)) (first old new : Followed) (cs : List ClosedCase) → numbers owed ≡ given calls_decl f.cases phases → length cs < length f.cases
       → InCases f phases first old cs (length cs) → IsCaseAt f owed (length cs) old new None → Follows (cases_reader f phases f.cases) first new None
   sections-stop phases first old new cs same low begun at =
       let (d, there, is) = decl-at f.cases (length cs) low in
-      case-stops f phases first old new cs (length cs) d low is begun (at phases d same there)
+      row-stops (λ n e. case_reader f phases e) f.cases first old new cs (length cs) d low is begun (at phases d same there)
 
   -- ---- all of them
   zipped : {E : Type 0} (text : Bytes) (start n : ℕ) (rs : List (Result Section E)) → AllZip (λ i r. IfOk r (IsSection f owed text i)) (range_with_len start n) rs

@@ -1,24 +1,12 @@
 -- Types by their numbers and cases by their declarations: which of them a line calls.
-use Rattle.std.proofs.Common.{◌≡◌, ℕ, ◌+◌, ◌≤◌, ◌==◌, ◌&&◌, eq-eqb, eqb-true, Bool, true, false, List, [], ◌∷◌, ◌++◌, length, map, Some, None, refl, sym, ap, ◌∙◌, arith, if◌then◌else◌}
-use Rattle.std.proofs.lemmas.List.{length-map}
-use Rattle.std.proofs.lemmas.List.FromFn.{length-range_with_len}
-use Rattle.std.specs.Prelude.{fold}
-use Rattle.std.specs.List.{range_with_len}
-use Rattle.audit_model.specs.Asked.{Asked}
+use Rattle.std.proofs.Common.{◌≡◌, ℕ, ◌+◌, ◌≤◌, ◌==◌, ◌&&◌, false, List, [], ◌∷◌, ◌++◌, length, map, Some, None, refl, sym, ap, ◌∙◌, arith, if◌then◌else◌, fold}
+use Rattle.case_audit.proofs.Common.{ArePlaced, Asked, called_case, calls_decl, calls_number, case_among, case_put, CaseDecl, CaseId, Cells, cells_of, changed_where, declared_at, each_among, given, has_case, has_id, has_kind, is_case, kind_among, kind_put, length-map, length-range_with_len, moved_type, put_line, put_where, range_with_len, with_line}
 use Rattle.file_facts.proofs.Cases.{ids-distinct}
-use Rattle.file_facts.specs.Facts.{ArePlaced}
-use Rattle.file_model.specs.CaseCounts.{has_id}
-use Rattle.file_model.specs.declared.files.CaseDecl.{CaseDecl}
-use Rattle.line_calls.specs.Calls.{case_among, cells_of, each_among, has_case, has_kind, is_case, kind_among}
-use Rattle.line_calls.specs.declared.calls.Cells.{Cells}
-use Rattle.line_calls.specs.declared.calls.Cells.TheVariants as cells
-use Rattle.line_followers.specs.Numbered.{with_line}
 use Rattle.line_calls.proofs.Places.{position-from_0}
-use Rattle.script_run.specs.Calls.{changed_where}
-use Rattle.wsm_sound.specs.declared.versions.CaseId.{CaseId}
+use Rattle.audit_model.proofs.Callers.{other-way}
+use Rattle.audit_model.proofs.Queues.{same-id}
 use Rattle.case_audit.proofs.Sharing.{phase-put, put-at, put-map, put-none, put-one, put-same}
-use Rattle.case_audit.specs.Owing.{called_case, calls_decl, calls_number, case_put, declared_at, kind_put, moved_type}
-use Rattle.case_audit.specs.Sharing.{given, put_line, put_where}
+use Rattle.line_calls.specs.declared.calls.Cells.TheVariants as cells
 
 -- ---- types
 abbrev Numbered : Type 0
@@ -54,43 +42,14 @@ pub cases-more : (cases : List CaseDecl) (p : ℕ) (phases : List (List Asked)) 
     → fold (case_put cases p) (given calls_decl cases phases) lines ≡ given calls_decl cases (phases ++ lines ∷ [])
 cases-more cases p phases lines at = phase-put calls_decl cases p phases lines at
 
-other-way : (x y : ℕ) → (x == y) ≡ (y == x)
-other-way x y = by (x == y) (y == x) refl refl
-  where
-    by : (one two : Bool) → (x == y) ≡ one → (y == x) ≡ two → one ≡ two
-    by true true is too = refl
-    by false false is too = refl
-    by true false is not = absurd (cc (not, eq-eqb y x (sym (eqb-true x y is))))
-    by false true not is = absurd (cc (not, eq-eqb x y (sym (eqb-true y x is))))
-
 both-ways : (a b c d : ℕ) → ((a == b) && (c == d)) ≡ ((b == a) && (d == c))
 both-ways a b c d = ap (λ test. test && (c == d)) (other-way a b) ∙ ap (λ test. (b == a) && test) (other-way c d)
-
-abbrev id_at : ℕ → ℕ → CaseId
-id_at t p = record { type_no = t; place = p }
-
-same-id : (c d : CaseId) → c.type_no ≡ d.type_no → c.place ≡ d.place → c ≡ d
-same-id c d types places = ap (λ t. id_at t c.place) types ∙ ap (λ p. id_at d.type_no p) places
-
-of-id : (c : CaseId) (d : CaseDecl) → has_id c d ≡ true → d.id ≡ c
-of-id c d is =
-    let types : (d.id.type_no == c.type_no) ≡ true = left (d.id.type_no == c.type_no) (d.id.place == c.place) is in
-    let places : (d.id.place == c.place) ≡ true = right (d.id.type_no == c.type_no) (d.id.place == c.place) is in
-    same-id d.id c (eqb-true d.id.type_no c.type_no types) (eqb-true d.id.place c.place places)
-  where
-    left : (a b : Bool) → (a && b) ≡ true → a ≡ true
-    left true b is = refl
-    left false b is = is
-
-    right : (a b : Bool) → (a && b) ≡ true → b ≡ true
-    right true b is = is
-    right false b is = absurd (cc (is))
 
 -- the case that was declared with an id gets the line
 pub case-called : (cases : List CaseDecl) (c : CaseId) (f : Numbered → Numbered) (xs : List Numbered) → ArePlaced cases → changed_where f (declared_at cases c) xs ≡ put_where (λ d. is_case d.id c) f cases xs
 case-called cases c f xs placed =
     ap (λ o. changed_where f o xs) (sym (position-from_0 (has_id c) cases))
-    ∙ (put-one (has_id c) f cases xs (λ i j d e at there one two. ids-distinct cases i j d e placed at there (of-id c d one ∙ sym (of-id c e two)))
+    ∙ (put-one (has_id c) f cases xs (λ i j d e at there one two. ids-distinct cases i j d e placed at there (same-id c d.id one ∙ sym (same-id c e.id two)))
     ∙ put-same (has_id c) (λ d. is_case d.id c) f cases xs (λ d. both-ways d.id.type_no c.type_no d.id.place c.place))
 
 -- the lines that call one case, and those that call none

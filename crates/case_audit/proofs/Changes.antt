@@ -1,11 +1,6 @@
 -- What becomes of lists in a list where one of them is changed.
-use Rattle.std.proofs.Common.{◌≡◌, ◌≢◌, ℕ, zero, suc, ◌+◌, ◌-◌, ◌<◌, ◌≤◌, ◌==◌, eq-eqb, ne_eqb, Bool, true, false, List, [], ◌∷◌, ◌++◌, length, map, get_or, set, slice_get, Option, Some, None, refl, sym, ap, ◌∙◌, subst, arith, if◌then◌else◌}
-use Rattle.std.proofs.lemmas.List.{length-map, map-set, set_past}
-use Rattle.std.specs.Prelude.{replicate, slice_set}
-use Rattle.line_followers.specs.Numbered.{in_last, with_line}
-use Rattle.line_followers.specs.Turns.{behind_front, one_taken, queue_of}
-use Rattle.script_run.specs.Calls.{changed_at, put_back}
-use Rattle.case_audit.proofs.QueueLists.{none-of}
+use Rattle.std.proofs.Common.{◌≡◌, ◌≢◌, ℕ, zero, suc, ◌+◌, ◌-◌, ◌<◌, ◌≤◌, eq-eqb, ne_eqb, List, [], ◌∷◌, ◌++◌, length, map, get_or, set, refl, sym, ap, ◌∙◌, arith, if◌then◌else◌, replicate, slice_set}
+use Rattle.case_audit.proofs.Common.{behind_front, changed_at, map-set, one_taken, queue_of, set_past, with_line}
 use Rattle.case_audit.proofs.Sharing.{changed-suc}
 
 -- one item becomes another

@@ -1,9 +1,7 @@
 -- The length of a process file in front of a report, line by line.
-use Rattle.std.proofs.Common.{◌≡◌, ℕ, suc, ◌+◌, List, [], ◌∷◌, ◌++◌, length, length-append, append_assoc, refl, sym, ap, ◌∙◌, arith, if◌then◌else◌}
-use Rattle.case_audit.specs.Parts.{before_report, begins_report, file_length}
-use Rattle.file_words.specs.Lines.{Bytes, CutLines, front_line, lines_of, one_left}
+use Rattle.std.proofs.Common.{◌≡◌, ℕ, suc, ◌+◌, ◌∷◌, ◌++◌, length, length-append, append_assoc, sym, ap, ◌∙◌, arith, if◌then◌else◌}
+use Rattle.case_audit.proofs.Common.{before_report, begins_report, Bytes, CutLines, ending, file_length, front_line, lines_of, one_left}
 use Rattle.line_readers.proofs.Lines.{cut-together}
-use Rattle.line_readers.specs.Readers.{ending}
 
 abbrev before : CutLines → ℕ
 before cut = before_report cut.ended cut.left

@@ -1,29 +1,15 @@
 -- The verdict on a report that was gone along.
-use Rattle.std.proofs.Common.{◌≡◌, ℕ, zero, suc, ◌+◌, ◌<◌, ◌≤◌, ◌==◌, Bool, true, false, List, [], ◌∷◌, length, take, Some, None, refl, sym, ap, ◌∙◌, subst, arith, if◌then◌else◌}
-use Rattle.std.specs.Option.{is_some}
-use Rattle.std.specs.Prelude.{Option}
-use Rattle.audit_facts.specs.Facts.{IsAuditable}
-use Rattle.audit_model.specs.ReportReader.{report_reader}
-use Rattle.audit_model.specs.Reports.{IsReport}
-use Rattle.audit_model.proofs.FirstWrongLine.{first-wrong-line}
-use Rattle.case_audit.specs.Verdicts.{IsJudged}
-use Rattle.file_facts.specs.Facts.{IsWorkable}
-use Rattle.file_model.specs.declared.files.File.{File}
-use Rattle.file_words.specs.Lines.{Bytes}
-use Rattle.line_followers.specs.Follows.{Follows, left_of, passed}
+use Rattle.std.proofs.Common.{◌≡◌, ℕ, zero, suc, ◌+◌, ◌<◌, ◌≤◌, ◌==◌, true, false, [], ◌∷◌, length, take, Some, None, refl, ap, subst, arith, is_some, Option}
+use Rattle.case_audit.proofs.Common.{IsRead, if-either, Bytes, feeds, File, Followed, Follows, IsFirstWrong, IsJudged, IsReport, left_of, passed, report_reader, Run}
+use Rattle.audit_facts.proofs.Auditable.{file-auditable}
+use Rattle.file_facts.proofs.Workable.{file-workable}
+use Rattle.audit_model.proofs.Whole.{first-wrong-line}
 use Rattle.line_readers.proofs.Walks.{goes-first_wrong, wrong_behind}
-use Rattle.line_readers.specs.FirstWrong.{IsFirstWrong, first_wrong}
-use Rattle.script_run.specs.declared.runs.Run.{Run}
-use Rattle.text_follower.specs.Followed.{Followed, feeds}
 
 pub feeds-taken : (n : ℕ) (bs : Bytes) → feeds (take n bs) ≤ length bs
 feeds-taken zero bs = omega arith
 feeds-taken (suc n) [] = omega arith
-feeds-taken (suc n) (b ∷ bs) = by (b == 10) (feeds-taken n bs)
-  where
-    by : (test : Bool) → feeds (take n bs) ≤ length bs → (if test then suc (feeds (take n bs)) else feeds (take n bs)) ≤ suc (length bs)
-    by true few = omega (arith, few)
-    by false few = omega (arith, few)
+feeds-taken (suc n) (b ∷ bs) = let few = feeds-taken n bs in if-either (λ m. m ≤ suc (length bs)) (b == 10) (suc (feeds (take n bs))) (feeds (take n bs)) (λ is. omega (arith, few)) (λ not. omega (arith, few))
 
 -- something is left
 pub some-left : (n : ℕ) → (n == 0) ≡ false → 0 < n
@@ -33,10 +19,10 @@ some-left (suc n) some = omega arith
 abbrev start : Bytes → Followed
 start report = record { text = report; at = 0 }
 
-module _ (f : File) (workable : IsWorkable f) (auditable : IsAuditable f) (report : Bytes) (end : Followed) where
+module _ (f : File) (read : IsRead f) (report : Bytes) (end : Followed) where
   first-is : (value : Option Run) → Follows (report_reader f) (start report) end value → IsFirstWrong (IsReport f) report (wrong_behind (left_of end) (passed end) value)
   first-is value gone =
-      subst (IsFirstWrong (IsReport f) report) (goes-first_wrong (report_reader f) report (left_of end) (passed end) value gone.1) (first-wrong-line f workable auditable report)
+      subst (IsFirstWrong (IsReport f) report) (goes-first_wrong (report_reader f) report (left_of end) (passed end) value gone.1) (first-wrong-line f (file-workable read.0 f read.1) (file-auditable read.0 f read.1) report)
 
   pub legal-whole : IsJudged f (start report) end true → left_of end ≡ [] → IsFirstWrong (IsReport f) report None
   legal-whole (value, stands, gone) none = by value stands (first-is value gone)

@@ -1,8 +1,6 @@
 -- The first of a queue, and what is behind it.
-use Rattle.std.proofs.Common.{◌≡◌, List, [], ◌∷◌, ◌++◌, drop, length, length-append, map, Option, Some, None, refl, sym, ap, ◌∙◌, arith}
-use Rattle.std.specs.Prelude.{option_map}
-use Rattle.std.specs.Option.{option_to_list}
-use Rattle.line_followers.specs.Turns.{behind_front, front_of}
+use Rattle.std.proofs.Common.{◌≡◌, List, [], ◌∷◌, ◌++◌, drop, length, map, Option, Some, None, refl, sym, ap, arith, option_map, option_to_list}
+use Rattle.case_audit.proofs.Common.{behind_front, front_of}
 
 module _ {A X : Type 0} (view : A → X) where
   pub popped-rest : (queue rest : List A) → rest ≡ drop 1 queue → map view rest ≡ behind_front (map view queue)

@@ -1,27 +1,6 @@
 -- A type's part of a report: its line and its definition, then its journal.
 use Rattle.std.proofs.Common.{◌≡◌, ℕ, ◌+◌, true, false, List, ◌++◌, Some, None, refl, subst}
-use Rattle.audit_model.proofs.Texts.{EndsLine, ends-behind, kind-line}
-use Rattle.audit_model.specs.Owed.{owed_kind}
-use Rattle.audit_model.specs.Printed.{kind_shown}
-use Rattle.audit_model.specs.ReportReader.{defined_line, kind_journal, kind_reader}
-use Rattle.audit_model.proofs.Fronts.{given-then, given-wrong}
-use Rattle.audit_model.proofs.Readable.{kind-stopped, kind-whole}
-use Rattle.audit_model.specs.Judging.{FollowedBy}
-use Rattle.audit_model.specs.Journaled.{GrowsTo, StopsAt, kinds}
-use Rattle.file_model.specs.declared.files.File.{File}
-use Rattle.file_model.specs.declared.files.Line.{Line}
-use Rattle.file_model.specs.declared.files.TypeDecl.{TypeDecl}
-use Rattle.file_words.specs.Lines.{Bytes}
-use Rattle.line_followers.specs.Filled.{filled}
-use Rattle.line_followers.specs.Follows.{Follows}
-use Rattle.report_text.specs.Report.{type_head}
-use Rattle.script_run.specs.Entries.{KindEntry}
-use Rattle.script_run.specs.Serial.{defined, program}
-use Rattle.script_run.specs.declared.runs.ClosedKind.{ClosedKind}
-use Rattle.text_follower.specs.Followed.{Followed}
-use Rattle.turn_cell.specs.History.{entry}
-use Rattle.type_core.specs.KindModel.{not_defined}
-use Rattle.type_core.specs.Machine.{kind_reply}
+use Rattle.case_audit.proofs.Common.{Bytes, ClosedKind, defined, defined_line, ends-behind, EndsLine, entry, File, filled, Followed, FollowedBy, Follows, given-then, given-wrong, GrowsTo, kind-line, kind-stopped, kind-whole, kind_journal, kind_reader, kind_reply, kind_shown, KindEntry, kinds, Line, not_defined, owed_kind, program, StopsAt, type_head, TypeDecl}
 use Rattle.type_core.specs.declared.events.KindEvent.TheVariants as kind_event
 
 module _ (f : File) (t : ℕ) (d : TypeDecl) where

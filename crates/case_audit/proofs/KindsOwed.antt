@@ -1,26 +1,9 @@
 -- What is owed to the types of a file, by their numbers.
-use Rattle.std.proofs.Common.{◌≡◌, ℕ, zero, suc, ◌+◌, ◌<◌, ◌≤◌, false, true, List, [], ◌∷◌, length, map, get_or, slice_get, Some, inl, inr, sym, ap, ◌∙◌, subst, arith}
-use Rattle.std.proofs.lemmas.Bool.{cases_Bool, leb-true}
-use Rattle.std.proofs.lemmas.List.FromFn.{length-range_with_len}
-use Rattle.std.specs.List.{list_all, range_with_len}
-use Rattle.std.specs.Prelude.{filter}
-use Rattle.audit_facts.specs.Facts.{IsAuditable}
-use Rattle.audit_model.specs.Asked.{Telling, asked_phases}
-use Rattle.audit_model.specs.Owed.{owed_kind}
+use Rattle.std.proofs.Common.{◌≡◌, ℕ, zero, suc, ◌+◌, ◌<◌, ◌≤◌, false, true, List, [], ◌∷◌, length, map, get_or, slice_get, Some, inl, inr, sym, ap, ◌∙◌, subst, arith, filter}
+use Rattle.std.proofs.lemmas.Bool.{leb-true}
+use Rattle.case_audit.proofs.Common.{AllRows, asked_phases, called-rows, calls_number, cards_of, cases_Bool, File, file-modest, filled, given, IsAuditable, IsModest, IsWorkable, kind-owed, length-range_with_len, list_all, numbers, Owed, owed_kind, owed_lines, owed_of, range_with_len, Telling, TypeDecl}
 use Rattle.case_audit.proofs.OwedOf.{owed-filled, owed-many}
-use Rattle.case_audit.specs.Owing.{calls_number, numbers, owed_of}
-use Rattle.case_audit.specs.Sharing.{given}
-use Rattle.case_audit.specs.declared.owed.Owed.{Owed}
-use Rattle.audit_model.proofs.Modest.{called-rows, file-modest, kind-owed}
-use Rattle.audit_model.specs.Journaled.{owed_lines}
-use Rattle.audit_model.specs.Lines.{IsModest}
-use Rattle.file_facts.specs.Facts.{IsWorkable}
 use Rattle.file_model.specs.Sizes.{is_small}
-use Rattle.file_model.specs.declared.files.File.{File}
-use Rattle.file_model.specs.declared.files.TypeDecl.{TypeDecl}
-use Rattle.line_followers.specs.Filled.{filled}
-use Rattle.wsm_lists.specs.Rows.{AllRows}
-use Rattle.wsm_schema.specs.Flat.{cards_of}
 
 -- ---- each type is small
 first-small : (t : TypeDecl) (ts : List TypeDecl) → list_all is_small (t ∷ ts) ≡ true → is_small t ≡ true
@@ -38,6 +21,14 @@ small-at [] n d all low is = absurd (omega (arith, low))
 small-at (t ∷ ts) zero d all low is =
     leb-true (length (cards_of d.schema)) 1024 (subst (λ x. is_small x ≡ true) (sym is) (first-small t ts all))
 small-at (t ∷ ts) (suc n) d all low is = small-at ts n d (rest-small t ts all) (omega (arith, low)) is
+
+-- a type, where it stands
+pub record TypeAt (f : File) (n : ℕ) (d : TypeDecl) : Type 0 where
+  pub within : n < length f.types
+  pub is : d ≡ get_or f.types n d
+
+pub type-at : (f : File) (types : List TypeDecl) (n : ℕ) (d : TypeDecl) → types ≡ f.types → n < length types → d ≡ get_or types n d → TypeAt f n d
+type-at f types n d same low here = record { within = omega (arith, low, ap length same); is = subst (λ ts. d ≡ get_or ts n d) same here }
 
 -- ---- what is owed to it
 

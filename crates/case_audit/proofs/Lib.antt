@@ -1,3 +1,4 @@
+pub mod Common
 pub mod Sharing
 pub mod QueueLists
 pub mod Changes
@@ -15,7 +16,6 @@ pub mod CaseParts
 pub mod FileLengths
 pub mod ReportParts
 pub mod FirstLines
-pub mod ModestOwed
 pub mod AuditEnds
 pub mod KindsOwed
 pub mod CaseSections

@@ -1,23 +1,12 @@
 -- The beginning of a line: its number, its caller's name, and a space behind each.
-use Rattle.std.proofs.Common.{◌≡◌, ℕ, zero, suc, ◌+◌, ◌-◌, ◌==◌, ◌&&◌, ne_eqb, Bool, true, false, List, [], ◌∷◌, ◌++◌, drop, length, slice_get, Option, Some, None, refl, sym, ap, ◌∙◌, arith, if◌then◌else◌}
-use Rattle.std.specs.Option.{is_some}
-use Rattle.std.specs.Prelude.{MatchOption, codes, decimal}
-use Rattle.case_audit.specs.Callers.{begins_with_word, named_from}
-use Rattle.audit_model.specs.Printed.{begins, caller_from, caller_in}
-use Rattle.file_model.specs.declared.files.ActorDecl.{ActorDecl}
-use Rattle.file_model.specs.declared.files.File.{File}
-use Rattle.file_words.specs.Lines.{Bytes}
-use Rattle.report_text.specs.Journals.{line_start}
-use Rattle.report_words.specs.Words.{actor_name, caller_text}
+use Rattle.std.proofs.Common.{◌≡◌, ℕ, suc, ◌+◌, ◌-◌, ◌==◌, ◌&&◌, ne_eqb, true, false, List, [], ◌∷◌, ◌++◌, drop, length, slice_get, Option, Some, None, refl, sym, ap, ◌∙◌, arith, if◌then◌else◌, is_some, MatchOption, codes, decimal}
+use Rattle.std.proofs.lemmas.Bool.{and_right}
+use Rattle.case_audit.proofs.Common.{by-test, actor_name, ActorDecl, begins, begins_with_word, Bytes, caller_from, caller_in, caller_text, File, line_start, named_from}
 
 pub begins-both : (a b text : Bytes) → begins (a ++ b) text ≡ (begins a text && begins b (drop (length a) text))
 begins-both [] b text = refl
 begins-both (x ∷ xs) b [] = refl
-begins-both (x ∷ xs) b (y ∷ ys) = ap (λ test. (y == x) && test) (begins-both xs b ys) ∙ by (y == x)
-  where
-    by : (test : Bool) → (test && (begins xs ys && begins b (drop (length xs) ys))) ≡ ((test && begins xs ys) && begins b (drop (length xs) ys))
-    by true = refl
-    by false = refl
+begins-both (x ∷ xs) b (y ∷ ys) = ap (λ test. (y == x) && test) (begins-both xs b ys) ∙ by-test (λ test. (test && (begins xs ys && begins b (drop (length xs) ys))) ≡ ((test && begins xs ys) && begins b (drop (length xs) ys))) (y == x) (λ is. refl) (λ not. refl)
 
 -- what stands behind the number, and behind its space
 abbrev behind_number : ℕ → Bytes → Bytes
@@ -70,11 +59,7 @@ no-number f k text not =
 pub no-space : (f : File) (k : ℕ) (text : Bytes) → begins (codes " ") (behind_number k text) ≡ false → caller_in f k text ≡ None
 no-space f k text not =
     caller-none f k text 1 f.actors (λ a. begins-start f k a text
-    ∙ (ap (λ b. begins (decimal k) text && (b && begins_with_word (caller_text f a) (behind_space k text))) not ∙ both (begins (decimal k) text)))
-  where
-    both : (b : Bool) → (b && false) ≡ false
-    both true = refl
-    both false = refl
+    ∙ (ap (λ b. begins (decimal k) text && (b && begins_with_word (caller_text f a) (behind_space k text))) not ∙ and_right (begins (decimal k) text) false refl))
 
 -- a word, and a space behind it
 pub no-word : (word text : Bytes) → begins word text ≡ false → false ≡ begins_with_word word text

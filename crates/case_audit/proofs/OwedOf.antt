@@ -1,15 +1,6 @@
 -- What is owed to each cell is the lines that call it, without the phases in which none does.
-use Rattle.std.proofs.Common.{◌≡◌, ℕ, zero, suc, ◌<◌, Bool, List, [], ◌∷◌, length, map, get_or, slice_get, Some, refl, sym, ap, ◌∙◌, subst, arith}
-use Rattle.std.specs.Prelude.{filter}
-use Rattle.audit_model.specs.Asked.{Asked}
-use Rattle.case_audit.specs.Owing.{calls_in, numbered_of, numbers, owed_of}
-use Rattle.case_audit.specs.Sharing.{given}
-use Rattle.case_audit.specs.declared.owed.Owed.{Owed}
-use Rattle.case_audit.specs.declared.owed.PhaseCalls.{PhaseCalls}
-use Rattle.line_followers.proofs.Numbered.{numbered-filled}
-use Rattle.line_followers.specs.Filled.{filled}
-use Rattle.line_followers.specs.Numbered.{numbered_from}
-use Rattle.wsm_lists.specs.Rows.{AllRows}
+use Rattle.std.proofs.Common.{◌≡◌, ℕ, zero, suc, ◌<◌, Bool, List, [], ◌∷◌, length, map, get_or, slice_get, Some, refl, sym, ap, ◌∙◌, subst, arith, filter}
+use Rattle.case_audit.proofs.Common.{AllRows, Asked, calls_in, filled, given, numbered-filled, numbered_from, numbered_of, numbers, Owed, owed_of, PhaseCalls}
 
 abbrev lines_in : ℕ × List Asked → List Asked
 lines_in q = q.1

@@ -1,33 +1,33 @@
 -- The phases of what is owed, one by one.
-use Rattle.std.proofs.Common.{◌≡◌, ℕ, zero, suc, ◌+◌, ◌<◌, ◌≤◌, List, [], ◌∷◌, drop, length, map, get_or, sym, ap, ◌∙◌, subst, arith}
-use Rattle.std.proofs.lemmas.List.{drop_more, length-map}
-use Rattle.audit_model.specs.Asked.{Asked}
+use Rattle.std.proofs.Common.{◌≡◌, ℕ, zero, suc, ◌+◌, ◌<◌, ◌≤◌, List, [], ◌∷◌, drop, length, get_or, sym, ap, ◌∙◌, subst, arith}
+use Rattle.case_audit.proofs.Common.{AllRows, asked_of, calls_in, drop_more, how_many, length-map, Owed, owed_of, PhaseCalls}
 use Rattle.case_audit.proofs.Changes.{map-at}
-use Rattle.case_audit.specs.Asking.{asked_of}
-use Rattle.case_audit.specs.Owing.{calls_in, owed_of}
-use Rattle.case_audit.specs.declared.owed.Owed.{Owed}
-use Rattle.case_audit.specs.declared.owed.PhaseCalls.{PhaseCalls}
-use Rattle.line_readers.specs.Owed.{how_many}
-use Rattle.wsm_lists.specs.Rows.{AllRows}
 
-row-at : {X : Type 0} (P : X → Type 0) (xs : List X) (n : ℕ) (x : X) → AllRows P xs → n < length xs → x ≡ get_or xs n x → P x
+pub row-at : {X : Type 0} (P : X → Type 0) (xs : List X) (n : ℕ) (x : X) → AllRows P xs → n < length xs → x ≡ get_or xs n x → P x
 row-at P [] n x all low is = absurd (omega (arith, low))
 row-at P (y ∷ ys) zero x (one, all) low is = subst P (sym is) one
 row-at P (y ∷ ys) (suc n) x (one, all) low is = row-at P ys n x all (omega (arith, low)) is
 
-pub phase-low : (o : Owed) (n : ℕ) → n < length o.phases.items → n < length (owed_of o)
-phase-low o n low = omega (arith, low, length-map o.phases.items calls_in)
+-- a phase of what is owed, where it stands
+pub record PhaseAt (o : Owed) (n : ℕ) (p : PhaseCalls) : Type 0 where
+  pub low : n < length (owed_of o)
+  pub is : calls_in p ≡ get_or (owed_of o) n (calls_in p)
+  pub many : how_many (drop n (owed_of o)) ≡ length p.calls.items + how_many (drop (n + 1) (owed_of o))
 
-pub phase-is : (o : Owed) (n : ℕ) (p : PhaseCalls) → n < length o.phases.items → p ≡ get_or o.phases.items n p → calls_in p ≡ get_or (owed_of o) n (calls_in p)
-phase-is o n p low is = map-at calls_in o.phases.items n p low is
+pub phase-at : (o : Owed) (items : List PhaseCalls) (n : ℕ) (p : PhaseCalls) → items ≡ o.phases.items → n < length items → p ≡ get_or items n p → PhaseAt o n p
+phase-at o items n p same within here = record {
+  low = low;
+  is = is;
+  many =
+      ap how_many (drop_more (owed_of o) n (calls_in p) low ∙ ap (λ ls. ls ∷ drop (n + 1) (owed_of o)) (sym is))
+      ∙ ap (λ k. k + how_many (drop (n + 1) (owed_of o))) (length-map p.calls.items asked_of);
+}
+  where
+    low : n < length (owed_of o)
+    low = omega (arith, within, ap length same, length-map o.phases.items calls_in)
 
-pub phase-row : (P : List Asked → Type 0) (o : Owed) (n : ℕ) (p : PhaseCalls) → AllRows P (owed_of o) → n < length o.phases.items → p ≡ get_or o.phases.items n p → P (calls_in p)
-phase-row P o n p all low is = row-at P (owed_of o) n (calls_in p) all (phase-low o n low) (phase-is o n p low is)
-
-pub phase-many : (o : Owed) (n : ℕ) (p : PhaseCalls) → n < length o.phases.items → p ≡ get_or o.phases.items n p → how_many (drop n (owed_of o)) ≡ length p.calls.items + how_many (drop (n + 1) (owed_of o))
-phase-many o n p low is =
-    ap how_many (drop_more (owed_of o) n (calls_in p) (phase-low o n low) ∙ ap (λ ls. ls ∷ drop (n + 1) (owed_of o)) (sym (phase-is o n p low is)))
-    ∙ ap (λ k. k + how_many (drop (n + 1) (owed_of o))) (length-map p.calls.items asked_of)
+    is : calls_in p ≡ get_or (owed_of o) n (calls_in p)
+    is = map-at calls_in o.phases.items n p (omega (arith, within, ap length same)) (subst (λ ps. p ≡ get_or ps n p) same here)
 
 -- behind the last one
 pub phase-end : (o : Owed) (n : ℕ) (items : List PhaseCalls) → items ≡ o.phases.items → length items ≤ n → n ≤ length items → n ≡ length (owed_of o)

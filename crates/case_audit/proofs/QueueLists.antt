@@ -1,13 +1,6 @@
 -- Lists in a list, of which one is changed.
-use Rattle.std.proofs.Common.{◌≡◌, ◌≢◌, ℕ, zero, suc, ◌+◌, ◌<◌, ◌≤◌, ◌==◌, eq-eqb, eqb-true, ne_eqb, Bool, true, false, List, [], ◌∷◌, ◌++◌, length, slice_get, Option, Some, None, refl, sym, ap, ◌∙◌, subst, arith}
-use Rattle.std.specs.Prelude.{slice_set}
-use Rattle.line_followers.proofs.Turns.{get-other, get-set, set-many}
-use Rattle.line_followers.specs.Turns.{behind_front, one_added, one_taken, queue_in, queue_of}
-
-pub past-none : {X : Type 0} (xs : List X) (i : ℕ) → length xs ≤ i → slice_get xs i ≡ None
-past-none [] i past = refl
-past-none (x ∷ xs) zero past = absurd (omega (arith, past))
-past-none (x ∷ xs) (suc i) past = past-none xs i (omega (arith, past))
+use Rattle.std.proofs.Common.{◌≡◌, ◌≢◌, ℕ, zero, suc, ◌+◌, ◌<◌, ◌≤◌, List, [], ◌∷◌, ◌++◌, length, refl, sym, ap, ◌∙◌, arith, replicate, slice_set}
+use Rattle.case_audit.proofs.Common.{behind_front, get-other, get-set, one_added, one_taken, queue_in, queue_of, set-many, slice_get_past}
 
 -- within the list, or behind it
 pub data At (n i : ℕ) : Type 0 where
@@ -29,13 +22,18 @@ module _ {L : Type 0} where
     where
       by : At (length queues) i → queue_of (slice_set queues i q) i ≡ q
       by (within low) = ap queue_in (get-set queues i q low)
-      by (behind past) = ap queue_in (past-none (slice_set queues i q) i (omega (arith, past, set-many queues i q))) ∙ sym (none past)
+      by (behind past) = ap queue_in (slice_get_past (slice_set queues i q) i (omega (arith, past, set-many queues i q))) ∙ sym (none past)
 
   pub set-another : (queues : List (List L)) (i j : ℕ) (q : List L) → j ≢ i → queue_of (slice_set queues i q) j ≡ queue_of queues j
   set-another queues i j q other = ap queue_in (get-other queues i j q other)
 
   pub none-of : (queues : List (List L)) (i : ℕ) → length queues ≤ i → queue_of queues i ≡ []
-  none-of queues i past = ap queue_in (past-none queues i past)
+  none-of queues i past = ap queue_in (slice_get_past queues i past)
+
+  pub none-in : (n a : ℕ) → queue_of {L = L} (replicate n []) a ≡ []
+  none-in zero a = refl
+  none-in (suc n) zero = refl
+  none-in (suc n) (suc a) = none-in n a
 
   pub taken-own : (queues : List (List L)) (a : ℕ) → queue_of (one_taken a queues) a ≡ behind_front (queue_of queues a)
   taken-own queues a = set-own queues a (behind_front (queue_of queues a)) (λ past. ap behind_front (none-of queues a past))

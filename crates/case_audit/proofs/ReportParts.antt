@@ -1,21 +1,7 @@
 -- The parts of a report, one behind another.
-use Rattle.std.proofs.Common.{◌≡◌, ℕ, ◌++◌, Bool, true, false, List, Some, None, refl, subst}
-use Rattle.std.specs.Prelude.{Option, option_map}
-use Rattle.audit_model.proofs.WholeLines.{header-ends, summary-ends}
-use Rattle.audit_model.specs.Asked.{asked_phases}
-use Rattle.audit_model.specs.ReportReader.{cases_behind, cases_reader, given, kinds_reader, report_reader, telling}
-use Rattle.audit_model.proofs.Fronts.{given-follows, given-stops, given-then, given-wrong}
-use Rattle.audit_model.specs.Judging.{FollowedBy}
-use Rattle.case_audit.specs.Verdicts.{IsJudged}
-use Rattle.file_model.specs.declared.files.File.{File}
-use Rattle.line_followers.proofs.Reaching.{follows-mapped, follows-stopped, follows-then}
-use Rattle.line_followers.specs.Follows.{Follows}
-use Rattle.line_readers.specs.Readers.{Reader, and_then}
-use Rattle.report_text.specs.Report.{first_line, summary}
-use Rattle.script_run.specs.declared.runs.ClosedCase.{ClosedCase}
-use Rattle.script_run.specs.declared.runs.ClosedKind.{ClosedKind}
-use Rattle.script_run.specs.declared.runs.Run.{Run}
-use Rattle.text_follower.specs.Followed.{Followed}
+use Rattle.std.proofs.Common.{◌≡◌, ℕ, Bool, true, false, List, Some, None, refl, subst, Option, option_map}
+use Rattle.case_audit.proofs.Common.{and_then, asked_phases, cases_behind, cases_reader, ClosedCase, ClosedKind, File, first_line, Followed, FollowedBy, Follows, follows-mapped, follows-stopped, follows-then, given-follows, given-stops, given-then, given-wrong, header-ends, IsJudged, kinds_reader, Reader, Run, summary, summary-ends, telling}
+use Rattle.audit_model.specs.ReportReader.{given}
 
 -- what is known of a value is known of what it is
 pub followed-as : {A B : Type 0} (r : Reader B) (old new : Followed) (g : A → B) (o p : Option A) → o ≡ p → Follows r old new (option_map g o) → Follows r old new (option_map g p)

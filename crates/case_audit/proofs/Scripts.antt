@@ -1,8 +1,7 @@
 -- The script's lines, phase by phase.
-use Rattle.std.proofs.Common.{◌≡◌, ℕ, ◌+◌, ◌<◌, List, [], ◌∷◌, ◌++◌, length, map, take, get_or, refl, sym, ap, ◌∙◌, arith}
-use Rattle.std.proofs.lemmas.List.{length-map, length-take-le, map-append, take_more}
-use Rattle.std.specs.Prelude.{Vec}
-use Rattle.case_audit.specs.Asking.{asked_in, script_of}
+use Rattle.std.proofs.Common.{◌≡◌, ℕ, ◌+◌, ◌<◌, List, [], ◌∷◌, ◌++◌, length, take, get_or, sym, ap, ◌∙◌, arith, Vec}
+use Rattle.std.proofs.lemmas.List.{length-take-le}
+use Rattle.case_audit.proofs.Common.{asked_in, length-map, map-append, script_of, take_more}
 use Rattle.case_audit.specs.declared.asked.AskedLine.{AskedLine}
 
 pub script-more : {A : Type 0} (phases : List (Vec AskedLine A)) (i : ℕ) (row : Vec AskedLine A) → i < length phases → row ≡ get_or phases i row → script_of (take (i + 1) phases) ≡ script_of (take i phases) ++ asked_in row.items ∷ []

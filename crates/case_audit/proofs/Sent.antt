@@ -1,6 +1,6 @@
 -- Files, what is owed, and closed cases may go from thread to thread.
+use Rattle.case_audit.proofs.Common.{crosses}
 use denote.Param.Send.{IsSend, IsSync, sendable}
-use Rattle.std.proofs.Crossing.{crosses}
 use Rattle.wsm_schema.proofs.blocks.Block.TheLaws.TheKnot.{crosses as blocks_cross}
 use Rattle.wsm_schema.proofs.flats.Flat.TheSendSync as flat
 use Rattle.wsm_schema.proofs.ranks.Rank.TheSendSync as rank

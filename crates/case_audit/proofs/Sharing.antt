@@ -1,12 +1,6 @@
 -- What cells get of lines that are put to them one after another.
-use Rattle.std.proofs.Common.{◌≡◌, ℕ, zero, suc, ◌+◌, ◌<◌, ◌≤◌, ◌==◌, Bool, true, false, cond, eq-eqb, ne_eqb, List, [], ◌∷◌, ◌++◌, append_assoc, append-nil, length, length-append, map, take, get_or, slice_get, Option, Some, None, add-one, refl, sym, ap, ◌∙◌, subst, arith}
-use Rattle.std.proofs.lemmas.List.{length-map, map-append}
-use Rattle.std.specs.Prelude.{filter, fold, slice_set, if◌then◌else◌}
-use Rattle.std.specs.List.{position_from, range_with_len}
-use Rattle.line_followers.proofs.Numbered.{numbered-lines}
-use Rattle.line_followers.specs.Numbered.{numbered_from, with_line, with_lines}
-use Rattle.script_run.specs.Calls.{changed_at, changed_where, put_back}
-use Rattle.case_audit.specs.Sharing.{given, put_line, put_where}
+use Rattle.std.proofs.Common.{◌≡◌, ℕ, zero, suc, ◌+◌, ◌<◌, ◌≤◌, ◌==◌, Bool, true, false, cond, eq-eqb, ne_eqb, List, [], ◌∷◌, ◌++◌, append_assoc, append-nil, length, length-append, map, take, get_or, slice_get, Option, Some, None, add-one, refl, sym, ap, ◌∙◌, arith, filter, fold, if◌then◌else◌}
+use Rattle.case_audit.proofs.Common.{by-test, if-either, changed_at, changed_where, given, length-map, map-append, numbered-lines, numbered_from, position_from, put_back, put_line, put_where, range_with_len, slice_get_past, with_line, with_lines}
 
 pub map-same : {C X : Type 0} (f g : C → X) (cs : List C) → ((c : C) → f c ≡ g c) → map f cs ≡ map g cs
 map-same f g [] same = refl
@@ -36,58 +30,31 @@ changed-suc {X} f i x xs = go (slice_get xs i)
     go None = refl
     go (Some y) = refl
 
-changed-none : {X : Type 0} (f : X → X) (i : ℕ) → changed_at f i [] ≡ []
-changed-none f i = refl
-
 -- ---- the cells up to an index were visited
 module _ {C X : Type 0} (test : C → Bool) (f : X → X) where
-  one_more : C → ℕ → List X → List X
-  one_more c i xs = if test c then changed_at f i xs else xs
-
   put-suc : (cs : List C) (xs : List X) (i : ℕ) (c : C) → i < length cs → c ≡ get_or cs i c → put_where test f (take (suc i) cs) xs ≡ (if test c then changed_at f i (put_where test f (take i cs) xs) else put_where test f (take i cs) xs)
   put-suc [] xs i c within is = absurd (omega arith)
-  put-suc (d ∷ ds) [] zero c within is = go (test c)
-    where
-      go : (b : Bool) → ◌≡◌ {A = List X} [] (if b then [] else [])
-      go true = refl
-      go false = refl
-  put-suc (d ∷ ds) [] (suc i) c within is = go (test c)
-    where
-      go : (b : Bool) → ◌≡◌ {A = List X} [] (if b then [] else [])
-      go true = refl
-      go false = refl
-  put-suc (d ∷ ds) (x ∷ xs) zero c within is = rw is (go (test d))
-    where
-      go : (b : Bool) → (if b then f x else x) ∷ xs ≡ (if b then f x ∷ xs else x ∷ xs)
-      go true = refl
-      go false = refl
+  put-suc (d ∷ ds) [] zero c within is = if-either (λ ys. ◌≡◌ {A = List X} [] ys) (test c) [] [] (λ yes. refl) (λ not. refl)
+  put-suc (d ∷ ds) [] (suc i) c within is = if-either (λ ys. ◌≡◌ {A = List X} [] ys) (test c) [] [] (λ yes. refl) (λ not. refl)
+  put-suc (d ∷ ds) (x ∷ xs) zero c within is = rw is (by-test (λ b. (if b then f x else x) ∷ xs ≡ (if b then f x ∷ xs else x ∷ xs)) (test d) (λ yes. refl) (λ not. refl))
   put-suc (d ∷ ds) (x ∷ xs) (suc i) c within is =
-      ap (λ ys. (if test d then f x else x) ∷ ys) (put-suc ds xs i c (omega arith) is) ∙ go (test c) (if test d then f x else x) (put_where test f (take i ds) xs)
+      ap (λ ys. (if test d then f x else x) ∷ ys) (put-suc ds xs i c (omega arith) is) ∙ later (if test d then f x else x) (put_where test f (take i ds) xs)
     where
-      go : (b : Bool) (y : X) (ys : List X) → y ∷ (if b then changed_at f i ys else ys) ≡ (if b then changed_at f (suc i) (y ∷ ys) else y ∷ ys)
-      go true y ys = sym (changed-suc f i y ys)
-      go false y ys = refl
+      later : (y : X) (ys : List X) → y ∷ (if test c then changed_at f i ys else ys) ≡ (if test c then changed_at f (suc i) (y ∷ ys) else y ∷ ys)
+      later y ys = by-test (λ b. y ∷ (if b then changed_at f i ys else ys) ≡ (if b then changed_at f (suc i) (y ∷ ys) else y ∷ ys)) (test c) (λ yes. sym (changed-suc f i y ys)) (λ not. refl)
 
   pub put-more : (cs : List C) (xs : List X) (i : ℕ) (c : C) → i < length cs → c ≡ get_or cs i c → put_where test f (take (i + 1) cs) xs ≡ (if test c then changed_at f i (put_where test f (take i cs) xs) else put_where test f (take i cs) xs)
   put-more cs xs i c within is = rw add-one (put-suc cs xs i c within is)
 
 -- ---- one cell passes at most
 module _ {C X : Type 0} (test : C → Bool) (f : X → X) where
-  get-past : (xs : List X) (i : ℕ) → length xs ≤ i → slice_get xs i ≡ None
-  get-past [] i past = refl
-  get-past (x ∷ xs) zero past = absurd (omega (arith, past))
-  get-past (x ∷ xs) (suc i) past = get-past xs i (omega (arith, past))
-
   past : (i : ℕ) (xs : List X) → length xs ≤ i → changed_at f i xs ≡ xs
-  past i xs low = ap (put_back f i xs) (get-past xs i low)
+  past i xs low = ap (put_back f i xs) (slice_get_past xs i low)
 
   past-all : (cs : List C) (start : ℕ) (xs : List X) → length xs ≤ start → changed_where f (position_from test start cs) xs ≡ xs
   past-all [] start xs low = refl
-  past-all (c ∷ cs) start xs low = go (test c) (past-all cs (start + 1) xs (omega (arith, low)))
-    where
-      go : (b : Bool) → changed_where f (position_from test (start + 1) cs) xs ≡ xs → changed_where f (cond b (Some start) (position_from test (start + 1) cs)) xs ≡ xs
-      go true more = past start xs low
-      go false more = more
+  past-all (c ∷ cs) start xs low =
+      by-test (λ b. changed_where f (cond b (Some start) (position_from test (start + 1) cs)) xs ≡ xs) (test c) (λ yes. past start xs low) (λ not. past-all cs (start + 1) xs (omega (arith, low)))
 
   changed-behind : (front : List X) (x : X) (xs : List X) → changed_at f (length front) (front ++ x ∷ xs) ≡ front ++ f x ∷ xs
   changed-behind [] x xs = refl
@@ -97,11 +64,7 @@ module _ {C X : Type 0} (test : C → Bool) (f : X → X) where
   Only cs = (i j : ℕ) (c d : C) → slice_get cs i ≡ Some c → slice_get cs j ≡ Some d → test c ≡ true → test d ≡ true → i ≡ j
 
   others-fail : (c : C) (cs : List C) → Only (c ∷ cs) → test c ≡ true → (i : ℕ) (d : C) → slice_get cs i ≡ Some d → test d ≡ false
-  others-fail c cs only passes i d is = go (test d) refl
-    where
-      go : (b : Bool) → test d ≡ b → test d ≡ false
-      go false not = not
-      go true too = absurd (cc (only 0 (suc i) c d refl is passes too))
+  others-fail c cs only passes i d is = by-test (λ b. b ≡ false) (test d) (λ too. absurd (cc (only 0 (suc i) c d refl is passes too))) (λ not. refl)
 
   put-from : (start : ℕ) (cs : List C) (front xs : List X) → length front ≡ start → Only cs → changed_where f (position_from test start cs) (front ++ xs) ≡ front ++ put_where test f cs xs
   put-from start [] front xs long only = refl
@@ -148,11 +111,7 @@ module _ {C L : Type 0} (calls : C → L → Bool) (cs : List C) where
   lines_for c lines = filter (λ l. calls c l) lines
 
   line-step : (p : ℕ) (l : L) (ls : List L) (c : C) (qs : List (ℕ × List L)) → with_lines p (lines_for c ls) (if calls c l then with_line p l qs else qs) ≡ with_lines p (lines_for c (l ∷ ls)) qs
-  line-step p l ls c qs = go (calls c l)
-    where
-      go : (b : Bool) → with_lines p (lines_for c ls) (if b then with_line p l qs else qs) ≡ with_lines p (if b then l ∷ lines_for c ls else lines_for c ls) qs
-      go true = refl
-      go false = refl
+  line-step p l ls c qs = by-test (λ b. with_lines p (lines_for c ls) (if b then with_line p l qs else qs) ≡ with_lines p (if b then l ∷ lines_for c ls else lines_for c ls) qs) (calls c l) (λ yes. refl) (λ not. refl)
 
   pub lines-put : (p : ℕ) (lines : List L) (g : C → List (ℕ × List L)) → fold (put_line calls cs p) (map g cs) lines ≡ map (λ c. with_lines p (lines_for c lines) (g c)) cs
   lines-put p [] g = refl
@@ -168,7 +127,3 @@ module _ {C L : Type 0} (calls : C → L → Bool) (cs : List C) where
       ∙ map-same (λ c. with_lines (length phases) (lines_for c lines) (numbered_from 0 (map (lines_for c) phases))) (λ c. numbered_from 0 (map (lines_for c) (phases ++ lines ∷ []))) cs
       (λ c. ap (λ n. with_lines n (lines_for c lines) (numbered_from 0 (map (lines_for c) phases))) (sym (length-map phases (lines_for c)))
       ∙ (numbered-lines (map (lines_for c) phases) (lines_for c lines) ∙ ap (numbered_from 0) (sym (map-append (lines_for c) phases (lines ∷ []))))))
-
-  -- nothing was put yet
-  pub none-put : given calls cs [] ≡ map (λ c. []) cs
-  none-put = refl

@@ -1,21 +1,9 @@
 -- The queues of versions tell each line the version that its actor was told.
-use Rattle.std.proofs.Common.{◌≡◌, ◌≢◌, ℕ, zero, suc, ◌+◌, ◌<◌, ◌≤◌, ◌==◌, eq-eqb, eqb-true, ne_eqb, Bool, true, false, ◌&&◌, List, [], ◌∷◌, ◌++◌, append-nil, append_assoc, length, slice_get, get_or, drop, Option, Some, None, refl, sym, ap, ◌∙◌, subst, arith, if◌then◌else◌}
-use Rattle.std.proofs.lemmas.List.{drop_all, drop_more, length-replicate}
-use Rattle.std.specs.Prelude.{fold, replicate}
-use Rattle.audit_model.specs.Asked.{Asked, Telling, and_told, asked_lines, asked_phases, asks, first_of, left_to_tell, rest_of, told_at, told_by, told_in, told_to, version_for}
-use Rattle.audit_model.specs.ReportReader.{journal_of, telling}
-use Rattle.file_facts.specs.Facts.{IsKnown, IsWorkable}
-use Rattle.file_model.specs.declared.files.File.{File}
-use Rattle.file_model.specs.declared.files.Line.{Line}
-use Rattle.line_followers.proofs.Turns.{set-many}
-use Rattle.line_followers.specs.Turns.{behind_front, front_of, one_added, one_taken, queue_in, queue_of}
-use Rattle.script_run.specs.Entries.{KindEntry}
-use Rattle.script_run.specs.declared.runs.ClosedKind.{ClosedKind}
-use Rattle.turn_cell.specs.History.{calls_of}
-use Rattle.wsm_lists.specs.Rows.{AllRows}
-use Rattle.wsm_sound.specs.VersionModel.{VersionModel}
-use Rattle.case_audit.proofs.QueueLists.{added-another, added-own, none-of, past-none, set-another, set-own, taken-another, taken-own}
-use Rattle.case_audit.specs.Asking.{Queues, all_told, asked_by, journal_told, left_by, left_in, next_version, none_told, script_by, with_told, with_version}
+use Rattle.std.proofs.Common.{◌≡◌, ℕ, zero, suc, ◌+◌, ◌<◌, ◌≤◌, ◌==◌, eq-eqb, eqb-true, Bool, true, false, ◌&&◌, List, [], ◌∷◌, ◌++◌, append-nil, append_assoc, length, slice_get, get_or, drop, Option, Some, None, refl, sym, ap, ◌∙◌, subst, arith, if◌then◌else◌, fold}
+use Rattle.case_audit.proofs.Common.{all_told, AllRows, and_told, Asked, asked_by, asked_lines, asked_phases, asks, behind_front, calls_of, ClosedKind, drop_all, drop_more, File, first_of, front_of, if-either, IsKnown, IsWorkable, journal_of}
+use Rattle.case_audit.proofs.Common.{journal_told, KindEntry, left_by, left_in, left_to_tell, length-replicate, Line, next_version, none_told, one_taken, queue_of, Queues, rest_of, script_by, set-many, Telling, telling, told_at, told_by}
+use Rattle.case_audit.proofs.Common.{told_in, told_to, version_for, VersionModel, with_told, with_version}
+use Rattle.case_audit.proofs.QueueLists.{added-another, added-own, none-in, none-of, set-another, set-own, taken-another, taken-own}
 
 -- the queues are what each of so many actors has yet to be told
 abbrev Tells : ℕ → Queues → Telling → Type 0
@@ -105,18 +93,11 @@ script-end told made phases i past = sym (append-nil made) ∙ ap (λ ps. made +
 
 -- ---- the queues of one type are filled from its journal
 version-added : (queues : List (List VersionModel)) (b : ℕ) (o : Option VersionModel) (a : ℕ) → a < length queues → queue_of (with_version b o queues) a ≡ queue_of queues a ++ (if b == a then and_told o [] else [])
-version-added queues b None a low = by (b == a)
-  where
-    by : (own : Bool) → queue_of queues a ≡ queue_of queues a ++ (if own then [] else [])
-    by true = sym (append-nil (queue_of queues a))
-    by false = sym (append-nil (queue_of queues a))
-version-added queues b (Some v) a low = by (b == a) refl
-  where
-    by : (own : Bool) → (b == a) ≡ own → queue_of (with_version b (Some v) queues) a ≡ queue_of queues a ++ (if own then v ∷ [] else [])
-    by true is =
-        let own : b ≡ a = eqb-true b a is in
-        subst (λ c. queue_of (with_version c (Some v) queues) a ≡ queue_of queues a ++ v ∷ []) (sym own) (added-own queues a v low)
-    by false not = added-another queues b a v (λ own. cc (not, eq-eqb b a (sym own))) ∙ sym (append-nil (queue_of queues a))
+version-added queues b None a low = if-either (λ vs. queue_of queues a ≡ queue_of queues a ++ vs) (b == a) [] [] (λ own. sym (append-nil (queue_of queues a))) (λ not. sym (append-nil (queue_of queues a)))
+version-added queues b (Some v) a low =
+    if-either (λ vs. queue_of (with_version b (Some v) queues) a ≡ queue_of queues a ++ vs) (b == a) (v ∷ []) []
+    (λ own. subst (λ c. queue_of (with_version c (Some v) queues) a ≡ queue_of queues a ++ v ∷ []) (sym (eqb-true b a own)) (added-own queues a v low))
+    (λ not. added-another queues b a v (λ own. cc (not, eq-eqb b a (sym own))) ∙ sym (append-nil (queue_of queues a)))
 
 versions-many : (queues : List (List VersionModel)) (b : ℕ) (o : Option VersionModel) → length (with_version b o queues) ≡ length queues
 versions-many queues b None = refl
@@ -139,18 +120,10 @@ told-journal actors (e ∷ es) queues many =
       λ a low. more a low ∙ (ap (λ vs. vs ++ told_to a es) (version-added queues e.caller (told_by e.event e.reply) a (omega (arith, many, low))) ∙ told-more a e es (queue_of queues a)),
     )
 
-none-told : (n a : ℕ) → queue_of {L = VersionModel} (replicate n []) a ≡ []
-none-told n a = by n a
-  where
-    by : (n a : ℕ) → queue_in {L = VersionModel} (slice_get (replicate n []) a) ≡ []
-    by zero a = refl
-    by (suc n) zero = refl
-    by (suc n) (suc a) = by n a
-
 told-by : (actors : ℕ) (journal : List KindEntry) (a : ℕ) → a < actors + 1 → queue_of (journal_told actors journal) a ≡ told_to a journal
 told-by actors journal a low =
     let (long, more) = told-journal actors journal (none_told actors) (length-replicate (actors + 1) []) in
-    more a low ∙ ap (λ vs. vs ++ told_to a journal) (none-told (actors + 1) a)
+    more a low ∙ ap (λ vs. vs ++ told_to a journal) (none-in (actors + 1) a)
 
 -- what the journals of all types told
 begun-tells : (actors : ℕ) (kinds : List ClosedKind) → Tells actors (all_told actors kinds) (telling kinds)

@@ -1,15 +1,12 @@
 -- Script lines with the versions that their actors were told, as the code keeps them.
-use Rattle.std.specs.Prelude.{ℕ, ◌+◌, List, [], ◌∷◌, fold, map, replicate, slice_set, Option, Some, None, option_map, Vec}
+use Rattle.std.specs.Prelude.{ℕ, ◌+◌, List, [], map, fold, replicate, ◌∷◌, slice_set, Option, Some, None, option_map, Vec}
+use Rattle.audit_model.specs.Common.{one_added, ClosedKind, front_of, KindEntry, Line, one_taken, queue_of, VersionModel}
+use Rattle.audit_model.specs.Asked.{actor_of, Asked, asks, told_by}
+use Rattle.case_audit.specs.declared.turns.Turns.{Turns}
 use Rattle.std.specs.Borrow.{Bor}
 use Rattle.std.specs.declared.collections.VecDeque.{VecDeque}
-use Rattle.audit_model.specs.Asked.{Asked, asks, told_by}
 use Rattle.case_audit.specs.declared.asked.AskedLine.{AskedLine}
 use Rattle.case_audit.specs.declared.told.Told.{Told}
-use Rattle.file_model.specs.declared.files.Line.{Line}
-use Rattle.line_followers.specs.Turns.{front_of, one_added, one_taken, queue_of}
-use Rattle.script_run.specs.Entries.{KindEntry}
-use Rattle.script_run.specs.declared.runs.ClosedKind.{ClosedKind}
-use Rattle.wsm_sound.specs.VersionModel.{VersionModel}
 
 abbrev pub asked_of : AskedLine → Asked
 asked_of c = (c.line.now, option_map (λ v. v.now) c.version)
@@ -72,3 +69,18 @@ left_by told (l ∷ ls) = left_by (left_in told l.actor (asks l.act)) ls
 abbrev pub script_by : Queues → List (List Line) → List (List Asked)
 script_by told [] = []
 script_by told (lines ∷ phases) = asked_by told lines ∷ script_by (left_by told lines) phases
+
+-- ---- the lines of actors in one phase, as the code keeps them
+-- a queue for each actor
+abbrev pub queues_of : Turns → List (List Asked)
+queues_of t = map (λ q. asked_in q.items) t.by_actor.items
+
+abbrev pub no_queues : ℕ → List (List Asked)
+no_queues actors = replicate (actors + 1) []
+
+-- a line at the end of its actor's
+abbrev pub with_turn : List (List Asked) → Asked → List (List Asked)
+with_turn queues l = one_added (actor_of l) l queues
+
+abbrev pub all_turns : ℕ → List Asked → List (List Asked)
+all_turns actors ls = fold with_turn (no_queues actors) ls

@@ -1,8 +1,7 @@
 -- Whose name a text begins with.
 use Rattle.std.specs.Prelude.{ℕ, ◌+◌, Bool, List, [], ◌∷◌, ◌++◌, Option, Some, None, codes, if◌then◌else◌}
+use Rattle.audit_model.specs.Common.{ActorDecl, Bytes}
 use Rattle.audit_model.specs.Printed.{begins}
-use Rattle.file_model.specs.declared.files.ActorDecl.{ActorDecl}
-use Rattle.file_words.specs.Lines.{Bytes}
 
 -- a word with a space behind it
 abbrev pub begins_with_word : Bytes → Bytes → Bool

@@ -1,6 +1,7 @@
 -- How an audit ends: what it tells, and what is left of its source and its sink.
 use Rattle.std.specs.Prelude.{◌≡◌, ℕ, false, true, List, Option, Result, Ok, Err, IfSome, IsErr}
 use Rattle.std.specs.Io.KnownBytes.{Appends, IsAtEnd}
+use Rattle.audit_model.specs.Common.{File, file}
 use Rattle.adept_io.specs.Counts.{Rose}
 use Rattle.adept_io.specs.Read.{ConsumesUpTo}
 use Rattle.adept_io.specs.Written.{AppendsPrefix}
@@ -9,8 +10,6 @@ use Rattle.case_audit.specs.Verdicts.{IsVerdict, verdict_text}
 use Rattle.case_audit.specs.declared.reports.Verdict.{Verdict}
 use Rattle.case_audit.specs.declared.unaudited.Unaudited.{Unaudited}
 use Rattle.case_audit.specs.declared.unaudited.Unaudited.TheVariants as why
-use Rattle.file_model.specs.Reading.{file}
-use Rattle.file_model.specs.declared.files.File.{File}
 
 -- The bytes are not too many, and are a process file and a report of which this is the verdict; or their file is refused.
 abbrev pub IsVerdictOn : List ℕ → Verdict → Type 0

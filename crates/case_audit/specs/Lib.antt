@@ -1,8 +1,7 @@
+pub mod Common
 pub mod Asking
-pub mod Sharing
 pub mod Owing
 pub mod Callers
-pub mod Queues
 pub mod Verdicts
 pub mod Parts
 pub mod Sections

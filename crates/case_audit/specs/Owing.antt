@@ -1,20 +1,28 @@
 -- What is owed to types and to cases, as the code keeps it.
-use Rattle.std.specs.Prelude.{ℕ, Bool, ◌==◌, List, map, Option}
-use Rattle.audit_model.specs.Asked.{Asked}
-use Rattle.audit_model.specs.Owed.{calls_case, calls_kind}
+use Rattle.std.specs.Prelude.{ℕ, Bool, List, [], ◌∷◌, map, filter, if◌then◌else◌, Option, position}
+use Rattle.audit_model.specs.Common.{numbered_from, with_line, Act, case_among, CaseDecl, CaseId, cells_of, changed_where, each_among, has_id, kind_among}
+use Rattle.audit_model.specs.Asked.{Asked, calls_case, calls_kind}
 use Rattle.case_audit.specs.Asking.{asked_of}
-use Rattle.case_audit.specs.Sharing.{put_line}
 use Rattle.case_audit.specs.declared.owed.Owed.{Owed}
 use Rattle.case_audit.specs.declared.owed.PhaseCalls.{PhaseCalls}
-use Rattle.file_model.specs.CaseCounts.{has_id}
-use Rattle.file_model.specs.declared.files.Act.{Act}
-use Rattle.file_model.specs.declared.files.CaseDecl.{CaseDecl}
-use Rattle.line_calls.specs.Calls.{case_among, cells_of, each_among, kind_among}
-use Rattle.line_followers.specs.Numbered.{with_line}
-use Rattle.script_run.specs.Calls.{changed_where}
-use Rattle.std.specs.Prelude.{position}
-use Rattle.wsm_sound.specs.declared.versions.CaseId.{CaseId}
 
+-- ---- what cells get of the lines of phases
+-- those items changed whose cells pass a test
+abbrev pub put_where : {C X : Type 0} → (C → Bool) → (X → X) → List C → List X → List X
+put_where test f [] xs = xs
+put_where test f (c ∷ cs) [] = []
+put_where test f (c ∷ cs) (x ∷ xs) = (if test c then f x else x) ∷ put_where test f cs xs
+
+module _ {C L : Type 0} (calls : C → L → Bool) where
+  -- a line of a phase more, for each cell that it calls
+  abbrev pub put_line : List C → ℕ → List (List (ℕ × List L)) → L → List (List (ℕ × List L))
+  put_line cs p owed l = put_where (λ c. calls c l) (with_line p l) cs owed
+
+  -- for each cell the lines that call it
+  abbrev pub given : List C → List (List L) → List (List (ℕ × List L))
+  given cs phases = map (λ c. numbered_from 0 (map (λ lines. filter (λ l. calls c l) lines) phases)) cs
+
+-- ---- what is owed to types and to cases, as the code keeps it
 -- the lines of a phase with its number
 abbrev pub calls_in : PhaseCalls → List Asked
 calls_in p = map asked_of p.calls.items

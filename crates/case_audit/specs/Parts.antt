@@ -1,7 +1,6 @@
 -- An input: a process file, and a report directly behind it.
 use Rattle.std.specs.Prelude.{ℕ, suc, ◌+◌, Bool, ◌||◌, List, [], ◌∷◌, length, take, drop, bytes_eq, codes, nat_lt, if◌then◌else◌}
-use Rattle.file_limits.specs.declared.TheConstants.{MAX_FILE_BYTES}
-use Rattle.file_words.specs.Lines.{Bytes, lines_of}
+use Rattle.audit_model.specs.Common.{Bytes, lines_of, MAX_FILE_BYTES}
 
 -- whether a report begins with this line
 abbrev pub begins_report : Bytes → Bool

@@ -1,26 +1,19 @@
 -- The cases of a report, each from a place on.
 use Rattle.std.specs.Prelude.{◌≡◌, ℕ, ◌<◌, ◌≤◌, List, length, slice_get, Option, Some, Result, Ok}
-use Rattle.audit_facts.specs.Facts.{IsAuditable}
-use Rattle.audit_model.specs.Asked.{Asked}
+use Rattle.audit_model.specs.Common.{AllRows, Bytes, CaseDecl, ClosedCase, File, Followed, Follows, how_many}
+use Rattle.audit_model.specs.Asked.{Asked, IsModest}
 use Rattle.audit_model.specs.ReportReader.{case_reader}
-use Rattle.case_audit.specs.Owing.{calls_decl, numbers, owed_of}
-use Rattle.case_audit.specs.Sharing.{given}
+use Rattle.case_audit.specs.Owing.{calls_decl, given, numbers, owed_of}
+use Rattle.case_audit.specs.Verdicts.{CanAudit}
 use Rattle.case_audit.specs.declared.owed.Owed.{Owed}
-use Rattle.audit_model.specs.Lines.{IsModest}
 use Rattle.case_audit.specs.declared.sections.Section.{Section}
-use Rattle.file_facts.specs.Facts.{IsWorkable}
-use Rattle.file_model.specs.declared.files.CaseDecl.{CaseDecl}
-use Rattle.file_model.specs.declared.files.File.{File}
-use Rattle.file_words.specs.Lines.{Bytes}
-use Rattle.line_followers.specs.Follows.{Follows}
-use Rattle.line_readers.specs.Owed.{how_many}
-use Rattle.script_run.specs.declared.runs.ClosedCase.{ClosedCase}
-use Rattle.text_follower.specs.Followed.{Followed}
-use Rattle.wsm_lists.specs.Rows.{AllRows}
 
--- what is asked of what is owed: lines that are modest, and not too many
+-- what is asked of a script, and of what is owed: lines that are modest, and not too many
+abbrev pub IsModestScript : List (List Asked) → Type 0
+IsModestScript phases = AllRows (AllRows IsModest) phases × (how_many phases ≤ 60000)
+
 abbrev pub IsModestOwed : Owed → Type 0
-IsModestOwed o = AllRows (AllRows IsModest) (owed_of o) × (how_many (owed_of o) ≤ 60000)
+IsModestOwed o = IsModestScript (owed_of o)
 
 abbrev pub AreModest : List Owed → Type 0
 AreModest owed = AllRows IsModestOwed owed
@@ -43,6 +36,13 @@ AreSections f owed text sections = (length sections ≡ length f.cases) × ((i :
 abbrev pub HasScript : File → List Owed → Type 0
 HasScript f owed = (phases : List (List Asked)) × (numbers owed ≡ given calls_decl f.cases phases)
 
+-- what is owed to the cases of a file that can be judged: to each, modest lines of some script
+pub record AreOwed (f : File) (owed : List Owed) : Type 0 where
+  pub file : CanAudit f
+  pub modest : AreModest owed
+  pub many : length owed ≡ length f.cases
+  pub script : HasScript f owed
+
 -- what the judgement of a section asks for, where it is guessed from where each begins
 abbrev pub CanJudge : File → List Owed → List ℕ → ℕ → Type 0
-CanJudge f owed starts i = (i < length f.cases) × (i < length owed) × (i < length starts) × IsWorkable f × IsAuditable f × AreModest owed × HasScript f owed
+CanJudge f owed starts i = (i < length f.cases) × (i < length starts) × AreOwed f owed

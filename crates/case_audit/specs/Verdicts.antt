@@ -1,21 +1,20 @@
 -- What a verdict says of a report.
 use Rattle.std.specs.Prelude.{◌≡◌, ℕ, ◌++◌, Bool, Option, Some, None, Ok, codes, decimal}
 use Rattle.std.specs.Option.{is_some}
+use Rattle.audit_model.specs.Common.{IsAuditable, IsWorkable, Bytes, File, file, Followed, Follows, IsFirstWrong, Run}
 use Rattle.audit_model.specs.ReportReader.{report_reader}
 use Rattle.audit_model.specs.Reports.{IsReport}
-use Rattle.file_model.specs.Reading.{file}
-use Rattle.file_model.specs.declared.files.File.{File}
-use Rattle.file_words.specs.Lines.{Bytes}
-use Rattle.line_followers.specs.Follows.{Follows}
-use Rattle.line_readers.specs.FirstWrong.{IsFirstWrong}
-use Rattle.script_run.specs.declared.runs.Run.{Run}
-use Rattle.text_follower.specs.Followed.{Followed}
 use Rattle.case_audit.specs.declared.reports.Verdict.{Verdict}
 use Rattle.case_audit.specs.declared.reports.Verdict.TheVariants as verdict
 
 -- the report was gone along from one place to another: to its last line, or to the line that is wrong
 abbrev pub IsJudged : File → Followed → Followed → Bool → Type 0
 IsJudged f old new stands = (value : Option Run) × (stands ≡ is_some value) × Follows (report_reader f) old new value
+
+-- a file whose report can be judged
+pub record CanAudit (f : File) : Type 0 where
+  pub workable : IsWorkable f
+  pub auditable : IsAuditable f
 
 -- a file that some bytes are
 abbrev pub IsRead : File → Type 0

@@ -1,9 +1,6 @@
 // The script's lines with the versions that their actors were told.
 ghost use Rattle.std.specs.Prelude.{◌≡◌, IfOk, OnOk};
-ghost use Rattle.audit_model.specs.Asked.{asked_phases};
-ghost use Rattle.audit_model.specs.ReportReader.{telling};
-ghost use Rattle.case_audit.specs.Asking.{asked_by, asked_in, left_by, script_of, told_versions};
-ghost use Rattle.file_facts.specs.Facts.{IsWorkable};
+ghost use Rattle.case_audit.specs.Common.{asked_by, asked_in, asked_phases, IsWorkable, left_by, script_of, telling, told_versions};
 
 use crate::told::Told;
 use file_model::{File, Line};

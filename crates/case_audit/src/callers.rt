@@ -1,7 +1,6 @@
 // Whose call a line of a journal shows.
 ghost use Rattle.std.specs.Prelude.{◌≡◌, ◌≤◌, length};
-ghost use Rattle.audit_model.specs.Printed.{caller_in};
-ghost use Rattle.case_audit.specs.Callers.{begins_with_word, named_from};
+ghost use Rattle.case_audit.specs.Common.{begins_with_word, caller_in, named_from};
 
 use file_model::{ActorDecl, File};
 use itoa::Buffer;

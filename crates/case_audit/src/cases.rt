@@ -1,26 +1,7 @@
 // A case of a report.
 ghost use Rattle.std.specs.Prelude.{◌≡◌, ◌≤◌, ◌<◌, ◌+◌, ◌++◌, ◌∷◌, [], List, length, IfOk, OnOk};
-ghost use Rattle.audit_facts.specs.Facts.{IsAuditable};
-ghost use Rattle.audit_model.specs.Asked.{Asked, case_event_of, owed_case};
-ghost use Rattle.audit_model.specs.Journaled.{IsSteady, LineJudged, PhaseJudged, cases};
-ghost use Rattle.audit_model.specs.Judging.{FollowedBy};
-ghost use Rattle.audit_model.specs.Lines.{IsModest, actor_of};
-ghost use Rattle.audit_model.specs.ReportReader.{case_journal, case_reader};
-ghost use Rattle.case_audit.specs.Asking.{asked_in, asked_of};
-ghost use Rattle.case_audit.specs.Owing.{owed_of};
-ghost use Rattle.case_audit.specs.Queues.{queues_of};
-ghost use Rattle.case_core.specs.Ages.{age, weight};
-ghost use Rattle.case_core.specs.Machine.{case_after, case_reply};
-ghost use Rattle.file_facts.specs.Facts.{IsWorkable};
-ghost use Rattle.line_followers.specs.Filled.{filled};
-ghost use Rattle.line_followers.specs.Follows.{Follows};
-ghost use Rattle.line_followers.specs.Turns.{AreTurns};
-ghost use Rattle.line_readers.specs.Owed.{how_many};
-ghost use Rattle.report_text.specs.Ends.{end_text};
-ghost use Rattle.report_text.specs.Journals.{case_line};
-ghost use Rattle.report_text.specs.Report.{case_head};
-ghost use Rattle.turn_cell.specs.History.{entry};
-ghost use Rattle.wsm_lists.specs.Rows.{AllRows};
+ghost use Rattle.case_audit.specs.Common.{actor_of, age, AllRows, AreTurns, Asked, asked_in, asked_of, CanAudit, case_after, case_event_of, case_head, case_journal, case_line, case_reader, case_reply, cases, end_text, entry, filled, FollowedBy, Follows, IsModest, IsModestOwed, IsSteady, LineJudged, owed_case, owed_of, PhaseJudged, queues_of};
+ghost use Rattle.case_core.specs.Ages.{weight};
 
 use crate::asked::AskedLine;
 use crate::owed::Owed;
@@ -43,10 +24,8 @@ pub fn judge_case(
     owed: &Owed<'_>,
     report: &mut Follower<'_>,
 ) -> Result<Option<ClosedCase>, NoMemory>
-    requires workable { IsWorkable file.now }
-    requires auditable { IsAuditable file.now }
-    requires modest { AllRows (AllRows IsModest) (owed_of owed.now) }
-    requires few { how_many (owed_of owed.now) ≤ 60000 }
+    requires file { CanAudit file.now }
+    requires modest { IsModestOwed owed.now }
     ensures { (phases : List (List Asked)) → owed_of owed.now ≡ filled (owed_case decl.now.id phases)
         → IfOk result (Follows (case_reader file.now phases decl.now) report.old report.new) }
 {
@@ -99,10 +78,8 @@ fn judge_journal(
     owed: &Owed<'_>,
     report: &mut Follower<'_>,
 ) -> Result<Option<ClosedCase>, NoMemory>
-    requires workable { IsWorkable file.now }
-    requires auditable { IsAuditable file.now }
-    requires modest { AllRows (AllRows IsModest) (owed_of owed.now) }
-    requires few { how_many (owed_of owed.now) ≤ 60000 }
+    requires file { CanAudit file.now }
+    requires modest { IsModestOwed owed.now }
     ensures { (phases : List (List Asked)) → owed_of owed.now ≡ filled (owed_case decl.now.id phases)
         → IfOk result (Follows (case_journal file.now phases decl.now) report.old report.new) }
 {
@@ -126,8 +103,7 @@ fn judge_phase(
     calls: &[AskedLine<'_>],
     report: &mut Follower<'_>,
 ) -> Result<bool, NoMemory>
-    requires workable { IsWorkable file.now }
-    requires auditable { IsAuditable file.now }
+    requires file { CanAudit file.now }
     requires modest { AllRows IsModest (asked_in calls.now) }
     requires steady { IsSteady case.old }
     requires few { length case.old.journal + length calls.now ≤ 60000 }
@@ -152,8 +128,7 @@ fn judge_line(
     turns: &mut Turns<'_>,
     report: &mut Follower<'_>,
 ) -> Result<bool, NoMemory>
-    requires workable { IsWorkable file.now }
-    requires auditable { IsAuditable file.now }
+    requires file { CanAudit file.now }
     requires modest { AllRows (AllRows IsModest) (queues_of turns.old) }
     requires steady { IsSteady case.old }
     requires few { length case.old.journal < 60000 }
@@ -188,7 +163,12 @@ fn judge_call(
     ensures line { IfOk result (FollowedBy (case_line file.now (length case.old.journal + 1) (entry caller event (case_reply case.old.machine event))) report.old report.new) }
 {
     let place = next_place(case.journal.as_slice());
-    let entry = entry_of(alloc, case, caller, event)?;
+    let (reply, _) = case.machine.step(alloc, &event)?;
+    let entry = CaseEntry {
+        caller,
+        event,
+        reply,
+    };
     let stands = follow_line(alloc, file, place, &entry, report)?;
     case.journal.push(entry)?;
     Ok(stands)
@@ -199,26 +179,6 @@ fn next_place(journal: &[CaseEntry]) -> u64
     ensures { result ≡ length journal.now + 1 }
 {
     journal.len() as u64 + 1
-}
-
-// A step of a case, as an entry of its journal.
-fn entry_of(
-    alloc: Global,
-    case: &mut ClosedCase,
-    caller: u32,
-    event: Event,
-) -> Result<CaseEntry, NoMemory>
-    requires { age case.old.machine + weight event ≤ 4000000000 }
-    ensures entry { IfOk result (λ made. made ≡ entry caller event (case_reply case.old.machine event)) }
-    ensures machine { OnOk result (case.new.machine ≡ case_after case.old.machine event) }
-    ensures journal { OnOk result (case.new.journal ≡ case.old.journal) }
-{
-    let (reply, _) = case.machine.step(alloc, &event)?;
-    Ok(CaseEntry {
-        caller,
-        event,
-        reply,
-    })
 }
 
 fn follow_line(

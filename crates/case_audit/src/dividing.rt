@@ -1,6 +1,6 @@
 // Where a process file ends and a report begins.
 ghost use Rattle.std.specs.Prelude.{◌≡◌, ◌≤◌, length};
-ghost use Rattle.case_audit.specs.Parts.{begins_report, file_length, file_part, report_part};
+ghost use Rattle.case_audit.specs.Common.{begins_report, file_length, file_part, report_part};
 
 use file_words::first_line;
 

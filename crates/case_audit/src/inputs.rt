@@ -1,10 +1,6 @@
 // A process file with a report behind it, judged from bytes to bytes.
 ghost use Rattle.std.specs.Prelude.{◌≡◌, ◌≤◌, length, true};
-ghost use Rattle.adept_io.specs.Written.{Gives};
-ghost use Rattle.case_audit.specs.Endings.{EndsAudit, TellsBytes, TellsOne, TellsReport};
-ghost use Rattle.case_audit.specs.Parts.{most_bytes, most_in_report};
-ghost use Rattle.case_audit.specs.Statuses.{of_file};
-ghost use Rattle.case_audit.specs.Verdicts.{IsRead, verdict_text};
+ghost use Rattle.case_audit.specs.Common.{EndsAudit, Gives, IsRead, most_bytes, most_in_report, of_file, TellsBytes, TellsOne, TellsReport, verdict_text};
 
 use crate::dividing::divided;
 use crate::reports::{Verdict, audit};

@@ -1,30 +1,10 @@
-// A type of a report.
-ghost use Rattle.std.specs.Prelude.{◌≡◌, ◌≤◌, ◌<◌, ◌+◌, ◌++◌, ◌∷◌, [], List, length, IfOk, OnOk, Some, true};
-ghost use Rattle.adept_io.specs.Written.{Gives};
-ghost use Rattle.audit_facts.specs.Facts.{IsAuditable};
-ghost use Rattle.audit_model.specs.Asked.{Asked, kind_event_in};
-ghost use Rattle.audit_model.specs.Judging.{FollowedBy};
-ghost use Rattle.audit_model.specs.Journaled.{LineJudged, PhaseJudged, owed_lines, kinds};
-ghost use Rattle.audit_model.specs.Lines.{IsModest, actor_of};
-ghost use Rattle.audit_model.specs.Owed.{owed_kind};
-ghost use Rattle.audit_model.specs.ReportReader.{defined_line, kind_reader};
-ghost use Rattle.case_audit.specs.Asking.{asked_in};
-ghost use Rattle.case_audit.specs.Owing.{owed_of};
-ghost use Rattle.case_audit.specs.Queues.{queues_of};
-ghost use Rattle.file_facts.specs.Facts.{IsWorkable};
-ghost use Rattle.line_followers.specs.Filled.{filled};
-ghost use Rattle.line_followers.specs.Follows.{Follows};
-ghost use Rattle.line_followers.specs.Turns.{AreTurns};
-ghost use Rattle.report_text.specs.Journals.{kind_line};
-ghost use Rattle.report_text.specs.Report.{type_head};
-ghost use Rattle.script_run.specs.Serial.{defined};
-ghost use Rattle.turn_cell.specs.History.{entry};
-ghost use Rattle.type_core.specs.Machine.{kind_after, kind_reply, weight};
-ghost use Rattle.wsm_lists.specs.Rows.{AllRows};
-ghost use Rattle.wsm_schema.specs.Flat.{cards_of};
+// The types of a report.
+ghost use Rattle.std.specs.Prelude.{◌≡◌, ◌≤◌, ◌<◌, ◌+◌, ◌++◌, ◌∷◌, [], List, length, option_map, IfOk, OnOk, Some, true};
+ghost use Rattle.std.specs.List.{range_with_len};
+ghost use Rattle.case_audit.specs.Common.{actor_of, AllRows, AreTurns, Asked, asked_in, asked_phases, calls_number, CanAudit, cards_of, defined, defined_line, entry, filled, FollowedBy, Follows, given, Gives, IsModest, kind_after, kind_event_in, kind_line, kind_reader, kind_reply, kinds, kinds_reader, LineJudged, numbers, owed_kind, owed_lines, owed_of, PhaseJudged, queues_of, telling, type_head, weight};
 
-use crate::asked::AskedLine;
-use crate::owed::Owed;
+use crate::asked::{AskedLine, asked_phases};
+use crate::owed::{Owed, owed_kinds};
 use crate::turns::Turns;
 use file_model::{Act, File, TypeDecl};
 use line_calls::{Call, call_of};
@@ -39,8 +19,42 @@ use wsm_lists::NoMemory;
 /// The number of the program itself.
 const PROGRAM: u32 = 0;
 
-/// A type as its journal tells it, from its line on. None where a line is wrong.
-pub fn judge_kind(
+/// The types as their journals tell them. None where a line is wrong.
+pub fn judge_kinds(
+    alloc: Global,
+    file: &File,
+    report: &mut Follower<'_>,
+) -> Result<Option<Vec<ClosedKind>>, NoMemory>
+    requires file { CanAudit file.now }
+    ensures { IfOk result (λ kinds. Follows (kinds_reader file.now 0 file.now.types) report.old report.new (option_map (λ all. all.items) kinds)) }
+{
+    let phases = asked_phases(alloc, file, &[])?;
+    let owed = owed_kinds(alloc, file.types.len(), phases.as_slice())?;
+    judge_each(alloc, file, owed.as_slice(), report)
+}
+
+fn judge_each(
+    alloc: Global,
+    file: &File,
+    owed: &[Owed<'_>],
+    report: &mut Follower<'_>,
+) -> Result<Option<Vec<ClosedKind>>, NoMemory>
+    requires file { CanAudit file.now }
+    requires owed { numbers owed.now ≡ given calls_number (range_with_len 0 (length file.now.types)) (asked_phases (telling []) file.now.phases) }
+    ensures { IfOk result (λ kinds. Follows (kinds_reader file.now 0 file.now.types) report.old report.new (option_map (λ all. all.items) kinds)) }
+{
+    let mut kinds = Vec::new(alloc);
+    for (index, decl) in file.types.as_slice().iter().enumerate() {
+        match judge_kind(alloc, file, index as u32, decl, &owed[index], report)? {
+            None => return Ok(None),
+            Some(kind) => kinds.push(kind)?,
+        }
+    }
+    Ok(Some(kinds))
+}
+
+// A type as its journal tells it, from its line on. None where a line is wrong.
+fn judge_kind(
     alloc: Global,
     file: &File,
     number: u32,
@@ -48,8 +62,7 @@ pub fn judge_kind(
     owed: &Owed<'_>,
     report: &mut Follower<'_>,
 ) -> Result<Option<ClosedKind>, NoMemory>
-    requires workable { IsWorkable file.now }
-    requires auditable { IsAuditable file.now }
+    requires file { CanAudit file.now }
     requires small { length (cards_of decl.now.schema) ≤ 1024 }
     requires modest { AllRows (AllRows IsModest) (owed_of owed.now) }
     requires owed { owed_lines (owed_of owed.now) ≡ filled (owed_kind file.now number) }
@@ -125,8 +138,7 @@ fn judge_phase(
     calls: &[AskedLine<'_>],
     report: &mut Follower<'_>,
 ) -> Result<bool, NoMemory>
-    requires workable { IsWorkable file.now }
-    requires auditable { IsAuditable file.now }
+    requires file { CanAudit file.now }
     requires modest { AllRows IsModest (asked_in calls.now) }
     ensures { IfOk result (PhaseJudged (kinds file.now) kind.old report.old kind.new report.new (asked_in calls.now)) }
 {
@@ -147,8 +159,7 @@ fn judge_line(
     turns: &mut Turns<'_>,
     report: &mut Follower<'_>,
 ) -> Result<bool, NoMemory>
-    requires workable { IsWorkable file.now }
-    requires auditable { IsAuditable file.now }
+    requires file { CanAudit file.now }
     requires modest { AllRows (AllRows IsModest) (queues_of turns.old) }
     ensures judged { (phase : List Asked) → 0 < length phase → AreTurns actor_of (length file.now.actors) (queues_of turns.old) phase
         → IfOk result (LineJudged (kinds file.now) kind.old report.old kind.new report.new (queues_of turns.new) phase) }

@@ -5,7 +5,6 @@
 //! call is made of the type's or the case's machine, and the line that is printed of it must be the one that stands there.
 #![tactic(auto)]
 
-mod all_kinds;
 mod asked;
 mod callers;
 mod cases;
@@ -15,7 +14,6 @@ mod kinds;
 mod owed;
 mod reports;
 mod sections;
-mod threads;
 mod told;
 mod turns;
 mod unaudited;

@@ -1,13 +1,7 @@
 // What is owed to types and to cases: the lines that call them.
-ghost use Rattle.std.specs.Prelude.{◌≡◌, ◌++◌, ◌∷◌, [], length, fold, replicate, IfOk, OnOk};
+ghost use Rattle.std.specs.Prelude.{◌≡◌, ◌++◌, ◌∷◌, [], fold, replicate, IfOk, OnOk};
 ghost use Rattle.std.specs.List.{range_with_len};
-ghost use Rattle.case_audit.specs.Asking.{asked_in, asked_of, script_of};
-ghost use Rattle.case_audit.specs.Owing.{calls_decl, calls_number, case_put, kind_put, numbered_of, numbers};
-ghost use Rattle.case_audit.specs.Sharing.{given, put_where};
-ghost use Rattle.file_facts.specs.Facts.{ArePlaced};
-ghost use Rattle.file_model.specs.CaseCounts.{is_among};
-ghost use Rattle.line_followers.specs.Numbered.{with_line};
-ghost use Rattle.script_run.specs.Calls.{changed_at};
+ghost use Rattle.case_audit.specs.Common.{ArePlaced, asked_in, asked_of, calls_decl, calls_number, case_put, changed_at, given, is_among, kind_put, numbered_of, numbers, put_where, script_of, with_line};
 
 use crate::asked::AskedLine;
 use file_model::{CaseDecl, File};

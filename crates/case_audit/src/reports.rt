@@ -1,16 +1,9 @@
 // A report, judged.
 ghost use Rattle.std.specs.Prelude.{◌≡◌, ◌≤◌, ◌==◌, ◌++◌, length, IfOk, Ok, Some, true};
-ghost use Rattle.adept_io.specs.Written.{Gives};
-ghost use Rattle.audit_facts.specs.Facts.{IsAuditable};
-ghost use Rattle.audit_model.specs.Judging.{FollowedBy};
-ghost use Rattle.case_audit.specs.Verdicts.{IsJudged, IsRead, IsVerdict};
-ghost use Rattle.file_facts.specs.Facts.{IsWorkable};
-ghost use Rattle.line_followers.specs.Follows.{left_of};
-ghost use Rattle.report_text.specs.Report.{first_line};
-ghost use Rattle.report_words.specs.Totals.{case_totals, migration_totals};
+ghost use Rattle.case_audit.specs.Common.{IsAuditable, IsWorkable, case_totals, first_line, FollowedBy, Gives, IsJudged, IsRead, IsVerdict, left_of, migration_totals};
 
-use crate::all_kinds::judge_kinds;
 use crate::asked::asked_phases;
+use crate::kinds::judge_kinds;
 use crate::sections::judge_cases;
 use file_model::File;
 use report_text::put_first_line;

@@ -1,24 +1,14 @@
 // The cases of a report, judged in threads.
-ghost use Rattle.std.specs.Prelude.{◌≡◌, ◌≤◌, ◌<◌, List, length, option_map, IfOk, OnOk};
-ghost use Rattle.audit_facts.specs.Facts.{IsAuditable};
-ghost use Rattle.audit_model.specs.Asked.{Asked};
-ghost use Rattle.audit_model.specs.Lines.{IsModest};
-ghost use Rattle.audit_model.specs.ReportReader.{cases_reader};
-ghost use Rattle.case_audit.specs.Asking.{script_of};
-ghost use Rattle.case_audit.specs.Owing.{calls_decl, numbers};
-ghost use Rattle.case_audit.specs.Sections.{AreModest, AreSections, CanJudge, HasScript, IsCaseAt, IsSection};
-ghost use Rattle.case_audit.specs.Sharing.{given};
-ghost use Rattle.file_facts.specs.Facts.{IsWorkable};
-ghost use Rattle.line_followers.specs.Follows.{Follows};
-ghost use Rattle.line_readers.specs.Owed.{how_many};
-ghost use Rattle.wsm_lists.specs.Rows.{AllRows};
+ghost use Rattle.std.specs.Prelude.{ℕ, ◌≡◌, ◌≤◌, ◌<◌, List, length, option_map, IfOk, OnOk};
+ghost use Rattle.std.specs.List.{AllZip, range_with_len};
+ghost use Rattle.case_audit.specs.Common.{AreOwed, AreSections, Asked, calls_decl, CanAudit, CanJudge, cases_reader, Follows, given, IsCaseAt, IsModestScript, IsSection, numbers, script_of};
 
 use crate::asked::AskedLine;
 use crate::cases::judge_case;
 use crate::owed::{Owed, owed_cases};
-use crate::threads::each_below;
 use file_model::File;
 use line_calls::{Cells, cells_of};
+use rayon::prelude::*;
 use script_run::ClosedCase;
 use std::alloc::Global;
 use std::thread::Threads;
@@ -44,10 +34,8 @@ pub fn judge_cases<R: Threads + Sync>(
     phases: &[Vec<AskedLine<'_>>],
     report: &mut Follower<'_>,
 ) -> Result<Option<Vec<ClosedCase>>, NoMemory>
-    requires workable { IsWorkable file.now }
-    requires auditable { IsAuditable file.now }
-    requires modest { AllRows (AllRows IsModest) (script_of phases.now) }
-    requires few { how_many (script_of phases.now) ≤ 60000 }
+    requires file { CanAudit file.now }
+    requires modest { IsModestScript (script_of phases.now) }
     ensures { IfOk result (λ cases. Follows (cases_reader file.now (script_of phases.now) file.now.cases) report.old report.new (option_map (λ all. all.items) cases)) }
 {
     let owed = owed_cases(alloc, file, phases)?;
@@ -115,11 +103,7 @@ fn judge_sections<R: Threads + Sync>(
     text: &[u8],
     starts: &[usize],
 ) -> Result<Vec<Result<Section, NoMemory>>, NoMemory>
-    requires workable { IsWorkable file.now }
-    requires auditable { IsAuditable file.now }
-    requires modest { AreModest owed.now }
-    requires owed { length owed.now ≡ length file.now.cases }
-    requires script { HasScript file.now owed.now }
+    requires owed { AreOwed file.now owed.now }
     requires starts { length starts.now ≡ length file.now.cases }
     ensures { IfOk result (λ sections. AreSections file.now owed.now text.now sections.items) }
 {
@@ -142,12 +126,8 @@ fn judge_section(
     index: usize,
     guess: usize,
 ) -> Result<Section, NoMemory>
-    requires workable { IsWorkable file.now }
-    requires auditable { IsAuditable file.now }
-    requires modest { AreModest owed.now }
-    requires script { HasScript file.now owed.now }
-    requires in_owed { index < length owed.now }
-    requires in_cases { index < length file.now.cases }
+    requires owed { AreOwed file.now owed.now }
+    requires within { index < length file.now.cases }
     ensures { IfOk result (IsSection file.now owed.now text.now index) }
 {
     let start = guess.min(text.len());
@@ -169,11 +149,7 @@ fn join_sections(
     sections: Vec<Result<Section, NoMemory>>,
     report: &mut Follower<'_>,
 ) -> Result<Option<Vec<ClosedCase>>, NoMemory>
-    requires workable { IsWorkable file.now }
-    requires auditable { IsAuditable file.now }
-    requires modest { AreModest owed.now }
-    requires owed { length owed.now ≡ length file.now.cases }
-    requires script { HasScript file.now owed.now }
+    requires owed { AreOwed file.now owed.now }
     requires sections { AreSections file.now owed.now report.old.text sections.items }
     ensures { (phases : List (List Asked)) → numbers owed.now ≡ given calls_decl file.now.cases phases
         → IfOk result (λ cases. Follows (cases_reader file.now phases file.now.cases) report.old report.new (option_map (λ all. all.items) cases)) }
@@ -197,12 +173,8 @@ fn next_case(
     section: Section,
     report: &mut Follower<'_>,
 ) -> Result<Option<ClosedCase>, NoMemory>
-    requires workable { IsWorkable file.now }
-    requires auditable { IsAuditable file.now }
-    requires modest { AreModest owed.now }
-    requires in_owed { index < length owed.now }
-    requires in_cases { index < length file.now.cases }
-    requires script { HasScript file.now owed.now }
+    requires owed { AreOwed file.now owed.now }
+    requires within { index < length file.now.cases }
     requires section { IsSection file.now owed.now report.old.text index section }
     ensures case { IfOk result (IsCaseAt file.now owed.now index report.old report.new) }
     ensures text { OnOk result (report.new.text ≡ report.old.text) }
@@ -213,4 +185,17 @@ fn next_case(
     }
     let decl = &file.cases.as_slice()[index];
     judge_case(alloc, file, decl, &owed[index], report)
+}
+
+// What the work gives for each number below a count, in order, from as many threads as serve.
+fn each_below<R: Threads + Sync, T: Send + Drop, F: Fn(usize) -> T + Copy + Send + Sync>(
+    rt: &R,
+    alloc: Global,
+    count: usize,
+    work: F,
+) -> Result<Vec<T>, NoMemory>
+    requires { (index : ℕ) → index < count → F.pre work index }
+    ensures { IfOk result (λ given. AllZip (F.post work) (range_with_len 0 count) given.items) }
+{
+    (0..count).into_par_iter().map(work).collect(rt, alloc)
 }

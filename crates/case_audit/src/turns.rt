@@ -1,13 +1,7 @@
 // Whose turn it is: the calls that the actors have yet to make in one phase.
 ghost use Rattle.std.specs.Prelude.{◌≡◌, ◌≤◌, length, IfOk, IfSome, OnOk};
 ghost use Rattle.std.specs.Option.{option_map};
-ghost use Rattle.audit_model.specs.Journaled.{next_of};
-ghost use Rattle.audit_model.specs.Lines.{IsModest};
-ghost use Rattle.audit_model.specs.Printed.{caller_in};
-ghost use Rattle.case_audit.specs.Asking.{asked_in, asked_of, shown_of};
-ghost use Rattle.case_audit.specs.Queues.{all_turns, no_queues, queues_of, with_turn};
-ghost use Rattle.line_followers.specs.Turns.{front_of, one_taken, queue_of};
-ghost use Rattle.wsm_lists.specs.Rows.{AllRows};
+ghost use Rattle.case_audit.specs.Common.{all_turns, AllRows, asked_in, asked_of, caller_in, front_of, IsModest, next_of, no_queues, one_taken, queue_of, queues_of, shown_of, with_turn};
 
 use crate::asked::AskedLine;
 use crate::callers::caller_in;

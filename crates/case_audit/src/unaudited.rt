@@ -1,6 +1,6 @@
 // Why an audit tells no verdict, and the statuses.
 ghost use Rattle.std.specs.Prelude.{◌≡◌};
-ghost use Rattle.case_audit.specs.Statuses.{end_status};
+ghost use Rattle.case_audit.specs.Common.{end_status};
 
 use crate::reports::Verdict;
 

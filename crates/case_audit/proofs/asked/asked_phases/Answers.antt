@@ -1,7 +1,6 @@
 use Rattle.std.proofs.Common.{◌++◌, ◌∷◌, [], ap, ◌∙◌}
-use Rattle.std.proofs.lemmas.List.{map-append}
+use Rattle.case_audit.proofs.Common.{all_told, asked_by, asked_in, left_by, map-append, script_by, script_of, told_versions}
 use Rattle.case_audit.proofs.Telling.{script-asked, script-end, script-step}
-use Rattle.case_audit.specs.Asking.{all_told, asked_by, asked_in, left_by, script_by, script_of, told_versions}
 use Rattle.case_audit.proofs.asked.asked_phases.Goals as goal
 
 pub loop-lines-preserved : goal.loop-lines-preserved

@@ -1,5 +1,5 @@
 use Rattle.std.proofs.Common.{◌≡◌, ◌+◌, drop}
-use Rattle.case_audit.specs.Callers.{named_from}
+use Rattle.case_audit.proofs.Common.{named_from}
 use Rattle.case_audit.proofs.callers.actor_in.Given as goal
 
 abbrev pub invariant-loop-actor : goal.invariant-loop-actor

@@ -1,8 +1,6 @@
-use Rattle.std.proofs.Common.{◌≡◌, true, false, drop, length, sym, ap, ◌∙◌, subst}
-use Rattle.std.specs.Prelude.{codes, decimal}
+use Rattle.std.proofs.Common.{◌≡◌, true, false, drop, length, sym, ap, ◌∙◌, subst, codes, decimal}
+use Rattle.case_audit.proofs.Common.{begins, named_from}
 use Rattle.case_audit.proofs.Names.{no-number, no-space, shows-named}
-use Rattle.case_audit.specs.Callers.{named_from}
-use Rattle.audit_model.specs.Printed.{begins}
 use Rattle.case_audit.proofs.callers.caller_in.Goals as goal
 
 pub returns-in_err-behind : goal.returns-in_err-behind

@@ -1,19 +1,6 @@
-use Rattle.std.proofs.Common.{◌≡◌, ◌+◌, ◌<◌, ◌++◌, List, false, true, length, get_or, refl, sym, ap, ◌∙◌, subst, arith}
-use Rattle.case_audit.proofs.OwedPhases.{phase-end, phase-is, phase-low, phase-many, phase-row}
-use Rattle.audit_model.specs.Asked.{Asked}
-use Rattle.case_audit.specs.Asking.{asked_in}
-use Rattle.case_audit.specs.Owing.{calls_in, owed_of}
-use Rattle.audit_model.proofs.Phases.{phase-on, phase-stops, phases-begun, phases-whole}
-use Rattle.audit_model.proofs.Readable.{case-stopped, case-whole}
-use Rattle.audit_model.proofs.Modest.{steady-begun}
-use Rattle.audit_model.specs.Journaled.{GrowsTo, InPhases, IsSteady, PhaseJudged, StopsAt, cases}
-use Rattle.audit_model.specs.Lines.{IsModest}
-use Rattle.case_core.specs.CaseModel.{CaseModel}
-use Rattle.case_core.specs.Instances.{CountedCase}
-use Rattle.script_run.specs.Entries.{CaseEntry}
-use Rattle.script_run.specs.Serial.{uncalled}
-use Rattle.script_run.specs.declared.runs.ClosedCase.{ClosedCase}
-use Rattle.wsm_lists.specs.Rows.{AllRows}
+use Rattle.std.proofs.Common.{◌≡◌, ◌+◌, ◌++◌, List, length, refl, sym, ap, ◌∙◌, subst, arith}
+use Rattle.case_audit.proofs.Common.{AllRows, Asked, asked_in, calls_in, case-stopped, case-whole, CaseEntry, CaseModel, cases, ClosedCase, CountedCase, GrowsTo, InPhases, IsModest, IsSteady, owed_of, phase-on, phase-stops, PhaseJudged, phases-begun, phases-whole, steady-begun, StopsAt, uncalled}
+use Rattle.case_audit.proofs.OwedPhases.{phase-at, phase-end, row-at}
 use Rattle.case_audit.proofs.cases.judge_journal.Goals as goal
 
 abbrev made_of : CaseModel → List CaseEntry → ClosedCase
@@ -25,59 +12,43 @@ loop-phase-init c =
     record {
       judged = phases-begun (cases c.args.file.now) (made_of c.new.result.state c.new-2.result) c.args.report.now (owed_of c.args.owed.now);
       steady = subst IsSteady (sym begun) (steady-begun c.args.decl.now.id.type_no);
-      few = omega (arith, ap length c.new-2.ensures, c.requires.few);
+      few = omega (arith, ap length c.new-2.ensures, c.requires.modest.1);
     }
 
 pub judge_phase-requires-clause-modest : goal.judge_phase-requires-clause-modest
 judge_phase-requires-clause-modest c =
-    let owed = c.args.owed.now in
-    let n = c.loop-phase.phase-index in
-    let p = c.phase-item.result in
-    let low = subst (λ ps. n < length ps) c.as_slice-phase-items.ensures.value c.loop-phase-test.true in
-    let is = subst (λ ps. p ≡ get_or ps n p) c.as_slice-phase-items.ensures.value c.phase-item.is in
-    subst (λ ls. AllRows IsModest (asked_in ls)) (sym c.as_slice.ensures.value) (phase-row (AllRows IsModest) owed n p c.requires.modest low is)
+    let at = phase-at c.args.owed.now c.as_slice-phase-items.result.now c.loop-phase.phase-index c.phase-item.result c.as_slice-phase-items.ensures.value c.loop-phase-test.true c.phase-item.is in
+    subst (λ ls. AllRows IsModest (asked_in ls)) (sym c.as_slice.ensures.value) (row-at (AllRows IsModest) (owed_of c.args.owed.now) c.loop-phase.phase-index (calls_in c.phase-item.result) c.requires.modest.0 at.low at.is)
 
 pub judge_phase-requires-clause-few : goal.judge_phase-requires-clause-few
 judge_phase-requires-clause-few c =
-    let owed = c.args.owed.now in
-    let n = c.loop-phase.phase-index in
-    let p = c.phase-item.result in
-    let low = subst (λ ps. n < length ps) c.as_slice-phase-items.ensures.value c.loop-phase-test.true in
-    let is = subst (λ ps. p ≡ get_or ps n p) c.as_slice-phase-items.ensures.value c.phase-item.is in
-    omega (arith, c.loop-phase.invariant.few, phase-many owed n p low is, ap length c.as_slice.ensures.value)
+    let at = phase-at c.args.owed.now c.as_slice-phase-items.result.now c.loop-phase.phase-index c.phase-item.result c.as_slice-phase-items.ensures.value c.loop-phase-test.true c.phase-item.is in
+    omega (arith, c.loop-phase.invariant.few, at.many, ap length c.as_slice.ensures.value)
 
 pub returns-then-not-branch : goal.returns-then-not-branch
 returns-then-not-branch c = λ phases same.
     let f = c.args.file.now in
-    let owed = c.args.owed.now in
-    let n = c.loop-phase.phase-index in
-    let p = c.phase-item.result in
-    let low = subst (λ ps. n < length ps) c.as_slice-phase-items.ensures.value c.loop-phase-test.true in
-    let is = subst (λ ps. p ≡ get_or ps n p) c.as_slice-phase-items.ensures.value c.phase-item.is in
-    let judged = subst (λ b. PhaseJudged (cases f) c.loop-phase.case c.loop-phase.report c.judge_phase.new.case c.judge_phase.new.report (calls_in p) b) c.if-not-branch.true
+    let at = phase-at c.args.owed.now c.as_slice-phase-items.result.now c.loop-phase.phase-index c.phase-item.result c.as_slice-phase-items.ensures.value c.loop-phase-test.true c.phase-item.is in
+    let judged = subst (λ b. PhaseJudged (cases f) c.loop-phase.case c.loop-phase.report c.judge_phase.new.case c.judge_phase.new.report (calls_in c.phase-item.result) b) c.if-not-branch.true
     (subst (λ ls. PhaseJudged (cases f) c.loop-phase.case c.loop-phase.report c.judge_phase.new.case c.judge_phase.new.report (asked_in ls) c.in_ok-judge_phase.field-0) c.as_slice.ensures.value c.in_ok-judge_phase.ensures.judged) in
     let d = c.args.decl.now in
     let from = made_of c.new.result.state c.new-2.result in
     let begun : from ≡ uncalled d = ap (λ (k : CountedCase). made_of k.state c.new-2.result) c.new.ensures.case ∙ ap (made_of _) c.new-2.ensures in
     let new = c.judge_phase.new.report in
-    case-stopped f phases d c.args.report.now new (owed_of owed) same
-    (subst (λ (k : ClosedCase). StopsAt (cases f) k c.args.report.now new (λ (later : List (List Asked)). owed_of owed ++ later)) begun
-    (phase-stops (cases f) (λ p ps. refl) from c.loop-phase.case c.judge_phase.new.case c.args.report.now c.loop-phase.report new (owed_of owed) n (calls_in p) (phase-low owed n low) (phase-is owed n p low is) c.loop-phase.invariant.judged judged))
+    case-stopped f phases d c.args.report.now new (owed_of c.args.owed.now) same
+    (subst (λ (k : ClosedCase). StopsAt (cases f) k c.args.report.now new (λ (later : List (List Asked)). owed_of c.args.owed.now ++ later)) begun
+    (phase-stops (cases f) (λ p ps. refl) from c.loop-phase.case c.judge_phase.new.case c.args.report.now c.loop-phase.report new (owed_of c.args.owed.now) c.loop-phase.phase-index (calls_in c.phase-item.result) at.low at.is c.loop-phase.invariant.judged judged))
 
 pub loop-phase-preserved : goal.loop-phase-preserved
 loop-phase-preserved c =
     let f = c.args.file.now in
-    let owed = c.args.owed.now in
-    let n = c.loop-phase.phase-index in
-    let p = c.phase-item.result in
-    let low = subst (λ ps. n < length ps) c.as_slice-phase-items.ensures.value c.loop-phase-test.true in
-    let is = subst (λ ps. p ≡ get_or ps n p) c.as_slice-phase-items.ensures.value c.phase-item.is in
-    let judged = subst (λ b. PhaseJudged (cases f) c.loop-phase.case c.loop-phase.report c.judge_phase.new.case c.judge_phase.new.report (calls_in p) b) c.if-not-branch.false
+    let at = phase-at c.args.owed.now c.as_slice-phase-items.result.now c.loop-phase.phase-index c.phase-item.result c.as_slice-phase-items.ensures.value c.loop-phase-test.true c.phase-item.is in
+    let judged = subst (λ b. PhaseJudged (cases f) c.loop-phase.case c.loop-phase.report c.judge_phase.new.case c.judge_phase.new.report (calls_in c.phase-item.result) b) c.if-not-branch.false
     (subst (λ ls. PhaseJudged (cases f) c.loop-phase.case c.loop-phase.report c.judge_phase.new.case c.judge_phase.new.report (asked_in ls) c.in_ok-judge_phase.field-0) c.as_slice.ensures.value c.in_ok-judge_phase.ensures.judged) in
     record {
-      judged = phase-on (cases f) (λ p ps. refl) (made_of c.new.result.state c.new-2.result) c.loop-phase.case c.judge_phase.new.case c.args.report.now c.loop-phase.report c.judge_phase.new.report (owed_of owed) n (calls_in p) (phase-low owed n low) (phase-is owed n p low is) c.loop-phase.invariant.judged judged;
+      judged = phase-on (cases f) (λ p ps. refl) (made_of c.new.result.state c.new-2.result) c.loop-phase.case c.judge_phase.new.case c.args.report.now c.loop-phase.report c.judge_phase.new.report (owed_of c.args.owed.now) c.loop-phase.phase-index (calls_in c.phase-item.result) at.low at.is c.loop-phase.invariant.judged judged;
       steady = c.in_ok-judge_phase.ensures.steady;
-      few = omega (arith, c.loop-phase.invariant.few, c.in_ok-judge_phase.ensures.longer, phase-many owed n p low is, ap length c.as_slice.ensures.value);
+      few = omega (arith, c.loop-phase.invariant.few, c.in_ok-judge_phase.ensures.longer, at.many, ap length c.as_slice.ensures.value);
     }
 
 pub returns : goal.returns

@@ -1,7 +1,5 @@
 use Rattle.std.proofs.Common.{◌+◌, ◌≤◌, drop, length}
-use Rattle.case_audit.specs.Owing.{owed_of}
-use Rattle.audit_model.specs.Journaled.{InPhases, IsSteady, cases}
-use Rattle.line_readers.specs.Owed.{how_many}
+use Rattle.case_audit.proofs.Common.{cases, how_many, InPhases, IsSteady, owed_of}
 use Rattle.case_audit.proofs.cases.judge_journal.Given as goal
 
 abbrev pub invariant-loop-phase : goal.invariant-loop-phase

@@ -1,13 +1,6 @@
 use Rattle.std.proofs.Common.{◌≡◌, ◌<◌, length, refl, sym, ap, ◌∙◌, subst, arith}
+use Rattle.case_audit.proofs.Common.{actor_of, all_turns, AreTurns, asked_in, asked_of, cases, InPhase, IsModest, length-map, line-on, line-stops, LineJudged, phase-begun, phase-whole, queues_of, turns-rows}
 use Rattle.case_audit.proofs.AllTurns.{all-turns}
-use Rattle.case_audit.specs.Queues.{all_turns, queues_of}
-use Rattle.case_audit.specs.Asking.{asked_in, asked_of}
-use Rattle.audit_model.proofs.Phases.{line-on, line-stops, phase-begun, phase-whole}
-use Rattle.audit_model.proofs.Modest.{turns-rows}
-use Rattle.audit_model.specs.Journaled.{InPhase, LineJudged, cases}
-use Rattle.audit_model.specs.Lines.{IsModest, actor_of}
-use Rattle.line_followers.specs.Turns.{AreTurns}
-use Rattle.std.proofs.lemmas.List.{length-map}
 use Rattle.case_audit.proofs.cases.judge_phase.Goals as goal
 
 pub loop-judged-init : goal.loop-judged-init
@@ -18,28 +11,21 @@ loop-judged-init c =
     let turns = subst (λ qs. AreTurns actor_of (length f.actors) qs phase) (sym (c.in_ok-turns.ensures ∙ ap (λ n. all_turns n phase) c.len.ensures)) (all-turns (length f.actors) phase) in
     record { judged = phase-begun (cases f) c.args.case.now c.args.report.now queues phase turns; modest = turns-rows IsModest actor_of (length f.actors) queues phase turns c.requires.modest; steady = c.requires.steady; longer = omega arith }
 
-pub judge_line-requires-clause-modest : goal.judge_line-requires-clause-modest
-judge_line-requires-clause-modest c = c.loop-judged.invariant.modest
-
-pub judge_line-requires-clause-steady : goal.judge_line-requires-clause-steady
-judge_line-requires-clause-steady c = c.loop-judged.invariant.steady
-
-pub judge_line-requires-clause-few : goal.judge_line-requires-clause-few
-judge_line-requires-clause-few c = omega (arith, c.loop-judged.invariant.longer, c.loop-judged-test.true, c.requires.few)
+pub judge_line-requires : goal.judge_line-requires
+judge_line-requires c = record {
+  file = c.requires.file;
+  modest = c.loop-judged.invariant.modest;
+  steady = c.loop-judged.invariant.steady;
+  few = omega (arith, c.loop-judged.invariant.longer, c.loop-judged-test.true, c.requires.few);
+}
 
 pub returns-then-not-branch-clause-judged : goal.returns-then-not-branch-clause-judged
 returns-then-not-branch-clause-judged c =
     let f = c.args.file.now in
     let phase = asked_in c.args.calls.now in
-    let queues = queues_of c.loop-judged.turns in
-    let rest = queues_of c.judge_line.new.turns in
-    let mid = c.loop-judged.case in
-    let between = c.loop-judged.report in
-    let to = c.judge_line.new.case in
-    let new = c.judge_line.new.report in
     let low : c.loop-judged._judged < length phase = omega (arith, c.loop-judged-test.true, length-map c.args.calls.now asked_of) in
-    line-stops (cases f) c.args.case.now mid to c.args.report.now between new queues rest phase c.loop-judged._judged low c.loop-judged.invariant.judged
-    (λ owed some turns. subst (λ b. LineJudged (cases f) mid between to new rest owed b) c.if-not-branch.true (c.in_ok-judge_line.ensures.judged owed some turns))
+    line-stops (cases f) c.args.case.now c.loop-judged.case c.judge_line.new.case c.args.report.now c.loop-judged.report c.judge_line.new.report (queues_of c.loop-judged.turns) (queues_of c.judge_line.new.turns) phase c.loop-judged._judged low c.loop-judged.invariant.judged
+    (λ owed some turns. subst (λ b. LineJudged (cases f) c.loop-judged.case c.loop-judged.report c.judge_line.new.case c.judge_line.new.report (queues_of c.judge_line.new.turns) owed b) c.if-not-branch.true (c.in_ok-judge_line.ensures.judged owed some turns))
 
 pub returns-then-not-branch-clause-longer : goal.returns-then-not-branch-clause-longer
 returns-then-not-branch-clause-longer c = omega (arith, c.loop-judged.invariant.longer, c.loop-judged-test.true, c.in_ok-judge_line.ensures.longer)
@@ -48,15 +34,9 @@ pub loop-judged-preserved : goal.loop-judged-preserved
 loop-judged-preserved c =
     let f = c.args.file.now in
     let phase = asked_in c.args.calls.now in
-    let queues = queues_of c.loop-judged.turns in
-    let rest = queues_of c.judge_line.new.turns in
-    let mid = c.loop-judged.case in
-    let between = c.loop-judged.report in
-    let to = c.judge_line.new.case in
-    let new = c.judge_line.new.report in
     let low : c.loop-judged._judged < length phase = omega (arith, c.loop-judged-test.true, length-map c.args.calls.now asked_of) in
-    let judged = line-on (cases f) c.args.case.now mid to c.args.report.now between new queues rest phase c.loop-judged._judged low c.loop-judged.invariant.judged
-    (λ owed some turns. subst (λ b. LineJudged (cases f) mid between to new rest owed b) c.if-not-branch.false (c.in_ok-judge_line.ensures.judged owed some turns)) in
+    let judged = line-on (cases f) c.args.case.now c.loop-judged.case c.judge_line.new.case c.args.report.now c.loop-judged.report c.judge_line.new.report (queues_of c.loop-judged.turns) (queues_of c.judge_line.new.turns) phase c.loop-judged._judged low c.loop-judged.invariant.judged
+    (λ owed some turns. subst (λ b. LineJudged (cases f) c.loop-judged.case c.loop-judged.report c.judge_line.new.case c.judge_line.new.report (queues_of c.judge_line.new.turns) owed b) c.if-not-branch.false (c.in_ok-judge_line.ensures.judged owed some turns)) in
     record { judged = judged; modest = c.in_ok-judge_line.ensures.modest; steady = c.in_ok-judge_line.ensures.steady; longer = omega (arith, c.loop-judged.invariant.longer, c.in_ok-judge_line.ensures.longer) }
 
 pub returns-clause-judged : goal.returns-clause-judged

@@ -1,9 +1,5 @@
 use Rattle.std.proofs.Common.{◌+◌, ◌≤◌, length}
-use Rattle.case_audit.specs.Queues.{queues_of}
-use Rattle.case_audit.specs.Asking.{asked_in}
-use Rattle.audit_model.specs.Journaled.{InPhase, IsSteady, cases}
-use Rattle.audit_model.specs.Lines.{IsModest}
-use Rattle.wsm_lists.specs.Rows.{AllRows}
+use Rattle.case_audit.proofs.Common.{AllRows, asked_in, cases, InPhase, IsModest, IsSteady, queues_of}
 use Rattle.case_audit.proofs.cases.judge_phase.Given as goal
 
 abbrev pub invariant-loop-judged : goal.invariant-loop-judged

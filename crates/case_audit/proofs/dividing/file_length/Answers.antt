@@ -1,5 +1,5 @@
 use Rattle.std.proofs.Common.{◌≡◌, ◌+◌, suc, false, length, sym, ap, ◌∙◌, arith, if◌then◌else◌}
-use Rattle.case_audit.specs.Parts.{begins_report, file_length}
+use Rattle.case_audit.proofs.Common.{begins_report, file_length}
 use Rattle.case_audit.proofs.FileLengths.{line-and-rest, line-length}
 use Rattle.case_audit.proofs.dividing.file_length.Goals as goal
 

@@ -1,5 +1,5 @@
 use Rattle.std.proofs.Common.{◌≡◌, ◌+◌, length}
-use Rattle.case_audit.specs.Parts.{file_length}
+use Rattle.case_audit.proofs.Common.{file_length}
 use Rattle.case_audit.proofs.dividing.file_length.Given as goal
 
 abbrev pub invariant-loop-line : goal.invariant-loop-line

@@ -1,10 +1,6 @@
-use Rattle.std.proofs.Common.{◌≡◌, ◌≤◌, Ok, Err, length, true, sym, ap, ◌∙◌, subst, arith}
+use Rattle.std.proofs.Common.{◌≡◌, Err, length, true, sym, ap, ◌∙◌, subst, arith}
+use Rattle.case_audit.proofs.Common.{file, is_too_long, IsRefused, IsVerdict, IsVerdictOn, report_part, Tells, TellsBytes, TellsReport}
 use Rattle.case_audit.proofs.AuditEnds.{not-too-long, refused-how, tells-on}
-use Rattle.case_audit.specs.Endings.{IsRefused, IsVerdictOn, TellsBytes, TellsReport}
-use Rattle.case_audit.specs.Parts.{is_too_long, report_part}
-use Rattle.case_audit.specs.Verdicts.{IsVerdict}
-use Rattle.file_model.specs.Outcomes.{Tells}
-use Rattle.file_model.specs.Reading.{file}
 use Rattle.case_audit.proofs.inputs.audit_bytes.Goals as goal
 
 pub returns-in-Ok : goal.returns-in-Ok

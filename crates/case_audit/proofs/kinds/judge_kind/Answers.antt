@@ -1,16 +1,7 @@
-use Rattle.std.proofs.Common.{◌≡◌, ◌+◌, ◌<◌, false, true, length, get_or, refl, sym, subst}
+use Rattle.std.proofs.Common.{◌+◌, refl, sym, subst, ◌++◌}
+use Rattle.case_audit.proofs.Common.{AllRows, asked_in, calls_in, defined_line, FollowedBy, InPhases, IsModest, kinds, owed_lines, owed_of, phase-on, phase-stops, PhaseJudged, phases-begun, phases-whole, type_head}
 use Rattle.case_audit.proofs.KindParts.{front-wrong, journal-wrong, kind-right}
-use Rattle.case_audit.proofs.OwedPhases.{phase-end, phase-is, phase-low, phase-row}
-use Rattle.audit_model.specs.ReportReader.{defined_line}
-use Rattle.case_audit.specs.Asking.{asked_in}
-use Rattle.case_audit.specs.Owing.{calls_in, owed_of}
-use Rattle.audit_model.proofs.Phases.{phase-on, phase-stops, phases-begun, phases-whole}
-use Rattle.audit_model.specs.Judging.{FollowedBy}
-use Rattle.audit_model.specs.Journaled.{InPhases, PhaseJudged, owed_lines, kinds}
-use Rattle.audit_model.specs.Lines.{IsModest}
-use Rattle.report_text.specs.Report.{type_head}
-use Rattle.std.proofs.Common.{◌++◌}
-use Rattle.wsm_lists.specs.Rows.{AllRows}
+use Rattle.case_audit.proofs.OwedPhases.{phase-at, phase-end, row-at}
 use Rattle.case_audit.proofs.kinds.judge_kind.Goals as goal
 
 pub returns-then-not-branch : goal.returns-then-not-branch
@@ -26,42 +17,30 @@ loop-phase-init c = phases-begun (kinds c.args.file.now) c.in_ok-kind.kind c.fol
 
 pub judge_phase-requires-clause-modest : goal.judge_phase-requires-clause-modest
 judge_phase-requires-clause-modest c =
-    let owed = c.args.owed.now in
-    let n = c.loop-phase.phase-index in
-    let p = c.phase-item.result in
-    let low = subst (λ ps. n < length ps) c.as_slice-phase-items.ensures.value c.loop-phase-test.true in
-    let is = subst (λ ps. p ≡ get_or ps n p) c.as_slice-phase-items.ensures.value c.phase-item.is in
-    subst (λ ls. AllRows IsModest (asked_in ls)) (sym c.as_slice.ensures.value) (phase-row (AllRows IsModest) owed n p c.requires.modest low is)
+    let at = phase-at c.args.owed.now c.as_slice-phase-items.result.now c.loop-phase.phase-index c.phase-item.result c.as_slice-phase-items.ensures.value c.loop-phase-test.true c.phase-item.is in
+    subst (λ ls. AllRows IsModest (asked_in ls)) (sym c.as_slice.ensures.value) (row-at (AllRows IsModest) (owed_of c.args.owed.now) c.loop-phase.phase-index (calls_in c.phase-item.result) c.requires.modest at.low at.is)
 
 pub returns-then-not-branch-2 : goal.returns-then-not-branch-2
 returns-then-not-branch-2 c =
     let f = c.args.file.now in
-    let owed = c.args.owed.now in
-    let n = c.loop-phase.phase-index in
-    let p = c.phase-item.result in
-    let low = subst (λ ps. n < length ps) c.as_slice-phase-items.ensures.value c.loop-phase-test.true in
-    let is = subst (λ ps. p ≡ get_or ps n p) c.as_slice-phase-items.ensures.value c.phase-item.is in
-    let judged = subst (λ b. PhaseJudged (kinds f) c.loop-phase.kind c.loop-phase.report c.judge_phase.new.kind c.judge_phase.new.report (calls_in p) b) c.if-not-branch-2.true
+    let at = phase-at c.args.owed.now c.as_slice-phase-items.result.now c.loop-phase.phase-index c.phase-item.result c.as_slice-phase-items.ensures.value c.loop-phase-test.true c.phase-item.is in
+    let judged = subst (λ b. PhaseJudged (kinds f) c.loop-phase.kind c.loop-phase.report c.judge_phase.new.kind c.judge_phase.new.report (calls_in c.phase-item.result) b) c.if-not-branch-2.true
     (subst (λ ls. PhaseJudged (kinds f) c.loop-phase.kind c.loop-phase.report c.judge_phase.new.kind c.judge_phase.new.report (asked_in ls) c.in_ok-judge_phase.field-0) c.as_slice.ensures.value c.in_ok-judge_phase.ensures) in
     let d = c.args.decl.now in
     let kind = c.in_ok-kind.kind in
     let mid = c.follow_front.new.report in
     let new = c.judge_phase.new.report in
     let front = subst (FollowedBy (type_head d ++ defined_line f kind) c.args.report.now mid) c.if-not-branch.false c.in_ok-follow_front.ensures in
-    journal-wrong f c.args.number d kind c.args.report.now mid new (owed_lines (owed_of owed)) c.in_ok-kind.ensures front c.requires.owed
-    (phase-stops (kinds f) (λ p ps. refl) kind c.loop-phase.kind c.judge_phase.new.kind mid c.loop-phase.report new (owed_of owed) n (calls_in p) (phase-low owed n low) (phase-is owed n p low is) c.loop-phase.invariant judged)
+    journal-wrong f c.args.number d kind c.args.report.now mid new (owed_lines (owed_of c.args.owed.now)) c.in_ok-kind.ensures front c.requires.owed
+    (phase-stops (kinds f) (λ p ps. refl) kind c.loop-phase.kind c.judge_phase.new.kind mid c.loop-phase.report new (owed_of c.args.owed.now) c.loop-phase.phase-index (calls_in c.phase-item.result) at.low at.is c.loop-phase.invariant judged)
 
 pub loop-phase-preserved : goal.loop-phase-preserved
 loop-phase-preserved c =
     let f = c.args.file.now in
-    let owed = c.args.owed.now in
-    let n = c.loop-phase.phase-index in
-    let p = c.phase-item.result in
-    let low = subst (λ ps. n < length ps) c.as_slice-phase-items.ensures.value c.loop-phase-test.true in
-    let is = subst (λ ps. p ≡ get_or ps n p) c.as_slice-phase-items.ensures.value c.phase-item.is in
-    let judged = subst (λ b. PhaseJudged (kinds f) c.loop-phase.kind c.loop-phase.report c.judge_phase.new.kind c.judge_phase.new.report (calls_in p) b) c.if-not-branch-2.false
+    let at = phase-at c.args.owed.now c.as_slice-phase-items.result.now c.loop-phase.phase-index c.phase-item.result c.as_slice-phase-items.ensures.value c.loop-phase-test.true c.phase-item.is in
+    let judged = subst (λ b. PhaseJudged (kinds f) c.loop-phase.kind c.loop-phase.report c.judge_phase.new.kind c.judge_phase.new.report (calls_in c.phase-item.result) b) c.if-not-branch-2.false
     (subst (λ ls. PhaseJudged (kinds f) c.loop-phase.kind c.loop-phase.report c.judge_phase.new.kind c.judge_phase.new.report (asked_in ls) c.in_ok-judge_phase.field-0) c.as_slice.ensures.value c.in_ok-judge_phase.ensures) in
-    phase-on (kinds f) (λ p ps. refl) c.in_ok-kind.kind c.loop-phase.kind c.judge_phase.new.kind c.follow_front.new.report c.loop-phase.report c.judge_phase.new.report (owed_of owed) n (calls_in p) (phase-low owed n low) (phase-is owed n p low is) c.loop-phase.invariant judged
+    phase-on (kinds f) (λ p ps. refl) c.in_ok-kind.kind c.loop-phase.kind c.judge_phase.new.kind c.follow_front.new.report c.loop-phase.report c.judge_phase.new.report (owed_of c.args.owed.now) c.loop-phase.phase-index (calls_in c.phase-item.result) at.low at.is c.loop-phase.invariant judged
 
 pub returns : goal.returns
 returns c =

@@ -1,5 +1,4 @@
-use Rattle.case_audit.specs.Owing.{owed_of}
-use Rattle.audit_model.specs.Journaled.{InPhases, kinds}
+use Rattle.case_audit.proofs.Common.{InPhases, kinds, owed_of}
 use Rattle.case_audit.proofs.kinds.judge_kind.Given as goal
 
 abbrev pub invariant-loop-phase : goal.invariant-loop-phase

@@ -1,13 +1,6 @@
 use Rattle.std.proofs.Common.{◌≡◌, ◌<◌, length, refl, sym, ap, ◌∙◌, subst, arith}
+use Rattle.case_audit.proofs.Common.{actor_of, all_turns, AreTurns, asked_in, asked_of, InPhase, IsModest, kinds, length-map, line-on, line-stops, LineJudged, phase-begun, phase-whole, queues_of, turns-rows}
 use Rattle.case_audit.proofs.AllTurns.{all-turns}
-use Rattle.case_audit.specs.Queues.{all_turns, queues_of}
-use Rattle.case_audit.specs.Asking.{asked_in, asked_of}
-use Rattle.audit_model.proofs.Phases.{line-on, line-stops, phase-begun, phase-whole}
-use Rattle.audit_model.proofs.Modest.{turns-rows}
-use Rattle.audit_model.specs.Journaled.{InPhase, LineJudged, kinds}
-use Rattle.audit_model.specs.Lines.{IsModest, actor_of}
-use Rattle.line_followers.specs.Turns.{AreTurns}
-use Rattle.std.proofs.lemmas.List.{length-map}
 use Rattle.case_audit.proofs.kinds.judge_phase.Goals as goal
 
 pub loop-judged-init : goal.loop-judged-init
@@ -25,29 +18,17 @@ pub returns-then-not-branch : goal.returns-then-not-branch
 returns-then-not-branch c =
     let f = c.args.file.now in
     let phase = asked_in c.args.calls.now in
-    let queues = queues_of c.loop-judged.turns in
-    let rest = queues_of c.judge_line.new.turns in
-    let mid = c.loop-judged.kind in
-    let between = c.loop-judged.report in
-    let to = c.judge_line.new.kind in
-    let new = c.judge_line.new.report in
     let low : c.loop-judged._judged < length phase = omega (arith, c.loop-judged-test.true, length-map c.args.calls.now asked_of) in
-    line-stops (kinds f) c.args.kind.now mid to c.args.report.now between new queues rest phase c.loop-judged._judged low c.loop-judged.invariant.judged
-    (λ owed some turns. subst (λ b. LineJudged (kinds f) mid between to new rest owed b) c.if-not-branch.true (c.in_ok-judge_line.ensures.judged owed some turns))
+    line-stops (kinds f) c.args.kind.now c.loop-judged.kind c.judge_line.new.kind c.args.report.now c.loop-judged.report c.judge_line.new.report (queues_of c.loop-judged.turns) (queues_of c.judge_line.new.turns) phase c.loop-judged._judged low c.loop-judged.invariant.judged
+    (λ owed some turns. subst (λ b. LineJudged (kinds f) c.loop-judged.kind c.loop-judged.report c.judge_line.new.kind c.judge_line.new.report (queues_of c.judge_line.new.turns) owed b) c.if-not-branch.true (c.in_ok-judge_line.ensures.judged owed some turns))
 
 pub loop-judged-preserved : goal.loop-judged-preserved
 loop-judged-preserved c =
     let f = c.args.file.now in
     let phase = asked_in c.args.calls.now in
-    let queues = queues_of c.loop-judged.turns in
-    let rest = queues_of c.judge_line.new.turns in
-    let mid = c.loop-judged.kind in
-    let between = c.loop-judged.report in
-    let to = c.judge_line.new.kind in
-    let new = c.judge_line.new.report in
     let low : c.loop-judged._judged < length phase = omega (arith, c.loop-judged-test.true, length-map c.args.calls.now asked_of) in
-    let judged = line-on (kinds f) c.args.kind.now mid to c.args.report.now between new queues rest phase c.loop-judged._judged low c.loop-judged.invariant.judged
-    (λ owed some turns. subst (λ b. LineJudged (kinds f) mid between to new rest owed b) c.if-not-branch.false (c.in_ok-judge_line.ensures.judged owed some turns)) in
+    let judged = line-on (kinds f) c.args.kind.now c.loop-judged.kind c.judge_line.new.kind c.args.report.now c.loop-judged.report c.judge_line.new.report (queues_of c.loop-judged.turns) (queues_of c.judge_line.new.turns) phase c.loop-judged._judged low c.loop-judged.invariant.judged
+    (λ owed some turns. subst (λ b. LineJudged (kinds f) c.loop-judged.kind c.loop-judged.report c.judge_line.new.kind c.judge_line.new.report (queues_of c.judge_line.new.turns) owed b) c.if-not-branch.false (c.in_ok-judge_line.ensures.judged owed some turns)) in
     record { judged = judged; modest = c.in_ok-judge_line.ensures.modest }
 
 pub returns : goal.returns

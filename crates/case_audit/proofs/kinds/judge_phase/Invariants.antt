@@ -1,8 +1,4 @@
-use Rattle.case_audit.specs.Queues.{queues_of}
-use Rattle.case_audit.specs.Asking.{asked_in}
-use Rattle.audit_model.specs.Journaled.{InPhase, kinds}
-use Rattle.audit_model.specs.Lines.{IsModest}
-use Rattle.wsm_lists.specs.Rows.{AllRows}
+use Rattle.case_audit.proofs.Common.{AllRows, asked_in, InPhase, IsModest, kinds, queues_of}
 use Rattle.case_audit.proofs.kinds.judge_phase.Given as goal
 
 abbrev pub invariant-loop-judged : goal.invariant-loop-judged

@@ -1,6 +1,5 @@
 use Rattle.std.proofs.Common.{true}
-use Rattle.adept_io.proofs.Sent.{gives_then}
-use Rattle.report_text.specs.Report.{type_head}
+use Rattle.case_audit.proofs.Common.{gives_then, type_head}
 use Rattle.case_audit.proofs.kinds.put_front.Goals as goal
 
 pub returns : goal.returns

@@ -1,9 +1,6 @@
 use Rattle.std.proofs.Common.{◌<◌, length, refl, arith}
-use Rattle.std.proofs.lemmas.Result.{on_ok_weaker}
-use Rattle.line_followers.specs.Numbered.{with_line}
+use Rattle.case_audit.proofs.Common.{asked_of, numbered_of, on_ok_weaker, with_line}
 use Rattle.case_audit.proofs.Changes.{item-changed}
-use Rattle.case_audit.specs.Asking.{asked_of}
-use Rattle.case_audit.specs.Owing.{numbered_of}
 use Rattle.case_audit.proofs.owed.add_at.Goals as goal
 
 pub returns-in-Some : goal.returns-in-Some

@@ -1,11 +1,6 @@
 use Rattle.std.proofs.Common.{ap, sym, ◌∙◌}
-use Rattle.std.proofs.lemmas.Result.{on_ok_weaker}
-use Rattle.line_calls.specs.Calls.{case_among, each_among}
-use Rattle.line_followers.specs.Numbered.{with_line}
-use Rattle.script_run.specs.Calls.{changed_where}
+use Rattle.case_audit.proofs.Common.{asked_of, case_among, changed_where, each_among, numbers, on_ok_weaker, with_line}
 use Rattle.case_audit.proofs.Cells.{none-called, one-called}
-use Rattle.case_audit.specs.Asking.{asked_of}
-use Rattle.case_audit.specs.Owing.{numbers}
 use Rattle.case_audit.proofs.owed.add_case_line.Goals as goal
 
 pub returns-in_default-case : goal.returns-in_default-case

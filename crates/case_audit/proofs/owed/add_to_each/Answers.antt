@@ -1,13 +1,8 @@
 use Rattle.std.proofs.Common.{ap, sym, ◌∙◌, take, if◌then◌else◌}
-use Rattle.file_model.specs.CaseCounts.{is_among}
-use Rattle.line_followers.specs.Numbered.{with_line}
-use Rattle.script_run.specs.Calls.{changed_at}
+use Rattle.case_audit.proofs.Common.{asked_of, changed_at, is_among, numbers, put_where, with_line}
 use Rattle.case_audit.proofs.Sharing.{put-more}
-use Rattle.case_audit.specs.Asking.{asked_of}
-use Rattle.case_audit.specs.Owing.{numbers}
-use Rattle.case_audit.specs.Sharing.{put_where}
-use Rattle.case_audit.proofs.owed.add_to_each.Goals as goal
 use Rattle.case_audit.proofs.owed.add_to_each.Goals.{then-is_among+in_ok-add_at, else-is_among}
+use Rattle.case_audit.proofs.owed.add_to_each.Goals as goal
 
 pub loop-place-preserved : goal.loop-place-preserved
 loop-place-preserved c =

@@ -1,9 +1,5 @@
 use Rattle.std.proofs.Common.{◌≡◌, take}
-use Rattle.case_audit.specs.Asking.{asked_of}
-use Rattle.case_audit.specs.Owing.{numbers}
-use Rattle.case_audit.specs.Sharing.{put_where}
-use Rattle.file_model.specs.CaseCounts.{is_among}
-use Rattle.line_followers.specs.Numbered.{with_line}
+use Rattle.case_audit.proofs.Common.{asked_of, is_among, numbers, put_where, with_line}
 use Rattle.case_audit.proofs.owed.add_to_each.Given as goal
 
 abbrev pub invariant-loop-place : goal.invariant-loop-place

@@ -1,6 +1,5 @@
-use Rattle.std.proofs.Common.{◌≡◌, []}
-use Rattle.std.specs.Prelude.{replicate}
-use Rattle.case_audit.specs.Owing.{numbers}
+use Rattle.std.proofs.Common.{◌≡◌, [], replicate}
+use Rattle.case_audit.proofs.Common.{numbers}
 use Rattle.case_audit.proofs.owed.nothing_owed.Given as goal
 
 abbrev pub invariant-loop-made : goal.invariant-loop-made

@@ -1,11 +1,8 @@
-use Rattle.std.proofs.Common.{[], take, fold, sym, ap, ◌∙◌}
-use Rattle.std.specs.Prelude.{replicate}
+use Rattle.std.proofs.Common.{[], take, fold, sym, ap, ◌∙◌, replicate}
+use Rattle.case_audit.proofs.Common.{asked_in, calls_decl, case_put, given, numbers, script_of}
 use Rattle.case_audit.proofs.Cells.{cases-more}
 use Rattle.case_audit.proofs.Changes.{nothing-each}
 use Rattle.case_audit.proofs.Scripts.{script-length, script-more}
-use Rattle.case_audit.specs.Asking.{asked_in, script_of}
-use Rattle.case_audit.specs.Owing.{calls_decl, case_put, numbers}
-use Rattle.case_audit.specs.Sharing.{given}
 use Rattle.case_audit.proofs.owed.owed_cases.Goals as goal
 
 pub loop-phase-init : goal.loop-phase-init

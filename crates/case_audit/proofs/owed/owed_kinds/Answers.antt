@@ -1,13 +1,8 @@
-use Rattle.std.proofs.Common.{[], take, fold, sym, ap, ◌∙◌}
-use Rattle.std.proofs.lemmas.List.FromFn.{length-range_with_len}
-use Rattle.std.specs.List.{range_with_len}
-use Rattle.std.specs.Prelude.{replicate}
+use Rattle.std.proofs.Common.{[], take, fold, sym, ap, ◌∙◌, replicate}
+use Rattle.case_audit.proofs.Common.{asked_in, calls_number, given, kind_put, length-range_with_len, range_with_len, script_of}
 use Rattle.case_audit.proofs.Cells.{kinds-more}
 use Rattle.case_audit.proofs.Changes.{nothing-each}
 use Rattle.case_audit.proofs.Scripts.{script-length, script-more}
-use Rattle.case_audit.specs.Asking.{asked_in, script_of}
-use Rattle.case_audit.specs.Owing.{calls_number, kind_put}
-use Rattle.case_audit.specs.Sharing.{given}
 use Rattle.case_audit.proofs.owed.owed_kinds.Goals as goal
 
 pub loop-phase-init : goal.loop-phase-init

@@ -1,8 +1,5 @@
 use Rattle.std.proofs.Common.{◌≡◌, take}
-use Rattle.std.specs.List.{range_with_len}
-use Rattle.case_audit.specs.Asking.{script_of}
-use Rattle.case_audit.specs.Owing.{calls_number, numbers}
-use Rattle.case_audit.specs.Sharing.{given}
+use Rattle.case_audit.proofs.Common.{calls_number, given, numbers, range_with_len, script_of}
 use Rattle.case_audit.proofs.owed.owed_kinds.Given as goal
 
 abbrev pub invariant-loop-phase : goal.invariant-loop-phase

@@ -1,15 +1,10 @@
-use Rattle.std.proofs.Common.{◌≡◌, ◌+◌, false, true, eqb-true, length, Some, sym, ap, ◌∙◌, subst, arith}
-use Rattle.std.proofs.lemmas.List.{nil_from_length}
-use Rattle.audit_model.specs.Reports.{IsReport}
+use Rattle.std.proofs.Common.{◌+◌, eqb-true, length, Some, sym, ap, ◌∙◌, subst, arith}
+use Rattle.case_audit.proofs.Common.{Followed, IsFirstWrong, IsJudged, IsReport, left_of, nil_from_length}
 use Rattle.audit_facts.proofs.Auditable.{file-auditable}
 use Rattle.case_audit.proofs.FirstLines.{feeds-taken, legal-whole, some-left, wrong-behind, wrong-stopped}
-use Rattle.case_audit.proofs.reports.audit.Goals as goal
 use Rattle.case_audit.proofs.reports.audit.Goals.{else-stands-via-then-stands+else-is_at_end, else-stands-via-else-stands}
-use Rattle.case_audit.specs.Verdicts.{IsJudged}
 use Rattle.file_facts.proofs.Workable.{file-workable}
-use Rattle.line_followers.specs.Follows.{left_of}
-use Rattle.line_readers.specs.FirstWrong.{IsFirstWrong}
-use Rattle.text_follower.specs.Followed.{Followed}
+use Rattle.case_audit.proofs.reports.audit.Goals as goal
 
 pub judge_report-requires-clause-workable : goal.judge_report-requires-clause-workable
 judge_report-requires-clause-workable g c κs _ = file-workable c.requires.file.0 c.args.file.now c.requires.file.1
@@ -20,41 +15,32 @@ judge_report-requires-clause-auditable g c κs _ = file-auditable c.requires.fil
 pub overflow_cast-result : goal.overflow_cast-result
 overflow_cast-result g c =
     let end = c.judge_report.new.report in
-    let same : end.text ≡ c.args.report.now = c.in_ok-stands.ensures.2.0 ∙ ap (λ s. s.text) c.of-follower.ensures in
-    omega (arith, c.lines.ensures, feeds-taken end.at end.text, ap length same, c.requires.length)
+    omega (arith, c.lines.ensures, feeds-taken end.at end.text, ap length (c.in_ok-stands.ensures.2.0 ∙ ap (λ s. s.text) c.of-follower.ensures), c.requires.length)
 
 pub overflow_add-result : goal.overflow_add-result
 overflow_add-result g c =
     let end = c.judge_report.new.report in
-    let same : end.text ≡ c.args.report.now = c.in_ok-stands.ensures.2.0 ∙ ap (λ s. s.text) c.of-follower.ensures in
-    omega (arith, c.lines.ensures, feeds-taken end.at end.text, ap length same, c.requires.length)
+    omega (arith, c.lines.ensures, feeds-taken end.at end.text, ap length (c.in_ok-stands.ensures.2.0 ∙ ap (λ s. s.text) c.of-follower.ensures), c.requires.length)
 
 pub returns-then-is_at_end : goal.returns-then-is_at_end
 returns-then-is_at_end g c =
     let f = c.args.file.now in
     let report = c.args.report.now in
     let end = c.judge_report.new.report in
-    let (bytes, is) = c.requires.file in
-    let workable = file-workable bytes f is in
-    let auditable = file-auditable bytes f is in
     let judged = subst (λ (s : Followed). IsJudged f s end c.in_ok-stands.stands) c.of-follower.ensures c.in_ok-stands.ensures in
     let none = eqb-true (length (left_of end)) 0 (sym c.is_at_end.ensures ∙ c.if-is_at_end.true) in
-    let empty = nil_from_length (left_of end) none in
-    legal-whole f workable auditable report end (subst (IsJudged f (record { text = report; at = 0 }) end) c.if-stands.true judged) empty
+    legal-whole f c.requires.file report end (subst (IsJudged f (record { text = report; at = 0 }) end) c.if-stands.true judged) (nil_from_length (left_of end) none)
 
 pub returns-else-stands : goal.returns-else-stands
 returns-else-stands g c =
     let f = c.args.file.now in
     let report = c.args.report.now in
     let end = c.judge_report.new.report in
-    let (bytes, is) = c.requires.file in
-    let workable = file-workable bytes f is in
-    let auditable = file-auditable bytes f is in
     let judged = subst (λ (s : Followed). IsJudged f s end c.in_ok-stands.stands) c.of-follower.ensures c.in_ok-stands.ensures in
     subst (λ n. IsFirstWrong (IsReport f) report (Some (n + 1))) (sym c.lines.ensures)
     (elim c.else-stands.branch [
       | else-stands-via-then-stands+else-is_at_end w ↦
           let some = some-left (length (left_of end)) (sym w.is_at_end.ensures ∙ w.if-is_at_end.false) in
-          wrong-behind f workable auditable report end (subst (IsJudged f (record { text = report; at = 0 }) end) w.if-stands.true judged) some
-      | else-stands-via-else-stands w ↦ wrong-stopped f workable auditable report end (subst (IsJudged f (record { text = report; at = 0 }) end) w.if-stands.false judged)
+          wrong-behind f c.requires.file report end (subst (IsJudged f (record { text = report; at = 0 }) end) w.if-stands.true judged) some
+      | else-stands-via-else-stands w ↦ wrong-stopped f c.requires.file report end (subst (IsJudged f (record { text = report; at = 0 }) end) w.if-stands.false judged)
     ])

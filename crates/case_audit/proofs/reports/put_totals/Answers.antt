@@ -1,6 +1,5 @@
 use Rattle.std.proofs.Common.{true}
-use Rattle.adept_io.proofs.Sent.{gives_then}
-use Rattle.report_words.specs.Totals.{case_totals, migration_totals}
+use Rattle.case_audit.proofs.Common.{case_totals, gives_then, migration_totals}
 use Rattle.case_audit.proofs.reports.put_totals.Goals as goal
 
 pub returns : goal.returns

@@ -1,8 +1,6 @@
 use Rattle.std.proofs.Common.{◌≡◌, suc, ◌+◌, ◌<◌, [], ◌∷◌, ◌++◌, length, length-append, slice_get, Some, Ok, refl, sym, ap, ◌∙◌, subst, arith}
-use Rattle.audit_model.proofs.ReadersInRow.{cases-begun, cases-read}
-use Rattle.audit_model.specs.Journaled.{InCases}
+use Rattle.case_audit.proofs.Common.{case_reader, InCases, IsCaseAt, IsSection, row-begun, row-read}
 use Rattle.case_audit.proofs.CaseSections.{sections-on, sections-stop}
-use Rattle.case_audit.specs.Sections.{IsCaseAt, IsSection}
 use Rattle.case_audit.proofs.sections.join_sections.Goals as goal
 
 pub loop-section-init : goal.loop-section-init
@@ -15,26 +13,24 @@ loop-section-init c =
       left = omega (arith, gives.1, ap length gives.0, c.args.sections.ok.0);
       many = omega (arith, ap length none, ap length gives.0, c.requires.sections.0);
       text = refl;
-      begun = λ phases same. subst (λ cs. InCases f phases report report cs (length cs)) (sym none) (cases-begun f phases report);
+      begun = λ phases same. subst (λ cs. InCases f phases report report cs (length cs)) (sym none) (row-begun (λ n d. case_reader f phases d) f.cases report);
       sections = λ i s at.
           subst (λ n. IsSection f c.args.owed.now report.text n s) (omega (arith, ap length none)) (c.requires.sections.1 i s (subst (λ xs. slice_get xs i ≡ Some (Ok s)) gives.0 at));
     }
 
-pub next_case-requires-clause-in_owed : goal.next_case-requires-clause-in_owed
-next_case-requires-clause-in_owed c = omega (arith, c.len.ensures, c.loop-section.invariant.many, ap length c.in-Some.ensures.steps.0, c.requires.owed)
-
-pub next_case-requires-clause-in_cases : goal.next_case-requires-clause-in_cases
-next_case-requires-clause-in_cases c = omega (arith, c.len.ensures, c.loop-section.invariant.many, ap length c.in-Some.ensures.steps.0)
-
-pub next_case-requires-clause-section : goal.next_case-requires-clause-section
-next_case-requires-clause-section c =
+pub next_case-requires : goal.next_case-requires
+next_case-requires c =
     let f = c.args.file.now in
     let owed = c.args.owed.now in
     let k = c.loop-section.invariant in
     let s = c.in_ok-section.field-0 in
     let there = ap (λ xs. slice_get xs 0) c.in-Some.ensures.steps.0 ∙ ap Some c.in_ok-section.was in
-    subst (λ text. IsSection f owed text c.len.result s) (sym k.text)
-    (subst (λ n. IsSection f owed c.args.report.now.text n s) (omega (arith, c.len.ensures)) (k.sections 0 s there))
+    record {
+      owed = c.requires.owed;
+      within = omega (arith, c.len.ensures, k.many, ap length c.in-Some.ensures.steps.0);
+      section =
+          subst (λ text. IsSection f owed text c.len.result s) (sym k.text) (subst (λ n. IsSection f owed c.args.report.now.text n s) (omega (arith, c.len.ensures)) (k.sections 0 s there));
+    }
 
 pub returns-in-None-2 : goal.returns-in-None-2
 returns-in-None-2 c = λ phases same.
@@ -79,4 +75,4 @@ pub returns : goal.returns
 returns c = λ phases same.
     let k = c.loop-section.invariant in
     let cs = c.loop-section.cases.items in
-    cases-read c.args.file.now phases c.args.report.now c.loop-section.report cs (length cs) (omega (arith, k.many, k.left, c.in-None.ensures.steps.0)) (k.begun phases same)
+    row-read (λ n d. case_reader c.args.file.now phases d) c.args.file.now.cases c.args.report.now c.loop-section.report cs (length cs) (omega (arith, k.many, k.left, c.in-None.ensures.steps.0)) (k.begun phases same)

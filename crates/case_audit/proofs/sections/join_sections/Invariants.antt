@@ -1,11 +1,6 @@
 use Rattle.std.proofs.Common.{◌≡◌, ℕ, ◌+◌, List, length, slice_get, Some, Ok}
 use Rattle.std.specs.Vec.Iter.{into_iter_items, into_iter_len}
-use Rattle.audit_model.specs.Asked.{Asked}
-use Rattle.case_audit.specs.Owing.{calls_decl, numbers}
-use Rattle.case_audit.specs.Sharing.{given}
-use Rattle.audit_model.specs.Journaled.{InCases}
-use Rattle.case_audit.specs.Sections.{IsSection}
-use Rattle.case_audit.specs.declared.sections.Section.{Section}
+use Rattle.case_audit.proofs.Common.{Asked, calls_decl, given, InCases, IsSection, numbers, Section}
 use Rattle.case_audit.proofs.sections.join_sections.Given as goal
 
 abbrev pub invariant-loop-section : goal.invariant-loop-section

@@ -1,12 +1,8 @@
-use Rattle.std.proofs.Common.{◌≡◌, ℕ, length, sym, subst, arith}
-use Rattle.std.proofs.Crossing.{crosses}
-use Rattle.std.proofs.lemmas.Result.{IfOk-weaker}
-use Rattle.std.specs.List.{AllZip, range_with_len}
-use Rattle.std.specs.Prelude.{IfOk}
+use Rattle.std.proofs.Common.{subst, IfOk}
+use Rattle.case_audit.proofs.Common.{AllZip, crosses, IfOk-weaker, IsSection, range_with_len}
 use denote.Param.Send.{sendable}
 use Rattle.case_audit.proofs.CaseSections.{sections-zipped}
 use Rattle.case_audit.proofs.Sent.{file-sync, line-sync, section-send, version-sync}
-use Rattle.case_audit.specs.Sections.{IsSection}
 use Rattle.case_audit.proofs.sections.judge_sections.Goals as goal
 
 pub each_below-requires-send-T : goal.each_below-requires-send-T

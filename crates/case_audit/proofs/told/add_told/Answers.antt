@@ -1,8 +1,6 @@
 use Rattle.std.proofs.Common.{◌≡◌, ◌<◌, ◌++◌, ◌∷◌, [], length, map, Some, refl, sym, ap, ◌∙◌, arith}
-use Rattle.std.proofs.lemmas.List.{map-append}
-use Rattle.audit_model.specs.Asked.{told_by}
+use Rattle.case_audit.proofs.Common.{deques_of, map-append, told_by, with_version}
 use Rattle.case_audit.proofs.Changes.{queue-changed}
-use Rattle.case_audit.specs.Asking.{deques_of, with_version}
 use Rattle.case_audit.proofs.told.add_told.Goals as goal
 
 pub returns-in_ok-push_back-in-Some : goal.returns-in_ok-push_back-in-Some

@@ -1,6 +1,5 @@
-use Rattle.std.proofs.Common.{◌≡◌, ◌+◌, []}
-use Rattle.std.specs.Prelude.{replicate}
-use Rattle.case_audit.specs.Asking.{deques_of}
+use Rattle.std.proofs.Common.{◌≡◌, ◌+◌, [], replicate}
+use Rattle.case_audit.proofs.Common.{deques_of}
 use Rattle.case_audit.proofs.told.nothing_told.Given as goal
 
 abbrev pub invariant-loop-made : goal.invariant-loop-made

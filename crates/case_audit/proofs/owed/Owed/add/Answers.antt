@@ -1,14 +1,8 @@
-use Rattle.std.proofs.Common.{◌≡◌, ℕ, List, Option, None, zero, suc, ◌<◌, ◌-◌, ◌++◌, ◌∷◌, [], length, map, set, refl, ap, ◌∙◌, subst, arith}
-use Rattle.std.proofs.lemmas.List.{length-map, map-append, map-set, set-get_or}
-use Rattle.std.proofs.lemmas.Result.{on_ok_weaker}
+use Rattle.std.proofs.Common.{◌≡◌, ℕ, List, Option, None, zero, suc, ◌<◌, ◌-◌, ◌++◌, ◌∷◌, [], length, map, set, refl, ap, ◌∙◌, subst, arith, IsSome}
+use Rattle.case_audit.proofs.Common.{Asked, asked_in, asked_of, calls_in, length-map, map-append, map-set, numbered_of, on_ok_weaker, PhaseCalls, set-get_or}
 use Rattle.case_audit.proofs.Changes.{last-none, last-other, last-same, map-at}
-use Rattle.case_audit.specs.Asking.{asked_in, asked_of}
-use Rattle.audit_model.specs.Asked.{Asked}
-use Rattle.case_audit.specs.declared.owed.PhaseCalls.{PhaseCalls}
-use Rattle.std.specs.Option.{IsSome}
-use Rattle.case_audit.specs.Owing.{calls_in, numbered_of}
-use Rattle.case_audit.proofs.owed.Owed.add.Goals as goal
 use Rattle.case_audit.proofs.owed.Owed.add.Goals.{in-Some+else-last-phase, in_default}
+use Rattle.case_audit.proofs.owed.Owed.add.Goals as goal
 
 nothing : {A : Type 0} (o : Option A) (n : ℕ) → (0 < n → IsSome o) → o ≡ None → n ≡ 0
 nothing o zero some is = refl

@@ -1,8 +1,7 @@
-use Rattle.std.proofs.Common.{◌≡◌, ◌<◌, length, refl, arith}
-use Rattle.line_followers.specs.Turns.{behind_front}
+use Rattle.std.proofs.Common.{◌<◌, length, refl, arith}
+use Rattle.case_audit.proofs.Common.{asked_in, asked_of, behind_front}
 use Rattle.case_audit.proofs.Changes.{queue-changed}
 use Rattle.case_audit.proofs.Fronts.{popped-rest}
-use Rattle.case_audit.specs.Asking.{asked_in, asked_of}
 use Rattle.case_audit.proofs.turns.Turns.next.Goals as goal
 
 pub returns-clause-others : goal.returns-clause-others

@@ -1,6 +1,5 @@
-use Rattle.std.proofs.Common.{◌≡◌, ◌+◌, [], map}
-use Rattle.std.specs.Prelude.{replicate}
-use Rattle.case_audit.specs.Asking.{asked_in}
+use Rattle.std.proofs.Common.{◌≡◌, ◌+◌, [], map, replicate}
+use Rattle.case_audit.proofs.Common.{asked_in}
 use Rattle.case_audit.proofs.turns.Turns.none.Given as goal
 
 abbrev pub invariant-loop-made : goal.invariant-loop-made

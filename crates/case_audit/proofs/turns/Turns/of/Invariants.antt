@@ -1,6 +1,5 @@
 use Rattle.std.proofs.Common.{◌≡◌, drop, fold}
-use Rattle.case_audit.specs.Queues.{all_turns, queues_of, with_turn}
-use Rattle.case_audit.specs.Asking.{asked_in}
+use Rattle.case_audit.proofs.Common.{all_turns, asked_in, queues_of, with_turn}
 use Rattle.case_audit.proofs.turns.Turns.of.Given as goal
 
 abbrev pub invariant-loop-call : goal.invariant-loop-call

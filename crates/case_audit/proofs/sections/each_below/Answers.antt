@@ -1,11 +1,10 @@
 use Rattle.std.proofs.Common.{◌≡◌, ◌-◌, ◌∙◌, sym, ap, subst, arith}
-use Rattle.std.specs.List.{AllZip, range_with_len}
-use Rattle.std.proofs.Crossing.{crosses, frees}
+use Rattle.case_audit.proofs.Common.{AllZip, crosses, frees, range_with_len}
 use denote.Param.Send.{sendable}
 use Rattle.rayon.specs.Numbers.{nat_range}
 use Rattle.rayon.proofs.ListFacts.{IfOk-then}
 use Rattle.rayon.proofs.ToStd.{nat_range-All}
-use Rattle.case_audit.proofs.threads.each_below.Goals as goal
+use Rattle.case_audit.proofs.sections.each_below.Goals as goal
 
 -- one line for each `Send` and `Sync`, the allocator, and then what the work requires at each number of the range
 pub collect-requires : goal.collect-requires
