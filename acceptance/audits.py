@@ -32,7 +32,10 @@ def wrong(line):
 
 def what_differs(command, given, wanted):
     """None where the program ends so on this input."""
-    done = subprocess.run(command, input=given, timeout=SECONDS, stdout=subprocess.PIPE, stderr=subprocess.PIPE)
+    try:
+        done = subprocess.run(command, input=given, timeout=SECONDS, stdout=subprocess.PIPE, stderr=subprocess.PIPE)
+    except subprocess.TimeoutExpired:
+        return "no end within %d seconds" % SECONDS
     got = (done.returncode, done.stdout, done.stderr)
     return None if got == wanted else "wanted %s, got %s" % (wanted, got)
 
