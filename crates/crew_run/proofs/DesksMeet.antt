@@ -1,46 +1,32 @@
 -- What two desks have seen once they have met.
-use Rattle.std.proofs.Common.{◌∙◌, ◌≡◌, List, [], ◌∷◌, ap, refl, subst, sym}
-use Rattle.std.specs.List.{AllByRecursion, AllZip}
+use Rattle.std.proofs.Common.{◌<◌, ◌≤◌, ◌∙◌, ◌≡◌, ℕ, zero, suc, List, [], ◌∷◌, length, Bool, Some, ap, arith, false, if◌then◌else◌, length-append, ltb, refl, slice_get, subst, sym, true}
+use Rattle.std.proofs.lemmas.Bool.{ltb-true}
+use Rattle.std.proofs.lemmas.Slice.Zip.{AllZip-long}
+use Rattle.std.specs.List.{AllZip}
 use mathlib.Core.List.{IsPrefix}
-use Rattle.adept_server.specs.Desks.{CasePass, DeskView, KindPass}
+use Rattle.adept_server.specs.Desks.{CasePass, DeskView, KindPass, at_case, in_row}
+use Rattle.adept_server.specs.Noting.{AllCalled, AreLevelDesks}
 use Rattle.adept_server.specs.Opening.{SeesMore, first_desk_met, second_desk_met}
-use Rattle.crew_run.proofs.CellHistory.{heard-more, heard-nothing}
-use Rattle.crew_run.proofs.PassesMeet.{met-heard, met-heard_second, met-same, met-stays}
-use Rattle.crew_run.proofs.SideBySide.{zip-back, zip-self, zip-so, zip-then}
-use Rattle.crew_run.specs.Cells.{Heard, SeenSame}
-use Rattle.crew_run.specs.Crew.{DeskHeard, DeskSame, HasPassesOf}
+use Rattle.adept_server.specs.declared.call_flags.CallFlags.{CallFlags}
+use Rattle.crew_run.proofs.SideBySide.{made-beside, made-first, made-same, made-second, zip-back, zip-rows, zip-self, zip-so, zip-then}
+use Rattle.crew_run.specs.Desks.{Beside, DeskHeard, DeskSame, HasPassesOf, HasShapeOf, Heard, SeenSame}
 use Rattle.turn_cell.proofs.Prefixes.{prefix_self, prefix_trans}
 use Rattle.turn_cell.specs.Passes.{PassView}
-use Rattle.turn_rows.specs.Rows.{IsSeenBy, first_met, second_met, zip_with}
+use Rattle.turn_cell.specs.Rule.{longer}
+use Rattle.turn_cell.specs.declared.journal.Entry.{Entry}
+use Rattle.turn_rows.proofs.Meetings.{longer-same}
+use Rattle.turn_rows.specs.Rows.{IsSeenBy, first_met, second_met, seen_of, zip_with}
 
+-- ---- passes
 module _ {M E R W S : Type 0} where
-  -- what the second of two has seen, it still sees behind the meeting
-  seen-second : (xs ys : List (PassView M E R W S)) → AllZip IsSeenBy ys (zip_with first_met xs ys) → AllZip IsSeenBy ys (zip_with second_met xs ys)
-  seen-second [] ys z = z
-  seen-second (x ∷ xs) [] z = z
-  seen-second (x ∷ xs) (y ∷ ys) (r, z) = (r, seen-second xs ys z)
+  pub heard-nothing : (p : PassView M E R W S) → Heard p p
+  heard-nothing p = record { more = prefix_self p.seen; same = refl }
 
-  rows-heard : (xs ys : List (List (PassView M E R W S))) → AllZip (AllZip IsSeenBy) xs (zip_with (zip_with first_met) xs ys) → AllZip (AllZip Heard) xs (zip_with (zip_with first_met) xs ys)
-  rows-heard [] ys z = tt
-  rows-heard (x ∷ xs) [] z = absurd z
-  rows-heard (x ∷ xs) (y ∷ ys) (r, z) = (met-heard x y r, rows-heard xs ys z)
-
-  rows-heard_second : (xs ys : List (List (PassView M E R W S))) → AllZip (AllZip IsSeenBy) ys (zip_with (zip_with first_met) xs ys) → AllZip (AllZip Heard) ys (zip_with (zip_with second_met) xs ys)
-  rows-heard_second [] [] z = tt
-  rows-heard_second [] (y ∷ ys) z = absurd z
-  rows-heard_second (x ∷ xs) [] z = tt
-  rows-heard_second (x ∷ xs) (y ∷ ys) (r, z) = (met-heard_second x y (seen-second x y r), rows-heard_second xs ys z)
-
-  rows-same : (xs ys : List (List (PassView M E R W S))) → AllZip (AllZip SeenSame) (zip_with (zip_with first_met) xs ys) (zip_with (zip_with second_met) xs ys)
-  rows-same [] ys = tt
-  rows-same (x ∷ xs) [] = tt
-  rows-same (x ∷ xs) (y ∷ ys) = (met-same x y, rows-same xs ys)
-
-  rows-stay : (xs ys : List (List (PassView M E R W S))) → AllZip (AllZip IsSeenBy) ys xs → zip_with (zip_with first_met) xs ys ≡ xs
-  rows-stay [] [] z = refl
-  rows-stay [] (y ∷ ys) z = absurd z
-  rows-stay (x ∷ xs) [] z = absurd z
-  rows-stay (x ∷ xs) (y ∷ ys) (r, z) = cc (met-stays x y r, rows-stay xs ys z)
+  pub heard-more : (p q r : PassView M E R W S) → Heard p q → Heard q r → Heard p r
+  heard-more p q r h k = record {
+    more = prefix_trans p.seen q.seen r.seen h.more k.more;
+    same = k.same ∙ ap (λ (v : PassView M E R W S). record v { seen = r.seen }) h.same;
+  }
 
   heard-seen : (p q r : PassView M E R W S) → IsSeenBy p q → Heard q r → IsSeenBy p r
   heard-seen p q r s h = prefix_trans p.seen q.seen r.seen s h.more
@@ -48,85 +34,150 @@ module _ {M E R W S : Type 0} where
   same-seen : (p q : PassView M E R W S) → SeenSame p q → IsSeenBy q p
   same-seen p q s = subst (λ xs. IsPrefix q.seen xs) (sym s) (prefix_self q.seen)
 
--- the first of two desks that met, and the second
-pub first-heard : (v w v2 : DeskView) → v2 ≡ first_desk_met v w → SeesMore v v2 → DeskHeard v v2
-first-heard v w v2 is more = record {
-  number = ap (λ (x : DeskView). x.number) is;
-  made = ap (λ (x : DeskView). x.made) is;
-  taken = ap (λ (x : DeskView). x.taken) is;
-  kinds = subst (λ (xs : List KindPass). AllZip Heard v.kinds xs) (sym (ap (λ (x : DeskView). x.kinds) is))
-      (met-heard v.kinds w.kinds (subst (λ (xs : List KindPass). AllZip IsSeenBy v.kinds xs) (ap (λ (x : DeskView). x.kinds) is) more.kinds));
-  cases = subst (λ (xs : List (List CasePass)). AllZip (AllZip Heard) v.cases xs) (sym (ap (λ (x : DeskView). x.cases) is))
-      (rows-heard v.cases w.cases (subst (λ (xs : List (List CasePass)). AllZip (AllZip IsSeenBy) v.cases xs) (ap (λ (x : DeskView). x.cases) is) more.cases));
-}
+  first-heard : (p q : PassView M E R W S) → IsSeenBy p (first_met p q) → Heard p (first_met p q)
+  first-heard p q more = record { more = more; same = refl }
 
-pub second-heard : (v w v2 w2 : DeskView) → v2 ≡ first_desk_met v w → w2 ≡ second_desk_met v w → SeesMore w v2 → DeskHeard w w2
-second-heard v w v2 w2 is is2 more = record {
-  number = ap (λ (x : DeskView). x.number) is2;
-  made = ap (λ (x : DeskView). x.made) is2;
-  taken = ap (λ (x : DeskView). x.taken) is2;
-  kinds = subst (λ (xs : List KindPass). AllZip Heard w.kinds xs) (sym (ap (λ (x : DeskView). x.kinds) is2))
-      (met-heard_second v.kinds w.kinds (seen-second v.kinds w.kinds (subst (λ (xs : List KindPass). AllZip IsSeenBy w.kinds xs) (ap (λ (x : DeskView). x.kinds) is) more.kinds)));
-  cases = subst (λ (xs : List (List CasePass)). AllZip (AllZip Heard) w.cases xs) (sym (ap (λ (x : DeskView). x.cases) is2))
-      (rows-heard_second v.cases w.cases (subst (λ (xs : List (List CasePass)). AllZip (AllZip IsSeenBy) w.cases xs) (ap (λ (x : DeskView). x.cases) is) more.cases));
-}
+  second-heard : (p q : PassView M E R W S) → IsSeenBy q (first_met p q) → Heard q (second_met p q)
+  second-heard p q more = record { more = more; same = refl }
 
-pub desks-same : (v w v2 w2 : DeskView) → v2 ≡ first_desk_met v w → w2 ≡ second_desk_met v w → DeskSame v2 w2
-desks-same v w v2 w2 is is2 = subst (λ (x : DeskView). DeskSame x w2) (sym is) (subst (λ (x : DeskView). DeskSame (first_desk_met v w) x) (sym is2) (record { kinds = met-same v.kinds w.kinds; cases = rows-same v.cases w.cases }))
+  longer-seen : (xs ys : List (Entry M E R W S)) → IsPrefix xs ys → longer xs ys ≡ ys
+  longer-seen xs ys p = either (ltb (length ys) (length xs)) refl
+    where
+      either : (b : Bool) → ltb (length ys) (length xs) ≡ b → (if b then xs else ys) ≡ ys
+      either true e = absurd (let less = ltb-true (length ys) (length xs) e in let whole = ap length p.1 in let parts = length-append xs p.0 in omega arith)
+      either false e = refl
 
--- the first desk's passes stay where it has seen all that the second has
-pub first-stays : (v w v2 : DeskView) → v2 ≡ first_desk_met v w → SeesMore w v → (v2.kinds ≡ v.kinds) × (v2.cases ≡ v.cases)
-first-stays v w v2 is more = (ap (λ (x : DeskView). x.kinds) is ∙ met-stays v.kinds w.kinds more.kinds, ap (λ (x : DeskView). x.cases) is ∙ rows-stay v.cases w.cases more.cases)
+  -- a pass stays that has seen all that the other has
+  first-stays : (p q : PassView M E R W S) → IsSeenBy q p → first_met p q ≡ p
+  first-stays p q seen = ap (λ (xs : List (Entry M E R W S)). record p { seen = xs }) (longer-seen q.seen p.seen seen)
 
--- one thing after another
-pub desk-heard-more : (u v w : DeskView) → DeskHeard u v → DeskHeard v w → DeskHeard u w
-desk-heard-more u v w h k = record {
-  number = k.number ∙ h.number;
-  made = k.made ∙ h.made;
-  taken = k.taken ∙ h.taken;
-  kinds = zip-then Heard Heard Heard heard-more u.kinds v.kinds w.kinds h.kinds k.kinds;
-  cases = zip-then (AllZip Heard) (AllZip Heard) (AllZip Heard) (λ xs ys zs. zip-then Heard Heard Heard heard-more xs ys zs) u.cases v.cases w.cases h.cases k.cases;
-}
+-- ---- desks
+module _ {K K2 K3 : KindPass → KindPass → Type 0} {C C2 C3 : CasePass → CasePass → Type 0} where
+  beside-then : ((p q r : KindPass) → K p q → K2 q r → K3 p r) → ((p q r : CasePass) → C p q → C2 q r → C3 p r) → (u v w : DeskView) → Beside K C u v → Beside K2 C2 v w → Beside K3 C3 u w
+  beside-then kinds cases u v w a b = record {
+    kinds = zip-then K K2 K3 kinds u.kinds v.kinds w.kinds a.kinds b.kinds;
+    cases = zip-then (AllZip C) (AllZip C2) (AllZip C3) (zip-then C C2 C3 cases) u.cases v.cases w.cases a.cases b.cases;
+  }
 
-pub desk-heard-nothing : (v : DeskView) → DeskHeard v v
-desk-heard-nothing v = record { number = refl; made = refl; taken = refl; kinds = zip-self Heard heard-nothing v.kinds; cases = zip-self (AllZip Heard) (zip-self Heard heard-nothing) v.cases }
+pub beside-shape : {K : KindPass → KindPass → Type 0} {C : CasePass → CasePass → Type 0} (v w : DeskView) → Beside K C v w → HasShapeOf v w
+beside-shape {K} {C} v w b = (AllZip-long K v.kinds w.kinds b.kinds, zip-rows C v.cases w.cases b.cases)
+
+pub desk-heard_nothing : (v : DeskView) → DeskHeard v v
+desk-heard_nothing v = record { number = refl; made = refl; taken = refl; passes = record { kinds = zip-self Heard heard-nothing v.kinds; cases = zip-self (AllZip Heard) (zip-self Heard heard-nothing) v.cases } }
+
+pub desk-heard_more : (u v w : DeskView) → DeskHeard u v → DeskHeard v w → DeskHeard u w
+desk-heard_more u v w h k = record { number = k.number ∙ h.number; made = k.made ∙ h.made; taken = k.taken ∙ h.taken; passes = beside-then heard-more heard-more u v w h.passes k.passes }
 
 pub seen-then : (u v w : DeskView) → SeesMore u v → DeskHeard v w → SeesMore u w
-seen-then u v w s h = record {
-  kinds = zip-then IsSeenBy Heard IsSeenBy heard-seen u.kinds v.kinds w.kinds s.kinds h.kinds;
-  cases = zip-then (AllZip IsSeenBy) (AllZip Heard) (AllZip IsSeenBy) (λ xs ys zs. zip-then IsSeenBy Heard IsSeenBy heard-seen xs ys zs) u.cases v.cases w.cases s.cases h.cases;
-}
+seen-then u v w s h =
+    let before : Beside IsSeenBy IsSeenBy u v = record { kinds = s.kinds; cases = s.cases } in
+    let all : Beside IsSeenBy IsSeenBy u w = beside-then heard-seen heard-seen u v w before h.passes in
+    record { kinds = all.kinds; cases = all.cases }
 
--- who has seen the same as the first desk has seen no more
-pub same-is-seen : (v w : DeskView) → DeskSame v w → SeesMore w v
-same-is-seen v w s = record {
-  kinds = zip-back (λ p q. IsSeenBy q p) v.kinds w.kinds (zip-so SeenSame (λ p q. IsSeenBy q p) same-seen v.kinds w.kinds s.kinds);
-  cases = zip-back (λ xs ys. AllZip IsSeenBy ys xs) v.cases w.cases (zip-so (AllZip SeenSame) (λ xs ys. AllZip IsSeenBy ys xs) rows v.cases w.cases s.cases);
-}
-  where
-    rows : (xs ys : List CasePass) → AllZip SeenSame xs ys → AllZip IsSeenBy ys xs
-    rows xs ys r = zip-back (λ p q. IsSeenBy q p) xs ys (zip-so SeenSame (λ p q. IsSeenBy q p) same-seen xs ys r)
-
--- the same of desks with the same passes
-pub seen-by_same : (u v w : DeskView) → (w.kinds ≡ v.kinds) × (w.cases ≡ v.cases) → SeesMore u v → SeesMore u w
-seen-by_same u v w is s = record {
-  kinds = subst (λ (xs : List KindPass). AllZip IsSeenBy u.kinds xs) (sym is.0) s.kinds;
-  cases = subst (λ (xs : List (List CasePass)). AllZip (AllZip IsSeenBy) u.cases xs) (sym is.1) s.cases;
-}
-
-pub same-by_same : (v w u : DeskView) → (w.kinds ≡ v.kinds) × (w.cases ≡ v.cases) → DeskSame v u → DeskSame w u
-same-by_same v w u is s = record {
-  kinds = subst (λ (xs : List KindPass). AllZip SeenSame xs u.kinds) (sym is.0) s.kinds;
-  cases = subst (λ (xs : List (List CasePass)). AllZip (AllZip SeenSame) xs u.cases) (sym is.1) s.cases;
-}
-
+-- who has heard of more has seen more, and who has seen the same no more
 pub heard-is-more : (v w : DeskView) → DeskHeard v w → SeesMore v w
 heard-is-more v w h = record {
-  kinds = zip-so Heard IsSeenBy (λ p q k. k.more) v.kinds w.kinds h.kinds;
-  cases = zip-so (AllZip Heard) (AllZip IsSeenBy) (zip-so Heard IsSeenBy (λ p q k. k.more)) v.cases w.cases h.cases;
+  kinds = zip-so Heard IsSeenBy (λ p q k. k.more) v.kinds w.kinds h.passes.kinds;
+  cases = zip-so (AllZip Heard) (AllZip IsSeenBy) (zip-so Heard IsSeenBy (λ p q k. k.more)) v.cases w.cases h.passes.cases;
 }
 
--- all have seen no more than a desk with the same passes
-pub all-seen : (v w : DeskView) → HasPassesOf v w → (us : List DeskView) → AllByRecursion (λ u. SeesMore u v) us → AllByRecursion (λ u. SeesMore u w) us
-all-seen v w same [] k = tt
-all-seen v w same (u ∷ us) (k, ks) = (seen-by_same u v w same k, all-seen v w same us ks)
+pub same-is-seen : (v w : DeskView) → DeskSame v w → SeesMore w v
+same-is-seen v w s = record {
+  kinds = zip-back SeenSame IsSeenBy same-seen v.kinds w.kinds s.kinds;
+  cases = zip-back (AllZip SeenSame) (AllZip IsSeenBy) (zip-back SeenSame IsSeenBy same-seen) v.cases w.cases s.cases;
+}
+
+-- desks with the same passes
+pub seen-stays : (u v w : DeskView) → HasPassesOf v w → SeesMore u v → SeesMore u w
+seen-stays u v w (kinds, cases) s = record { kinds = rw (kinds) s.kinds; cases = rw (cases) s.cases }
+
+pub same-stays : (v w u : DeskView) → HasPassesOf v w → DeskSame v u → DeskSame w u
+same-stays v w u (kinds, cases) s = record { kinds = rw (kinds) s.kinds; cases = rw (cases) s.cases }
+
+-- two desks that met
+pub record Pair (v w x y : DeskView) : Type 0 where
+  pub first : DeskHeard v x
+  pub second : DeskHeard w y
+  pub same : DeskSame x y
+  pub stays : SeesMore w v → HasPassesOf v x
+
+pub pair-of : (v w x y : DeskView) → x ≡ first_desk_met v w → y ≡ second_desk_met v w → SeesMore v x → SeesMore w x → Pair v w x y
+pair-of v w x y one two more more_too =
+    let a = rw one at more in
+    let b = rw one at more_too in
+    rw (one, two) (record {
+      first = record {
+        number = refl;
+        made = refl;
+        taken = refl;
+        passes = record {
+          kinds = made-first first_met IsSeenBy Heard first-heard v.kinds w.kinds a.kinds;
+          cases = made-first (zip_with first_met) (AllZip IsSeenBy) (AllZip Heard) (made-first first_met IsSeenBy Heard first-heard) v.cases w.cases a.cases;
+        };
+      };
+      second = record {
+        number = refl;
+        made = refl;
+        taken = refl;
+        passes = record {
+          kinds = made-second first_met second_met IsSeenBy Heard second-heard v.kinds w.kinds b.kinds;
+          cases = made-second (zip_with first_met) (zip_with second_met) (AllZip IsSeenBy) (AllZip Heard) (made-second first_met second_met IsSeenBy Heard second-heard) v.cases w.cases b.cases;
+        };
+      };
+      same = record {
+        kinds = made-beside first_met second_met SeenSame (λ p q. refl) v.kinds w.kinds;
+        cases = made-beside (zip_with first_met) (zip_with second_met) (AllZip SeenSame) (made-beside first_met second_met SeenSame (λ p q. refl)) v.cases w.cases;
+      };
+      stays = λ s. (made-same first_met IsSeenBy first-stays v.kinds w.kinds s.kinds, made-same (zip_with first_met) (AllZip IsSeenBy) (made-same first_met IsSeenBy first-stays) v.cases w.cases s.cases);
+    })
+
+-- ---- cells that were not called, of which all have seen the same
+module _ {M E R W S : Type 0} where
+  level-first : (xs ys : List (PassView M E R W S)) (i : ℕ) → seen_of (slice_get xs i) ≡ seen_of (slice_get ys i) → seen_of (slice_get (zip_with first_met xs ys) i) ≡ seen_of (slice_get xs i)
+  level-first [] ys i is = refl
+  level-first (x ∷ xs) [] zero is = absurd (cc (is))
+  level-first (x ∷ xs) [] (suc i) is = sym is
+  level-first (x ∷ xs) (y ∷ ys) zero is = let same : x.seen ≡ y.seen = cc (is) in ap Some (longer-same y.seen x.seen (sym same) ∙ sym same)
+  level-first (x ∷ xs) (y ∷ ys) (suc i) is = level-first xs ys i is
+
+  level-first_rows : (xs ys : List (List (PassView M E R W S))) (t p : ℕ) → seen_of (in_row p (slice_get xs t)) ≡ seen_of (in_row p (slice_get ys t)) → seen_of (in_row p (slice_get (zip_with (zip_with first_met) xs ys) t)) ≡ seen_of (in_row p (slice_get xs t))
+  level-first_rows [] ys t p is = refl
+  level-first_rows (x ∷ xs) [] zero p is = sym is
+  level-first_rows (x ∷ xs) [] (suc t) p is = sym is
+  level-first_rows (x ∷ xs) (y ∷ ys) zero p is = level-first x y p is
+  level-first_rows (x ∷ xs) (y ∷ ys) (suc t) p is = level-first_rows xs ys t p is
+
+  level-same : (xs ys : List (PassView M E R W S)) → AllZip SeenSame xs ys → (i : ℕ) → seen_of (slice_get xs i) ≡ seen_of (slice_get ys i)
+  level-same [] [] z i = refl
+  level-same [] (y ∷ ys) z i = absurd z
+  level-same (x ∷ xs) [] z i = absurd z
+  level-same (x ∷ xs) (y ∷ ys) (s, z) zero = ap Some s
+  level-same (x ∷ xs) (y ∷ ys) (s, z) (suc i) = level-same xs ys z i
+
+  level-same_rows : (xs ys : List (List (PassView M E R W S))) → AllZip (AllZip SeenSame) xs ys → (t p : ℕ) → seen_of (in_row p (slice_get xs t)) ≡ seen_of (in_row p (slice_get ys t))
+  level-same_rows [] [] z t p = refl
+  level-same_rows [] (y ∷ ys) z t p = absurd z
+  level-same_rows (x ∷ xs) [] z t p = absurd z
+  level-same_rows (x ∷ xs) (y ∷ ys) (s, z) zero p = level-same x y s p
+  level-same_rows (x ∷ xs) (y ∷ ys) (s, z) (suc t) p = level-same_rows xs ys z t p
+
+module _ (called : CallFlags) where
+  pub level-back : (v w : DeskView) → AreLevelDesks called v w → AreLevelDesks called w v
+  level-back v w k = record { kinds = λ t calm. sym (k.kinds t calm); cases = λ c calm. sym (k.cases c calm) }
+
+  pub level-then : (u v w : DeskView) → AreLevelDesks called u v → AreLevelDesks called v w → AreLevelDesks called u w
+  level-then u v w h k = record { kinds = λ t calm. h.kinds t calm ∙ k.kinds t calm; cases = λ c calm. h.cases c calm ∙ k.cases c calm }
+
+  pub same-level : (v w : DeskView) → DeskSame v w → AreLevelDesks called v w
+  same-level v w s = record { kinds = λ t calm. level-same v.kinds w.kinds s.kinds t; cases = λ c calm. level-same_rows v.cases w.cases s.cases c.type_no c.place }
+
+  -- the first of two desks that met has seen no more of such a cell
+  pub first-calm : (v w x : DeskView) → x ≡ first_desk_met v w → AreLevelDesks called v w → AreLevelDesks called v x
+  first-calm v w x is k = record {
+    kinds = λ t calm. sym (ap (λ (d : DeskView). seen_of (slice_get d.kinds t)) is ∙ level-first v.kinds w.kinds t (k.kinds t calm));
+    cases = λ c calm. sym (ap (λ (d : DeskView). seen_of (at_case d.cases c)) is ∙ level-first_rows v.cases w.cases c.type_no c.place (k.cases c calm));
+  }
+
+  -- where each cell was called, any are level
+  pub all-level : AllCalled called → (v w : DeskView) → AreLevelDesks called v w
+  all-level all v w = record { kinds = λ t calm. absurd (all.0 t calm); cases = λ c calm. absurd (all.1 c calm) }

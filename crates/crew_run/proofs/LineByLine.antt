@@ -1,7 +1,8 @@
 -- Workers that take the lines of a phase one after another.
-use Rattle.std.proofs.Common.{◌+◌, ◌<◌, ◌∙◌, ◌≡◌, ◌≢◌, ℕ, zero, suc, List, [], ◌∷◌, length, drop, Err, None, Option, Some, arith, ap, get_or, refl, set, subst, sym}
+use Rattle.std.proofs.Common.{◌+◌, ◌-◌, ◌<◌, ◌∙◌, ◌≡◌, ◌≢◌, ℕ, zero, suc, List, [], ◌∷◌, length, drop, Err, None, Option, Some, arith, ap, get_or, refl, set, slice_get, subst, sym}
 use Rattle.std.proofs.lemmas.Grind.{get_or-set_at}
 use Rattle.std.proofs.lemmas.List.{get_or-set_other, get_or_default}
+use Rattle.std.proofs.lemmas.Option.{slice_get-get_or}
 use Rattle.std.specs.List.{AllZip}
 use mathlib.Core.Logic.{dite}
 use native.Mathlib.Decide.{ℕ_discrete}
@@ -13,9 +14,10 @@ use Rattle.adept_server.specs.Desks.{IsDeskOf, desk_view}
 use Rattle.adept_server.specs.declared.servers.Server.{Server}
 use Rattle.crew_run.specs.Phases.{HasForgotten, HasWorkedLines, IsReadyAt, TakesLine, ended}
 use Rattle.crew_run.specs.declared.workers.Worker.{Worker}
+use Rattle.file_model.specs.declared.files.ActorDecl.{ActorDecl}
 use Rattle.file_model.specs.declared.files.File.{File}
 use Rattle.file_model.specs.declared.files.Line.{Line}
-use Rattle.line_calls.specs.Files.{roles_of}
+use Rattle.line_calls.specs.Files.{roles_in, roles_of}
 use Rattle.turn_cell.specs.declared.faults.CallFault.{CallFault}
 use Rattle.wsm_lists.specs.Rows.{AllRows}
 
@@ -81,6 +83,12 @@ module _ (s : Server) (f : File) (lines : List Line) where
               leads-on roles lines left l (desk_view w.desk) (desk_view x.desk) leads (desk_view y.desk) (own ∙ sym leads.number) does,
             )
             by (Some fault) (part, full) = (leads-begun roles lines left l (desk_view w.desk) (desk_view x.desk) leads (desk_view y.desk) (own ∙ sym leads.number) part, full)
+
+-- the roles of the actor at a place
+pub roles-at : (f : File) (items : List ActorDecl) (n i : ℕ) (d : ActorDecl) → items ≡ f.actors → n ≡ i + 1 → i < length f.actors → (get_or items i d).roles ≡ roles_of f n
+roles-at f items n i d same number low =
+    let place : n - 1 ≡ i = omega (arith, number) in
+    ap (λ (xs : List ActorDecl). (get_or xs i d).roles) same ∙ sym (ap (λ k. roles_in (slice_get f.actors k)) place ∙ ap roles_in (slice_get-get_or f.actors i d low))
 
 -- what holds of all lines holds of the next one
 pub row-next : {X : Type 0} (P : X → Type 0) (xs rest : List X) (i : ℕ) (x : X) → drop i xs ≡ x ∷ rest → AllRows P xs → P x

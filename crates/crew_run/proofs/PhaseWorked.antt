@@ -1,100 +1,122 @@
 -- What the crew's work in a phase comes to, once all have met.
-use Rattle.std.proofs.Common.{◌||◌, ◌∙◌, ◌≡◌, ℕ, List, [], ◌∷◌, length, Bool, Err, None, Ok, Option, Result, Some, arith, false, inl, inr, is_some, refl, subst, sym, true}
-use Rattle.std.specs.List.{AllByRecursion, AllZip, list_any}
+use Rattle.std.proofs.Common.{◌∙◌, ◌≡◌, ◌<◌, ◌≤◌, ℕ, zero, suc, List, [], ◌∷◌, length, Err, None, Ok, Option, Result, Some, ap, arith, false, get_or, inl, inr, is_some, refl, slice_get, subst, sym, true}
+use Rattle.std.proofs.lemmas.Option.{get_or_from_slice_get, slice_get_within}
+use Rattle.std.proofs.lemmas.Map.Keys.{any_passes_from_place}
+use Rattle.std.specs.List.{list_any}
 use Rattle.std.specs.Result.{result_err}
-use Rattle.adept_actor.specs.Work.{Does, Leaves, WorksLines}
-use Rattle.adept_server.specs.Desks.{DeskView, IsDesk, IsDeskOf, desk_view}
+use Rattle.adept_actor.specs.Growth.{DeskHasDone}
+use Rattle.adept_actor.specs.Others.{IsUnnamedCase, IsUnnamedKind}
+use Rattle.adept_actor.specs.Work.{Leaves, WorksLines}
+use Rattle.adept_server.proofs.Rows.{there_at}
+use Rattle.adept_server.specs.Desks.{DeskView, IsDeskOf, desk_view}
+use Rattle.adept_server.specs.Noting.{AreLevelDesks, IsCalmCase, IsCalmKind}
+use Rattle.adept_server.specs.declared.call_flags.CallFlags.{CallFlags}
 use Rattle.adept_server.specs.declared.desks.Desk.{Desk}
 use Rattle.adept_server.specs.declared.servers.Server.{Server}
-use Rattle.crew_run.proofs.DesksCanWork.{able-heard, able-then}
-use Rattle.crew_run.proofs.LevelDesks.{done-same}
-use Rattle.crew_run.proofs.PhaseByCell.{numbered-then}
-use Rattle.crew_run.specs.Crew.{ActorDone, DeskHeard, DeskSame, AreCallsOfActor}
-use Rattle.crew_run.specs.Phases.{HasWorked, IsCrew, Tries, ended}
-use Rattle.crew_run.specs.Workers.{AreDesksOf, desks_of, faults_of}
+use Rattle.crew_run.proofs.CrewAlong.{crew-of}
+use Rattle.crew_run.proofs.DesksMeet.{same-level}
+use Rattle.crew_run.proofs.FullSeen.{full-among}
+use Rattle.crew_run.proofs.SideBySide.{all-of, chosen}
+use Rattle.crew_run.specs.Crew.{AreMet, IsCrew, SeesMany}
+use Rattle.crew_run.specs.Desks.{DeskHeard, HasDoneAndHeard}
+use Rattle.crew_run.specs.Phases.{HasWorkedLines, PhaseWorked, Tries, ended, is_full_fault}
 use Rattle.crew_run.specs.declared.workers.Worker.{Worker}
-use Rattle.legal_run.specs.LineCalls.{Call}
 use Rattle.file_model.specs.declared.files.File.{File}
 use Rattle.file_model.specs.declared.files.Line.{Line}
+use Rattle.legal_run.proofs.Places.{there-as}
+use Rattle.legal_run.specs.Legal.{IsActor, IsTrace, Trace}
+use Rattle.legal_run.specs.LineCalls.{AreBegun, AreCallsOfLines, Call, lines_of}
 use Rattle.line_calls.specs.Files.{roles_of}
 use Rattle.turn_cell.specs.declared.faults.CallFault.{CallFault}
+use Rattle.turn_rows.specs.Rows.{seen_of}
+use Rattle.wsm_lists.specs.Rows.{AllRows}
+use Rattle.wsm_sound.specs.declared.versions.CaseId.{CaseId}
 
 -- how an actor's work ended, as the worker keeps it
 pub leaves-ended : {A : Type 0} (Whole Begun : List Call → Type 0) (r : Result A CallFault) (o : Option CallFault) (v w : DeskView) → o ≡ result_err r → Leaves Whole Begun r v w → Leaves Whole Begun (ended o) v w
 leaves-ended Whole Begun (Ok a) o v w is k = subst (λ x. Leaves Whole Begun (ended x) v w) (sym is) k
 leaves-ended Whole Begun (Err f) o v w is k = subst (λ x. Leaves Whole Begun (ended x) v w) (sym is) k
 
--- a worker without a fault has made the calls of its lines
-pub worked-whole : (f : File) (lines : List Line) (w x : Worker) → HasWorked f lines w x → x.fault ≡ None → Does (AreCallsOfActor f lines (desk_view w.desk).number) (desk_view w.desk) (desk_view x.desk)
-worked-whole f lines w x worked well = subst (λ o. WorksLines (roles_of f (desk_view w.desk).number) lines (ended o) (desk_view w.desk) (desk_view x.desk)) well worked
-
--- no worker met a fault
-abbrev pub AreWell : List Worker → Type 0
-AreWell [] = Unit {0}
-AreWell (w ∷ ws) = (w.fault ≡ None) × AreWell ws
-
--- the first and the others met none
-both-false : (a b : Bool) → (a || b) ≡ false → (a ≡ false) × (b ≡ false)
-both-false false b is = (refl, is)
-both-false true b is = absurd (cc (is))
-
-no-fault : (o : Option CallFault) → is_some o ≡ false → o ≡ None
-no-fault None is = refl
-no-fault (Some f) is = absurd (cc (is))
-
-pub well-of : (new mid : List Worker) → list_any (λ (w : Worker). is_some w.fault) new ≡ false → faults_of new ≡ faults_of mid → AreWell mid
-well-of [] [] none same = tt
-well-of [] (x ∷ mid) none same = absurd (cc (same))
-well-of (w ∷ new) [] none same = absurd (cc (same))
-well-of (w ∷ new) (x ∷ mid) none same =
-    let both = both-false (is_some w.fault) (list_any (λ (w : Worker). is_some w.fault) new) none in
-    let head : w.fault ≡ x.fault = cc (same) in
-    (sym head ∙ no-fault w.fault both.0, well-of new mid both.1 (cc (same)))
-
--- what a phase without faults comes to, once all have met
-pub phase-done : (f : File) (lines : List Line) (first : DeskView) (old mid new : List Worker) → AllZip (HasWorked f lines) old mid → AreWell mid
-    → AllZip DeskHeard (desks_of mid) (desks_of new) → AllByRecursion (DeskSame first) (desks_of new) → AllByRecursion IsDesk (desks_of new) → AllZip (ActorDone (AreCallsOfActor f lines) first) (desks_of old) (desks_of new)
-phase-done f lines first [] [] [] worked well heard same desks = tt
-phase-done f lines first [] [] (y ∷ new) worked well heard same desks = absurd heard
-phase-done f lines first [] (x ∷ mid) new worked well heard same desks = absurd worked
-phase-done f lines first (w ∷ old) [] new worked well heard same desks = absurd worked
-phase-done f lines first (w ∷ old) (x ∷ mid) [] worked well heard same desks = absurd heard
-phase-done f lines first (w ∷ old) (x ∷ mid) (y ∷ new) (k, worked) (none, well) (h, heard) (s, same) (d, desks) =
-    let (calls, fit, done) = worked-whole f lines w x k none in
-    (record { calls = calls; fit = fit; between = desk_view x.desk; done = done; heard = h; same = s; desk = d }, phase-done f lines first old mid new worked well heard same desks)
-
--- a worker has made calls of its lines, perhaps up to a fault
-worked-some : (f : File) (lines : List Line) (w x : Worker) → HasWorked f lines w x → Does (Tries f lines (desk_view w.desk).number) (desk_view w.desk) (desk_view x.desk)
-worked-some f lines w x worked = go x.fault worked
+-- where none met a fault, one did not
+pub no-fault : (new : List Worker) → list_any (λ (w : Worker). is_some w.fault) new ≡ false → (i : ℕ) (x : Worker) → slice_get new i ≡ Some x → x.fault ≡ None
+no-fault new none i x at = by x.fault refl
   where
-    go : (o : Option CallFault) → WorksLines (roles_of f (desk_view w.desk).number) lines (ended o) (desk_view w.desk) (desk_view x.desk) → Does (Tries f lines (desk_view w.desk).number) (desk_view w.desk) (desk_view x.desk)
-    go None (calls, fit, done) = (calls, inl fit, done)
-    go (Some fault) ((calls, fit, done), full) = (calls, inr fit, done)
+    by : (o : Option CallFault) → x.fault ≡ o → x.fault ≡ None
+    by None is = is
+    by (Some f) is = absurd (cc (none, any_passes_from_place (λ (w : Worker). is_some w.fault) new i x at (ap is_some is)))
 
--- what a phase comes to, once all have met
-pub phase-tried : (f : File) (lines : List Line) (first : DeskView) (old mid new : List Worker) → AllZip (HasWorked f lines) old mid
-    → AllZip DeskHeard (desks_of mid) (desks_of new) → AllByRecursion (DeskSame first) (desks_of new) → AllByRecursion IsDesk (desks_of new) → AllZip (ActorDone (Tries f lines) first) (desks_of old) (desks_of new)
-phase-tried f lines first [] [] [] worked heard same desks = tt
-phase-tried f lines first [] [] (y ∷ new) worked heard same desks = absurd heard
-phase-tried f lines first [] (x ∷ mid) new worked heard same desks = absurd worked
-phase-tried f lines first (w ∷ old) [] new worked heard same desks = absurd worked
-phase-tried f lines first (w ∷ old) (x ∷ mid) [] worked heard same desks = absurd heard
-phase-tried f lines first (w ∷ old) (x ∷ mid) (y ∷ new) (k, worked) (h, heard) (s, same) (d, desks) =
-    let (calls, fit, done) = worked-some f lines w x k in
-    (record { calls = calls; fit = fit; between = desk_view x.desk; done = done; heard = h; same = s; desk = d }, phase-tried f lines first old mid new worked heard same desks)
+module _ (s : Server) (f : File) (lines : List Line) (first : Desk) (old mid : List Worker) (k : IsCrew s f first old) (many : length mid ≡ length old) (works : (i : ℕ) (d : Worker) → i < length old → HasWorkedLines s f lines (get_or old i d) (get_or mid i d)) where
+  worked : (i : ℕ) (w x : Worker) → slice_get old i ≡ Some w → slice_get mid i ≡ Some x → HasWorkedLines s f lines w x
+  worked i w x at_w at_x =
+      subst (λ y. HasWorkedLines s f lines y x) (get_or_from_slice_get old i w w at_w)
+      (subst (HasWorkedLines s f lines (get_or old i w)) (get_or_from_slice_get mid i x w at_x) (works i w (slice_get_within old i w at_w)))
 
--- A crew that has worked a phase is one still.
-pub crew-then : (s : Server) (f : File) (first then : Desk) (old new : List Worker) (Fit : ℕ → List Call → Type 0) → IsCrew s f first old → IsDeskOf s then → AreDesksOf s new → DeskHeard (desk_view first) (desk_view then)
-    → AllZip (ActorDone Fit (desk_view then)) (desks_of old) (desks_of new) → length new ≡ length old → IsCrew s f then new
-crew-then s f first then old new Fit k desk desks heard done many = record {
-  desk = desk;
-  desks = desks;
-  numbered = numbered-then Fit (desk_view then) 1 (desks_of old) (desks_of new) done k.numbered;
-  actors = many ∙ k.actors;
-  able = able-then f Fit (desk_view then) (desks_of old) (desks_of new) done k.able;
-  same = done-same Fit (desk_view then) (desks_of old) (desks_of new) done;
-  first_able = able-heard f (desk_view first) (desk_view then) heard k.first_able;
-  first_number = heard.number ∙ k.first_number;
-  made = (let a = heard.made in let b = k.made in omega (arith, many));
-  taken = heard.taken ∙ k.taken;
-}
+  worker : (i : ℕ) (x : Worker) → slice_get mid i ≡ Some x → (w : Worker) × (slice_get old i ≡ Some w)
+  worker i x at = there-as mid old i x (sym many) at
+
+  pub worked-desks : AllRows (λ w. IsDeskOf s w.desk) mid
+  worked-desks = all-of (λ w. IsDeskOf s w.desk) mid (λ i x at. let (w, at_w) = worker i x at in (worked i w x at_w at).0)
+
+  -- where no line names a cell, all are level
+  pub worked-level : (called : CallFlags) → ((t : ℕ) → IsCalmKind called t → IsUnnamedKind lines t) → ((c : CaseId) → IsCalmCase called c → IsUnnamedCase lines c) → AllRows (λ w. AreLevelDesks called (desk_view first) (desk_view w.desk)) mid
+  worked-level called kinds cases = all-of (λ w. AreLevelDesks called (desk_view first) (desk_view w.desk)) mid
+      (λ i x at.
+      let (w, at_w) = worker i x at in
+      let left = (worked i w x at_w at).2 in
+      let level = same-level called (desk_view first) (desk_view w.desk) (k.each i w at_w).same in
+      record { kinds = λ t calm. level.kinds t calm ∙ ap seen_of (sym (left.kinds t (kinds t calm))); cases = λ c calm. level.cases c calm ∙ ap seen_of (sym (left.cases c (cases c calm))) })
+
+  numbered : (i : ℕ) (x : Worker) → slice_get mid i ≡ Some x → (desk_view x.desk).number ≡ suc i
+  numbered i x at = let (w, at_w) = worker i x at in by w x.fault (worked i w x at_w at).1 ∙ (k.each i w at_w).number
+    where
+      by : (w : Worker) (o : Option CallFault) → WorksLines (roles_of f (desk_view w.desk).number) lines (ended o) (desk_view w.desk) (desk_view x.desk) → (desk_view x.desk).number ≡ (desk_view w.desk).number
+      by w None (calls, fit, done) = done.number
+      by w (Some e) ((calls, fit, done), full) = done.number
+
+  module _ (then : Desk) (new : List Worker) (many_too : length new ≡ length mid) (desk : IsDeskOf s then) (heard : DeskHeard (desk_view first) (desk_view then)) (met : AreMet s (desk_view then) mid new) where
+    pub crew-behind : IsCrew s f then new
+    crew-behind = crew-of s f (desk_view first) then mid new desk heard met many_too (many ∙ k.actors) k.shape k.number (let e = k.made in omega (arith, many, e)) k.taken numbered
+
+    pub full-behind : list_any (λ (w : Worker). is_full_fault w.fault) new ≡ true → SeesMany (desk_view then)
+    full-behind any = full-among s f lines (desk_view then) old mid new many many_too any (λ i w x at_w at_x. (worked i w x at_w at_x).1) met
+
+    -- these are the calls that an actor has made, who has then heard of others'
+    record Made (i : ℕ) (calls : List Call) (w x : Worker) : Type 0 where
+      tries : Tries f lines (suc i) calls
+      whole : x.fault ≡ None → AreCallsOfLines (roles_of f (suc i)) (suc i) (lines_of (suc i) lines) calls
+      did : HasDoneAndHeard calls (desk_view w.desk) (desk_view x.desk)
+
+    made : (i : ℕ) (w x : Worker) → slice_get old i ≡ Some w → slice_get new i ≡ Some x → (calls : List Call) × Made i calls w x
+    made i w x at_w at_x =
+        let (y, at_y) = there-as old mid i w many at_w in
+        let m = met i y x at_y at_x in
+        let works : WorksLines (roles_of f (desk_view w.desk).number) lines (ended y.fault) (desk_view w.desk) (desk_view y.desk) = (worked i w y at_w at_y).1 in
+        by (desk_view y.desk) y.fault m.fault (subst (λ n. Leaves (AreCallsOfLines (roles_of f n) n (lines_of n lines)) (AreBegun (roles_of f n) n (lines_of n lines)) (ended y.fault) (desk_view w.desk) (desk_view y.desk)) ((k.each i w at_w).number) works) (λ calls d. record { between = desk_view y.desk; done = d; heard = m.heard })
+      where
+        by : (u : DeskView) (o : Option CallFault) → x.fault ≡ o → Leaves (AreCallsOfLines (roles_of f (suc i)) (suc i) (lines_of (suc i) lines)) (AreBegun (roles_of f (suc i)) (suc i) (lines_of (suc i) lines)) (ended o) (desk_view w.desk) u
+            → ((calls : List Call) → DeskHasDone calls (desk_view w.desk) u → HasDoneAndHeard calls (desk_view w.desk) (desk_view x.desk)) → (calls : List Call) × Made i calls w x
+        by u None is (calls, fit, done) heard = (calls, record { tries = inl fit; whole = λ none. fit; did = heard calls done })
+        by u (Some e) is ((calls, fit, done), full) heard = (calls, record { tries = inr fit; whole = λ none. absurd (cc (none, is)); did = heard calls done })
+
+    abbrev by_actor : (ℕ → List Call) → Trace
+    by_actor g zero = []
+    by_actor g (suc i) = g i
+
+    pub phase-worked : (trace : Trace) × PhaseWorked f lines trace old new × (((i : ℕ) (x : Worker) → slice_get new i ≡ Some x → x.fault ≡ None) → IsTrace f lines trace)
+    phase-worked =
+        let (g, each) = chosen [] Made old new (many_too ∙ many) made in (
+          by_actor g,
+          record { tries = tries g each; many = many_too ∙ many; each = λ i w x at_w at_x. (each i w x at_w at_x).did },
+          λ well. whole g each well,
+        )
+      where
+        there : (i : ℕ) → suc i ≤ length f.actors → (w : Worker) × (x : Worker) × (slice_get old i ≡ Some w) × (slice_get new i ≡ Some x)
+        there i high = let (w, at_w) = there_at old i (omega (arith, high, k.actors)) in let (x, at_x) = there-as old new i w (many_too ∙ many) at_w in (w, x, at_w, at_x)
+
+        tries : (g : ℕ → List Call) → ((i : ℕ) (w x : Worker) → slice_get old i ≡ Some w → slice_get new i ≡ Some x → Made i (g i) w x) → (a : ℕ) → IsActor f a → Tries f lines a (by_actor g a)
+        tries g each zero (low, high) = absurd (omega (arith, low))
+        tries g each (suc i) (low, high) = let (w, x, at_w, at_x) = there i high in (each i w x at_w at_x).tries
+
+        whole : (g : ℕ → List Call) → ((i : ℕ) (w x : Worker) → slice_get old i ≡ Some w → slice_get new i ≡ Some x → Made i (g i) w x) → ((i : ℕ) (x : Worker) → slice_get new i ≡ Some x → x.fault ≡ None) → IsTrace f lines (by_actor g)
+        whole g each well zero (low, high) = absurd (omega (arith, low))
+        whole g each well (suc i) (low, high) = let (w, x, at_w, at_x) = there i high in (each i w x at_w at_x).whole (well i x at_x)

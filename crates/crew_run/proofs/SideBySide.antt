@@ -1,89 +1,140 @@
 -- Lists side by side, item by item.
-use Rattle.std.proofs.Common.{◌<◌, ◌∙◌, ◌≡◌, ℕ, zero, suc, List, [], ◌∷◌, length, map, None, Option, Some, ap, arith, get_or, refl, slice_get, subst}
+use Rattle.std.proofs.Common.{◌<◌, ◌∙◌, ◌≡◌, ℕ, zero, suc, List, [], ◌∷◌, ◌++◌, ◌+◌, length, map, Option, Some, ap, arith, get_or, refl, slice_get, subst, sym, take}
+use Rattle.std.proofs.lemmas.Option.{same_Some}
+use Rattle.std.proofs.lemmas.Slice.Zip.{AllZip-long}
 use Rattle.std.specs.List.{AllZip}
+use Rattle.adept_server.proofs.Zips.{beside, row_of_case}
 use Rattle.adept_server.specs.Desks.{at_case, in_row}
+use Rattle.turn_rows.proofs.Lists.{take_item}
 use Rattle.turn_rows.specs.Rows.{zip_with}
+use Rattle.wsm_lists.specs.Rows.{AllRows}
 use Rattle.wsm_sound.specs.declared.versions.CaseId.{CaseId}
 
--- lists side by side are as long
-pub zip-many : {A B : Type 0} (R : A → B → Type 0) (xs : List A) (ys : List B) → AllZip R xs ys → length ys ≡ length xs
-zip-many R [] [] z = refl
-zip-many R [] (y ∷ ys) z = absurd z
-zip-many R (x ∷ xs) [] z = absurd z
-zip-many R (x ∷ xs) (y ∷ ys) (r, z) = ap suc (zip-many R xs ys z)
+-- what holds at each place holds of all
+pub all-of : {A : Type 0} (P : A → Type 0) (xs : List A) → ((i : ℕ) (x : A) → slice_get xs i ≡ Some x → P x) → AllRows P xs
+all-of P [] each = tt
+all-of P (x ∷ xs) each = (each 0 x refl, all-of P xs (λ i. each (suc i)))
 
-pub zip-rows : {A B : Type 0} (R : A → B → Type 0) (xs : List (List A)) (ys : List (List B)) → AllZip (AllZip R) xs ys → map length ys ≡ map length xs
-zip-rows R [] [] z = refl
-zip-rows R [] (y ∷ ys) z = absurd z
-zip-rows R (x ∷ xs) [] z = absurd z
-zip-rows R (x ∷ xs) (y ∷ ys) (r, z) = cc (zip-many R x y r, zip-rows R xs ys z)
+-- one item more of a list
+pub took-at : {A : Type 0} (items xs : List A) (i : ℕ) (x : A) → items ≡ xs → i < length items → x ≡ get_or items i x → take (i + 1) xs ≡ take i xs ++ x ∷ []
+took-at items xs i x same lt at = subst (λ (ys : List _). take (i + 1) ys ≡ take i ys ++ x ∷ []) same (take_item items i x lt at)
 
--- lists side by side
-module _ {A B : Type 0} where
-  pub zip-at : (R : A → B → Type 0) (xs : List A) (ys : List B) → AllZip R xs ys → (i : ℕ) (x : A) → slice_get xs i ≡ Some x → (y : B) × (slice_get ys i ≡ Some y) × R x y
-  zip-at R [] [] z i x e = absurd (cc (e))
-  zip-at R [] (y ∷ ys) z i x e = absurd z
-  zip-at R (w ∷ xs) [] z i x e = absurd z
-  zip-at R (w ∷ xs) (y ∷ ys) (r, z) zero x e = let same : w ≡ x = cc (e) in (y, refl, subst (λ v. R v y) same r)
-  zip-at R (w ∷ xs) (y ∷ ys) (r, z) (suc i) x e = zip-at R xs ys z i x e
+-- one thing, and those behind it
+abbrev first_of : {C : Type 0} → C → (ℕ → C) → ℕ → C
+first_of c g zero = c
+first_of c g (suc i) = g i
 
--- what stands at the place of a case, in rows side by side
-pub zip-at_case : {A B : Type 0} (R : A → B → Type 0) (xs : List (List A)) (ys : List (List B)) → AllZip (AllZip R) xs ys → (c : CaseId) (x : A) → at_case xs c ≡ Some x → (y : B) × (at_case ys c ≡ Some y) × R x y
-zip-at_case R xs ys z c x e = by (slice_get xs c.type_no) refl e
+-- where there is something for the items at each place, it can be told by the place alone
+pub chosen : {A C : Type 0} (c : C) (P : ℕ → C → A → A → Type 0) (xs ys : List A) → length ys ≡ length xs → ((i : ℕ) (x y : A) → slice_get xs i ≡ Some x → slice_get ys i ≡ Some y → (d : C) × P i d x y)
+    → (g : ℕ → C) × ((i : ℕ) (x y : A) → slice_get xs i ≡ Some x → slice_get ys i ≡ Some y → P i (g i) x y)
+chosen c P [] ys many some = ((λ i. c), (λ i x y at_x at_y. absurd (cc (at_x))))
+chosen c P (x ∷ xs) [] many some = absurd (omega arith)
+chosen {A} {C} c P (x ∷ xs) (y ∷ ys) many some =
+    let (d, here) = some 0 x y refl refl in
+    let (g, rest) = chosen c (λ i. P (suc i)) xs ys (omega arith) (λ i. some (suc i)) in
+    (first_of d g, each d g here rest)
   where
-    by : (row : Option (List _)) → slice_get xs c.type_no ≡ row → in_row c.place row ≡ Some x → (y : _) × (at_case ys c ≡ Some y) × R x y
-    by None is e = absurd (cc (e))
-    by (Some row) is e =
-        let r = zip-at (AllZip R) xs ys z c.type_no row is in
-        let s = zip-at R row r.0 r.2 c.place x e in
-        (s.0, ap (in_row c.place) r.1 ∙ s.1, s.2)
+    each : (d : C) (g : ℕ → C) → P 0 d x y → ((i : ℕ) (u v : A) → slice_get xs i ≡ Some u → slice_get ys i ≡ Some v → P (suc i) (g i) u v)
+        → (i : ℕ) (u v : A) → slice_get (x ∷ xs) i ≡ Some u → slice_get (y ∷ ys) i ≡ Some v → P i (first_of d g i) u v
+    each d g here rest zero u v at_u at_v = subst (λ a. P 0 d a v) (same_Some x u at_u) (subst (P 0 d x) (same_Some y v at_v) here)
+    each d g here rest (suc i) u v at_u at_v = rest i u v at_u at_v
 
-module _ {A B C : Type 0} where
-  -- what two relations give together
-  pub zip-then : (R : A → B → Type 0) (Q : B → C → Type 0) (P : A → C → Type 0) → ((x : A) (y : B) (z : C) → R x y → Q y z → P x z)
-      → (xs : List A) (ys : List B) (zs : List C) → AllZip R xs ys → AllZip Q ys zs → AllZip P xs zs
-  zip-then R Q P both [] [] [] r q = tt
-  zip-then R Q P both [] [] (z ∷ zs) r q = absurd q
-  zip-then R Q P both [] (y ∷ ys) zs r q = absurd r
-  zip-then R Q P both (x ∷ xs) [] zs r q = absurd r
-  zip-then R Q P both (x ∷ xs) (y ∷ ys) [] r q = absurd q
-  zip-then R Q P both (x ∷ xs) (y ∷ ys) (z ∷ zs) (r, rs) (q, qs) = (both x y z r q, zip-then R Q P both xs ys zs rs qs)
+module _ {A B : Type 0} (R : A → B → Type 0) where
+  -- items at one place
+  pub zip-both : (xs : List A) (ys : List B) → AllZip R xs ys → (i : ℕ) (x : A) (y : B) → slice_get xs i ≡ Some x → slice_get ys i ≡ Some y → R x y
+  zip-both xs ys z i x y at_x at_y =
+      let found = beside R xs ys i x z at_x in
+      subst (R x) (same_Some found.0 y (sym found.1 ∙ at_y)) found.2
 
-module _ {A B : Type 0} where
-  pub zip-so : (R Q : A → B → Type 0) → ((x : A) (y : B) → R x y → Q x y) → (xs : List A) (ys : List B) → AllZip R xs ys → AllZip Q xs ys
-  zip-so R Q so [] [] r = tt
-  zip-so R Q so [] (y ∷ ys) r = absurd r
-  zip-so R Q so (x ∷ xs) [] r = absurd r
-  zip-so R Q so (x ∷ xs) (y ∷ ys) (r, rs) = (so x y r, zip-so R Q so xs ys rs)
+  pub zip-second : (P : B → Type 0) → ((x : A) (y : B) → R x y → P y) → (xs : List A) (ys : List B) → AllZip R xs ys → AllRows P ys
+  zip-second P so [] [] z = tt
+  zip-second P so [] (y ∷ ys) z = absurd z
+  zip-second P so (x ∷ xs) [] z = tt
+  zip-second P so (x ∷ xs) (y ∷ ys) (r, z) = (so x y r, zip-second P so xs ys z)
 
-  pub zip-back : (R : A → B → Type 0) (xs : List A) (ys : List B) → AllZip R xs ys → AllZip (λ y x. R x y) ys xs
-  zip-back R [] [] r = tt
-  zip-back R [] (y ∷ ys) r = absurd r
-  zip-back R (x ∷ xs) [] r = absurd r
-  zip-back R (x ∷ xs) (y ∷ ys) (r, rs) = (r, zip-back R xs ys rs)
+  pub zip-so : (Q : A → B → Type 0) → ((x : A) (y : B) → R x y → Q x y) → (xs : List A) (ys : List B) → AllZip R xs ys → AllZip Q xs ys
+  zip-so Q so [] [] z = tt
+  zip-so Q so [] (y ∷ ys) z = absurd z
+  zip-so Q so (x ∷ xs) [] z = absurd z
+  zip-so Q so (x ∷ xs) (y ∷ ys) (r, z) = (so x y r, zip-so Q so xs ys z)
+
+  pub zip-back : (Q : B → A → Type 0) → ((x : A) (y : B) → R x y → Q y x) → (xs : List A) (ys : List B) → AllZip R xs ys → AllZip Q ys xs
+  zip-back Q so [] [] z = tt
+  zip-back Q so [] (y ∷ ys) z = absurd z
+  zip-back Q so (x ∷ xs) [] z = absurd z
+  zip-back Q so (x ∷ xs) (y ∷ ys) (r, z) = (so x y r, zip-back Q so xs ys z)
+
+  -- rows side by side are as long
+  pub zip-rows : (xs : List (List A)) (ys : List (List B)) → AllZip (AllZip R) xs ys → map length ys ≡ map length xs
+  zip-rows [] [] z = refl
+  zip-rows [] (y ∷ ys) z = absurd z
+  zip-rows (x ∷ xs) [] z = absurd z
+  zip-rows (x ∷ xs) (y ∷ ys) (r, z) = cc (AllZip-long R x y r, zip-rows xs ys z)
+
+  -- what stands at the place of a case, in rows side by side
+  pub beside-case : (xs : List (List A)) (ys : List (List B)) (c : CaseId) (x : A) → AllZip (AllZip R) xs ys → at_case xs c ≡ Some x → (y : B) × (at_case ys c ≡ Some y) × R x y
+  beside-case xs ys c x z is =
+      let (row, at_row, at_x) = row_of_case xs c x is in
+      let (other, at_other, rs) = beside (AllZip R) xs ys c.type_no row z at_row in
+      let (y, at_y, r) = beside R row other c.place x rs at_x in
+      (y, ap (in_row c.place) at_other ∙ at_y, r)
+
+-- what two relations give together
+pub zip-then : {A B C : Type 0} (R : A → B → Type 0) (Q : B → C → Type 0) (P : A → C → Type 0) → ((x : A) (y : B) (z : C) → R x y → Q y z → P x z)
+    → (xs : List A) (ys : List B) (zs : List C) → AllZip R xs ys → AllZip Q ys zs → AllZip P xs zs
+zip-then R Q P both [] [] [] r q = tt
+zip-then R Q P both [] [] (z ∷ zs) r q = absurd q
+zip-then R Q P both [] (y ∷ ys) zs r q = absurd r
+zip-then R Q P both (x ∷ xs) [] zs r q = absurd r
+zip-then R Q P both (x ∷ xs) (y ∷ ys) [] r q = absurd q
+zip-then R Q P both (x ∷ xs) (y ∷ ys) (z ∷ zs) (r, rs) (q, qs) = (both x y z r q, zip-then R Q P both xs ys zs rs qs)
 
 pub zip-self : {A : Type 0} (R : A → A → Type 0) → ((x : A) → R x x) → (xs : List A) → AllZip R xs xs
 zip-self R self [] = tt
 zip-self R self (x ∷ xs) = (self x, zip-self R self xs)
 
-pub all-zip : {A : Type 0} (R : A → A → Type 0) (xs ys : List A) → length ys ≡ length xs → ((i : ℕ) (d : A) → i < length xs → R (get_or xs i d) (get_or ys i d)) → AllZip R xs ys
-all-zip R [] [] many k = tt
-all-zip R [] (y ∷ ys) many k = absurd (omega arith)
-all-zip R (x ∷ xs) [] many k = absurd (omega arith)
-all-zip R (x ∷ xs) (y ∷ ys) many k = (k zero x (omega arith), all-zip R xs ys (omega arith) (λ i d low. k (suc i) d (omega arith)))
+-- what was made of two lists, item by item
+module _ {A : Type 0} (f : A → A → A) where
+  pub made-first : (R P : A → A → Type 0) → ((x y : A) → R x (f x y) → P x (f x y)) → (xs ys : List A) → AllZip R xs (zip_with f xs ys) → AllZip P xs (zip_with f xs ys)
+  made-first R P so [] ys z = tt
+  made-first R P so (x ∷ xs) [] z = absurd z
+  made-first R P so (x ∷ xs) (y ∷ ys) (r, z) = (so x y r, made-first R P so xs ys z)
 
-pub zip_with-at : {A B C : Type 0} (f : A → B → C) (xs : List A) (ys : List B) (i : ℕ) (x : A) (y : B) → slice_get xs i ≡ Some x → slice_get ys i ≡ Some y → slice_get (zip_with f xs ys) i ≡ Some (f x y)
-zip_with-at f [] ys i x y a b = absurd (cc (a))
-zip_with-at f (v ∷ xs) [] i x y a b = absurd (cc (b))
-zip_with-at f (v ∷ xs) (w ∷ ys) zero x y a b = cc (a, b)
-zip_with-at f (v ∷ xs) (w ∷ ys) (suc i) x y a b = zip_with-at f xs ys i x y a b
+  pub made-second : (g : A → A → A) (R P : A → A → Type 0) → ((x y : A) → R y (f x y) → P y (g x y)) → (xs ys : List A) → AllZip R ys (zip_with f xs ys) → AllZip P ys (zip_with g xs ys)
+  made-second g R P so [] [] z = tt
+  made-second g R P so [] (y ∷ ys) z = absurd z
+  made-second g R P so (x ∷ xs) [] z = tt
+  made-second g R P so (x ∷ xs) (y ∷ ys) (r, z) = (so x y r, made-second g R P so xs ys z)
 
-pub zip-length : {A B C : Type 0} (g : A → B → C) (xs : List A) (ys : List B) → length ys ≡ length xs → length (zip_with g xs ys) ≡ length xs
-zip-length g [] ys e = refl
-zip-length g (x ∷ xs) [] e = absurd (omega arith)
-zip-length g (x ∷ xs) (y ∷ ys) e = ap suc (zip-length g xs ys (omega arith))
+  pub made-beside : (g : A → A → A) (P : A → A → Type 0) → ((x y : A) → P (f x y) (g x y)) → (xs ys : List A) → AllZip P (zip_with f xs ys) (zip_with g xs ys)
+  made-beside g P both [] ys = tt
+  made-beside g P both (x ∷ xs) [] = tt
+  made-beside g P both (x ∷ xs) (y ∷ ys) = (both x y, made-beside g P both xs ys)
 
-pub zip-shape : {A B C : Type 0} (g : A → B → C) (xs : List (List A)) (ys : List (List B)) → map length ys ≡ map length xs → map length (zip_with (zip_with g) xs ys) ≡ map length xs
-zip-shape g [] ys e = refl
-zip-shape g (x ∷ xs) [] e = absurd (cc (e))
-zip-shape g (x ∷ xs) (y ∷ ys) e = cc (zip-length g x y (cc (e)), zip-shape g xs ys (cc (e)))
+  pub made-same : (R : A → A → Type 0) → ((x y : A) → R y x → f x y ≡ x) → (xs ys : List A) → AllZip R ys xs → zip_with f xs ys ≡ xs
+  made-same R same [] ys z = refl
+  made-same R same (x ∷ xs) [] z = absurd z
+  made-same R same (x ∷ xs) (y ∷ ys) (r, z) = cc (same x y r, made-same R same xs ys z)
+
+  pub made-at : (xs ys : List A) (i : ℕ) (x y : A) → slice_get xs i ≡ Some x → slice_get ys i ≡ Some y → slice_get (zip_with f xs ys) i ≡ Some (f x y)
+  made-at [] ys i x y a b = absurd (cc (a))
+  made-at (v ∷ xs) [] i x y a b = absurd (cc (b))
+  made-at (v ∷ xs) (w ∷ ys) zero x y a b = cc (a, b)
+  made-at (v ∷ xs) (w ∷ ys) (suc i) x y a b = made-at xs ys i x y a b
+
+  pub made-long : (xs ys : List A) → length ys ≡ length xs → length (zip_with f xs ys) ≡ length xs
+  made-long [] ys e = refl
+  made-long (x ∷ xs) [] e = absurd (omega arith)
+  made-long (x ∷ xs) (y ∷ ys) e = ap suc (made-long xs ys (omega arith))
+
+module _ {A : Type 0} (f : A → A → A) where
+  pub made-rows : (xs ys : List (List A)) → map length ys ≡ map length xs → map length (zip_with (zip_with f) xs ys) ≡ map length xs
+  made-rows [] ys e = refl
+  made-rows (x ∷ xs) [] e = absurd (cc (e))
+  made-rows (x ∷ xs) (y ∷ ys) e = cc (made-long f x y (cc (e)), made-rows xs ys (cc (e)))
+
+  pub made-at_case : (xs ys : List (List A)) (c : CaseId) (x y : A) → at_case xs c ≡ Some x → at_case ys c ≡ Some y → at_case (zip_with (zip_with f) xs ys) c ≡ Some (f x y)
+  made-at_case xs ys c x y a b =
+      let (r, at_r, at_x) = row_of_case xs c x a in
+      let (s, at_s, at_y) = row_of_case ys c y b in
+      ap (in_row c.place) (made-at (zip_with f) xs ys c.type_no r s at_r at_s) ∙ made-at f r s c.place x y at_x at_y

@@ -1,65 +1,98 @@
--- A crew at work: the first desk of a server, and the desks of the actors.
-use Rattle.std.specs.Prelude.{◌≡◌, ℕ, ◌+◌, List, [], ◌∷◌, Option, slice_get}
-use Rattle.std.specs.List.{AllZip}
-use Rattle.adept_server.specs.Desks.{KindPass, CasePass, DeskView, IsDesk, case_pass}
-use Rattle.crew_run.specs.Cells.{Heard, SeenSame}
-use Rattle.adept_actor.specs.Growth.{DeskHasDone}
-use Rattle.legal_run.specs.LineCalls.{Call, AreCallsOfLines, lines_of}
+-- A crew: the first desk of a server, and a desk for each actor of a file.
+use Rattle.std.specs.Prelude.{◌≡◌, ℕ, suc, ◌+◌, ◌≤◌, ◌<◌, List, [], ◌∷◌, length, map, Some, slice_get}
+use mathlib.Core.List.{IsPrefix}
+use Rattle.adept_server.specs.Desks.{CasePass, DeskView, IsDefinedFor, IsDesk, IsDeskOf, KindPass, desk_view}
+use Rattle.adept_server.specs.Noting.{AreLevelDesks}
+use Rattle.adept_server.specs.Opening.{SeesMore}
+use Rattle.adept_server.specs.declared.call_flags.CallFlags.{CallFlags}
+use Rattle.adept_server.specs.declared.desks.Desk.{Desk}
+use Rattle.adept_server.specs.declared.servers.Server.{Server}
+use Rattle.crew_run.specs.CaseCounts.{AreCounts}
+use Rattle.crew_run.specs.Desks.{DeskHeard, DeskSame, IsIdle, kind_at, case_at}
+use Rattle.crew_run.specs.declared.workers.Worker.{Worker}
 use Rattle.file_model.specs.declared.files.File.{File}
-use Rattle.file_model.specs.declared.files.Line.{Line}
-use Rattle.line_calls.specs.Files.{roles_of}
+use Rattle.file_model.specs.declared.files.TypeDecl.{TypeDecl}
+use Rattle.script_run.specs.Entries.{KindEntry}
+use Rattle.script_run.specs.Serial.{program}
+use Rattle.turn_cell.specs.History.{entry}
+use Rattle.turn_cell.specs.declared.limits.TheConstants.{MAX_ENTRIES}
+use Rattle.type_core.specs.declared.events.KindEvent.TheVariants as event
+use Rattle.type_core.specs.declared.replies.KindReply.{KindReply}
 use Rattle.wsm_sound.specs.declared.versions.CaseId.{CaseId}
 
--- the pass of a type, and of a case
-abbrev pub kind_at : ℕ → DeskView → Option KindPass
-kind_at t v = slice_get v.kinds t
+-- a desk with the file's types and cases
+pub record HasShape (f : File) (v : DeskView) : Type 0 where
+  pub types : length v.kinds ≡ length f.types
+  pub counted : AreCounts f (map length v.cases)
 
-abbrev pub case_at : CaseId → DeskView → Option CasePass
-case_at c v = case_pass v c
+-- a desk has seen a version of each of the first so many types
+abbrev pub KnowsTypes : ℕ → DeskView → Type 0
+KnowsTypes many v = (t : ℕ) → t < many → IsDefinedFor v t
 
--- a desk has heard of more calls, and nothing else happened to its passes
-pub record DeskHeard (v w : DeskView) : Type 0 where
+-- a cell of which a desk has seen as many entries as a journal may have
+pub data SeesMany (v : DeskView) : Type 0 where
+  of_kind : (t : ℕ) (p : KindPass) → kind_at t v ≡ Some p → MAX_ENTRIES ≤ length p.seen → SeesMany v
+  of_case : (c : CaseId) (p : CasePass) → case_at c v ≡ Some p → MAX_ENTRIES ≤ length p.seen → SeesMany v
+
+-- a worker's desk, numbered by its place, with which no call was made
+abbrev pub IsHiredAt : Server → ℕ → Worker → Type 0
+IsHiredAt s i w = IsDeskOf s w.desk × ((desk_view w.desk).number ≡ suc i) × IsIdle (desk_view w.desk)
+
+-- the first desk of a new server has hired a crew
+pub record AreHired (s : Server) (first : Desk) (crew : List Worker) : Type 0 where
+  pub desk : IsDeskOf s first
+  pub number : (desk_view first).number ≡ 0
+  pub made : (desk_view first).made ≡ length crew + 1
+  pub taken : (desk_view first).taken ≡ 0
+  pub idle : IsIdle (desk_view first)
+  pub each : (i : ℕ) (w : Worker) → slice_get crew i ≡ Some w → IsHiredAt s i w
+
+-- What the program has called of a type once so many types are defined: it was told to define it, if it is one of those.
+pub record IsDefinedUpTo (types : List TypeDecl) (done t : ℕ) (own : List KindEntry) : Type 0 where
+  pub few : length own ≤ 1
+  pub told : t < done → (d : TypeDecl) → slice_get types t ≡ Some d → (answer : KindReply) × (own ≡ entry program (event.Define d.schema) answer ∷ [])
+  pub untold : done ≤ t → own ≡ []
+
+-- so many types were defined with an idle desk
+pub record Defines (types : List TypeDecl) (done : ℕ) (v w : DeskView) : Type 0 where
   pub number : w.number ≡ v.number
   pub made : w.made ≡ v.made
   pub taken : w.taken ≡ v.taken
-  pub kinds : AllZip Heard v.kinds w.kinds
-  pub cases : AllZip (AllZip Heard) v.cases w.cases
+  pub cases : w.cases ≡ v.cases
+  pub many : length w.kinds ≡ length v.kinds
+  pub each : (t : ℕ) (q : KindPass) → kind_at t w ≡ Some q → IsDefinedUpTo types done t q.own_calls × (q.past ≡ [])
 
--- two desks have seen the same of each cell
-pub record DeskSame (v w : DeskView) : Type 0 where
-  pub kinds : AllZip SeenSame v.kinds w.kinds
-  pub cases : AllZip (AllZip SeenSame) v.cases w.cases
+-- a worker has met with the first desk, which then goes on to meet the others
+pub record HasMet (s : Server) (called : CallFlags) (first : DeskView) (w x : Worker) : Type 0 where
+  pub fault : x.fault ≡ w.fault
+  pub desk : IsDeskOf s x.desk
+  pub heard : DeskHeard (desk_view w.desk) (desk_view x.desk)
+  pub seen : SeesMore (desk_view x.desk) first
+  pub level : AreLevelDesks called first (desk_view x.desk)
 
--- a desk has the same passes as another
-abbrev pub HasPassesOf : DeskView → DeskView → Type 0
-HasPassesOf v w = (w.kinds ≡ v.kinds) × (w.cases ≡ v.cases)
+-- all have met: a worker has seen what the first desk has
+pub record IsMet (s : Server) (first : DeskView) (w x : Worker) : Type 0 where
+  pub fault : x.fault ≡ w.fault
+  pub desk : IsDeskOf s x.desk
+  pub heard : DeskHeard (desk_view w.desk) (desk_view x.desk)
+  pub same : DeskSame first (desk_view x.desk)
 
--- desks numbered one after another
-abbrev pub AreNumbered : ℕ → List DeskView → Type 0
-AreNumbered n [] = Unit {0}
-AreNumbered n (v ∷ vs) = (v.number ≡ n) × AreNumbered (n + 1) vs
+abbrev pub AreMet : Server → DeskView → List Worker → List Worker → Type 0
+AreMet s first old new = (i : ℕ) (w x : Worker) → slice_get old i ≡ Some w → slice_get new i ≡ Some x → IsMet s first w x
 
--- An actor's desk from before a phase to behind it, where `first` is the first desk then: it made calls, and then all met.
-pub record ActorDone (Fit : ℕ → List Call → Type 0) (first v w : DeskView) : Type 0 where
-  pub calls : List Call
-  pub fit : Fit v.number calls
-  pub between : DeskView
-  pub done : DeskHasDone calls v between
-  pub heard : DeskHeard between w
-  pub same : DeskSame first w
-  pub desk : IsDesk w
+-- the desk of a worker at a place of a crew that has met
+pub record IsOneOf (n : ℕ) (first v : DeskView) : Type 0 where
+  pub number : v.number ≡ n
+  pub desk : IsDesk v
+  pub same : DeskSame first v
 
--- a phase: the actors' calls are such, and nobody calls with the first desk
-pub record PhaseDone (Fit : ℕ → List Call → Type 0) (first : DeskView) (crew : List DeskView) (first_then : DeskView) (crew_then : List DeskView) : Type 0 where
-  pub heard : DeskHeard first first_then
-  pub crew_done : AllZip (ActorDone Fit first_then) crew crew_then
-
--- what an actor's calls are where it works its lines
-abbrev pub AreCallsOfActor : File → List Line → ℕ → List Call → Type 0
-AreCallsOfActor f lines a calls = AreCallsOfLines (roles_of f a) a (lines_of a lines) calls
-
--- phases one after another
-abbrev pub PhasesDone : File → List (List Line) → DeskView → List DeskView → DeskView → List DeskView → Type 0
-PhasesDone f [] first crew first_then crew_then = (first_then ≡ first) × (crew_then ≡ crew)
-PhasesDone f (lines ∷ phases) first crew first_then crew_then =
-    (middle : DeskView) × (between : List DeskView) × PhaseDone (AreCallsOfActor f lines) first crew middle between × PhasesDone f phases middle between first_then crew_then
+-- the first desk of a server and a crew for the actors of a file, which have met
+pub record IsCrew (s : Server) (f : File) (first : Desk) (crew : List Worker) : Type 0 where
+  pub desk : IsDeskOf s first
+  pub desks : (i : ℕ) (w : Worker) → slice_get crew i ≡ Some w → IsDeskOf s w.desk
+  pub each : (i : ℕ) (w : Worker) → slice_get crew i ≡ Some w → IsOneOf (suc i) (desk_view first) (desk_view w.desk)
+  pub actors : length crew ≡ length f.actors
+  pub shape : HasShape f (desk_view first)
+  pub number : (desk_view first).number ≡ 0
+  pub made : (desk_view first).made ≡ length crew + 1
+  pub taken : (desk_view first).taken ≡ 0

@@ -1,9 +1,5 @@
-pub mod Cells
-pub mod Crew
-pub mod Defining
-pub mod Closing
-pub mod Ready
-pub mod Beginning
 pub mod CaseCounts
-pub mod Workers
+pub mod Desks
+pub mod Crew
 pub mod Phases
+pub mod Closing

@@ -1,55 +1,24 @@
 -- The phases of a file, as a crew works them.
-use Rattle.std.specs.Prelude.{◌≡◌, ℕ, ◌+◌, ◌≤◌, ◌⊎◌, Bool, true, false, List, [], ◌∷◌, length, map, Option, Some, None, Result, Ok, Err}
-use Rattle.std.specs.List.{AllByRecursion}
+use Rattle.std.specs.Prelude.{◌≡◌, ℕ, suc, ◌+◌, ◌≤◌, ◌⊎◌, Bool, true, false, List, [], ◌∷◌, length, take, flat_map, Option, Some, None, Result, Ok, Err, slice_get}
+use mathlib.Core.List.{IsPrefix}
 use Rattle.adept_actor.specs.Others.{LeavesOthers, LeavesUnnamed}
 use Rattle.adept_actor.specs.Work.{Acts, CanWork, WorksLines}
-use Rattle.adept_server.specs.Desks.{KindPass, CasePass, DeskView, IsDesk, IsDeskOf, desk_view}
-use Rattle.adept_server.specs.Opening.{IsFirstDesk}
-use Rattle.adept_server.specs.declared.desks.Desk.{Desk}
+use Rattle.adept_server.specs.Desks.{CasePass, DeskView, IsDeskOf, KindPass, desk_view}
 use Rattle.adept_server.specs.declared.servers.Server.{Server}
-use Rattle.case_core.specs.Machine.{case_after, case_reply}
-use Rattle.crew_run.specs.Beginning.{AreHired}
-use Rattle.crew_run.specs.CaseCounts.{AreCounts}
-use Rattle.crew_run.specs.Cells.{HasMet}
-use Rattle.crew_run.specs.Crew.{AreNumbered, DeskSame, PhaseDone, PhasesDone, AreCallsOfActor, kind_at, case_at}
-use Rattle.crew_run.specs.Defining.{KnowsTypes}
-use Rattle.crew_run.specs.Ready.{IsReady}
-use Rattle.crew_run.specs.Workers.{AreDesksOf, desks_of}
+use Rattle.crew_run.specs.Crew.{IsDefinedUpTo, SeesMany}
+use Rattle.crew_run.specs.Desks.{HasDoneAndHeard, IsIdlePass, kind_at, case_at}
 use Rattle.crew_run.specs.declared.workers.Worker.{Worker}
-use Rattle.legal_run.specs.LineCalls.{Call, AreBegun, lines_of}
-use Rattle.file_limits.specs.declared.TheConstants.{MAX_ACTORS}
 use Rattle.file_model.specs.declared.files.File.{File}
 use Rattle.file_model.specs.declared.files.Line.{Line}
+use Rattle.legal_run.specs.Legal.{AreTraces, IsActor, IsByPhases, Trace, done_by}
+use Rattle.legal_run.specs.LineCalls.{AreBegun, AreCallsOfLines, Call, calls_of_case, calls_of_kind, lines_of}
 use Rattle.line_calls.specs.Files.{roles_of}
+use Rattle.turn_cell.specs.History.{calls_of}
+use Rattle.turn_cell.specs.Passes.{PassView}
 use Rattle.turn_cell.specs.declared.faults.CallFault.{CallFault}
 use Rattle.turn_cell.specs.declared.faults.CallFault.TheVariants as fault
-use Rattle.turn_cell.specs.declared.limits.TheConstants.{MAX_ENTRIES}
-use Rattle.type_core.specs.Machine.{kind_after, kind_reply}
+use Rattle.turn_cell.specs.declared.journal.Entry.{Entry}
 use Rattle.wsm_sound.specs.declared.versions.CaseId.{CaseId}
-
--- A desk that can work each line of a file: it has the file's types and cases, and knows a version of each type.
-pub record IsAble (f : File) (v : DeskView) : Type 0 where
-  pub types : length v.kinds ≡ length f.types
-  pub counted : AreCounts f (map length v.cases)
-  pub knows : KnowsTypes 0 (length f.types) v
-
--- a desk with the file's types and cases
-pub record HasShape (f : File) (v : DeskView) : Type 0 where
-  pub types : length v.kinds ≡ length f.types
-  pub counted : AreCounts f (map length v.cases)
-
--- the first desk of a server and a crew for the actors of a file, ready for each line of it
-pub record IsCrew (s : Server) (f : File) (first : Desk) (crew : List Worker) : Type 0 where
-  pub desk : IsDeskOf s first
-  pub desks : AreDesksOf s crew
-  pub numbered : AreNumbered 1 (desks_of crew)
-  pub actors : length crew ≡ length f.actors
-  pub able : AllByRecursion (IsAble f) (desks_of crew)
-  pub same : AllByRecursion (DeskSame (desk_view first)) (desks_of crew)
-  pub first_able : IsAble f (desk_view first)
-  pub first_number : (desk_view first).number ≡ 0
-  pub made : (desk_view first).made ≡ length crew + 1
-  pub taken : (desk_view first).taken ≡ 0
 
 -- a worker at a place of the crew that can work these lines
 abbrev pub IsReadyAt : Server → List Line → ℕ → Worker → Type 0
@@ -82,60 +51,49 @@ TakesLine roles line w x (Some f) = x ≡ w
 abbrev pub HasForgotten : Worker → Worker → Type 0
 HasForgotten w x = (x.desk ≡ w.desk) × (x.fault ≡ None)
 
--- the first desk of a new server has hired a crew for the actors of a file
-pub record IsBegun (f : File) (first : DeskView) (crew : List DeskView) : Type 0 where
-  pub counts : List ℕ
-  pub counted : AreCounts f counts
-  pub before : DeskView
-  pub desk : IsDesk before
-  pub opened : IsFirstDesk counts before
-  pub hired : AreHired (length f.actors) before first crew
-  pub made : first.made ≡ before.made + length f.actors
-
--- a crew was ready, and has then worked all phases
-pub record HasWorkedAll (f : File) (first : DeskView) (crew : List DeskView) : Type 0 where
-  pub first_before : DeskView
-  pub crew_before : List DeskView
-  pub ready : IsReady f first_before crew_before
-  pub done : PhasesDone f f.phases first_before crew_before first crew
-
--- what an actor's calls are where it works its lines, perhaps up to a fault
+-- the calls of an actor's lines, perhaps up to a fault
 abbrev pub Tries : File → List Line → ℕ → List Call → Type 0
-Tries f lines a calls = AreCallsOfActor f lines a calls ⊎ AreBegun (roles_of f a) a (lines_of a lines) calls
+Tries f lines a calls = AreCallsOfLines (roles_of f a) a (lines_of a lines) calls ⊎ AreBegun (roles_of f a) a (lines_of a lines) calls
 
--- so some of the phases were worked, one after another
-abbrev pub PhasesTried : File → List (List Line) → DeskView → List DeskView → DeskView → List DeskView → Type 0
-PhasesTried f [] first crew first_then crew_then = (first_then ≡ first) × (crew_then ≡ crew)
-PhasesTried f (lines ∷ phases) first crew first_then crew_then =
-    ((first_then ≡ first) × (crew_then ≡ crew)) ⊎ ((middle : DeskView) × (between : List DeskView) × PhaseDone (Tries f lines) first crew middle between × PhasesTried f phases middle between first_then crew_then)
+-- A crew has worked a phase and met: each actor has tried its own lines, and has called nothing else.
+pub record PhaseWorked (f : File) (lines : List Line) (trace : Trace) (old new : List Worker) : Type 0 where
+  pub tries : (a : ℕ) → IsActor f a → Tries f lines a (trace a)
+  pub many : length new ≡ length old
+  pub each : (i : ℕ) (w x : Worker) → slice_get old i ≡ Some w → slice_get new i ≡ Some x → HasDoneAndHeard (trace (suc i)) (desk_view w.desk) (desk_view x.desk)
 
--- a crew that has met before the first phase, where the first desk has called each type at most once
-pub record IsStarted (f : File) (first : DeskView) (crew : List DeskView) : Type 0 where
-  pub numbered : AreNumbered 1 crew
-  pub actors : length crew ≡ length f.actors
-  pub kinds : (t : ℕ) (p : KindPass) → kind_at t first ≡ Some p → (p.past ≡ []) × (length p.own_calls ≤ 1) × HasMet (kind_at t) kind_after kind_reply 1 (λ _. []) p.seen crew
-  pub cases : (c : CaseId) (p : CasePass) → case_at c first ≡ Some p → (p.past ≡ []) × (length p.own_calls ≤ 1) × HasMet (case_at c) case_after case_reply 1 (λ _. []) p.seen crew
+-- One cell, of which `at` finds the pass on a desk and `on` are the calls, once all have met: each actor has made the calls of these traces and no
+-- others, the journal so far has them phase by phase, and begins with what the first desk has called.
+pub record IsKept {M E R W S : Type 0} (f : File) (at : DeskView → Option (PassView M E R W S)) (on : List Call → List (Entry M E R W S)) (traces : List Trace) (crew : List Worker) (p : PassView M E R W S) : Type 0 where
+  pub start : List (Entry M E R W S)
+  pub begins : IsPrefix start p.seen
+  pub first : calls_of 0 start ≡ p.own_calls
+  pub none : (a : ℕ) → IsActor f a → calls_of a start ≡ []
+  pub calls : IsByPhases f on traces p.seen
+  pub each : (i : ℕ) (w : Worker) → slice_get crew i ≡ Some w → (q : PassView M E R W S) × (at (desk_view w.desk) ≡ Some q) × (q.own_calls ≡ on (done_by (suc i) traces)) × (q.past ≡ [])
 
--- a cell of which a desk has seen as many entries as a journal may have
-pub data SeesMany (v : DeskView) : Type 0 where
-  of_kind : (t : ℕ) (p : KindPass) → kind_at t v ≡ Some p → MAX_ENTRIES ≤ length p.seen → SeesMany v
-  of_case : (c : CaseId) (p : CasePass) → case_at c v ≡ Some p → MAX_ENTRIES ≤ length p.seen → SeesMany v
+-- each cell, where the first desk has defined so many types
+pub record IsAlong (f : File) (done : ℕ) (traces : List Trace) (first : DeskView) (crew : List Worker) : Type 0 where
+  pub kinds : (t : ℕ) (p : KindPass) → kind_at t first ≡ Some p → IsKept f (kind_at t) (calls_of_kind t) traces crew p × IsDefinedUpTo f.types done t p.own_calls × (p.past ≡ [])
+  pub cases : (c : CaseId) (p : CasePass) → case_at c first ≡ Some p → IsKept f (case_at c) (calls_of_case c) traces crew p × IsIdlePass p
+
+-- a crew has worked all phases
+abbrev pub HasWorkedAll : File → DeskView → List Worker → Type 0
+HasWorkedAll f first crew = (traces : List Trace) × AreTraces f f.phases traces × IsAlong f (length f.types) traces first crew
+
+-- the lines of the first so many phases
+abbrev pub lines_upto : File → ℕ → List Line
+lines_upto f k = flat_map (λ lines. lines) (take k f.phases)
+
+-- each actor has no more calls of a cell in these traces than lines in the first so many phases
+pub record AreFew (f : File) (k : ℕ) (traces : List Trace) : Type 0 where
+  pub kinds : (t a : ℕ) → IsActor f a → length (calls_of_kind t (done_by a traces)) ≤ length (lines_of a (lines_upto f k))
+  pub cases : (c : CaseId) (a : ℕ) → IsActor f a → length (calls_of_case c (done_by a traces)) ≤ length (lines_of a (lines_upto f k))
 
 -- The first desk has seen a full journal of a crew that did no more than its lines. There is no such crew: the proofs show it once the server is closed.
-pub record IsOverfull (f : File) (first : DeskView) (crew : List DeskView) : Type 0 where
-  pub first_before : DeskView
-  pub crew_before : List DeskView
-  pub started : IsStarted f first_before crew_before
-  pub tried : PhasesTried f f.phases first_before crew_before first crew
+pub record IsOverfull (f : File) (first : DeskView) (crew : List Worker) : Type 0 where
+  pub done : ℕ
+  pub phases : ℕ
+  pub traces : List Trace
+  pub few : AreFew f phases traces
+  pub along : IsAlong f done traces first crew
   pub many : SeesMany first
-
--- the desks of a server, shaped for a file, before the crew is taken in
-pub record AreTogether (s : Server) (f : File) (first : Desk) (crew : List Worker) : Type 0 where
-  pub desk : IsDeskOf s first
-  pub desks : AreDesksOf s crew
-  pub shaped : AllByRecursion (HasShape f) (desks_of crew)
-  pub first_shaped : HasShape f (desk_view first)
-  pub first_number : (desk_view first).number ≡ 0
-  pub made : (desk_view first).made ≡ length crew + 1
-  pub taken : (desk_view first).taken ≡ 0
-  pub few : length crew ≤ MAX_ACTORS

@@ -1,12 +1,12 @@
 // How a run ends.
-ghost use Rattle.std.specs.Prelude.{◌≡◌, ◌+◌, ◌≤◌, map, length, fold, IfOk};
+ghost use Rattle.std.specs.Prelude.{◌≡◌, ◌+◌, ◌≤◌, map, length, IfOk};
 ghost use Rattle.std.specs.List.{AllZip};
 ghost use Rattle.adept_server.specs.Desks.{IsDeskOf, desk_view};
-ghost use Rattle.adept_server.specs.Opening.{joined_desk};
 ghost use Rattle.crew_run.specs.CaseCounts.{AreCounts};
 ghost use Rattle.crew_run.specs.Closing.{IsClosedAt, IsRunOf, closed_case, closed_kind};
-ghost use Rattle.crew_run.specs.Workers.{AreDesksOf, desks_of};
+ghost use Rattle.crew_run.specs.Desks.{all_joined};
 ghost use Rattle.file_facts.specs.Facts.{IsWorkable};
+ghost use Rattle.wsm_lists.specs.Rows.{AllRows};
 
 use crate::workers::Worker;
 use adept_server::{ClosedServer, Desk, Server};
@@ -20,11 +20,12 @@ use wsm_lists::Listing;
 
 /// Takes the desk of each worker into the first desk, in order. It takes no memory.
 pub fn dismiss(server: &Server, first: &mut Desk, crew: Vec<Worker>)
-    requires desks { IsDeskOf server.now first.old × AreDesksOf server.now crew.items }
+    requires first { IsDeskOf server.now first.old }
+    requires desks { AllRows (λ w. IsDeskOf server.now w.desk) crew.items }
     requires number { (desk_view first.old).number ≡ 0 }
     requires few { (desk_view first.old).taken + length crew.items ≤ 33 }
     ensures desk { IsDeskOf server.now first.new }
-    ensures joined { desk_view first.new ≡ fold joined_desk (desk_view first.old) (desks_of crew.items) }
+    ensures joined { desk_view first.new ≡ all_joined (desk_view first.old) crew.items }
 {
     for worker in crew {
         server.join(first, worker.desk);

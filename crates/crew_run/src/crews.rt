@@ -1,9 +1,9 @@
 // A file's script, worked by a crew.
-ghost use Rattle.std.specs.Prelude.{◌≡◌, ◌≢◌, IfErr, IfOk, OnOk};
-ghost use Rattle.adept_server.specs.Desks.{IsDeskOf, desk_view};
+ghost use Rattle.std.specs.Prelude.{◌≡◌, ◌≢◌, length, IfErr, IfOk, OnOk};
+ghost use Rattle.adept_server.specs.Desks.{desk_view};
 ghost use Rattle.adept_server.specs.Noting.{AllCalled, IsCalledOf};
-ghost use Rattle.crew_run.specs.Phases.{AreTogether, HasWorkedAll, IsBegun, IsOverfull};
-ghost use Rattle.crew_run.specs.Workers.{AreDesksOf, desks_of};
+ghost use Rattle.crew_run.specs.Crew.{AreHired, HasShape, IsCrew};
+ghost use Rattle.crew_run.specs.Phases.{HasWorkedAll, IsOverfull};
 ghost use Rattle.file_facts.specs.Facts.{IsWorkable};
 ghost use Rattle.legal_run.specs.Legal.{Legal};
 
@@ -79,15 +79,15 @@ fn work_file<R: Threads + Wait + Sync, G: Gate + Sync>(
     gate: &G,
 ) -> Result<(), CallFault>
     requires file { IsWorkable file.now }
-    requires first { IsDeskOf server.now first.old }
-    requires desks { AreDesksOf server.now crew.old }
-    requires begun { IsBegun file.now (desk_view first.old) (desks_of crew.old) }
+    requires hired { AreHired server.now first.old crew.old }
+    requires actors { length crew.old ≡ length file.now.actors }
+    requires shape { HasShape file.now (desk_view first.old) }
     requires called { IsCalledOf server.now called.old × AllCalled called.old }
-    ensures together { AreTogether server.now file.now first.new crew.new }
-    ensures full { IfErr result (λ fault. fault ≡ CallFault.Full → IsOverfull file.now (desk_view first.new) (desks_of crew.new)) }
-    ensures done { OnOk result (HasWorkedAll file.now (desk_view first.new) (desks_of crew.new)) }
+    ensures crew { IsCrew server.now file.now first.new crew.new }
+    ensures full { IfErr result (λ fault. fault ≡ CallFault.Full → IsOverfull file.now (desk_view first.new) crew.new) }
+    ensures done { OnOk result (HasWorkedAll file.now (desk_view first.new) crew.new) }
 {
-    let defined = define_types(rt, alloc, server, first, 0, file.types.as_slice(), gate);
+    let defined = define_types(rt, alloc, server, first, file.types.as_slice(), gate);
     meet_all(server, called, first, crew);
     defined?;
     work_phases(rt, alloc, server, file, first, crew, called, gate)

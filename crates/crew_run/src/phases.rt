@@ -1,13 +1,14 @@
 // How a crew works.
-ghost use Rattle.std.specs.Prelude.{◌≡◌, ◌<◌, length, is_some, true, false, IfErr, OnErr, OnOk, slice_index_or, ◌≤◌, ◌/◌};
+ghost use Rattle.std.specs.Prelude.{◌≡◌, ◌<◌, [], length, is_some, true, false, IfErr, OnOk, slice_index_or, ◌≤◌, ◌/◌};
 ghost use Rattle.std.specs.List.{list_any};
 ghost use Rattle.std.specs.Thread.{IsSync};
 ghost use Rattle.adept_server.specs.Desks.{desk_view};
 ghost use Rattle.adept_server.specs.Noting.{IsCalledOf, rows_of};
-ghost use Rattle.crew_run.specs.Crew.{PhaseDone, PhasesDone, AreCallsOfActor};
-ghost use Rattle.crew_run.specs.Phases.{HasWorkedLines, IsCrew, IsReadyAt, PhasesTried, SeesMany, Tries, is_full_fault};
-ghost use Rattle.crew_run.specs.Workers.{desks_of};
+ghost use Rattle.crew_run.specs.Crew.{IsCrew, KnowsTypes, SeesMany};
+ghost use Rattle.crew_run.specs.Desks.{DeskHeard};
+ghost use Rattle.crew_run.specs.Phases.{HasWorkedAll, HasWorkedLines, IsAlong, IsOverfull, IsReadyAt, PhaseWorked, is_full_fault};
 ghost use Rattle.file_facts.specs.Facts.{IsKnown, IsWorkable};
+ghost use Rattle.legal_run.specs.Legal.{IsTrace, Trace};
 ghost use Rattle.wsm_lists.specs.Rows.{AllRows};
 
 use crate::in_order::work_in_order;
@@ -42,11 +43,12 @@ pub fn work_phases<R: Threads + Wait + Sync, G: Gate + Sync>(
 ) -> Result<(), CallFault>
     requires file { IsWorkable file.now }
     requires crew { IsCrew server.now file.now first.old crew.old }
+    requires knows { KnowsTypes (length file.now.types) (desk_view first.old) }
     requires called { IsCalledOf server.now called.old }
+    requires along { IsAlong file.now (length file.now.types) [] (desk_view first.old) crew.old }
     ensures crew { IsCrew server.now file.now first.new crew.new }
-    ensures tried { OnErr result (PhasesTried file.now file.now.phases (desk_view first.old) (desks_of crew.old) (desk_view first.new) (desks_of crew.new)) }
-    ensures full { IfErr result (λ fault. fault ≡ CallFault.Full → SeesMany (desk_view first.new)) }
-    ensures done { OnOk result (PhasesDone file.now file.now.phases (desk_view first.old) (desks_of crew.old) (desk_view first.new) (desks_of crew.new)) }
+    ensures full { IfErr result (λ fault. fault ≡ CallFault.Full → IsOverfull file.now (desk_view first.new) crew.new) }
+    ensures done { OnOk result (HasWorkedAll file.now (desk_view first.new) crew.new) }
 {
     let processors = processor_count(rt);
     for lines in file.phases.as_slice() {
@@ -97,12 +99,13 @@ fn work_phase<R: Threads + Wait + Sync, G: Gate + Sync>(
     requires file { IsWorkable file.now }
     requires lines { AllRows (IsKnown (length file.now.types) (length file.now.actors) file.now.cases) lines.now }
     requires crew { IsCrew server.now file.now first.old crew.old }
+    requires knows { KnowsTypes (length file.now.types) (desk_view first.old) }
     requires called { IsCalledOf server.now called.old }
     ensures called { rows_of called.new ≡ rows_of called.old }
     ensures crew { IsCrew server.now file.now first.new crew.new }
-    ensures tried { PhaseDone (Tries file.now lines.now) (desk_view first.old) (desks_of crew.old) (desk_view first.new) (desks_of crew.new) }
+    ensures heard { DeskHeard (desk_view first.old) (desk_view first.new) }
+    ensures worked { (trace : Trace) × PhaseWorked file.now lines.now trace crew.old crew.new × OnOk result (IsTrace file.now lines.now trace) }
     ensures full { IfErr result (λ fault. fault ≡ CallFault.Full → SeesMany (desk_view first.new)) }
-    ensures done { OnOk result (PhaseDone (AreCallsOfActor file.now lines.now) (desk_view first.old) (desks_of crew.old) (desk_view first.new) (desks_of crew.new)) }
 {
     work_lines(rt, alloc, server, file, crew, lines, processors, gate);
     note_lines(called, lines);

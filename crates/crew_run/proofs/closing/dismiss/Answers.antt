@@ -8,8 +8,8 @@ loop-worker-init c =
     let gives = c.into_iter-worker-iterator.ensures.into_iter_gives in
     record {
       left = omega (arith, gives.1, ap length gives.0, c.args.crew.ok.0);
-      desk = c.requires.desks.0;
-      desks = rw gives.0 c.requires.desks.1;
+      desk = c.requires.first;
+      desks = rw gives.0 c.requires.desks;
       number = c.requires.number;
       few = rw gives.0 c.requires.few;
       joined = rw gives.0 refl;

@@ -1,72 +1,65 @@
-use Rattle.std.proofs.Common.{◌≡◌, length, ap, subst, arith}
-use Rattle.std.proofs.lemmas.Result.{on_ok_weaker}
-use Rattle.adept_server.specs.Desks.{desk_view}
-use Rattle.crew_run.proofs.CrewMet.{crew-of, crew-ready, started-of, together-begun, together-of, tried-none}
-use Rattle.crew_run.proofs.DesksMeet.{heard-is-more}
-use Rattle.crew_run.proofs.FullSeen.{many-seen}
-use Rattle.crew_run.proofs.LevelDesks.{all-level}
-use Rattle.crew_run.proofs.Outcomes.{err-and, if_err-same}
-use Rattle.crew_run.specs.Defining.{DefinesAll, DefinesSome, KnowsTypes}
-use Rattle.crew_run.specs.Phases.{IsOverfull}
-use Rattle.crew_run.specs.Workers.{desks_of}
+use Rattle.std.proofs.Common.{◌≡◌, ◌∙◌, [], length, ap, subst}
+use Rattle.adept_server.specs.Desks.{IsDeskOf, desk_view}
+use Rattle.adept_server.specs.Noting.{AreLevelDesks}
+use Rattle.crew_run.proofs.CrewAlong.{begun, few-none}
+use Rattle.crew_run.proofs.DesksCanWork.{knows-heard}
+use Rattle.crew_run.proofs.DesksMeet.{all-level, heard-is-more}
+use Rattle.crew_run.proofs.FullSeen.{if_err-same, many-seen}
+use Rattle.crew_run.proofs.SideBySide.{all-of}
+use Rattle.crew_run.specs.Crew.{Defines, KnowsTypes}
+use Rattle.crew_run.specs.Phases.{IsAlong, IsOverfull}
 use Rattle.turn_cell.specs.declared.faults.CallFault.TheVariants as fault
 use Rattle.crew_run.proofs.crews.work_file.Goals as goal
 
+pub meet_all-requires-clause-crew : goal.meet_all-requires-clause-crew
+meet_all-requires-clause-crew g c = all-of (λ w. IsDeskOf c.args.server.now w.desk) c.args.crew.now (λ i w at. (c.requires.hired.each i w at).0)
+
 pub meet_all-requires-clause-level : goal.meet_all-requires-clause-level
-meet_all-requires-clause-level g c = all-level c.args.called.now c.requires.called.1 (desk_view c.define_types-defined.new.desk) (desks_of c.args.crew.now)
+meet_all-requires-clause-level g c =
+    let v = desk_view c.define_types-defined.new.desk in
+    all-of (λ w. AreLevelDesks c.args.called.now v (desk_view w.desk)) c.args.crew.now (λ i w at. all-level c.args.called.now c.requires.called.1 v (desk_view w.desk))
 
-pub work_phases-requires-clause-crew : goal.work_phases-requires-clause-crew
-work_phases-requires-clause-crew g c κs within =
+pub returns-in_err-defined-clause-crew : goal.returns-in_err-defined-clause-crew
+returns-in_err-defined-clause-crew g c =
     let f = c.args.file.now in
-    let v1 = desk_view c.args.first.now in
-    let v2 = desk_view c.define_types-defined.new.desk in
-    let defined = subst (λ ds. DefinesAll 0 ds v1 v2) c.as_slice.ensures c.in_ok-defined.ensures.defined in
-    let known : KnowsTypes 0 (length f.types) v2 = λ t low high. c.in_ok-defined.ensures.known t low (omega (arith, high, ap length c.as_slice.ensures)) in
-    crew-of c.args.server.now f c.requires.file v1 v2 c.meet_all.new.first (desks_of c.args.crew.now) c.meet_all.new.crew c.requires.begun defined c.meet_all.ensures.first.0 c.meet_all.ensures.crew c.meet_all.ensures.first.1 c.meet_all.ensures.heard c.meet_all.ensures.same
-    known
-
-pub returns-in_err-defined-clause-together : goal.returns-in_err-defined-clause-together
-returns-in_err-defined-clause-together g c =
-    let f = c.args.file.now in
-    let v1 = desk_view c.args.first.now in
-    let v2 = desk_view c.define_types-defined.new.desk in
-    let some = subst (λ ds. DefinesSome 0 ds v1 v2) c.as_slice.ensures c.define_types-defined.ensures.some in
-    together-begun c.args.server.now f c.requires.file v1 v2 c.meet_all.new.first (desks_of c.args.crew.now) c.meet_all.new.crew c.requires.begun some c.meet_all.ensures.first.0 c.meet_all.ensures.crew c.meet_all.ensures.first.1 c.meet_all.ensures.heard c.meet_all.ensures.same
+    let v = desk_view c.define_types-defined.new.desk in
+    let (done, defines, whole) = c.define_types-defined.ensures.defines in
+    let d = subst (λ types. Defines types done (desk_view c.args.first.now) v) c.as_slice.ensures defines in
+    let m = c.meet_all.ensures in
+    (begun c.args.server.now f done c.args.first.now v c.meet_all.new.first c.args.crew.now c.meet_all.new.crew c.requires.hired c.requires.actors c.requires.shape d m.first.0 m.first.1 m.met c.meet_all.auto.crew).0
 
 pub returns-in_err-defined-clause-full : goal.returns-in_err-defined-clause-full
 returns-in_err-defined-clause-full g c =
     let f = c.args.file.now in
-    let v1 = desk_view c.args.first.now in
-    let v2 = desk_view c.define_types-defined.new.desk in
-    let v3 = desk_view c.meet_all.new.first in
-    let ws = desks_of c.meet_all.new.crew in
-    let some = subst (λ ds. DefinesSome 0 ds v1 v2) c.as_slice.ensures c.define_types-defined.ensures.some in
-    let started =
-    started-of c.args.server.now f c.requires.file v1 v2 c.meet_all.new.first (desks_of c.args.crew.now) c.meet_all.new.crew c.requires.begun some c.meet_all.ensures.first.0 c.meet_all.ensures.crew c.meet_all.ensures.first.1 c.meet_all.ensures.heard c.meet_all.ensures.same in
-    if_err-same (λ x. x ≡ fault.Full → IsOverfull f v3 ws) c.from_residual.result c.in_err-defined.field-0.0 c.from_residual.ensures.1
-    (λ is. record { first_before = v3; crew_before = ws; started = started; tried = tried-none f f.phases v3 ws; many = many-seen v2 v3 (heard-is-more v2 v3 c.meet_all.ensures.first.1) (c.in_err-defined.ensures.full is) })
+    let v = desk_view c.define_types-defined.new.desk in
+    let first = desk_view c.meet_all.new.first in
+    let (done, defines, whole) = c.define_types-defined.ensures.defines in
+    let d = subst (λ types. Defines types done (desk_view c.args.first.now) v) c.as_slice.ensures defines in
+    let m = c.meet_all.ensures in
+    let along = (begun c.args.server.now f done c.args.first.now v c.meet_all.new.first c.args.crew.now c.meet_all.new.crew c.requires.hired c.requires.actors c.requires.shape d m.first.0 m.first.1 m.met c.meet_all.auto.crew).1 in
+    if_err-same (λ x. x ≡ fault.Full → IsOverfull f first c.meet_all.new.crew) c.from_residual.result c.in_err-defined.field-0.0 c.from_residual.ensures.1
+    (λ is. record { done = done; phases = 0; traces = []; few = few-none f; along = along; many = many-seen v first (heard-is-more v first m.first.1) (c.in_err-defined.ensures.full is) })
 
-pub returns-clause-together : goal.returns-clause-together
-returns-clause-together g c = together-of c.args.server.now c.args.file.now c.work_phases.new.first c.work_phases.new.crew c.requires.file c.work_phases.ensures.crew
-
-pub returns-clause-full : goal.returns-clause-full
-returns-clause-full g c =
+pub work_phases-requires-clause-crew : goal.work_phases-requires-clause-crew
+work_phases-requires-clause-crew g c κs within =
     let f = c.args.file.now in
-    let v1 = desk_view c.args.first.now in
-    let v2 = desk_view c.define_types-defined.new.desk in
-    let v3 = desk_view c.meet_all.new.first in
-    let ws = desks_of c.meet_all.new.crew in
-    let some = subst (λ ds. DefinesSome 0 ds v1 v2) c.as_slice.ensures c.define_types-defined.ensures.some in
-    let started =
-    started-of c.args.server.now f c.requires.file v1 v2 c.meet_all.new.first (desks_of c.args.crew.now) c.meet_all.new.crew c.requires.begun some c.meet_all.ensures.first.0 c.meet_all.ensures.crew c.meet_all.ensures.first.1 c.meet_all.ensures.heard c.meet_all.ensures.same in
-    err-and c.work_phases.result (λ fault many tried is. record { first_before = v3; crew_before = ws; started = started; tried = tried; many = many is }) c.work_phases.ensures.full c.work_phases.ensures.tried
+    let v = desk_view c.define_types-defined.new.desk in
+    let (done, defines, whole) = c.in_ok-defined.ensures.defines in
+    let d = subst (λ types. Defines types done (desk_view c.args.first.now) v) c.as_slice.ensures defines in
+    let m = c.meet_all.ensures in
+    (begun c.args.server.now f done c.args.first.now v c.meet_all.new.first c.args.crew.now c.meet_all.new.crew c.requires.hired c.requires.actors c.requires.shape d m.first.0 m.first.1 m.met c.meet_all.auto.crew).0
 
-pub returns-clause-done : goal.returns-clause-done
-returns-clause-done g c =
+pub work_phases-requires-clause-knows : goal.work_phases-requires-clause-knows
+work_phases-requires-clause-knows g c κs within =
+    let v = desk_view c.define_types-defined.new.desk in
+    knows-heard (length c.args.file.now.types) v (desk_view c.meet_all.new.first) c.meet_all.ensures.first.1 (subst (λ types. KnowsTypes (length types) v) c.as_slice.ensures c.in_ok-defined.ensures.known)
+
+pub work_phases-requires-clause-along : goal.work_phases-requires-clause-along
+work_phases-requires-clause-along g c κs within =
     let f = c.args.file.now in
-    let v1 = desk_view c.args.first.now in
-    let v2 = desk_view c.define_types-defined.new.desk in
-    let defined = subst (λ ds. DefinesAll 0 ds v1 v2) c.as_slice.ensures c.in_ok-defined.ensures.defined in
-    let ready =
-    crew-ready c.args.server.now f c.requires.file v1 v2 c.meet_all.new.first (desks_of c.args.crew.now) c.meet_all.new.crew c.requires.begun defined c.meet_all.ensures.first.0 c.meet_all.ensures.crew c.meet_all.ensures.first.1 c.meet_all.ensures.heard c.meet_all.ensures.same in
-    on_ok_weaker c.work_phases.result (λ done. record { first_before = desk_view c.meet_all.new.first; crew_before = desks_of c.meet_all.new.crew; ready = ready; done = done }) c.work_phases.ensures.done
+    let v = desk_view c.define_types-defined.new.desk in
+    let (done, defines, whole) = c.in_ok-defined.ensures.defines in
+    let d = subst (λ types. Defines types done (desk_view c.args.first.now) v) c.as_slice.ensures defines in
+    let m = c.meet_all.ensures in
+    let along = (begun c.args.server.now f done c.args.first.now v c.meet_all.new.first c.args.crew.now c.meet_all.new.crew c.requires.hired c.requires.actors c.requires.shape d m.first.0 m.first.1 m.met c.meet_all.auto.crew).1 in
+    subst (λ n. IsAlong f n [] (desk_view c.meet_all.new.first) c.meet_all.new.crew) (whole ∙ ap length c.as_slice.ensures) along

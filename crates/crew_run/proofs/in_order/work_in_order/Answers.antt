@@ -1,7 +1,7 @@
 use Rattle.std.proofs.Common.{◌≡◌, ◌+◌, ◌-◌, ◌<◌, ℕ, ◌∷◌, [], drop, drop_of_length-le, get_or, length, ap, refl, ◌∙◌, subst, arith}
 use Rattle.std.proofs.Math.ListN.{length-set}
 use Rattle.crew_run.proofs.LineByLine.{IsAmong, crew-first, crew-last, crew-next, row-next}
-use Rattle.crew_run.proofs.EachWorker.{roles-at}
+use Rattle.crew_run.proofs.LineByLine.{roles-at}
 use Rattle.crew_run.specs.Phases.{TakesLine}
 use Rattle.crew_run.specs.declared.workers.Worker.{Worker}
 use Rattle.file_facts.specs.Facts.{IsKnown}

@@ -1,6 +1,6 @@
 use Rattle.std.proofs.Common.{◌≡◌, ◌+◌, ◌++◌, [], ◌∷◌, false, length, take, take_all, ap, sym, ◌∙◌, subst, arith}
 use Rattle.adept_actor.specs.Others.{IsUnnamedCase, IsUnnamedKind, names_case, names_kind}
-use Rattle.crew_run.proofs.LevelDesks.{took-at}
+use Rattle.crew_run.proofs.SideBySide.{took-at}
 use Rattle.wsm_lists.proofs.Lists.{rows-append}
 use Rattle.crew_run.proofs.naming.note_lines.Goals as goal
 

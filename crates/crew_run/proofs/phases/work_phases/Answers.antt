@@ -1,40 +1,64 @@
-use Rattle.std.proofs.Common.{◌≡◌, ◌+◌, ◌∷◌, ◌∙◌, drop, sym, subst, inr}
+use Rattle.std.proofs.Common.{◌≡◌, ◌+◌, ◌∙◌, ◌∷◌, ◌++◌, [], ap, arith, length, subst, sym, take, take_all}
 use Rattle.adept_server.specs.Desks.{desk_view}
-use Rattle.crew_run.proofs.CrewMet.{tried-none}
-use Rattle.crew_run.proofs.Outcomes.{if_err-same, on_err-of}
-use Rattle.crew_run.specs.Crew.{PhasesDone}
-use Rattle.crew_run.specs.Phases.{PhasesTried, SeesMany}
-use Rattle.crew_run.specs.Workers.{desks_of}
-use Rattle.legal_run.proofs.Places.{cut-at}
+use Rattle.crew_run.proofs.CrewAlong.{along-then, few-none, few-then, traces-push}
+use Rattle.crew_run.proofs.DesksCanWork.{knows-heard}
+use Rattle.crew_run.proofs.FullSeen.{if_err-same}
+use Rattle.crew_run.proofs.SideBySide.{took-at}
+use Rattle.crew_run.specs.Phases.{IsOverfull}
+use Rattle.legal_run.specs.Legal.{AreTraces}
 use Rattle.turn_cell.specs.declared.faults.CallFault.TheVariants as fault
 use Rattle.crew_run.proofs.phases.work_phases.Goals as goal
 
-pub returns-in_err-work_phase-clause-tried : goal.returns-in_err-work_phase-clause-tried
-returns-in_err-work_phase-clause-tried g c =
-    let f = c.args.file.now in
-    let i = c.loop-lines.lines-index in
-    let w = desk_view c.work_phase.new.first in
-    let ws = desks_of c.work_phase.new.crew in
-    let split : drop i f.phases ≡ c.lines-item.result ∷ drop (i + 1) f.phases = cut-at c.as_slice-lines-items.result.now f.phases i c.lines-item.result c.as_slice-lines-items.ensures c.loop-lines-test.true c.lines-item.is in
-    let step = inr (w, ws, c.in_err-work_phase.ensures.tried, tried-none f (drop (i + 1) f.phases) w ws) in
-    on_err-of c.from_residual.result (c.loop-lines.invariant.tries w ws (subst (λ phases. PhasesTried f phases (desk_view c.loop-lines.first) (desks_of c.loop-lines.crew) w ws) (sym split) step))
+pub loop-lines-init : goal.loop-lines-init
+loop-lines-init g c = record { crew = c.requires.crew; knows = c.requires.knows; called = c.requires.called; along = ([], tt, few-none c.args.file.now, c.requires.along) }
 
 pub returns-in_err-work_phase-clause-full : goal.returns-in_err-work_phase-clause-full
-returns-in_err-work_phase-clause-full g c = if_err-same (λ x. x ≡ fault.Full → SeesMany (desk_view c.work_phase.new.first)) c.from_residual.result c.in_err-work_phase.field-0.0 c.from_residual.ensures.1 c.in_err-work_phase.ensures.full
+returns-in_err-work_phase-clause-full g c =
+    let f = c.args.file.now in
+    let i = c.loop-lines.lines-index in
+    let e = c.in_err-work_phase.ensures in
+    let then = c.work_phase.new.first in
+    let new = c.work_phase.new.crew in
+    let (traces, fit, few, along) = c.loop-lines.invariant.along in
+    let (trace, worked, whole) = e.worked in
+    let took = took-at c.as_slice-lines-items.result.now f.phases i c.lines-item.result c.as_slice-lines-items.ensures c.loop-lines-test.true c.lines-item.is in
+    if_err-same (λ x. x ≡ fault.Full → IsOverfull f (desk_view then) new) c.from_residual.result c.in_err-work_phase.field-0.0 c.from_residual.ensures.1
+    (λ is. record {
+      done = length f.types;
+      phases = i + 1;
+      traces = traces ++ trace ∷ [];
+      few = few-then f i traces c.lines-item.result trace c.loop-lines.crew new took few worked;
+      along = along-then c.args.server.now f (length f.types) traces c.lines-item.result trace (desk_view c.loop-lines.first) then c.loop-lines.crew new along worked e.heard e.crew;
+      many = e.full is;
+    })
 
 pub loop-lines-preserved : goal.loop-lines-preserved
 loop-lines-preserved g c =
     let f = c.args.file.now in
     let i = c.loop-lines.lines-index in
-    let v = desk_view c.loop-lines.first in
-    let vs = desks_of c.loop-lines.crew in
-    let m = desk_view c.work_phase.new.first in
-    let ms = desks_of c.work_phase.new.crew in
+    let lines = c.lines-item.result in
     let e = c.in_ok-work_phase.ensures in
-    let split : drop i f.phases ≡ c.lines-item.result ∷ drop (i + 1) f.phases = cut-at c.as_slice-lines-items.result.now f.phases i c.lines-item.result c.as_slice-lines-items.ensures c.loop-lines-test.true c.lines-item.is in
+    let then = c.work_phase.new.first in
+    let new = c.work_phase.new.crew in
+    let (traces, fit, few, along) = c.loop-lines.invariant.along in
+    let (trace, worked, whole) = e.worked in
+    let took = took-at c.as_slice-lines-items.result.now f.phases i lines c.as_slice-lines-items.ensures c.loop-lines-test.true c.lines-item.is in
     record {
       crew = e.crew;
+      knows = knows-heard (length f.types) (desk_view c.loop-lines.first) (desk_view then) e.heard c.loop-lines.invariant.knows;
       called = e.called ∙ c.loop-lines.invariant.called;
-      tries = λ w ws rest. c.loop-lines.invariant.tries w ws (subst (λ phases. PhasesTried f phases v vs w ws) (sym split) (inr (m, ms, e.tried, rest)));
-      leads = λ w ws rest. c.loop-lines.invariant.leads w ws (subst (λ phases. PhasesDone f phases v vs w ws) (sym split) (m, ms, e.done, rest));
+      along = (
+        traces ++ trace ∷ [],
+        subst (λ phases. AreTraces f phases (traces ++ trace ∷ [])) (sym took) (traces-push f (take i f.phases) traces lines trace fit whole),
+        few-then f i traces lines trace c.loop-lines.crew new took few worked,
+        along-then c.args.server.now f (length f.types) traces lines trace (desk_view c.loop-lines.first) then c.loop-lines.crew new along worked e.heard e.crew,
+      );
     }
+
+pub returns-clause-done : goal.returns-clause-done
+returns-clause-done g c =
+    let f = c.args.file.now in
+    let i = c.loop-lines.lines-index in
+    let (traces, fit, few, along) = c.loop-lines.invariant.along in
+    let all = take_all i f.phases (omega (arith, c.loop-lines-test.false, ap length c.as_slice-lines-items.ensures)) in
+    (traces, subst (λ phases. AreTraces f phases traces) all fit, along)

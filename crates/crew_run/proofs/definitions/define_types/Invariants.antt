@@ -1,0 +1,10 @@
+use Rattle.adept_server.specs.Desks.{IsDeskOf, desk_view}
+use Rattle.crew_run.specs.Crew.{Defines, KnowsTypes}
+use Rattle.crew_run.proofs.definitions.define_types.Given as goal
+
+abbrev pub invariant-loop-type_no : goal.invariant-loop-type_no
+invariant-loop-type_no g l = record {
+  desk : IsDeskOf l.server l.desk;
+  defines : Defines l.types l.type_no (desk_view l.fn.desk) (desk_view l.desk);
+  known : KnowsTypes l.type_no (desk_view l.desk);
+}
