@@ -1,36 +1,19 @@
 -- What the calls of an act leave of a desk, and the lines of an actor one after another.
-use Rattle.std.proofs.Common.{◌≡◌, ◌≢◌, ℕ, zero, suc, ◌+◌, ◌≤◌, Bool, true, List, [], ◌∷◌, ◌++◌, length, take, drop, map, get_or, Option, Some, None, Result, Ok, Err, slice_get, set, IsErrAnd, is_some, inl, inr, refl, sym, ap, ◌∙◌, subst, arith, eq-eqb, ne_eqb, if◌then◌else◌}
-use Rattle.std.proofs.Math.ListN.{length-map}
-use Rattle.std.proofs.lemmas.List.{length-take-le}
-use Rattle.std.proofs.lemmas.Option.{get_or_from_slice_get}
-use Rattle.adept_actor.proofs.Desks.{case-there, done-defined, nothing-done, then-done, kind-done, case-done, cases-done, each_calls, reply_in}
-use Rattle.adept_actor.proofs.Doing.{each-length, there-before}
-use Rattle.adept_actor.specs.Growth.{DeskHasDone}
-use Rattle.adept_actor.specs.Work.{Acts, CanAct, CanWork, WorksLines, Does, SeesFull, first_fault}
+use Rattle.adept_actor.proofs.Common.{[], ℕ, ◌++◌, ◌+◌, ◌∙◌, ◌∷◌, ◌≡◌, ◌≢◌, ◌≤◌, Acts, ap, AreBegun, AreCallsOf, AreCallsOfLines, ArePartOf, arith, asked, at_case, Bool, Call, CallEach, CallFault, CallsCase, CallsCases, CallsKind, CanAct}
+use Rattle.adept_actor.proofs.Common.{CanWork, case_after, case_count, case_pass, case_reply, CaseId, CasePass, Creates, DeskHasDone, DeskView, Does, drop, eq-eqb, Err, Event, first_fault, get_or, get_or_from_slice_get, has_case, has_kind}
+use Rattle.adept_actor.proofs.Common.{if◌then◌else◌, in_row, inl, inr, is_some, IsDesk, IsErrAnd, kind_beside, kind_keeps, KindEvent, KindReply, length, length-map, length-take-le, Line, lines_of, List, map, Migrates, ne_eqb, None, Ok}
+use Rattle.adept_actor.proofs.{Common.{Option, PassView, refl, Reply, Result, SeesFull, set, set-here, slice_get, Some, subst, suc, sym, take, told, told_each, true, WorksLines, zero}, Desks.{case-there, done-defined, nothing-done}}
+use Rattle.adept_actor.proofs.{Desks.{then-done, kind-done, case-done, cases-done, each_calls, reply_in}, Doing.{each-length, there-before}}
 use Rattle.adept_actor.specs.Work.SeesFull.{of_kind as kind_is_full, of_case as case_is_full}
-use Rattle.adept_server.proofs.Keeping.{kind_beside, kind_keeps}
-use Rattle.adept_server.specs.Calling.{CallEach, CallsKind, CallsCase, CallsCases, Creates, Migrates}
 use Rattle.adept_server.specs.Calling.Creates.{unasked as uncreated, asked as created}
 use Rattle.adept_server.specs.Calling.Migrates.{unasked as none_moves, asked as none_told, told as all_told}
-use Rattle.adept_server.specs.Desks.{DeskView, in_row, at_case, case_count, case_pass, has_case, has_kind, CasePass, IsDesk}
-use Rattle.case_core.specs.Machine.{case_after, case_reply}
-use Rattle.case_core.specs.declared.events.Event.{Event}
 use Rattle.case_core.specs.declared.events.Event.TheVariants as event
-use Rattle.case_core.specs.declared.replies.Reply.{Reply}
-use Rattle.legal_run.proofs.Places.{set-here}
-use Rattle.legal_run.specs.LineCalls.{Call, asked, told, told_each, AreCallsOf, AreCallsOfLines, ArePartOf, AreBegun, lines_of}
 use Rattle.file_model.specs.declared.files.Act.{Act}
 use Rattle.file_model.specs.declared.files.Act.TheVariants as act
-use Rattle.file_model.specs.declared.files.Line.{Line}
-use Rattle.turn_cell.specs.Passes.{PassView}
-use Rattle.turn_cell.specs.declared.faults.CallFault.{CallFault}
 use Rattle.turn_cell.specs.declared.faults.CallFault.TheVariants as fault
 use Rattle.turn_cell.specs.declared.limits.TheConstants.{MAX_ENTRIES}
-use Rattle.type_core.specs.declared.events.KindEvent.{KindEvent}
 use Rattle.type_core.specs.declared.events.KindEvent.TheVariants as kind_event
-use Rattle.type_core.specs.declared.replies.KindReply.{KindReply}
 use Rattle.type_core.specs.declared.replies.KindReply.TheVariants as reply
-use Rattle.wsm_sound.specs.declared.versions.CaseId.{CaseId}
 
 -- where a call answers that the journal is full, the desk has seen that
 kind-full : (e : KindEvent) (t : ℕ) (answer : Result KindReply CallFault) (v w : DeskView) → CallsKind e t answer v w → answer ≡ Err fault.Full → SeesFull w

@@ -1,31 +1,14 @@
 -- What a desk's calls leave of it.
-use Rattle.std.proofs.Common.{◌≡◌, ◌≢◌, ℕ, zero, suc, ◌&&◌, List, [], ◌∷◌, ◌++◌, length, drop, map, Option, Some, None, Result, Ok, Err, slice_get, set, inl, refl, sym, ap, ◌∙◌, subst, arith, ◌==◌, eq-eqb, ne_eqb, if◌then◌else◌}
-use Rattle.std.proofs.Math.ListN.{length-set}
-use Rattle.std.proofs.lemmas.List.{map-set}
-use Rattle.std.proofs.lemmas.Option.{slice_get-map}
+use Rattle.adept_actor.proofs.Common.{[], ℕ, ◌&&◌, ◌++◌, ◌==◌, ◌∙◌, ◌∷◌, ◌≡◌, ◌≢◌, ap, arith, at_case, Call, CallFault, calls_of_case, calls_of_kind, CallsCase, CallsCases, CallsKind, case_after, case_beside, case_pass, case_reply, CaseId}
+use Rattle.adept_actor.proofs.Common.{CasePass, cases_beside, DeskHasDone, DeskView, drop, entry, eq-eqb, Err, Event, has_more, has_version, HasDone, if◌then◌else◌, in_row, inl, is_case, IsDefinedFor, IsDesk, kind_beside, KindEvent}
+use Rattle.adept_actor.proofs.Common.{KindPass, KindReply, length, length-set, List, map, map-set, ne_eqb, None, of_kind, Ok, Option, refl, Reply, Result, set, set-here, set-other, slice_get, slice_get-map, Some, some_one, subst, suc, sym}
+use Rattle.adept_actor.proofs.{Common.{there-as, told, told_some, zero}, Doing.{none-done, more-done, entries_of, entries_at, one-done, each-done, either_same}}
 use Rattle.std.specs.Option.{option_map}
 use mathlib.Core.Logic.{dite}
 use native.Mathlib.Decide.{ℕ_discrete}
-use Rattle.adept_actor.proofs.Doing.{none-done, more-done, entries_of, entries_at, one-done, each-done, either_same}
-use Rattle.adept_actor.specs.Growth.{HasDone, DeskHasDone}
 use Rattle.adept_server.proofs.Fronts.{first-even}
-use Rattle.adept_server.proofs.Keeping.{has_more, kind_beside, case_beside, cases_beside}
-use Rattle.adept_server.specs.Calling.{CallsKind, CallsCase, CallsCases}
-use Rattle.adept_server.specs.Desks.{KindPass, CasePass, DeskView, in_row, at_case, case_pass, has_version, IsDefinedFor, IsDesk}
-use Rattle.case_core.specs.Machine.{case_after, case_reply}
-use Rattle.case_core.specs.declared.events.Event.{Event}
-use Rattle.case_core.specs.declared.replies.Reply.{Reply}
-use Rattle.legal_run.proofs.OnMachines.{calls_of_kind-append, calls_of_case-append}
-use Rattle.legal_run.proofs.Places.{set-here, set-other, some_one, there-as}
-use Rattle.legal_run.proofs.Told.{entry_if, some-at, some-kind, some-other}
-use Rattle.legal_run.specs.LineCalls.{Call, of_kind, calls_of_kind, calls_of_case, told, told_some}
-use Rattle.line_calls.specs.Calls.{is_case}
-use Rattle.turn_cell.specs.History.{entry}
-use Rattle.turn_cell.specs.declared.faults.CallFault.{CallFault}
+use Rattle.legal_run.proofs.{OnMachines.{calls_of_kind-append, calls_of_case-append}, Told.{entry_if, some-at, some-kind, some-other}}
 use Rattle.type_core.specs.Machine.{kind_after, kind_reply}
-use Rattle.type_core.specs.declared.events.KindEvent.{KindEvent}
-use Rattle.type_core.specs.declared.replies.KindReply.{KindReply}
-use Rattle.wsm_sound.specs.declared.versions.CaseId.{CaseId}
 
 -- rows of one shape have the same places
 rows-there : {A B : Type 0} (rows : List (List A)) (others : List (List B)) (t place : ℕ) (x : A) → map length others ≡ map length rows → in_row place (slice_get rows t) ≡ Some x → (y : B) × (in_row place (slice_get others t) ≡ Some y)

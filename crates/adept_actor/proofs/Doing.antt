@@ -1,14 +1,8 @@
 -- What calls leave of passes.
-use Rattle.std.proofs.Common.{◌≡◌, ℕ, zero, suc, ◌≤◌, Bool, true, false, List, [], ◌∷◌, ◌++◌, length, take, drop, Option, Some, None, Result, Ok, Err, MatchResult, slice_get, refl, sym, ap, ◌∙◌, subst, arith, append_assoc, ◌==◌, if◌then◌else◌}
-use Rattle.std.proofs.lemmas.List.{append-nil}
-use Rattle.adept_actor.specs.Growth.{HasDone}
+use Rattle.adept_actor.proofs.Common.{[], ℕ, ◌++◌, ◌==◌, ◌∙◌, ◌∷◌, ◌≡◌, ◌≤◌, ap, append-nil, append_assoc, arith, Bool, CallEach, CallFault, Calls, CallsOne, drop, entry, Err, false, HasDone, if◌then◌else◌, IsAnswered, length, List}
+use Rattle.adept_actor.proofs.Common.{MatchResult, None, Ok, one-becomes, Option, PassView, refl, Result, Sees, slice_get, Some, some_one, subst, suc, sym, take, true, zero}
 use Rattle.adept_server.proofs.OneCall.{more_seen}
-use Rattle.adept_server.specs.Calling.{IsAnswered, CallsOne, CallEach}
-use Rattle.legal_run.proofs.Places.{one-becomes, some_one}
 use Rattle.turn_cell.proofs.Prefixes.{prefix_self, prefix_trans}
-use Rattle.turn_cell.specs.History.{entry}
-use Rattle.turn_cell.specs.Passes.{PassView, Sees, Calls}
-use Rattle.turn_cell.specs.declared.faults.CallFault.{CallFault}
 use Rattle.turn_cell.specs.declared.journal.Entry.{Entry}
 
 module _ {A : Type 0} where

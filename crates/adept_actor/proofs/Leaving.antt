@@ -1,25 +1,13 @@
 -- Calls leave the passes of other cells as they were.
-use Rattle.std.proofs.Common.{◌≡◌, ℕ, zero, suc, ◌==◌, eq-eqb, ◌&&◌, ◌<◌, Bool, true, false, List, [], ◌∷◌, ◌++◌, drop, Option, Some, Result, slice_get, set, refl, sym, ap, ◌∙◌, subst}
+use Rattle.adept_actor.proofs.Common.{[], ℕ, ◌&&◌, ◌++◌, ◌<◌, ◌==◌, ◌∙◌, ◌∷◌, ◌≡◌, ap, Bool, CallFault, CallsCase, CallsCases, CallsKind, case_after, case_pass, case_reply, CaseId, Creates, DeskView, drop, eq-eqb, Event, false, in_row}
+use Rattle.adept_actor.proofs.Common.{is_case, KindEvent, KindReply, LeavesOthers, LeavesSuch, LeavesUnnamed, Line, List, Migrates, names_case, names_kind, Option, refl, Reply, Result, set, set-other, slice_get, Some, subst, suc, sym, true}
+use Rattle.adept_actor.proofs.{Common.zero, Doing.others-left}
 use Rattle.std.proofs.lemmas.Bool.{and_from, lt-ltb, ltb-false, ltb-true}
 use Rattle.std.specs.Prelude.{nat_lt}
-use Rattle.adept_actor.proofs.Doing.{others-left}
-use Rattle.adept_actor.specs.Others.{LeavesOthers, LeavesSuch, LeavesUnnamed, names_kind, names_case}
-use Rattle.adept_server.specs.Calling.{CallsKind, CallsCase, CallsCases, Creates, Migrates}
 use Rattle.adept_server.specs.Calling.Creates.{unasked as uncreated, asked as created}
 use Rattle.adept_server.specs.Calling.Migrates.{unasked as none_moves, asked as none_told, told as all_told}
-use Rattle.adept_server.specs.Desks.{DeskView, case_pass, in_row}
-use Rattle.case_core.specs.Machine.{case_after, case_reply}
-use Rattle.case_core.specs.declared.events.Event.{Event}
-use Rattle.case_core.specs.declared.replies.Reply.{Reply}
-use Rattle.legal_run.proofs.Places.{set-other}
-use Rattle.line_calls.specs.Calls.{is_case}
 use Rattle.file_model.specs.declared.files.Act.TheVariants as act
-use Rattle.file_model.specs.declared.files.Line.{Line}
-use Rattle.turn_cell.specs.declared.faults.CallFault.{CallFault}
-use Rattle.type_core.specs.declared.events.KindEvent.{KindEvent}
-use Rattle.type_core.specs.declared.replies.KindReply.{KindReply}
 use Rattle.wsm_lists.specs.Rows.{AllRows}
-use Rattle.wsm_sound.specs.declared.versions.CaseId.{CaseId}
 
 -- rows of which one was changed at some places are as they were elsewhere
 elsewhere : {X : Type 0} (rows : List (List X)) (t : ℕ) (row new : List X) (u p : ℕ) → slice_get rows t ≡ Some row → (u ≡ t → slice_get new p ≡ slice_get row p) → in_row p (slice_get (set rows t new) u) ≡ in_row p (slice_get rows u)

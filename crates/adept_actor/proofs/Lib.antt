@@ -1,3 +1,4 @@
+pub mod Common
 pub mod Doing
 pub mod Desks
 pub mod Acts

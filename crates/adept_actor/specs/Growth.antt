@@ -3,8 +3,7 @@ use Rattle.std.specs.Prelude.{◌≡◌, ℕ, List, ◌++◌, length, map, Some,
 use mathlib.Core.List.{IsPrefix}
 use Rattle.adept_server.specs.Desks.{KindPass, CasePass, DeskView, case_pass}
 use Rattle.legal_run.specs.LineCalls.{Call, calls_of_kind, calls_of_case}
-use Rattle.turn_cell.specs.Passes.{PassView}
-use Rattle.turn_cell.specs.declared.journal.Entry.{Entry}
+use Rattle.turn_cell.specs.{Passes.PassView, declared.journal.Entry.Entry}
 use Rattle.wsm_sound.specs.declared.versions.CaseId.{CaseId}
 
 -- a pass has made these calls, and has perhaps seen more

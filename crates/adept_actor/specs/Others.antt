@@ -2,8 +2,7 @@
 use Rattle.std.specs.Prelude.{◌≡◌, ℕ, Bool, false, List, slice_get}
 use Rattle.adept_server.specs.Desks.{DeskView, case_pass}
 use Rattle.line_calls.specs.Calls as line
-use Rattle.file_model.specs.declared.files.Act.{Act}
-use Rattle.file_model.specs.declared.files.Line.{Line}
+use Rattle.file_model.specs.{declared.files.Act.Act, declared.files.Line.Line}
 use Rattle.wsm_lists.specs.Rows.{AllRows}
 use Rattle.wsm_sound.specs.declared.versions.CaseId.{CaseId}
 

@@ -4,17 +4,14 @@ use Rattle.adept_actor.specs.Growth.{DeskHasDone}
 use Rattle.adept_server.specs.Desks.{KindPass, CasePass, DeskView, IsDefinedFor, case_count, case_pass, has_case, has_kind}
 use Rattle.legal_run.specs.LineCalls.{Call as Told, AreCallsOf, AreCallsOfLines, ArePartOf, AreBegun, lines_of}
 use Rattle.file_limits.specs.declared.TheConstants.{MAX_OPS}
-use Rattle.file_model.specs.declared.files.Act.{Act}
+use Rattle.file_model.specs.{declared.files.Act.Act, declared.files.Line.Line}
 use Rattle.case_core.specs.declared.events.Event.TheVariants as event
-use Rattle.line_calls.specs.Calls.{call_of}
-use Rattle.line_calls.specs.declared.calls.Call.{Call}
+use Rattle.line_calls.specs.{Calls.call_of, declared.calls.Call.Call}
 use Rattle.line_calls.specs.declared.calls.Call.TheVariants as call
 use Rattle.line_calls.specs.declared.calls.Told.TheVariants as told
 use Rattle.type_core.specs.declared.events.KindEvent.TheVariants as kind_event
-use Rattle.file_model.specs.declared.files.Line.{Line}
-use Rattle.turn_cell.specs.declared.faults.CallFault.{CallFault}
+use Rattle.turn_cell.specs.{declared.faults.CallFault.CallFault, declared.limits.TheConstants.MAX_ENTRIES}
 use Rattle.turn_cell.specs.declared.faults.CallFault.TheVariants as fault
-use Rattle.turn_cell.specs.declared.limits.TheConstants.{MAX_ENTRIES}
 use Rattle.wsm_lists.specs.Rows.{AllRows}
 use Rattle.wsm_sound.specs.declared.versions.CaseId.{CaseId}
 

@@ -1,7 +1,6 @@
 // The calls of a line.
 ghost use Rattle.std.specs.Prelude.{◌≡◌};
-ghost use Rattle.adept_actor.specs.Others.{LeavesOthers};
-ghost use Rattle.adept_actor.specs.Work.{Acts, CanAct, first_fault};
+ghost use Rattle.adept_actor.specs.{Others.LeavesOthers, Work.{Acts, CanAct, first_fault}};
 ghost use Rattle.adept_server.specs.Desks.{IsDeskOf, desk_view};
 
 use adept_server::{Desk, Server};

@@ -1,6 +1,5 @@
 // The lines of an actor.
-ghost use Rattle.adept_actor.specs.Others.{LeavesOthers, LeavesUnnamed};
-ghost use Rattle.adept_actor.specs.Work.{Acts, CanAct, CanWork, WorksLines};
+ghost use Rattle.adept_actor.specs.{Others.{LeavesOthers, LeavesUnnamed}, Work.{Acts, CanAct, CanWork, WorksLines}};
 ghost use Rattle.adept_server.specs.Desks.{IsDeskOf, desk_view};
 
 use crate::calls::act;

@@ -1,10 +1,8 @@
 -- What was written to a sink that keeps some of the last bytes back is, as far as it was handed on, in the sink behind it.
-use Rattle.std.proofs.Common.{◌≡◌, Bool, true, false, ℕ, ◌+◌, ◌-◌, ◌≤◌, List, [], ◌++◌, length, take, drop, Option, Some, None, IsTrue, append_assoc, append-nil, refl, sym, ap, ◌∙◌, arith}
-use Rattle.std.proofs.lemmas.List.{take-append-drop}
+use Rattle.std.proofs.{Common.{◌≡◌, Bool, true, false, ℕ, ◌+◌, ◌-◌, ◌≤◌, List, [], ◌++◌, length, take, drop, Option, Some, None, IsTrue, append_assoc, append-nil, refl, sym, ap, ◌∙◌, arith}, lemmas.List.take-append-drop}
 use Rattle.std.proofs.Math.Seq.{take-append_seam, take-append-add}
 use Rattle.std.specs.Io.KnownBytes.{append_known}
-use Rattle.adept_io.specs.Gathered.{known_length}
-use Rattle.adept_io.specs.Written.{AppendsPrefix, Gives}
+use Rattle.adept_io.specs.{Gathered.known_length, Written.{AppendsPrefix, Gives}}
 
 -- known bytes with none kept back
 append_known-nil : (a : Option (List ℕ)) → append_known a [] ≡ a

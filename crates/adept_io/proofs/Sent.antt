@@ -1,12 +1,8 @@
 -- Several writes in a row.
-use Rattle.std.proofs.Common.{◌≡◌, Bool, true, false, subst, ℕ, ◌+◌, ◌<◌, ◌≤◌, List, [], ◌∷◌, ◌++◌, length, get_or, take, take-add, drop, Option, append_assoc, append-nil, refl, sym, ap, ◌∙◌, inl, inr, arith}
-use Rattle.std.specs.List.{flat_map}
-use Rattle.std.proofs.lemmas.List.{take_more, take-append-drop}
-use Rattle.std.proofs.lemmas.Grind.{flat_map-append}
-use Rattle.std.proofs.KnownBytes.{Appends-nil, Appends-trans}
-use Rattle.std.specs.Io.KnownBytes.{Appends}
-use Rattle.adept_io.specs.Counts.{Rose}
-use Rattle.adept_io.specs.Written.{AppendsPrefix, Gives}
+use Rattle.std.proofs.{Common.{◌≡◌, Bool, true, false, subst, ℕ, ◌+◌, ◌<◌, ◌≤◌, List, [], ◌∷◌, ◌++◌, length, get_or, take, take-add, drop, Option, append_assoc, append-nil, refl, sym, ap, ◌∙◌, inl, inr, arith}, lemmas.List.take_more}
+use Rattle.std.proofs.{lemmas.List.take-append-drop, lemmas.Grind.flat_map-append, KnownBytes.{Appends-nil, Appends-trans}}
+use Rattle.std.specs.{List.flat_map, Io.KnownBytes.Appends}
+use Rattle.adept_io.specs.{Counts.Rose, Written.{AppendsPrefix, Gives}}
 
 -- all of the first bytes were written, and then some of the others
 pub AppendsPrefix-after : (a b c : Option (List ℕ)) (t u : List ℕ) → Appends a b t → AppendsPrefix b c u → AppendsPrefix a c (t ++ u)

@@ -1,9 +1,6 @@
 -- Several reads in a row.
-use Rattle.std.proofs.Common.{◌≡◌, ℕ, ◌+◌, ◌≤◌, List, ◌++◌, take, length, Option, Result, Ok, Err, length-append, arith}
-use Rattle.std.proofs.lemmas.List.{length-take}
-use Rattle.std.proofs.KnownBytes.{Consumes-trans}
-use Rattle.std.specs.Prelude.{OnErr}
-use Rattle.std.specs.Io.KnownBytes.{Consumes}
+use Rattle.std.proofs.{Common.{◌≡◌, ℕ, ◌+◌, ◌≤◌, List, ◌++◌, take, length, Option, Result, Ok, Err, length-append, arith}, lemmas.List.length-take, KnownBytes.Consumes-trans}
+use Rattle.std.specs.{Prelude.OnErr, Io.KnownBytes.Consumes}
 use Rattle.adept_io.specs.Read.{ConsumesMany, ConsumesUpTo}
 
 -- bytes that were read before, and the next piece

@@ -1,6 +1,5 @@
 -- Counts of faults and numbers of calls: u64 numbers that stay at the greatest once they are there.
-use Rattle.std.specs.Prelude.{◌≡◌, ◌==◌, ℕ, ◌+◌, ◌-◌, ◌^◌, ◌<◌, ◌⊎◌, Bool, List, min}
-use Rattle.std.specs.List.{list_any}
+use Rattle.std.specs.{Prelude.{◌≡◌, ◌==◌, ℕ, ◌+◌, ◌-◌, ◌^◌, ◌<◌, ◌⊎◌, Bool, List, min}, List.list_any}
 
 -- a count rose; one that stands at u64's greatest counts as risen
 abbrev pub Rose : ℕ → ℕ → Type 0

@@ -1,6 +1,5 @@
 -- What was taken from a source.
-use Rattle.std.specs.Prelude.{◌≡◌, ℕ, ◌≤◌, List, length, Option}
-use Rattle.std.specs.Io.KnownBytes.{Consumes}
+use Rattle.std.specs.{Prelude.{◌≡◌, ℕ, ◌≤◌, List, length, Option}, Io.KnownBytes.Consumes}
 
 -- known bytes lost this many from their front
 abbrev pub ConsumesMany : (old new : Option (List ℕ)) → ℕ → Type 0

@@ -1,7 +1,6 @@
 -- Sources and sinks over std's readers and writers: what contracts see of them.
 use Rattle.std.specs.Prelude.{ℕ}
-use Rattle.adept_io.specs.declared.standard.StdSource.{StdSource}
-use Rattle.adept_io.specs.declared.standard.StdSink.{StdSink}
+use Rattle.adept_io.specs.{declared.standard.StdSource.StdSource, declared.standard.StdSink.StdSink}
 
 -- the reader that a source reads
 abbrev pub reader_of : {R : Type 0} → StdSource R → R

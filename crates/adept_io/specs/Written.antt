@@ -1,6 +1,5 @@
 -- What a sink was given by calls in a row.
-use Rattle.std.specs.Prelude.{◌≡◌, ℕ, Bool, true, false, ◌≤◌, List, ◌++◌, Option}
-use Rattle.std.specs.Io.KnownBytes.{Appends}
+use Rattle.std.specs.{Prelude.{◌≡◌, ℕ, Bool, true, false, ◌≤◌, List, ◌++◌, Option}, Io.KnownBytes.Appends}
 use Rattle.adept_io.specs.Counts.{Rose}
 
 -- known bytes grow by the first of these, up to some place

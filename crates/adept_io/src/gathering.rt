@@ -1,10 +1,6 @@
 // Gathering: the small pieces of a text are kept until there are many bytes, and handed on together.
-ghost use Rattle.std.specs.Prelude.{◌≡◌, ℕ, List, [], ◌≤◌, OnErr, OnOk, IsTrue, true};
-ghost use Rattle.std.specs.Borrow.{GName};
-ghost use Rattle.std.specs.Io.KnownBytes.{append_known, Appends, Keeps};
-ghost use Rattle.adept_io.specs.Counts.{Rose};
-ghost use Rattle.adept_io.specs.Gathered.{known_length};
-ghost use Rattle.adept_io.specs.Written.{AppendsPrefix, Gives};
+ghost use Rattle.std.specs.{Prelude.{◌≡◌, ℕ, List, [], ◌≤◌, OnErr, OnOk, IsTrue, true}, Borrow.GName, Io.KnownBytes.{append_known, Appends, Keeps}};
+ghost use Rattle.adept_io.specs.{Counts.Rose, Gathered.known_length, Written.{AppendsPrefix, Gives}};
 
 use crate::held::Held;
 use crate::writing::write_most;

@@ -1,6 +1,5 @@
 // Lists of bytes and of call numbers.
-ghost use Rattle.std.specs.Prelude.{◌≡◌, List, [], ◌∷◌, ◌++◌, ◌==◌, ◌↔◌, ℕ, length, slice_get, IfOk, OnOk, OnErr, IsTrue, Contains};
-ghost use Rattle.std.specs.Slice.Iter.{iter_rest};
+ghost use Rattle.std.specs.{Prelude.{◌≡◌, List, [], ◌∷◌, ◌++◌, ◌==◌, ◌↔◌, ℕ, length, slice_get, IfOk, OnOk, OnErr, IsTrue, Contains}, Slice.Iter.iter_rest};
 ghost use Rattle.adept_io.specs.Counts.{is_listed};
 
 use crate::NoMemory;

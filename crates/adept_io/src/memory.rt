@@ -1,9 +1,6 @@
 // A source and a sink in memory that fail at the calls that they are told.
-ghost use Rattle.std.specs.Prelude.{◌≡◌, ℕ, List, [], ◌<◌, ◌≤◌, length, IfOk, OnOk, OnErr, IsOk, Some, is_err};
-ghost use Rattle.std.specs.Io.{ReadsAtMost, WritesAtMost};
-ghost use Rattle.std.specs.Io.KnownBytes.{ReadConsumes, WriteAppends};
-ghost use Rattle.adept_io.specs.Counts.{Rose};
-ghost use Rattle.adept_io.specs.Memory.{SureBytes, FailingBytes, HeldBytes, filled, read_fails, read_count, after_read, write_fails, write_count, after_write};
+ghost use Rattle.std.specs.{Prelude.{◌≡◌, ℕ, List, [], ◌<◌, ◌≤◌, length, IfOk, OnOk, OnErr, IsOk, Some, is_err}, Io.{ReadsAtMost, WritesAtMost}, Io.KnownBytes.{ReadConsumes, WriteAppends}};
+ghost use Rattle.adept_io.specs.{Counts.Rose, Memory.{SureBytes, FailingBytes, HeldBytes, filled, read_fails, read_count, after_read, write_fails, write_count, after_write}};
 
 use crate::{Bytes, Calls, Failed, NoMemory, Sink, Source, SureSource};
 use std::alloc::Global;

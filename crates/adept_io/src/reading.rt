@@ -1,8 +1,6 @@
 // Reading a source to its end.
-ghost use Rattle.std.specs.Prelude.{◌≡◌, ℕ, List, ◌+◌, ◌<◌, ◌≤◌, length, vec_len, IfOk, IfErr, OnOk, OnErr, IsErrOf};
-ghost use Rattle.std.specs.Io.KnownBytes.{Consumes, IsAtEnd};
-ghost use Rattle.adept_io.specs.Counts.{Rose};
-ghost use Rattle.adept_io.specs.Read.{ConsumesMany, ConsumesUpTo};
+ghost use Rattle.std.specs.{Prelude.{◌≡◌, ℕ, List, ◌+◌, ◌<◌, ◌≤◌, length, vec_len, IfOk, IfErr, OnOk, OnErr, IsErrOf}, Io.KnownBytes.{Consumes, IsAtEnd}};
+ghost use Rattle.adept_io.specs.{Counts.Rose, Read.{ConsumesMany, ConsumesUpTo}};
 
 use crate::{Bytes, Failed, NoMemory, Source};
 use std::alloc::Global;

@@ -1,7 +1,5 @@
 // What takes bytes.
-ghost use Rattle.std.specs.Prelude.{◌≡◌, ℕ, List, ◌≤◌, ◌<◌, length, Option, OnErr, IfOk};
-ghost use Rattle.std.specs.Io.{WritesAtMost};
-ghost use Rattle.std.specs.Io.KnownBytes.{WriteAppends};
+ghost use Rattle.std.specs.{Prelude.{◌≡◌, ℕ, List, ◌≤◌, ◌<◌, length, Option, OnErr, IfOk}, Io.WritesAtMost, Io.KnownBytes.WriteAppends};
 ghost use Rattle.adept_io.specs.Counts.{Rose};
 
 use crate::Failed;

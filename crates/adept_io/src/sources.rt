@@ -1,7 +1,5 @@
 // What gives bytes.
-ghost use Rattle.std.specs.Prelude.{◌≡◌, ℕ, List, ◌≤◌, Option, OnErr, OnOk};
-ghost use Rattle.std.specs.Io.{ReadsAtMost};
-ghost use Rattle.std.specs.Io.KnownBytes.{ReadConsumes};
+ghost use Rattle.std.specs.{Prelude.{◌≡◌, ℕ, List, ◌≤◌, Option, OnErr, OnOk}, Io.ReadsAtMost, Io.KnownBytes.ReadConsumes};
 ghost use Rattle.adept_io.specs.Counts.{Rose};
 
 use crate::Failed;

@@ -1,10 +1,6 @@
 // Sources and sinks over std's readers and writers.
-ghost use Rattle.std.specs.Prelude.{◌≡◌, ◌≢◌, ℕ, ◌<◌, ◌≤◌, length, Ok, Err, IfOk, IfErr, OnErr};
-ghost use Rattle.std.specs.Io.{ReadsAtMost, WritesAtMost};
-ghost use Rattle.std.specs.Io.KnownBytes.{ReadConsumes, WriteAppends};
-ghost use Rattle.std.specs.IoError.{error_kind};
-ghost use Rattle.adept_io.specs.Counts.{Rose, one_more};
-ghost use Rattle.adept_io.specs.Standard.{reader_of, reader_faults, writer_of, writer_faults};
+ghost use Rattle.std.specs.{Prelude.{◌≡◌, ◌≢◌, ℕ, ◌<◌, ◌≤◌, length, Ok, Err, IfOk, IfErr, OnErr}, Io.{ReadsAtMost, WritesAtMost}, Io.KnownBytes.{ReadConsumes, WriteAppends}, IoError.error_kind};
+ghost use Rattle.adept_io.specs.{Counts.{Rose, one_more}, Standard.{reader_of, reader_faults, writer_of, writer_faults}};
 
 use crate::{Failed, Sink, Source};
 use std::io::{self, ErrorKind, Read, Write};

@@ -1,9 +1,6 @@
 // A source and a sink that never fail.
-ghost use Rattle.std.specs.Prelude.{◌≡◌, ℕ, List, ◌+◌, ◌<◌, ◌≤◌, ◌^◌, ◌-◌, length, min, OnErr, IfOk, Ok, Some, None};
-ghost use Rattle.std.specs.Io.{ReadsAtMost, WritesAtMost};
-ghost use Rattle.std.specs.Io.KnownBytes.{ReadConsumes, WriteAppends};
-ghost use Rattle.adept_io.specs.Counts.{Rose};
-ghost use Rattle.adept_io.specs.Memory.{SureBytes, sure_count, after_sure_read, filled};
+ghost use Rattle.std.specs.{Prelude.{◌≡◌, ℕ, List, ◌+◌, ◌<◌, ◌≤◌, ◌^◌, ◌-◌, length, min, OnErr, IfOk, Ok, Some, None}, Io.{ReadsAtMost, WritesAtMost}, Io.KnownBytes.{ReadConsumes, WriteAppends}};
+ghost use Rattle.adept_io.specs.{Counts.Rose, Memory.{SureBytes, sure_count, after_sure_read, filled}};
 
 use crate::{Bytes, Failed, Sink, Source};
 use std::marker::Model;

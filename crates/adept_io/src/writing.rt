@@ -1,10 +1,6 @@
 // Writing all of some bytes, in whatever pieces the sink takes them.
-ghost use Rattle.std.specs.Prelude.{◌≡◌, ℕ, ℤ, List, [], ◌∷◌, ◌++◌, ◌≤◌, OnOk, OnErr, decimal, length, take};
-ghost use Rattle.std.specs.Fmt.{signed_decimal};
-ghost use Rattle.std.specs.List.{flat_map};
-ghost use Rattle.std.specs.Io.KnownBytes.{Appends};
-ghost use Rattle.adept_io.specs.Counts.{Rose};
-ghost use Rattle.adept_io.specs.Written.{AppendsPrefix, Gives};
+ghost use Rattle.std.specs.{Prelude.{◌≡◌, ℕ, ℤ, List, [], ◌∷◌, ◌++◌, ◌≤◌, OnOk, OnErr, decimal, length, take}, Fmt.signed_decimal, List.flat_map, Io.KnownBytes.Appends};
+ghost use Rattle.adept_io.specs.{Counts.Rose, Written.{AppendsPrefix, Gives}};
 
 use crate::{Failed, Sink};
 use itoa::Buffer;

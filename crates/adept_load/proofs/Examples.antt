@@ -1,9 +1,7 @@
 -- Lines of files, computed from the definitions alone.
-use Rattle.std.specs.Prelude.{◌≡◌, [], refl, codes}
-use Rattle.std.specs.Fmt.{digits}
-use Rattle.adept_load.specs.Courses.{course_of, visit_lines, first_lines, last_lines}
-use Rattle.adept_load.specs.Lines.{line, create_line, start_line, end_line, activity_lines, entry_lines, change_lines}
-use Rattle.adept_load.specs.Load.{head, declaration, beginning, continuation, each_case, first_phase, second_phase, last_phase, load_text}
+use Rattle.std.specs.{Prelude.{◌≡◌, [], refl, codes}, Fmt.digits}
+use Rattle.adept_load.specs.{Courses.{course_of, visit_lines, first_lines, last_lines}, Lines.{line, create_line, start_line, end_line, activity_lines, entry_lines, change_lines}, Load.{head, declaration, beginning, continuation}}
+use Rattle.adept_load.specs.Load.{each_case, first_phase, second_phase, last_phase, load_text}
 
 -- a file of one case
 pub one_case : load_text 1 ≡ codes "adept 1\ntype order\nelement total int\nact enter\nact pack\nact send\nwrite enter total\nread pack total\nend\ntype claim\nact enquire\nand s j\nbranch 0\nact assess\nbranch 1\nact visit\ndone\nloop l e\nact decide\ndone\nact pay\nend\nactor w1\nactor w2\nactor w3\nactor w4\nactor w5\nactor w6\nactor w7\nactor w8\nactor boss\ncase c1 order\nphase\nw1 create c1\nphase\nboss install order\ninsert check after enter\nend\nboss install claim\nsync assess visit\nend\nboss migrate order\nboss migrate claim\nboss install order\ninsert bill after pack\nend\nboss migrate order\nphase\n"

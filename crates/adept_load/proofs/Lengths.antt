@@ -1,12 +1,8 @@
 -- How long the file is at most, line by line, where there are at most 4096 cases.
-use Rattle.std.proofs.Common.{◌≡◌, ℕ, zero, suc, ◌+◌, ◌-◌, ◌*◌, ◌%◌, ◌<◌, ◌≤◌, List, [], ◌∷◌, ◌++◌, length, length-append, lit<, arith}
-use Rattle.std.proofs.lemmas.Fmt.{length-decimal-le}
-use Rattle.std.specs.List.{flat_map, range_with_len}
-use Rattle.std.specs.Prelude.{codes, decimal}
-use Rattle.adept_load.specs.Courses.{courses, course_of, visit_lines, first_lines, last_lines}
-use Rattle.adept_load.specs.Lines.{worker, line, create_line, start_line, end_line, activity_lines, entry_lines, change_lines}
-use Rattle.adept_load.specs.Load.{head, declaration, beginning, continuation, each_case, first_phase, second_phase, last_phase, load_text}
-use Rattle.adept_load.specs.declared.courses.Course.{Course}
+use Rattle.std.proofs.{Common.{◌≡◌, ℕ, zero, suc, ◌+◌, ◌-◌, ◌*◌, ◌%◌, ◌<◌, ◌≤◌, List, [], ◌∷◌, ◌++◌, length, length-append, lit<, arith}, lemmas.Fmt.length-decimal-le}
+use Rattle.std.specs.{List.{flat_map, range_with_len}, Prelude.{codes, decimal}}
+use Rattle.adept_load.specs.{Courses.{courses, course_of, visit_lines, first_lines, last_lines}, Lines.{worker, line, create_line, start_line, end_line, activity_lines, entry_lines, change_lines}, Load.{head, declaration, beginning}}
+use Rattle.adept_load.specs.{Load.{continuation, each_case, first_phase, second_phase, last_phase, load_text}, declared.courses.Course.Course}
 use Rattle.adept_load.specs.declared.courses.Course.TheVariants as course
 
 -- a case's number has at most four digits, and its worker's one

@@ -1,7 +1,6 @@
 -- What becomes of the cases.
 use Rattle.std.specs.Prelude.{ℕ, ◌%◌, List, [], ◌∷◌, ◌++◌, codes, slice_index_or}
-use Rattle.adept_load.specs.Lines.{start_line, end_line, activity_lines, entry_lines, change_lines}
-use Rattle.adept_load.specs.declared.courses.Course.{Course}
+use Rattle.adept_load.specs.{Lines.{start_line, end_line, activity_lines, entry_lines, change_lines}, declared.courses.Course.Course}
 use Rattle.adept_load.specs.declared.courses.Course.TheVariants as course
 
 -- the courses by the last digit of a case's number, from 0

@@ -1,8 +1,6 @@
 -- The text of a large process file: cases of two types, which eight workers work, and whose types an engineer changes.
-use Rattle.std.specs.Prelude.{ℕ, ◌%◌, ◌==◌, List, ◌++◌, if◌then◌else◌, codes, decimal}
-use Rattle.std.specs.List.{flat_map, range_with_len}
-use Rattle.adept_load.specs.Courses.{course_of, first_lines, last_lines}
-use Rattle.adept_load.specs.Lines.{create_line}
+use Rattle.std.specs.{Prelude.{ℕ, ◌%◌, ◌==◌, List, ◌++◌, if◌then◌else◌, codes, decimal}, List.{flat_map, range_with_len}}
+use Rattle.adept_load.specs.{Courses.{course_of, first_lines, last_lines}, Lines.create_line}
 
 -- the types and the actors
 unfoldable pub head : List ℕ

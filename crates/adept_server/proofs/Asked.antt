@@ -1,38 +1,17 @@
 -- What a type answers to whom it defines and who asks it.
-use Rattle.std.proofs.Common.{◌≡◌, ℕ, ◌+◌, ◌^◌, ◌<◌, ◌≤◌, true, List, [], ◌∷◌, ◌++◌, length, take, drop, set, get_or, Option, Some, None, OnOk, IfErr, IsErrAnd, ◌⊎◌, inl, Result, Ok, Err, slice_get, refl, sym, ap, ◌∙◌, subst, arith}
-use Rattle.std.proofs.lemmas.Option.{get_or_from_slice_get}
+use Rattle.adept_server.proofs.Common.{[], ℕ, ◌++◌, ◌+◌, ◌<◌, ◌^◌, ◌∙◌, ◌∷◌, ◌≡◌, ◌≤◌, ◌⊎◌, ap, AreShort, arith, CallEach, CallFault, Calls, CallsCase, CallsCases, CallsKind, case_after, case_count, case_pass, case_reply, CaseId, CasePass}
+use Rattle.adept_server.proofs.Common.{Creates, defined_by, DeskView, drop, entry, Err, Event, event_on, fault_of, get_or, get_or_from_slice_get, has_case, has_kind, has_version, IfErr, in_row, inl, IsDefinedFor, IsDesk, IsErrAnd, IsLegal}
+use Rattle.adept_server.proofs.Common.{IsLegalFrom, kind_after, kind_reply, KindEvent, KindModel, KindPass, KindReply, length, List, Migrates, newest-told, newest_of, None, not_defined, Ok, OnOk, Option, refl, Reply, Result, set, slice_get}
+use Rattle.adept_server.proofs.{Common.{Some, state_after, subst, sym, take, tells_newest, tells_version, true, unasked, VersionModel, versions-kept}, Called.not_called, Fronts.all_in_front, Histories.{state-append, last-reply}}
+use Rattle.adept_server.proofs.{Keeping.{answered, kind_now_defined}, Places.set_same, Rows.{there_at, in_there}, Short.short_at}
 use Rattle.std.specs.Result.{result_map_both}
-use Rattle.adept_server.proofs.Called.{not_called}
-use Rattle.adept_server.proofs.Fronts.{all_in_front}
-use Rattle.adept_server.proofs.Histories.{state-append, last-reply}
-use Rattle.adept_server.proofs.Keeping.{answered, kind_now_defined}
-use Rattle.adept_server.proofs.Places.{set_same}
-use Rattle.adept_server.proofs.Rows.{there_at, in_there}
-use Rattle.adept_server.proofs.Short.{short_at}
-use Rattle.adept_server.specs.Calling.{CallEach, CallsKind, CallsCase, CallsCases, Creates, Migrates, tells_version, tells_newest}
-use Rattle.adept_server.specs.Calling.Creates.{unasked}
 use Rattle.adept_server.specs.Calling.Migrates.{unasked as none_moves, asked as none_told, told}
-use Rattle.adept_server.specs.Desks.{AreShort, KindPass, CasePass, DeskView, in_row, case_count, case_pass, has_kind, has_case, has_version, IsDefinedFor, IsDesk}
-use Rattle.case_core.specs.Machine.{case_after, case_reply}
-use Rattle.case_core.specs.declared.events.Event.{Event}
 use Rattle.case_core.specs.declared.events.Event.TheVariants as event
-use Rattle.case_core.specs.declared.replies.Reply.{Reply}
-use Rattle.turn_cell.specs.History.{IsLegal, IsLegalFrom, entry, state_after}
-use Rattle.turn_cell.specs.Passes.{Calls}
-use Rattle.turn_cell.specs.declared.faults.CallFault.{CallFault}
 use Rattle.turn_cell.specs.declared.faults.CallFault.TheVariants.{NoMemory}
-use Rattle.type_core.proofs.Versions.{versions-kept, newest-told}
-use Rattle.type_core.specs.KindModel.{KindModel, not_defined}
-use Rattle.type_core.specs.Machine.{newest_of, defined_by, event_on, kind_after, kind_reply}
-use Rattle.type_core.specs.declared.events.KindEvent.{KindEvent}
 use Rattle.type_core.specs.declared.events.KindEvent.TheVariants as kind_event
-use Rattle.type_core.specs.declared.replies.KindReply.{KindReply}
 use Rattle.type_core.specs.declared.replies.KindReply.TheVariants as reply
 use Rattle.wsm_schema.specs.SchemaModel.{SchemaModel}
 use Rattle.wsm_sound.proofs.NoFaults.{first_taken}
-use Rattle.wsm_sound.specs.Faults.{fault_of}
-use Rattle.wsm_sound.specs.VersionModel.{VersionModel}
-use Rattle.wsm_sound.specs.declared.versions.CaseId.{CaseId}
 
 -- where memory runs out before a call, the desk is as it was
 pub kind_unmade : (e : KindEvent) (t : ℕ) (v : DeskView) → IsDesk v → has_kind v t → CallsKind e t (Err NoMemory) v v

@@ -1,17 +1,7 @@
 -- One call with one of many passes.
-use Rattle.std.proofs.Common.{◌≡◌, ℕ, zero, suc, ◌<◌, ◌≤◌, List, [], ◌∷◌, length, map, Some, Result, Ok, Err, IfOk, IfErr, OnErr, slice_get, set, inl, inr, refl, ap, ◌∙◌, subst}
-use Rattle.std.proofs.lemmas.List.{map-set, append-nil}
-use Rattle.std.proofs.lemmas.Option.{slice_get-map}
-use Rattle.std.specs.Prelude.{option_map}
-use Rattle.adept_server.proofs.Places.{get-set_same}
-use Rattle.adept_server.specs.Calling.{IsAnswered, CallsOne}
-use Rattle.turn_batch.specs.Batch.{AreOf}
-use Rattle.turn_cell.specs.Passes.{PassView, view_of, IsPassOf, IsLegalView, Stays, Sees, Calls}
-use Rattle.turn_cell.specs.declared.cell.Cell.{Cell}
-use Rattle.turn_cell.specs.declared.faults.CallFault.{CallFault}
+use Rattle.adept_server.proofs.Common.{[], ℕ, ◌<◌, ◌∙◌, ◌∷◌, ◌≡◌, ◌≤◌, ap, append-nil, AreOf, CallFault, Calls, CallsOne, Cell, Err, IfErr, IfOk, inl, inr, IsAnswered, IsLegalView, IsPassOf, length, List, map, map-set, MAX_ENTRIES, Ok}
+use Rattle.adept_server.proofs.{Common.{OnErr, option_map, Pass, PassView, refl, Result, Sees, set, slice_get, slice_get-map, Some, Stays, subst, suc, view_of, zero}, Places.get-set_same}
 use Rattle.turn_cell.specs.declared.faults.CallFault.TheVariants.{Full, NoMemory}
-use Rattle.turn_cell.specs.declared.limits.TheConstants.{MAX_ENTRIES}
-use Rattle.turn_cell.specs.declared.pass.Pass.{Pass}
 
 module _ {M E R W S : Type 0} {g : _} where
   -- a pass in another's place is of the cell there

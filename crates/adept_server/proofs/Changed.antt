@@ -1,18 +1,7 @@
 -- Desks that were made of others.
-use Rattle.std.proofs.Common.{◌≡◌, ℕ, Bool, true, List, length, All, Option, Some, None, slice_get, inl, inr, refl, sym, ap, ◌∙◌, subst, arith}
-use Rattle.std.specs.Prelude.{◌||◌}
-use Rattle.std.specs.List.{AllZip}
-use Rattle.case_core.specs.Machine.{case_after, case_reply}
-use Rattle.turn_cell.specs.Passes.{PassView, IsLegalView}
-use Rattle.turn_rows.specs.Rows.{IsSeenBy, zip_with}
-use Rattle.turn_rows.proofs.Places.{All-slice_get}
-use Rattle.adept_server.specs.Desks.{KindPass, CasePass, DeskView, at_case, case_pass, has_version, AreShort, IsDefinedFor, IsPassAt, IsDesk}
-use Rattle.adept_server.proofs.Keeping.{has_more}
+use Rattle.adept_server.proofs.Common.{ℕ, ◌||◌, ◌∙◌, ◌≡◌, All, All-slice_get, AllZip, ap, AreShort, arith, at_case, Bool, case_after, case_pass, case_reply, CaseId, CasePass, DeskView, has_version, inl, inr, IsDefinedFor, IsDesk}
+use Rattle.adept_server.proofs.{Common.{IsLegalView, IsPassAt, IsSeenBy, kind_after, kind_reply, KindPass, length, List, None, not_created, not_defined, Option, PassView, refl, slice_get, Some, subst, sym, true, zip_with}, Keeping.has_more}
 use Rattle.adept_server.proofs.Zips.{zip_there, zip_of_case, all_of_case, beside, either_raised}
-use Rattle.case_core.specs.CaseModel.{not_created}
-use Rattle.type_core.specs.KindModel.{not_defined}
-use Rattle.type_core.specs.Machine.{kind_after, kind_reply}
-use Rattle.wsm_sound.specs.declared.versions.CaseId.{CaseId}
 
 -- the number and counts of a pass are the desk's
 abbrev pub IsCountedBy : {M E R W S : Type 0} → DeskView → PassView M E R W S → Type 0

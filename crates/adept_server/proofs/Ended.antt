@@ -1,24 +1,7 @@
 -- How a server ends.
-use Rattle.std.proofs.Common.{◌≡◌, suc, ◌+◌, List, [], ◌∷◌, length, map, All, Some, Vec, refl, sym, ap, ◌∙◌, subst}
-use Rattle.std.specs.List.{AllZip}
-use Rattle.case_core.specs.Machine.{case_after, case_reply}
-use Rattle.turn_cell.specs.declared.journal.Closed.{Closed}
-use Rattle.turn_cell.specs.declared.pass.Pass.{Pass}
-use Rattle.turn_rows.specs.Rows.{CanClose, IsClosedAs, views}
-use Rattle.adept_server.specs.Desks.{DeskView, IsDeskOf, at_case, desk_view, in_row}
-use Rattle.adept_server.specs.Opening.{IsClosedServer}
-use Rattle.adept_server.specs.Vecs.{lists_of, row_views}
-use Rattle.adept_server.specs.declared.closing.ClosedServer.{ClosedServer}
-use Rattle.adept_server.specs.declared.desks.Desk.{Desk}
-use Rattle.adept_server.specs.declared.servers.Server.{Server}
+use Rattle.adept_server.proofs.Common.{[], ◌+◌, ◌∙◌, ◌∷◌, ◌≡◌, All, AllZip, ap, at_case, CanClose, case_after, case_reply, CaseId, CaseModel, Closed, ClosedServer, CountedCase, Desk, desk_view, DeskView, Event, in_row, IsClosedAs}
+use Rattle.adept_server.proofs.Common.{IsClosedServer, IsDeskOf, kind_after, kind_reply, length, List, lists_of, map, Pass, refl, Reply, row_views, Server, Some, subst, suc, sym, Vec, View, views}
 use Rattle.adept_server.proofs.Zips.{row_of_case, all_from_places, all_from_cases, beside}
-use Rattle.case_core.specs.CaseModel.{CaseModel}
-use Rattle.case_core.specs.Instances.{CountedCase}
-use Rattle.case_core.specs.declared.events.Event.{Event}
-use Rattle.case_core.specs.declared.replies.Reply.{Reply}
-use Rattle.case_core.specs.declared.views.View.{View}
-use Rattle.type_core.specs.Machine.{kind_after, kind_reply}
-use Rattle.wsm_sound.specs.declared.versions.CaseId.{CaseId}
 
 -- the first desk of a server can close it once it has taken in all others
 pub can_close : (s : Server) (d : Desk) → IsDeskOf s d → (desk_view d).number ≡ 0 → (desk_view d).made ≡ (desk_view d).taken + 1 → All CanClose (views d.kinds.items) × All (All CanClose) (row_views d.cases.items)

@@ -1,30 +1,9 @@
 -- How a server begins.
-use Rattle.std.proofs.Common.{◌≡◌, ℕ, zero, suc, ◌+◌, ◌^◌, ◌<◌, true, false, List, [], ◌∷◌, ◌++◌, length, map, sum, take, get_or, replicate, All, Vec, Some, None, slice_get, ◌⊎◌, inl, inr, refl, sym, ap, ◌∙◌, subst, arith}
-use Rattle.std.proofs.lemmas.List.{length-map, length-take-le, map_push}
-use Rattle.case_core.specs.Machine.{case_after, case_reply}
-use Rattle.turn_rows.proofs.Lists.{take_item}
-use Rattle.turn_batch.specs.Batch.{AreOf}
-use Rattle.turn_cell.specs.Passes.{PassView, IsLegalView, first_of, view_of}
-use Rattle.turn_cell.specs.declared.cell.Cell.{Cell}
-use Rattle.turn_cell.specs.declared.pass.Pass.{Pass}
-use Rattle.turn_rows.specs.Rows.{AreOpened, views}
-use Rattle.adept_server.specs.Desks.{CasePass, DeskView, IsDesk, IsDeskOf, IsPassAt, desk_view, in_row}
-use Rattle.adept_server.specs.Firsts.{AreFirstCases, AreFirstKinds, AreFirstsOf, IsFirst}
-use Rattle.adept_server.specs.Opening.{IsFirstDesk, IsUnused}
-use Rattle.adept_server.specs.Vecs.{AreVecsOf, row_views}
-use Rattle.adept_server.specs.declared.desks.Desk.{Desk}
-use Rattle.adept_server.specs.declared.servers.Server.{Server}
-use Rattle.adept_server.proofs.Short.{short_counts}
-use Rattle.adept_server.proofs.Zips.{all_from_places, row_of_case}
-use Rattle.case_core.specs.CaseModel.{CaseModel, not_created}
-use Rattle.case_core.specs.Instances.{CountedCase, uncounted}
-use Rattle.case_core.specs.declared.events.Event.{Event}
-use Rattle.case_core.specs.declared.replies.Reply.{Reply}
-use Rattle.case_core.specs.declared.views.View.{View}
-use Rattle.type_core.specs.Machine.{kind_after, kind_reply}
-use Rattle.type_core.specs.declared.events.KindEvent.{KindEvent}
-use Rattle.type_core.specs.declared.replies.KindReply.{KindReply}
-use Rattle.type_core.specs.KindModel.{KindModel, not_defined}
+use Rattle.adept_server.proofs.Common.{[], ℕ, ◌++◌, ◌+◌, ◌<◌, ◌^◌, ◌∙◌, ◌∷◌, ◌≡◌, ◌⊎◌, All, ap, AreFirstCases, AreFirstKinds, AreFirstsOf, AreOf, AreOpened, AreVecsOf, arith, case_after, case_reply, CaseModel, CasePass, Cell, CountedCase}
+use Rattle.adept_server.proofs.Common.{Desk, desk_view, DeskView, Event, false, first_of, get_or, in_row, inl, inr, IsDesk, IsDeskOf, IsFirst, IsFirstDesk, IsLegalView, IsPassAt, IsUnused, kind_after, kind_reply, KindEvent, KindModel}
+use Rattle.adept_server.proofs.Common.{KindReply, length, length-take-le, List, map, map_push, None, not_created, not_defined, Pass, PassView, refl, replicate, Reply, row_views, Server, slice_get, Some, subst, suc, sum, sym, take}
+use Rattle.adept_server.proofs.{Common.{take_item, true, uncounted, Vec, View, view_of, views, zero}, Short.short_counts, Zips.{all_from_places, row_of_case}}
+use Rattle.std.proofs.lemmas.List.{length-map}
 
 -- what a first pass of a cell is
 module _ {M E R W S : Type 0} (after : S → E → S) (reply : S → E → R) where

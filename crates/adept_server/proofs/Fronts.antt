@@ -1,14 +1,7 @@
 -- Calls of the cells in front of a row.
-use Rattle.std.proofs.Common.{◌≡◌, ℕ, zero, suc, ◌+◌, ◌<◌, ◌≤◌, min, List, [], ◌∷◌, ◌++◌, length, map, take, drop, Some, Result, Err, IfOk, slice_get, ◌⊎◌, inl, inr, refl, sym, ap, ◌∙◌, subst, arith}
-use Rattle.std.proofs.lemmas.List.{take_min, drop_min, take_all, drop_all, drop-map, map-append, length-append, take-append-drop}
-use Rattle.adept_server.proofs.Short.{each-even}
-use Rattle.adept_server.specs.Calling.{CallEach, IsAnswered}
-use Rattle.turn_batch.specs.Batch.{AreCalled, AreOf}
-use Rattle.turn_cell.specs.Passes.{PassView, view_of}
-use Rattle.turn_cell.specs.declared.cell.Cell.{Cell}
-use Rattle.turn_cell.specs.declared.faults.CallFault.{CallFault}
+use Rattle.adept_server.proofs.Common.{[], ℕ, ◌++◌, ◌+◌, ◌<◌, ◌∙◌, ◌∷◌, ◌≡◌, ◌≤◌, ◌⊎◌, ap, AreCalled, AreOf, arith, CallEach, CallFault, Cell, drop, drop-map, drop_all, drop_min, Err, IfOk, inl, inr, IsAnswered, length, length-append, List}
+use Rattle.adept_server.proofs.{Common.{map, map-append, min, Pass, PassView, refl, Result, slice_get, Some, subst, suc, sym, take, take-append-drop, take_all, take_min, view_of, zero}, Short.each-even}
 use Rattle.turn_cell.specs.declared.faults.CallFault.TheVariants.{NoMemory}
-use Rattle.turn_cell.specs.declared.pass.Pass.{Pass}
 
 module _ {X : Type 0} where
   -- a list whose front is another's is cut as it was

@@ -1,7 +1,5 @@
 -- Journals that go on.
-use Rattle.std.proofs.Common.{◌≡◌, List, [], ◌∷◌, ◌++◌, refl}
-use Rattle.turn_cell.specs.History.{IsLegal, state_after}
-use Rattle.turn_cell.specs.declared.journal.Entry.{Entry}
+use Rattle.adept_server.proofs.Common.{[], ◌++◌, ◌∷◌, ◌≡◌, Entry, IsLegal, List, refl, state_after}
 
 module _ {M E R W S : Type 0} (after : S → E → S) where
   pub state-append : (s : S) (xs ys : List (Entry M E R W S)) → state_after after s (xs ++ ys) ≡ state_after after (state_after after s xs) ys

@@ -1,30 +1,10 @@
 -- A desk stays one behind each call.
-use Rattle.std.proofs.Common.{◌≡◌, ℕ, ◌^◌, ◌<◌, Bool, true, false, List, [], ◌∷◌, ◌++◌, length, drop, Option, Some, None, Result, Ok, Err, slice_get, set, ◌⊎◌, inl, inr, refl, sym, ap, ◌∙◌, subst, arith, if◌then◌else◌}
-use Rattle.std.proofs.Math.ListN.{length-set}
-use Rattle.std.proofs.lemmas.Option.{slice_get_within}
+use Rattle.adept_server.proofs.Common.{[], ℕ, ◌++◌, ◌<◌, ◌^◌, ◌∙◌, ◌∷◌, ◌≡◌, ◌⊎◌, answer_tells, ap, AreShort, arith, at_case, Bool, CallFault, Calls, CallsCase, CallsCases, CallsKind, CallsOne, case_after, case_pass, case_reply, CaseId}
+use Rattle.adept_server.proofs.Common.{CasePass, DeskView, drop, entry, Err, Event, false, has_version, if◌then◌else◌, in_row, inl, inr, IsAnswered, IsDefinedFor, IsDesk, IsLegal, IsLegalFrom, IsPassAt, kind_after, kind_reply, KindEvent}
+use Rattle.adept_server.proofs.Common.{KindModel, KindPass, KindReply, length, length-set, List, None, not_created, not_defined, Ok, Option, PassView, refl, Reply, Result, set, slice_get, slice_get_within, Some, state_after, subst, sym}
+use Rattle.adept_server.proofs.{Common.{tells_version, true, versions-kept}, Fronts.{first-even, first_behind}, Histories.{state-append, last-reply}, OneCall.{legal_behind, more_seen, one_behind, one_before}, Places.get-set_same}
+use Rattle.adept_server.proofs.{Places.set_cases, Rows.case_cases, Short.short_set, Versions.told-version}
 use mathlib.Core.List.{IsPrefix}
-use Rattle.adept_server.proofs.Fronts.{first-even, first_behind}
-use Rattle.adept_server.proofs.Histories.{state-append, last-reply}
-use Rattle.adept_server.proofs.OneCall.{legal_behind, more_seen, one_behind, one_before}
-use Rattle.adept_server.proofs.Places.{get-set_same, set_cases}
-use Rattle.adept_server.proofs.Rows.{case_cases}
-use Rattle.adept_server.proofs.Short.{short_set}
-use Rattle.adept_server.proofs.Versions.{told-version}
-use Rattle.adept_server.specs.Calling.{IsAnswered, CallsOne, CallsKind, CallsCase, CallsCases, answer_tells, tells_version}
-use Rattle.adept_server.specs.Desks.{KindPass, CasePass, DeskView, in_row, at_case, case_pass, has_version, AreShort, IsDefinedFor, IsPassAt, IsDesk}
-use Rattle.case_core.specs.CaseModel.{not_created}
-use Rattle.case_core.specs.Machine.{case_after, case_reply}
-use Rattle.case_core.specs.declared.events.Event.{Event}
-use Rattle.case_core.specs.declared.replies.Reply.{Reply}
-use Rattle.turn_cell.specs.History.{IsLegal, IsLegalFrom, entry, state_after}
-use Rattle.turn_cell.specs.Passes.{PassView, Calls}
-use Rattle.turn_cell.specs.declared.faults.CallFault.{CallFault}
-use Rattle.type_core.proofs.Versions.{versions-kept}
-use Rattle.type_core.specs.KindModel.{KindModel, not_defined}
-use Rattle.type_core.specs.Machine.{kind_after, kind_reply}
-use Rattle.type_core.specs.declared.events.KindEvent.{KindEvent}
-use Rattle.type_core.specs.declared.replies.KindReply.{KindReply}
-use Rattle.wsm_sound.specs.declared.versions.CaseId.{CaseId}
 
 -- what no call changes of a desk
 pub record Beside (v w : DeskView) : Type 0 where

@@ -1,12 +1,6 @@
 -- What looks leave of passes.
-use Rattle.std.proofs.Common.{◌≡◌, ℕ, zero, suc, ◌+◌, List, [], ◌∷◌, length, Some, slice_get, refl, sym, ap, ◌∙◌, subst, arith}
-use Rattle.std.proofs.lemmas.List.{append-nil}
-use Rattle.adept_server.specs.Desks.{AreShort, CasePass, DeskView, IsDesk, has_version, in_row}
-use Rattle.adept_server.specs.Offering.{HasLooked, EachLooked, AllLooked, AllOpened, OpenedAs, Looks}
-use Rattle.adept_server.proofs.Keeping.{Beside, pass_beside}
-use Rattle.case_core.specs.CaseModel.{not_created}
-use Rattle.type_core.specs.KindModel.{not_defined}
-use Rattle.type_core.specs.Machine.{kind_after, kind_reply}
+use Rattle.adept_server.proofs.Common.{[], ℕ, ◌+◌, ◌∙◌, ◌∷◌, ◌≡◌, AllLooked, AllOpened, ap, append-nil, AreShort, arith, CasePass, DeskView, EachLooked, has_version, HasLooked, in_row, IsDesk, kind_after, kind_reply, length, List, Looks}
+use Rattle.adept_server.proofs.{Common.{not_created, not_defined, OpenedAs, refl, slice_get, Some, subst, suc, sym, zero}, Keeping.{Beside, pass_beside}}
 
 -- at what nobody looked is as it was
 pub not_looked : (p : CasePass) → HasLooked p p

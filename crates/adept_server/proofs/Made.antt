@@ -1,27 +1,8 @@
 -- The calls of a server's desks, and what they make of them.
-use Rattle.std.proofs.Common.{◌≡◌, ℕ, ◌<◌, Bool, true, List, ◌++◌, length, map, take, drop, IfOk, OnErr, Result, Ok, Err, set, slice_get, refl, sym, ap, ◌∙◌, subst, arith, if◌then◌else◌}
-use Rattle.std.proofs.Math.ListN.{length-map}
-use Rattle.std.proofs.lemmas.Option.{slice_get_within}
-use Rattle.adept_server.proofs.Fronts.{row_cut}
-use Rattle.adept_server.proofs.Keeping.{kind_call, kind_keeps, case_keeps, cases_keep}
-use Rattle.adept_server.proofs.Looks.{looks_keep}
-use Rattle.adept_server.specs.Offering.{AllLooked, Looks}
-use Rattle.adept_server.proofs.Places.{get-set_same, set_same}
-use Rattle.adept_server.proofs.Rows.{AreVecsOf, RowAt, HasRow, row_of, row_there, rows_behind, view_there, views_behind}
-use Rattle.adept_server.specs.Calling.{CallEach, CallsOne, CallsKind, CallsCase, CallsCases, HasRoom, answer_tells}
-use Rattle.adept_server.specs.Desks.{DeskView, KindPass, CasePass, AreRowsOf, IsDeskOf, desk_view, IsDesk, case_pass, has_kind, has_case, in_row}
-use Rattle.adept_server.specs.declared.desks.Desk.{Desk}
-use Rattle.adept_server.specs.declared.servers.Server.{Server}
-use Rattle.case_core.specs.Machine.{case_after, case_reply}
-use Rattle.case_core.specs.declared.events.Event.{Event}
-use Rattle.case_core.specs.declared.replies.Reply.{Reply}
-use Rattle.turn_batch.specs.Batch.{AreOf}
-use Rattle.turn_cell.specs.Passes.{view_of}
-use Rattle.turn_cell.specs.declared.faults.CallFault.{CallFault}
-use Rattle.type_core.specs.Machine.{kind_after, kind_reply}
-use Rattle.type_core.specs.declared.events.KindEvent.{KindEvent}
-use Rattle.type_core.specs.declared.replies.KindReply.{KindReply}
-use Rattle.wsm_sound.specs.declared.versions.CaseId.{CaseId}
+use Rattle.adept_server.proofs.Common.{ℕ, ◌++◌, ◌<◌, ◌∙◌, ◌≡◌, AllLooked, answer_tells, ap, AreOf, AreRowsOf, arith, Bool, CallEach, CallFault, CallsCase, CallsCases, CallsKind, CallsOne, case_after, case_pass, case_reply, CaseId, CasePass}
+use Rattle.adept_server.proofs.Common.{Desk, desk_view, DeskView, drop, Err, Event, has_case, has_kind, HasRoom, IfOk, if◌then◌else◌, in_row, IsDesk, IsDeskOf, kind_after, kind_reply, KindEvent, KindPass, KindReply, length, length-map}
+use Rattle.adept_server.proofs.{Common.{List, Looks, map, Ok, OnErr, refl, Reply, Result, Server, set, slice_get, slice_get_within, subst, sym, take, true, view_of}, Fronts.row_cut, Keeping.{kind_call, kind_keeps, case_keeps, cases_keep}}
+use Rattle.adept_server.proofs.{Looks.looks_keep, Places.{get-set_same, set_same}, Rows.{AreVecsOf, RowAt, HasRow, row_of, row_there, rows_behind, view_there, views_behind}}
 
 unfoldable parts : ℕ → ℕ → ℕ → List Bool → List KindPass → List (List CasePass) → DeskView
 parts number made taken defined kinds cases = record { number = number; made = made; taken = taken; defined = defined; kinds = kinds; cases = cases }

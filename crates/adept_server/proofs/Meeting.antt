@@ -1,22 +1,7 @@
 -- Desks that meet.
-use Rattle.std.proofs.Common.{◌≡◌, Bool, length, All, refl, sym, ◌∙◌, subst, arith}
-use Rattle.std.specs.Prelude.{◌||◌}
-use Rattle.std.specs.List.{AllZip}
-use Rattle.case_core.specs.Machine.{case_after, case_reply}
-use Rattle.turn_batch.proofs.Calls.{length-passes}
-use Rattle.turn_cell.specs.Passes.{IsLegalView}
-use Rattle.turn_rows.specs.Rows.{IsSeenBy, first_met, second_met, zip_with}
-use Rattle.turn_rows.proofs.Places.{length-zip_with, length-views}
-use Rattle.adept_server.specs.Desks.{DeskView, IsDesk, IsDeskOf, desk_view}
-use Rattle.adept_server.specs.Opening.{SeesMore, first_desk_met, second_desk_met}
-use Rattle.adept_server.specs.Vecs.{AllMet, RowMet}
-use Rattle.adept_server.specs.declared.desks.Desk.{Desk}
-use Rattle.adept_server.specs.declared.servers.Server.{Server}
-use Rattle.adept_server.proofs.Changed.{desk_again, first_comes, first_case_comes, second_comes, second_case_comes, known_by_both}
-use Rattle.adept_server.proofs.Made.{same_views}
-use Rattle.adept_server.proofs.Short.{short_zip}
-use Rattle.adept_server.proofs.Zips.{all_from_places, all_from_cases}
-use Rattle.type_core.specs.Machine.{kind_after, kind_reply}
+use Rattle.adept_server.proofs.Common.{◌||◌, ◌∙◌, ◌≡◌, All, AllMet, AllZip, arith, Bool, case_after, case_reply, Desk, desk_view, DeskView, first_desk_met, first_met, IsDesk, IsDeskOf, IsLegalView, IsSeenBy, kind_after, kind_reply, length}
+use Rattle.adept_server.proofs.{Common.{length-passes, length-views, length-zip_with, refl, RowMet, second_desk_met, second_met, SeesMore, Server, subst, sym, zip_with}, Changed.{desk_again, first_comes, first_case_comes, second_comes}}
+use Rattle.adept_server.proofs.{Changed.{second_case_comes, known_by_both}, Made.same_views, Short.short_zip, Zips.{all_from_places, all_from_cases}}
 
 module _ (v w : DeskView) (one : IsDesk v) (two : IsDesk w) (even : length w.kinds ≡ length v.kinds) where
   even_cases : length w.cases ≡ length v.cases

@@ -1,14 +1,6 @@
 -- Flags of which some were raised.
-use Rattle.std.proofs.Common.{◌≡◌, ◌≢◌, ℕ, zero, suc, ◌<◌, Bool, true, false, List, [], ◌∷◌, ◌++◌, length, replicate, Vec, Some, slice_get, set, sym, ap, subst, arith}
-use Rattle.std.proofs.Math.ListN.{length-map}
-use Rattle.std.proofs.lemmas.List.{map-set}
-use Rattle.std.proofs.lemmas.Option.{slice_get_within}
-use Rattle.adept_server.proofs.Rows.{cell_there}
-use Rattle.adept_server.proofs.Zips.{row_of_case}
-use Rattle.adept_server.specs.Desks.{at_case, in_row}
-use Rattle.adept_server.specs.Noting.{NoneLowered}
-use Rattle.adept_server.specs.Vecs.{lists_of}
-use Rattle.wsm_sound.specs.declared.versions.CaseId.{CaseId}
+use Rattle.adept_server.proofs.Common.{[], ℕ, ◌++◌, ◌<◌, ◌∷◌, ◌≡◌, ◌≢◌, ap, arith, at_case, Bool, CaseId, false, in_row, length, length-map, List, lists_of, map-set, NoneLowered, replicate, set, slice_get, slice_get_within, Some, subst}
+use Rattle.adept_server.proofs.{Common.{suc, sym, true, Vec, zero}, Rows.cell_there, Zips.row_of_case}
 
 -- a flag that is lowered behind the raising of one was lowered, and is another
 pub flag-calm : (flags : List Bool) (i j : ℕ) → slice_get (set flags i true) j ≡ Some false → (slice_get flags j ≡ Some false) × (j ≢ i)

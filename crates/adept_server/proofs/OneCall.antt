@@ -1,14 +1,7 @@
 -- What one call leaves of each pass of a list.
-use Rattle.std.proofs.Common.{◌≡◌, ℕ, List, [], ◌∷◌, ◌++◌, map, take, Some, Result, Ok, Err, IfOk, OnErr, OnOk, MatchResult, slice_get, ◌⊎◌, inl, inr, refl, sym, ap, ◌∙◌, subst, append_assoc}
-use Rattle.std.proofs.lemmas.List.{take-map}
+use Rattle.adept_server.proofs.Common.{[], ℕ, ◌++◌, ◌∙◌, ◌∷◌, ◌≡◌, ◌⊎◌, ap, append_assoc, AreCalled, CallEach, CallFault, Calls, CallsOne, entry, Err, IfOk, inl, inr, IsAnswered, IsLegalView, List, map, MatchResult, Ok, OnErr, OnOk, Pass}
+use Rattle.adept_server.proofs.{Common.{PassView, refl, Result, Sees, slice_get, Some, subst, sym, take, take-map, view_of}, Places.{set_cases, stays_or_set}}
 use mathlib.Core.List.{IsPrefix}
-use Rattle.adept_server.proofs.Places.{set_cases, stays_or_set}
-use Rattle.adept_server.specs.Calling.{IsAnswered, CallEach, CallsOne}
-use Rattle.turn_cell.specs.History.{entry}
-use Rattle.turn_cell.specs.Passes.{PassView, view_of, IsLegalView, Sees, Calls}
-use Rattle.turn_batch.specs.Batch.{AreCalled}
-use Rattle.turn_cell.specs.declared.pass.Pass.{Pass}
-use Rattle.turn_cell.specs.declared.faults.CallFault.{CallFault}
 
 -- what holds behind each answer holds behind a reply
 room_left : {A X Y : Type 0} (answer : Result X Y) → A → OnOk answer A

@@ -1,21 +1,8 @@
 -- A desk that makes another.
-use Rattle.std.proofs.Common.{◌≡◌, ◌+◌, ◌<◌, List, [], ◌∷◌, map, All, refl, sym, ap, ◌∙◌, subst, arith}
-use Rattle.std.specs.List.{AllZip}
-use Rattle.std.proofs.lemmas.List.{append-nil, length-map}
-use Rattle.case_core.specs.Machine.{case_after, case_reply}
-use Rattle.turn_cell.specs.Passes.{PassView, IsLegalView, split_off}
-use Rattle.turn_rows.specs.Rows.{CanSplit, IsSeenBy, split_from, views}
-use Rattle.turn_rows.proofs.Places.{All-slice_get}
-use Rattle.adept_server.specs.Desks.{DeskView, IsDesk, IsDeskOf, desk_view}
-use Rattle.adept_server.specs.Opening.{new_desk, parent_desk}
-use Rattle.adept_server.specs.Vecs.{AllSplit, RowSplit, row_views}
-use Rattle.adept_server.specs.declared.desks.Desk.{Desk}
-use Rattle.adept_server.specs.declared.servers.Server.{Server}
-use Rattle.adept_server.proofs.Changed.{ComesOf, IsCountedBy, desk_again, still_defined}
-use Rattle.adept_server.proofs.Made.{same_views}
-use Rattle.adept_server.proofs.Short.{short_map}
-use Rattle.adept_server.proofs.Zips.{map_there, map_of_case, all_of_case, all_from_places, all_from_cases}
-use Rattle.type_core.specs.Machine.{kind_after, kind_reply}
+use Rattle.adept_server.proofs.Common.{[], ◌+◌, ◌<◌, ◌∙◌, ◌∷◌, ◌≡◌, All, All-slice_get, AllSplit, AllZip, ap, append-nil, arith, CanSplit, case_after, case_reply, Desk, desk_view, DeskView, IsDesk, IsDeskOf, IsLegalView, IsSeenBy}
+use Rattle.adept_server.proofs.{Common.{kind_after, kind_reply, List, map, new_desk, parent_desk, PassView, refl, row_views, RowSplit, Server, split_from, split_off, subst, sym, views}, Changed.{ComesOf, IsCountedBy, desk_again}}
+use Rattle.adept_server.proofs.{Changed.still_defined, Made.same_views, Short.short_map, Zips.{map_there, map_of_case, all_of_case, all_from_places, all_from_cases}}
+use Rattle.std.proofs.lemmas.List.{length-map}
 
 -- passes that have seen the same have seen no less
 seen_by_image : {M E R W S : Type 0} (f : PassView M E R W S → PassView M E R W S) → ((p : PassView M E R W S) → (f p).seen ≡ p.seen) → (ps : List (PassView M E R W S)) → AllZip IsSeenBy ps (map f ps)

@@ -1,5 +1,5 @@
 -- Lists in which one place is changed.
-use Rattle.std.proofs.Common.{◌≡◌, ℕ, zero, suc, ◌<◌, List, [], ◌∷◌, length, Some, slice_get, set, ◌⊎◌, inl, inr, refl, ap, arith}
+use Rattle.adept_server.proofs.Common.{[], ℕ, ◌<◌, ◌∷◌, ◌≡◌, ◌⊎◌, ap, arith, inl, inr, length, List, refl, set, slice_get, Some, suc, zero}
 
 module _ {A : Type 0} where
   pub get-set_same : (xs : List A) (i : ℕ) (y : A) → i < length xs → slice_get (set xs i y) i ≡ Some y

@@ -1,17 +1,7 @@
 -- Rows of cells and of passes.
-use Rattle.std.proofs.Common.{◌≡◌, ℕ, zero, suc, ◌<◌, ◌≤◌, ltb, true, List, [], ◌∷◌, length, map, Option, Some, None, IsSome, Vec, slice_get, get_or, set, ◌⊎◌, inl, inr, refl, sym, ap, ◌∙◌, subst, arith}
+use Rattle.adept_server.proofs.Common.{[], ℕ, ◌<◌, ◌∙◌, ◌∷◌, ◌≡◌, ◌≤◌, ◌⊎◌, ap, AreOf, AreRowsOf, arith, at_case, CaseId, Cell, get_or, get_or_from_slice_get, in_row, inl, inr, is_some, IsSome, length, length-map, List, ltb, map, map-set}
+use Rattle.adept_server.proofs.{Common.{None, Option, option_map, Pass, PassView, refl, set, slice_get, slice_get-map, slice_get_read, slice_get_within, Some, subst, suc, sym, true, Vec, view_of, zero}, Places.set_cases}
 use borrow.Author.Tests.{ltb-true, lt-ltb, true-ltb}
-use Rattle.std.proofs.Math.ListN.{length-map}
-use Rattle.std.proofs.lemmas.List.{map-set}
-use Rattle.std.proofs.lemmas.Option.{slice_get-map, slice_get_within, get_or_from_slice_get, slice_get_read}
-use Rattle.std.specs.Prelude.{option_map, is_some}
-use Rattle.adept_server.proofs.Places.{set_cases}
-use Rattle.adept_server.specs.Desks.{AreRowsOf, in_row, at_case}
-use Rattle.turn_batch.specs.Batch.{AreOf}
-use Rattle.turn_cell.specs.Passes.{PassView, view_of}
-use Rattle.turn_cell.specs.declared.cell.Cell.{Cell}
-use Rattle.turn_cell.specs.declared.pass.Pass.{Pass}
-use Rattle.wsm_sound.specs.declared.versions.CaseId.{CaseId}
 
 module _ {M E R W S : Type 0} {g : _} where
   pub length-rows : (cs : List (List (Cell M E R W S))) (ps : List (List (Pass M E R W S g))) → AreRowsOf cs ps → length ps ≡ length cs

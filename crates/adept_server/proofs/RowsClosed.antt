@@ -1,14 +1,6 @@
 -- Rows that have room for others, and rows of closed cells.
-use Rattle.std.proofs.Common.{◌≡◌, ℕ, suc, ◌+◌, ◌<◌, ◌≤◌, List, [], ◌∷◌, ◌++◌, length, map, take, get_or, Vec, vec_len, vec_capacity, refl, ap, arith}
-use Rattle.std.specs.List.{AllZip}
-use Rattle.std.proofs.lemmas.List.{map_push, take_all}
-use Rattle.turn_rows.proofs.Lists.{take_item}
-use Rattle.adept_server.specs.Rooms.{HaveRoomFor}
-use Rattle.adept_server.specs.Vecs.{AreVecsOf, lists_of, row_views}
-use Rattle.turn_cell.specs.declared.cell.Cell.{Cell}
-use Rattle.turn_cell.specs.declared.journal.Closed.{Closed}
-use Rattle.turn_cell.specs.declared.pass.Pass.{Pass}
-use Rattle.turn_rows.specs.Rows.{IsClosedAs, views}
+use Rattle.adept_server.proofs.Common.{[], ℕ, ◌++◌, ◌+◌, ◌<◌, ◌∷◌, ◌≡◌, ◌≤◌, AllZip, ap, AreVecsOf, arith, Cell, Closed, get_or, HaveRoomFor, IsClosedAs, length, List, lists_of, map, map_push, Pass, refl, row_views, suc, take, take_all}
+use Rattle.adept_server.proofs.Common.{take_item, Vec, vec_capacity, vec_len, views}
 
 module _ {X Y A : Type 0} where
   -- the first row has room, and the others have

@@ -1,12 +1,5 @@
 -- Rows of passes that have taken in others.
-use Rattle.std.proofs.Common.{◌≡◌, List, [], ◌∷◌, length, All, Vec, refl, subst, arith}
-use Rattle.std.proofs.lemmas.List.Elements.{All-nil, All-cons, All-head, All-tail}
-use Rattle.adept_server.specs.Vecs.{AllJoined, RowJoined, AreVecsOf, row_views}
-use Rattle.turn_batch.specs.Batch.{AreOf}
-use Rattle.turn_cell.specs.declared.cell.Cell.{Cell}
-use Rattle.turn_cell.specs.declared.pass.Pass.{Pass}
-use Rattle.turn_cell.specs.Passes.{PassView, IsLegalView}
-use Rattle.turn_rows.specs.Rows.{views}
+use Rattle.adept_server.proofs.Common.{[], ◌∷◌, ◌≡◌, All, All-cons, All-head, All-nil, All-tail, AllJoined, AreOf, AreVecsOf, arith, Cell, IsLegalView, length, List, Pass, PassView, refl, row_views, RowJoined, subst, Vec, views}
 
 pub joined_in_vecs : {M E R W S : Type 0} {after : S → E → S} {reply : S → E → R} {g : _} {cells : List (Cell M E R W S)} {os ds ns us xs : List (Pass M E R W S g)} → RowJoined after reply cells us ds ns → us ≡ os → xs ≡ ns → RowJoined after reply cells os ds xs
 joined_in_vecs k before behind = rw behind (rw before at k)

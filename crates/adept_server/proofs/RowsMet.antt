@@ -1,13 +1,6 @@
 -- Rows of which each has met another.
-use Rattle.std.proofs.Common.{◌≡◌, suc, Bool, List, [], ◌∷◌, length, All, Vec, refl, subst, arith}
-use Rattle.std.proofs.lemmas.List.Elements.{All-nil, All-cons, All-head, All-tail}
-use Rattle.adept_server.specs.Noting.{AreLevelRows}
-use Rattle.adept_server.specs.Vecs.{AllMet, RowMet, AreVecsOf, lists_of, row_views}
-use Rattle.turn_batch.specs.Batch.{AreOf}
-use Rattle.turn_cell.specs.declared.cell.Cell.{Cell}
-use Rattle.turn_cell.specs.declared.pass.Pass.{Pass}
-use Rattle.turn_cell.specs.Passes.{IsLegalView}
-use Rattle.turn_rows.specs.Rows.{AreLevel, views}
+use Rattle.adept_server.proofs.Common.{[], ◌∷◌, ◌≡◌, All, All-cons, All-head, All-nil, All-tail, AllMet, AreLevel, AreLevelRows, AreOf, AreVecsOf, arith, Bool, Cell, IsLegalView, length, List, lists_of, Pass, refl, row_views, RowMet, subst}
+use Rattle.adept_server.proofs.Common.{suc, Vec, views}
 
 -- what is said of a row is said of the Vecs that have it
 pub met_in_vecs : {M E R W S : Type 0} {after : S → E → S} {reply : S → E → R} {g : _} {cells : List (Cell M E R W S)} {os us ns ms xs ys : List (Pass M E R W S g)} → RowMet after reply cells os us ns ms → xs ≡ ns → ys ≡ ms → RowMet after reply cells os us xs ys

@@ -1,12 +1,5 @@
 -- Rows of passes that were split.
-use Rattle.std.proofs.Common.{◌≡◌, List, [], ◌∷◌, length, All, Vec, refl, subst, arith}
-use Rattle.std.proofs.lemmas.List.Elements.{All-nil, All-cons}
-use Rattle.adept_server.specs.Rooms.{HaveRoomFor}
-use Rattle.adept_server.specs.Vecs.{AllSplit, RowSplit, AreVecsOf, row_views}
-use Rattle.turn_cell.specs.declared.cell.Cell.{Cell}
-use Rattle.turn_cell.specs.declared.pass.Pass.{Pass}
-use Rattle.turn_cell.specs.Passes.{IsLegalView}
-use Rattle.turn_rows.specs.Rows.{views}
+use Rattle.adept_server.proofs.Common.{[], ◌∷◌, ◌≡◌, All, All-cons, All-nil, AllSplit, AreVecsOf, arith, Cell, HaveRoomFor, IsLegalView, length, List, Pass, refl, row_views, RowSplit, subst, Vec, views}
 
 pub split_in_vecs : {M E R W S : Type 0} {after : S → E → S} {reply : S → E → R} {g : _} {cells : List (Cell M E R W S)} {os ps ns us xs ys : List (Pass M E R W S g)} → RowSplit after reply cells ps ns us → ps ≡ os → xs ≡ ns → ys ≡ us → RowSplit after reply cells os xs ys
 split_in_vecs k before firsts new = rw (firsts, new) (rw before at k)

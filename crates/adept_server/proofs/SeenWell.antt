@@ -1,15 +1,7 @@
 -- What calls make of a case is never stuck, and finds its data.
-use Rattle.std.proofs.Common.{◌≡◌, ℕ, ◌+◌, List, [], ◌∷◌, map, refl, subst}
-use Rattle.std.specs.List.{fold}
-use Rattle.adept_server.specs.Desks.{CasePass}
-use Rattle.adept_server.specs.Offering.{AllSeenWell, AreSeenWell, IsSeenWell, events_seen}
-use Rattle.case_core.specs.CaseModel.{CaseModel, not_created}
+use Rattle.adept_server.proofs.Common.{[], ℕ, ◌+◌, ◌∷◌, ◌≡◌, AllSeenWell, AreSeenWell, case_after, CaseModel, CasePass, Entry, Event, events_seen, fold, IsSeenWell, List, map, not_created, refl, state_after, subst}
 use Rattle.case_core.specs.Journals.{IsShownWell}
-use Rattle.case_core.specs.Machine.{case_after}
-use Rattle.case_core.specs.declared.events.Event.{Event}
 use Rattle.case_core.proofs.Journals.{journals-keep}
-use Rattle.turn_cell.specs.History.{state_after}
-use Rattle.turn_cell.specs.declared.journal.Entry.{Entry}
 
 module _ {M R W : Type 0} where
   same-state : (s : CaseModel) (es : List (Entry M Event R W CaseModel)) → fold case_after s (map (λ e. e.event) es) ≡ state_after case_after s es

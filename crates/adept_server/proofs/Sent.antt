@@ -1,6 +1,6 @@
 -- Versions may go from thread to thread.
 use denote.Param.Send.{IsSend, IsSync, sendable}
-use Rattle.std.proofs.Crossing.{crosses}
+use Rattle.adept_server.proofs.Common.{crosses}
 use Rattle.wsm_schema.proofs.blocks.Block.TheLaws.TheKnot.{crosses as blocks_cross}
 use Rattle.wsm_schema.proofs.flats.Flat.TheSendSync as flat
 use Rattle.wsm_schema.proofs.ranks.Rank.TheSendSync as rank

@@ -1,12 +1,5 @@
 -- Rows short enough for places of 32 bits.
-use Rattle.std.proofs.Common.{◌≡◌, ℕ, zero, suc, ◌^◌, ◌<◌, ◌≤◌, List, [], ◌∷◌, length, map, sum, Some, Result, slice_get, set, refl, ap, arith}
-use Rattle.std.proofs.Math.ListN.{length-map}
-use Rattle.std.proofs.lemmas.List.Sums.{sum_by-cons}
-use Rattle.adept_server.specs.Calling.{CallEach}
-use Rattle.adept_server.specs.Desks.{AreShort}
-use Rattle.turn_cell.specs.Passes.{PassView}
-use Rattle.turn_cell.specs.declared.faults.CallFault.{CallFault}
-use Rattle.turn_rows.specs.Rows.{zip_with}
+use Rattle.adept_server.proofs.Common.{[], ℕ, ◌<◌, ◌^◌, ◌∷◌, ◌≡◌, ◌≤◌, ap, AreShort, arith, CallEach, CallFault, length, length-map, List, map, PassView, refl, Result, set, slice_get, Some, suc, sum, sum_by-cons, zero, zip_with}
 
 -- a row in another's place that is as long
 pub short_set : {X : Type 0} (rows : List (List X)) (t : ℕ) (row new : List X) → slice_get rows t ≡ Some row → length new ≡ length row → AreShort rows → AreShort (set rows t new)

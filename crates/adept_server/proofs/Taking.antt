@@ -1,22 +1,7 @@
 -- A desk that takes another in.
-use Rattle.std.proofs.Common.{◌≡◌, ◌+◌, ◌<◌, Bool, length, All, refl, sym, ap, ◌∙◌, subst, arith}
-use Rattle.std.specs.Prelude.{◌||◌}
-use Rattle.std.specs.List.{AllZip}
-use Rattle.case_core.specs.Machine.{case_after, case_reply}
-use Rattle.turn_cell.specs.Passes.{IsLegalView, joined}
-use Rattle.turn_rows.specs.Rows.{CanJoin, IsSeenBy, views, zip_with}
-use Rattle.turn_rows.proofs.Places.{length-zip_with}
-use Rattle.adept_server.specs.Desks.{DeskView, IsDesk, IsDeskOf, desk_view}
-use Rattle.adept_server.specs.Opening.{SeesMore, joined_desk}
-use Rattle.adept_server.specs.Vecs.{AllJoined, RowJoined, row_views}
-use Rattle.adept_server.specs.declared.desks.Desk.{Desk}
-use Rattle.adept_server.specs.declared.servers.Server.{Server}
-use Rattle.adept_server.proofs.Changed.{desk_again, first_comes, first_case_comes, known_by_both}
-use Rattle.adept_server.proofs.Made.{same_views}
-use Rattle.adept_server.proofs.Meeting.{even_kinds}
-use Rattle.adept_server.proofs.Short.{short_zip}
-use Rattle.adept_server.proofs.Zips.{all_from_places, all_from_cases}
-use Rattle.type_core.specs.Machine.{kind_after, kind_reply}
+use Rattle.adept_server.proofs.Common.{◌+◌, ◌<◌, ◌||◌, ◌∙◌, ◌≡◌, All, AllJoined, AllZip, ap, arith, Bool, CanJoin, case_after, case_reply, Desk, desk_view, DeskView, IsDesk, IsDeskOf, IsLegalView, IsSeenBy, joined, joined_desk, kind_after}
+use Rattle.adept_server.proofs.{Common.{kind_reply, length, length-zip_with, refl, row_views, RowJoined, SeesMore, Server, subst, sym, views, zip_with}, Changed.{desk_again, first_comes, first_case_comes, known_by_both}, Made.same_views}
+use Rattle.adept_server.proofs.{Meeting.even_kinds, Short.short_zip, Zips.{all_from_places, all_from_cases}}
 
 pub joined_is_desk : (v w : DeskView) → IsDesk v → IsDesk w → length w.kinds ≡ length v.kinds → All (IsLegalView kind_after kind_reply) (zip_with joined v.kinds w.kinds) → All (All (IsLegalView case_after case_reply)) (zip_with (zip_with joined) v.cases w.cases)
     → AllZip IsSeenBy v.kinds (zip_with joined v.kinds w.kinds) × AllZip IsSeenBy w.kinds (zip_with joined v.kinds w.kinds) → IsDesk (joined_desk v w)

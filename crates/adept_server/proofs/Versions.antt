@@ -1,15 +1,8 @@
 -- A type that has told of a version has one.
-use Rattle.std.proofs.Common.{◌≡◌, ◌-◌, ◌<◌, true, length, Option, Some, None, Result, Ok, Err, refl, arith}
-use Rattle.std.proofs.lemmas.Option.{slice_get_within}
-use Rattle.adept_server.specs.Calling.{tells_version}
-use Rattle.type_core.proofs.Versions.{one-more, by-event}
-use Rattle.type_core.specs.KindModel.{KindModel}
-use Rattle.type_core.specs.Machine.{newest_of, defined_by, event_on, kind_after, kind_reply}
-use Rattle.type_core.specs.declared.events.KindEvent.{KindEvent}
+use Rattle.adept_server.proofs.Common.{◌-◌, ◌<◌, ◌≡◌, arith, by-event, defined_by, Err, event_on, kind_after, kind_reply, KindEvent, KindModel, length, newest_of, None, Ok, one-more, Option, refl, Result, slice_get_within, Some}
+use Rattle.adept_server.proofs.Common.{tells_version, true, VersionModel}
 use Rattle.type_core.specs.declared.events.KindEvent.TheVariants.{Define, Install, Newest}
-use Rattle.wsm_sound.specs.VersionModel.{VersionModel}
-use Rattle.wsm_sound.specs.Versions.{first_of}
-use Rattle.wsm_sound.specs.declared.faults.Fault.{Fault}
+use Rattle.wsm_sound.specs.{Versions.first_of, declared.faults.Fault.Fault}
 
 -- where the newest version is there, there are versions
 has-newest : (k : KindModel) (v : VersionModel) → newest_of k.versions ≡ Some v → 0 < length k.versions

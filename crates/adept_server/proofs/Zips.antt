@@ -1,12 +1,6 @@
 -- Lists and rows that were made of others, place by place.
-use Rattle.std.proofs.Common.{◌≡◌, ℕ, zero, suc, Bool, true, false, List, [], ◌∷◌, map, All, Option, Some, None, slice_get, ◌⊎◌, inl, inr, refl, ap, ◌∙◌, subst}
-use Rattle.std.specs.Prelude.{◌||◌}
-use Rattle.std.specs.List.{AllZip}
-use Rattle.std.proofs.lemmas.List.Elements.{All-nil, All-cons}
-use Rattle.turn_rows.specs.Rows.{zip_with}
-use Rattle.turn_rows.proofs.Places.{All-slice_get}
-use Rattle.adept_server.specs.Desks.{in_row, at_case}
-use Rattle.wsm_sound.specs.declared.versions.CaseId.{CaseId}
+use Rattle.adept_server.proofs.Common.{[], ℕ, ◌||◌, ◌∙◌, ◌∷◌, ◌≡◌, ◌⊎◌, All, All-cons, All-nil, All-slice_get, AllZip, ap, at_case, Bool, CaseId, false, in_row, inl, inr, List, map, None, Option, refl, slice_get, Some, subst, suc, true}
+use Rattle.adept_server.proofs.Common.{zero, zip_with}
 
 module _ {X : Type 0} where
   -- where a case is there, its type has a row

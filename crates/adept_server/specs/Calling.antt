@@ -1,21 +1,14 @@
 -- What a call leaves of a desk: an entry more on each cell that it calls.
 use Rattle.std.specs.Prelude.{◌≡◌, ℕ, ◌<◌, ◌≤◌, ◌⊎◌, Bool, true, false, List, [], ◌∷◌, ◌++◌, length, take, drop, Option, Some, None, Result, Ok, Err, OnOk, MatchResult, slice_get, slice_set, if◌then◌else◌}
 use Rattle.adept_server.specs.Desks.{CasePass, DeskView}
-use Rattle.case_core.specs.Machine.{case_after, case_reply}
-use Rattle.case_core.specs.declared.events.Event.{Event}
+use Rattle.case_core.specs.{Machine.{case_after, case_reply}, declared.events.Event.Event, declared.replies.Reply.Reply}
 use Rattle.case_core.specs.declared.events.Event.TheVariants as event
-use Rattle.case_core.specs.declared.replies.Reply.{Reply}
-use Rattle.turn_cell.specs.Passes.{PassView, Sees, Calls}
-use Rattle.turn_cell.specs.declared.faults.CallFault.{CallFault}
+use Rattle.turn_cell.specs.{Passes.{PassView, Sees, Calls}, declared.faults.CallFault.CallFault, declared.limits.TheConstants.MAX_ENTRIES}
 use Rattle.turn_cell.specs.declared.faults.CallFault.TheVariants as fault
-use Rattle.turn_cell.specs.declared.limits.TheConstants.{MAX_ENTRIES}
-use Rattle.type_core.specs.Machine.{kind_after, kind_reply}
-use Rattle.type_core.specs.declared.events.KindEvent.{KindEvent}
+use Rattle.type_core.specs.{Machine.{kind_after, kind_reply}, declared.events.KindEvent.KindEvent, declared.replies.KindReply.KindReply}
 use Rattle.type_core.specs.declared.events.KindEvent.TheVariants as kind_event
-use Rattle.type_core.specs.declared.replies.KindReply.{KindReply}
 use Rattle.type_core.specs.declared.replies.KindReply.TheVariants as kind_reply
-use Rattle.wsm_sound.specs.VersionModel.{VersionModel}
-use Rattle.wsm_sound.specs.declared.versions.CaseId.{CaseId}
+use Rattle.wsm_sound.specs.{VersionModel.VersionModel, declared.versions.CaseId.CaseId}
 
 -- the journal of a cell has room in what its pass has seen
 abbrev pub HasRoom : {M E R W S : Type 0} → Option (PassView M E R W S) → Type 0

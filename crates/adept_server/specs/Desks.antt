@@ -1,22 +1,10 @@
 -- A desk as contracts see it: one pass of each type's cell and of each case's cell.
 use Rattle.std.specs.Prelude.{◌≡◌, ℕ, ◌^◌, ◌<◌, Bool, true, List, [], ◌∷◌, length, map, get_or, Option, Some, None, IsSome, slice_get}
-use Rattle.adept_server.specs.declared.desks.Desk.{Desk}
-use Rattle.adept_server.specs.declared.servers.Server.{Server}
-use Rattle.case_core.specs.CaseModel.{CaseModel, not_created}
-use Rattle.case_core.specs.Instances.{CountedCase}
-use Rattle.case_core.specs.Machine.{case_after, case_reply}
-use Rattle.case_core.specs.declared.events.Event.{Event}
-use Rattle.case_core.specs.declared.replies.Reply.{Reply}
-use Rattle.case_core.specs.declared.views.View.{View}
+use Rattle.adept_server.specs.{declared.desks.Desk.Desk, declared.servers.Server.Server}
+use Rattle.case_core.specs.{CaseModel.{CaseModel, not_created}, Instances.CountedCase, Machine.{case_after, case_reply}, declared.events.Event.Event, declared.replies.Reply.Reply, declared.views.View.View}
 use Rattle.turn_batch.specs.Batch.{AreOf}
-use Rattle.turn_cell.specs.History.{state_after}
-use Rattle.turn_cell.specs.Passes.{PassView, view_of, IsLegalView}
-use Rattle.turn_cell.specs.declared.cell.Cell.{Cell}
-use Rattle.turn_cell.specs.declared.pass.Pass.{Pass}
-use Rattle.type_core.specs.KindModel.{KindModel, not_defined}
-use Rattle.type_core.specs.Machine.{kind_after, kind_reply}
-use Rattle.type_core.specs.declared.events.KindEvent.{KindEvent}
-use Rattle.type_core.specs.declared.replies.KindReply.{KindReply}
+use Rattle.turn_cell.specs.{History.state_after, Passes.{PassView, view_of, IsLegalView}, declared.cell.Cell.Cell, declared.pass.Pass.Pass}
+use Rattle.type_core.specs.{KindModel.{KindModel, not_defined}, Machine.{kind_after, kind_reply}, declared.events.KindEvent.KindEvent, declared.replies.KindReply.KindReply}
 use Rattle.wsm_sound.specs.declared.versions.CaseId.{CaseId}
 
 -- what is seen of a pass of a type's cell, and of a case's cell

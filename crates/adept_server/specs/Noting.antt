@@ -1,9 +1,6 @@
 -- Which cells were called, by their flags, and what two desks have seen of the others.
 use Rattle.std.specs.Prelude.{◌≡◌, ℕ, Bool, false, List, length, Some, slice_get}
-use Rattle.adept_server.specs.Desks.{DeskView, at_case}
-use Rattle.adept_server.specs.Vecs.{lists_of}
-use Rattle.adept_server.specs.declared.call_flags.CallFlags.{CallFlags}
-use Rattle.adept_server.specs.declared.servers.Server.{Server}
+use Rattle.adept_server.specs.{Desks.{DeskView, at_case}, Vecs.lists_of, declared.call_flags.CallFlags.CallFlags, declared.servers.Server.Server}
 use Rattle.turn_cell.specs.Passes.{PassView}
 use Rattle.turn_rows.specs.Rows.{AreLevel, seen_of}
 use Rattle.wsm_sound.specs.declared.versions.CaseId.{CaseId}

@@ -1,19 +1,12 @@
 -- What is offered to a role, in the views after what the passes of a desk have seen.
 use Rattle.std.specs.Prelude.{◌≡◌, ℕ, ◌+◌, ◌≤◌, ◌==◌, List, [], ◌∷◌, ◌++◌, map, Some, if◌then◌else◌}
 use mathlib.Core.List.{IsPrefix}
-use Rattle.adept_server.specs.Desks.{CasePass, DeskView}
-use Rattle.adept_server.specs.declared.worklists.Offer.{Offer}
-use Rattle.case_core.specs.CaseModel.{not_created}
-use Rattle.case_core.specs.Journals.{BringsChecked, IsShownWell, weights}
-use Rattle.case_core.specs.Machine.{case_after, case_reply}
-use Rattle.case_core.specs.Shown.{shown}
-use Rattle.case_core.specs.declared.events.Event.{Event}
+use Rattle.adept_server.specs.{Desks.{CasePass, DeskView}, declared.worklists.Offer.Offer}
+use Rattle.case_core.specs.{CaseModel.not_created, Journals.{BringsChecked, IsShownWell, weights}, Machine.{case_after, case_reply}, Shown.shown, declared.events.Event.Event, declared.views.View.View}
 use Rattle.wsm_items.specs.declared.work_items.Item.{Item}
 use Rattle.wsm_items.specs.declared.work_items.Item.TheVariants as item
-use Rattle.case_core.specs.declared.views.View.{View}
 use Rattle.case_core.specs.declared.views.View.TheVariants as view
-use Rattle.turn_cell.specs.History.{state_after}
-use Rattle.turn_cell.specs.Passes.{IsLegalView}
+use Rattle.turn_cell.specs.{History.state_after, Passes.IsLegalView}
 use Rattle.wsm_lists.specs.Rows.{AllRows}
 use Rattle.wsm_sound.specs.declared.versions.CaseId.{CaseId}
 

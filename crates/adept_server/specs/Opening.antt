@@ -1,21 +1,10 @@
 -- How desks begin, come to be, meet and end.
-use Rattle.std.specs.Prelude.{◌≡◌, ℕ, ◌+◌, false, ◌||◌, List, [], length, map, Some, slice_get}
-use Rattle.std.specs.List.{AllZip}
-use Rattle.adept_server.specs.Desks.{KindPass, CasePass, DeskView, at_case, case_pass}
-use Rattle.adept_server.specs.declared.closing.ClosedServer.{ClosedServer}
-use Rattle.case_core.specs.CaseModel.{CaseModel}
-use Rattle.case_core.specs.Instances.{CountedCase}
-use Rattle.case_core.specs.Machine.{case_after, case_reply}
-use Rattle.case_core.specs.declared.events.Event.{Event}
-use Rattle.case_core.specs.declared.replies.Reply.{Reply}
-use Rattle.case_core.specs.declared.views.View.{View}
-use Rattle.turn_cell.specs.Passes.{PassView, IsClosed, joined, split_off}
-use Rattle.turn_cell.specs.declared.journal.Closed.{Closed}
+use Rattle.std.specs.{Prelude.{◌≡◌, ℕ, ◌+◌, false, ◌||◌, List, [], length, map, Some, slice_get}, List.AllZip}
+use Rattle.adept_server.specs.{Desks.{KindPass, CasePass, DeskView, at_case, case_pass}, declared.closing.ClosedServer.ClosedServer}
+use Rattle.case_core.specs.{CaseModel.CaseModel, Instances.CountedCase, Machine.{case_after, case_reply}, declared.events.Event.Event, declared.replies.Reply.Reply, declared.views.View.View}
+use Rattle.turn_cell.specs.{Passes.{PassView, IsClosed, joined, split_off}, declared.journal.Closed.Closed}
 use Rattle.turn_rows.specs.Rows.{IsSeenBy, first_met, second_met, split_from, zip_with}
-use Rattle.type_core.specs.KindModel.{KindModel}
-use Rattle.type_core.specs.Machine.{kind_after, kind_reply}
-use Rattle.type_core.specs.declared.events.KindEvent.{KindEvent}
-use Rattle.type_core.specs.declared.replies.KindReply.{KindReply}
+use Rattle.type_core.specs.{KindModel.KindModel, Machine.{kind_after, kind_reply}, declared.events.KindEvent.KindEvent, declared.replies.KindReply.KindReply}
 use Rattle.wsm_sound.specs.declared.versions.CaseId.{CaseId}
 
 -- nothing was seen or done with a pass, and none was joined into it

@@ -1,11 +1,8 @@
 -- Rows that are kept in Vecs, and what is done with all of them.
-use Rattle.std.specs.Prelude.{◌≡◌, List, map, All, Vec}
-use Rattle.std.specs.List.{AllZip}
+use Rattle.std.specs.{Prelude.{◌≡◌, List, map, All, Vec}, List.AllZip}
 use Rattle.adept_server.specs.Desks.{AreRowsOf}
 use Rattle.turn_batch.specs.Batch.{AreOf}
-use Rattle.turn_cell.specs.declared.cell.Cell.{Cell}
-use Rattle.turn_cell.specs.declared.pass.Pass.{Pass}
-use Rattle.turn_cell.specs.Passes.{PassView, view_of, IsLegalView, joined, split_off}
+use Rattle.turn_cell.specs.{declared.cell.Cell.Cell, declared.pass.Pass.Pass, Passes.{PassView, view_of, IsLegalView, joined, split_off}}
 use Rattle.turn_rows.specs.Rows.{IsSeenBy, first_met, second_met, split_from, views, zip_with}
 
 -- the lists in a list of Vecs

@@ -1,10 +1,6 @@
 // Rows of cells and of their passes: one row for each type.
-ghost use Rattle.std.specs.Prelude.{◌≡◌, ◌≤◌, All, IfOk, length, vec_len, vec_capacity};
-ghost use Rattle.std.specs.List.{AllZip};
-ghost use Rattle.std.specs.Vec.Iter.{into_iter_items};
-ghost use Rattle.adept_server.specs.Noting.{AreLevelRows};
-ghost use Rattle.adept_server.specs.Rooms.{HaveRoomFor};
-ghost use Rattle.adept_server.specs.Vecs.{AllJoined, AllMet, AllSplit, AreVecsOf, RowJoined, RowMet, RowSplit, lists_of, row_views};
+ghost use Rattle.std.specs.{Prelude.{◌≡◌, ◌≤◌, All, IfOk, length, vec_len, vec_capacity}, List.AllZip, Vec.Iter.into_iter_items};
+ghost use Rattle.adept_server.specs.{Noting.AreLevelRows, Rooms.HaveRoomFor, Vecs.{AllJoined, AllMet, AllSplit, AreVecsOf, RowJoined, RowMet, RowSplit, lists_of, row_views}};
 ghost use Rattle.turn_batch.specs.Batch.{AreOf};
 ghost use Rattle.turn_cell.specs.Passes.{IsLegalView};
 ghost use Rattle.turn_rows.specs.Rows.{AreLevel, CanClose, CanJoin, CanSplit, IsClosedAs, views};

@@ -1,8 +1,6 @@
 // Calls of many cases of a type.
-ghost use Rattle.std.specs.Prelude.{◌≡◌, ◌≤◌, take, drop, IfOk, OnErr};
-ghost use Rattle.std.specs.Result.{result_map_both};
-ghost use Rattle.adept_server.specs.Calling.{CallsCases, Migrates};
-ghost use Rattle.adept_server.specs.Desks.{IsDefinedFor, IsDeskOf, case_count, desk_view, has_kind};
+ghost use Rattle.std.specs.{Prelude.{◌≡◌, ◌≤◌, take, drop, IfOk, OnErr}, Result.result_map_both};
+ghost use Rattle.adept_server.specs.{Calling.{CallsCases, Migrates}, Desks.{IsDefinedFor, IsDeskOf, case_count, desk_view, has_kind}};
 ghost use Rattle.case_core.specs.Ages.{weight};
 ghost use Rattle.turn_batch.specs.Batch.{AreCalled, AreOf};
 

@@ -1,7 +1,6 @@
 // Which cells were called.
 ghost use Rattle.std.specs.Prelude.{◌≡◌, true, length, slice_set, IfOk};
-ghost use Rattle.adept_server.specs.Noting.{AllCalled, IsCalledOf, NoneLowered};
-ghost use Rattle.adept_server.specs.Vecs.{lists_of};
+ghost use Rattle.adept_server.specs.{Noting.{AllCalled, IsCalledOf, NoneLowered}, Vecs.lists_of};
 
 use crate::servers::Server;
 use std::alloc::Global;

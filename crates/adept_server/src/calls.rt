@@ -1,7 +1,6 @@
 // The calls that a desk makes.
 ghost use Rattle.std.specs.Prelude.{◌≡◌, ◌<◌, ◌≤◌, ◌⊎◌, None, Ok, true, length, OnOk, IfOk, IfErr, slice_get};
-ghost use Rattle.adept_server.specs.Calling.{CallsCase, CallsKind, Creates, HasRoom, answer_tells, tells_newest};
-ghost use Rattle.adept_server.specs.Desks.{IsDefinedFor, IsDeskOf, case_pass, desk_view, has_case, has_kind};
+ghost use Rattle.adept_server.specs.{Calling.{CallsCase, CallsKind, Creates, HasRoom, answer_tells, tells_newest}, Desks.{IsDefinedFor, IsDeskOf, case_pass, desk_view, has_case, has_kind}};
 ghost use Rattle.case_core.specs.Ages.{weight};
 ghost use Rattle.type_core.specs.Machine.{weight as kind_weight};
 ghost use Rattle.wsm_schema.specs.Flat.{cards_of};

@@ -1,7 +1,6 @@
 // How servers end.
 ghost use Rattle.std.specs.Prelude.{◌≡◌, ◌+◌};
-ghost use Rattle.adept_server.specs.Desks.{IsDeskOf, desk_view};
-ghost use Rattle.adept_server.specs.Opening.{IsClosedServer};
+ghost use Rattle.adept_server.specs.{Desks.{IsDeskOf, desk_view}, Opening.IsClosedServer};
 
 use crate::all_rows::close_all;
 use crate::closing::ClosedServer;

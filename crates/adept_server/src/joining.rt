@@ -1,8 +1,6 @@
 // How desks meet and end.
 ghost use Rattle.std.specs.Prelude.{◌≡◌, ◌+◌, ◌<◌};
-ghost use Rattle.adept_server.specs.Desks.{IsDeskOf, desk_view};
-ghost use Rattle.adept_server.specs.Noting.{AreLevelDesks, IsCalledOf};
-ghost use Rattle.adept_server.specs.Opening.{SeesMore, first_desk_met, joined_desk, second_desk_met};
+ghost use Rattle.adept_server.specs.{Desks.{IsDeskOf, desk_view}, Noting.{AreLevelDesks, IsCalledOf}, Opening.{SeesMore, first_desk_met, joined_desk, second_desk_met}};
 
 use crate::all_rows::{
     join_all, join_row_in, meet_all, meet_all_called, meet_row, meet_row_called,

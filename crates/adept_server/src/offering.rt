@@ -1,7 +1,6 @@
 // How work lists are made.
 ghost use Rattle.std.specs.Prelude.{◌≡◌, ◌+◌, ◌^◌, ◌<◌, ◌++◌, length, IfOk, OnOk, Some, map};
-ghost use Rattle.adept_server.specs.Desks.{AreRowsOf, AreShort, IsDeskOf, desk_view};
-ghost use Rattle.adept_server.specs.Offering.{AllLooked, AllOpened, AllSeenWell, EachLooked, HasLooked, Looks, OpenedAs, all_offers, offer_of, offers_in, offers_of, row_offers, view_after};
+ghost use Rattle.adept_server.specs.{Desks.{AreRowsOf, AreShort, IsDeskOf, desk_view}, Offering.{AllLooked, AllOpened, AllSeenWell, EachLooked, HasLooked, Looks, OpenedAs, all_offers, offer_of, offers_in, offers_of, row_offers, view_after}};
 ghost use Rattle.case_core.specs.CaseModel.{not_created};
 ghost use Rattle.turn_batch.specs.Batch.{AreOf};
 ghost use Rattle.turn_cell.specs.Passes.{IsPassOf, view_of};

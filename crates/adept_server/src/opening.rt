@@ -1,9 +1,6 @@
 // How servers and desks begin.
 ghost use Rattle.std.specs.Prelude.{◌≡◌, ◌+◌, ◌<◌, ◌≤◌, ◌^◌, length, sum, replicate, IfOk, OnErr, vec_len};
-ghost use Rattle.adept_server.specs.Desks.{IsDeskOf, desk_view};
-ghost use Rattle.adept_server.specs.Firsts.{AreFirstCases, AreFirstKinds, AreFirstsOf};
-ghost use Rattle.adept_server.specs.Opening.{IsFirstDesk, new_desk, parent_desk};
-ghost use Rattle.adept_server.specs.Vecs.{AreVecsOf, row_views};
+ghost use Rattle.adept_server.specs.{Desks.{IsDeskOf, desk_view}, Firsts.{AreFirstCases, AreFirstKinds, AreFirstsOf}, Opening.{IsFirstDesk, new_desk, parent_desk}, Vecs.{AreVecsOf, row_views}};
 ghost use Rattle.turn_batch.specs.Batch.{AreOf};
 ghost use Rattle.turn_rows.specs.Rows.{views};
 

@@ -1,15 +1,8 @@
 -- How a command ends follows from how its file was got and how that was worked.
-use Rattle.std.proofs.Common.{◌≡◌, ℕ, ◌≤◌, ◌⊎◌, inl, inr, List, length, Option, Some, None, Ok, IsTrue, IfSome, sym, ◌∙◌, refl, arith}
-use Rattle.std.proofs.lemmas.Bool.{le-ltb}
-use Rattle.adept_top.specs.Commands.{load_size, input}
-use Rattle.adept_top.specs.Endings.{OfFile, IsInputOf, EndsUnworked, Ends}
-use Rattle.adept_top.specs.Statuses.{is_end_status, status_of}
+use Rattle.std.proofs.{Common.{◌≡◌, ℕ, ◌≤◌, ◌⊎◌, inl, inr, List, length, Option, Some, None, Ok, IsTrue, IfSome, sym, ◌∙◌, refl, arith}, lemmas.Bool.le-ltb}
+use Rattle.adept_top.specs.{Commands.{load_size, input}, Endings.{OfFile, IsInputOf, EndsUnworked, Ends}, Statuses.{is_end_status, status_of}, Works.Works, declared.outcomes.Outcome.Outcome, declared.words.Command.Command}
 use Rattle.file_limits.specs.declared.TheConstants.{MAX_FILE_BYTES}
-use Rattle.adept_top.specs.Works.{Works}
-use Rattle.adept_top.specs.declared.outcomes.Outcome.{Outcome}
-use Rattle.adept_top.specs.declared.words.Command.{Command}
-use Rattle.file_model.specs.Reading.{file}
-use Rattle.file_model.specs.declared.files.File.{File}
+use Rattle.file_model.specs.{Reading.file, declared.files.File.File}
 
 -- what holds of the file that was got holds of the file that the bytes stand for
 of-input : (bytes : Option (List ℕ)) (f : File) (P : File → Type 0) → IfSome bytes (λ b. (length b ≤ MAX_FILE_BYTES) × (file b ≡ Ok f)) → P f → OfFile bytes P

@@ -1,14 +1,10 @@
 -- What is got of an input: its file, or how a command ends without one.
-use Rattle.std.proofs.Common.{◌≡◌, ◌≢◌, ℕ, ◌<◌, ◌≤◌, ◌⊎◌, inl, inr, List, [], ◌++◌, length, Option, Some, None, Result, Ok, Err, IfOk, IfErr, IfSome, IsErrAnd, refl, sym, ap, ◌∙◌, subst, arith}
-use Rattle.std.proofs.lemmas.List.{append-nil}
+use Rattle.std.proofs.{Common.{◌≡◌, ◌≢◌, ℕ, ◌<◌, ◌≤◌, ◌⊎◌, inl, inr, List, [], ◌++◌, length, Option, Some, None, Result, Ok, Err, IfOk, IfErr, IfSome, IsErrAnd, refl, sym, ap, ◌∙◌, subst, arith}, lemmas.List.append-nil}
 use Rattle.std.specs.Io.KnownBytes.{Consumes, IsAtEnd}
 use Rattle.adept_load.specs.Load.{load_text}
-use Rattle.adept_top.specs.Endings.{IsInputOf, IsRefused, EndsUnworked}
-use Rattle.adept_top.specs.Statuses.{status_of}
-use Rattle.adept_top.specs.declared.outcomes.Outcome.{Outcome}
+use Rattle.adept_top.specs.{Endings.{IsInputOf, IsRefused, EndsUnworked}, Statuses.status_of, declared.outcomes.Outcome.Outcome}
 use Rattle.file_limits.specs.declared.TheConstants.{MAX_FILE_BYTES}
-use Rattle.file_model.specs.Reading.{file}
-use Rattle.file_model.specs.declared.files.File.{File}
+use Rattle.file_model.specs.{Reading.file, declared.files.File.File}
 
 -- nothing is taken of what stays as it is
 same-left : (bytes : Option (List ℕ)) → Consumes bytes bytes []

@@ -7,11 +7,8 @@ use Rattle.file_limits.specs.declared.TheConstants.{MAX_CASES}
 use Rattle.file_words.specs.Numbers.{are_digits, value_from}
 use Rattle.legal_run.specs.Legal.{Legal}
 use Rattle.file_model.specs.declared.files.File.{File}
-use Rattle.report_text.specs.Check.{check_text}
-use Rattle.report_text.specs.Report.{text, summary}
-use Rattle.script_run.specs.Serial.{serial}
-use Rattle.script_run.specs.Verdicts.{verdicts}
-use Rattle.script_run.specs.declared.runs.Run.{Run}
+use Rattle.report_text.specs.{Check.check_text, Report.{text, summary}}
+use Rattle.script_run.specs.{Serial.serial, Verdicts.verdicts, declared.runs.Run.Run}
 
 abbrev pub command_word : List ℕ → Option Command
 command_word w =

@@ -1,17 +1,9 @@
 -- How the program ends for a command: what its outcome says, and what is left of its source and its sink.
-use Rattle.std.specs.Prelude.{ℕ, ◌≡◌, ◌≢◌, ◌≤◌, ◌+◌, ◌⊎◌, List, length, Option, Some, None, IsTrue, IfSome, IfNone, OnSome, IsOkAnd, IsErrAnd, Ok}
-use Rattle.std.specs.Io.KnownBytes.{Appends, IsAtEnd}
-use Rattle.adept_io.specs.Counts.{Rose}
-use Rattle.adept_io.specs.Read.{ConsumesMany, ConsumesUpTo}
-use Rattle.adept_io.specs.Written.{AppendsPrefix}
-use Rattle.adept_top.specs.Commands.{IsRunOf, load_size, input, output}
-use Rattle.adept_top.specs.Statuses.{is_end_status, status_of}
+use Rattle.std.specs.{Prelude.{ℕ, ◌≡◌, ◌≢◌, ◌≤◌, ◌+◌, ◌⊎◌, List, length, Option, Some, None, IsTrue, IfSome, IfNone, OnSome, IsOkAnd, IsErrAnd, Ok}, Io.KnownBytes.{Appends, IsAtEnd}}
+use Rattle.adept_io.specs.{Counts.Rose, Read.{ConsumesMany, ConsumesUpTo}, Written.AppendsPrefix}
+use Rattle.adept_top.specs.{Commands.{IsRunOf, load_size, input, output}, Statuses.{is_end_status, status_of}, declared.outcomes.Outcome.Outcome, declared.words.Command.Command}
 use Rattle.file_limits.specs.declared.TheConstants.{MAX_FILE_BYTES}
-use Rattle.adept_top.specs.declared.outcomes.Outcome.{Outcome}
-use Rattle.adept_top.specs.declared.words.Command.{Command}
-use Rattle.file_model.specs.Reading.{file}
-use Rattle.file_model.specs.declared.files.File.{File}
-use Rattle.file_model.specs.declared.refusals.Refused.{Refused}
+use Rattle.file_model.specs.{Reading.file, declared.files.File.File, declared.refusals.Refused.Refused}
 
 -- the bytes, where they are known, are not too many and stand for a file of which this holds
 abbrev pub OfFile : Option (List ℕ) → (File → Type 0) → Type 0

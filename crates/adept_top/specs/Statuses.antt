@@ -4,8 +4,7 @@ use Rattle.adept_io.specs.declared.reading.ReadRefusal.{ReadRefusal}
 use Rattle.adept_io.specs.declared.reading.ReadRefusal.TheVariants as read
 use Rattle.adept_top.specs.declared.outcomes.Outcome.{Outcome}
 use Rattle.file_limits.specs.declared.TheConstants.{MAX_FILE_BYTES}
-use Rattle.file_model.specs.Reading.{file}
-use Rattle.file_model.specs.declared.refusals.FileRefusal.{FileRefusal}
+use Rattle.file_model.specs.{Reading.file, declared.refusals.FileRefusal.FileRefusal}
 use Rattle.file_model.specs.declared.refusals.FileRefusal.TheVariants as refusal
 
 -- the statuses of a run of a command

@@ -1,11 +1,7 @@
 -- What a command makes of a file that was read.
-use Rattle.std.specs.Prelude.{ℕ, ◌≡◌, ◌≢◌, ◌⊎◌, List, Option, None}
-use Rattle.std.specs.Io.KnownBytes.{Appends}
-use Rattle.adept_io.specs.Counts.{Rose}
-use Rattle.adept_io.specs.Written.{AppendsPrefix}
-use Rattle.adept_top.specs.Commands.{IsRunOf, output}
-use Rattle.adept_top.specs.declared.outcomes.Outcome.{Outcome}
-use Rattle.adept_top.specs.declared.words.Command.{Command}
+use Rattle.std.specs.{Prelude.{ℕ, ◌≡◌, ◌≢◌, ◌⊎◌, List, Option, None}, Io.KnownBytes.Appends}
+use Rattle.adept_io.specs.{Counts.Rose, Written.AppendsPrefix}
+use Rattle.adept_top.specs.{Commands.{IsRunOf, output}, declared.outcomes.Outcome.Outcome, declared.words.Command.Command}
 use Rattle.file_model.specs.declared.files.File.{File}
 
 -- The command worked the file, and wrote its output to a sink; or a write failed, or there was not enough memory.

@@ -1,7 +1,6 @@
 // The program and its commands.
 ghost use Rattle.std.specs.Prelude.{◌≡◌, ◌≤◌, map, string_bytes, IfSome, None};
-ghost use Rattle.adept_top.specs.Commands.{command_of};
-ghost use Rattle.adept_top.specs.Endings.{Ends};
+ghost use Rattle.adept_top.specs.{Commands.command_of, Endings.Ends};
 
 use crate::outcomes::Outcome;
 use crate::reading::{made_process, read_process};

@@ -1,11 +1,9 @@
 // The process file that a command works: it is read from a source, or made.
 ghost use Rattle.std.specs.Prelude.{◌≡◌, ◌≢◌, ◌⊎◌, ◌≤◌, length, IfOk, IfErr, Ok, Some, None};
 ghost use Rattle.adept_load.specs.Load.{load_text};
-ghost use Rattle.adept_top.specs.Endings.{EndsUnworked, IsInputOf, IsRefused};
-ghost use Rattle.adept_top.specs.Statuses.{status_of};
+ghost use Rattle.adept_top.specs.{Endings.{EndsUnworked, IsInputOf, IsRefused}, Statuses.status_of};
 ghost use Rattle.file_facts.specs.Facts.{IsWorkable};
-ghost use Rattle.file_model.specs.Reading.{file};
-ghost use Rattle.file_model.specs.Sizes.{IsBounded};
+ghost use Rattle.file_model.specs.{Reading.file, Sizes.IsBounded};
 
 use crate::outcomes::Outcome;
 use adept_io::{Source, read_to_limit};

@@ -1,8 +1,6 @@
 // The commands on a process file that was read. Nothing is written before the work is done.
-ghost use Rattle.std.specs.Prelude.{ℕ, ◌≡◌, ◌⊎◌, Some, None, IfOk};
-ghost use Rattle.std.specs.Io.KnownBytes.{Appends};
-ghost use Rattle.adept_io.specs.Counts.{Rose};
-ghost use Rattle.adept_io.specs.Written.{AppendsPrefix};
+ghost use Rattle.std.specs.{Prelude.{ℕ, ◌≡◌, ◌⊎◌, Some, None, IfOk}, Io.KnownBytes.Appends};
+ghost use Rattle.adept_io.specs.{Counts.Rose, Written.AppendsPrefix};
 ghost use Rattle.adept_top.specs.Works.{Works};
 ghost use Rattle.adept_top.specs.declared.words.Command.TheVariants as Command;
 ghost use Rattle.file_facts.specs.Facts.{IsWorkable};

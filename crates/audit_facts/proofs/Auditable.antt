@@ -1,35 +1,13 @@
 -- What holds of each file that is read.
-use Rattle.std.proofs.Common.{◌≡◌, ℕ, ◌+◌, ◌==◌, Bool, true, false, List, [], ◌∷◌, length, refl, subst, Option, Some, None, Result, Ok, Err}
-use Rattle.std.specs.Prelude.{IfOk, IfSome, nat_le, if◌then◌else◌}
-use Rattle.std.specs.Str.{is_utf8}
-use Rattle.file_words.specs.Lines.{Bytes, lines_of, without_return}
-use Rattle.file_words.specs.Words.{words_of, is_skipped}
-use Rattle.file_words.specs.Lengths.{first_long}
-use Rattle.file_words.specs.declared.lengths.TooLong.{TooLong}
-use Rattle.file_drafts.specs.Drafts.{around}
-use Rattle.file_drafts.specs.declared.drafts.Draft.{Draft}
-use Rattle.file_forms.specs.DeclarationForms.{header, declaration_line}
-use Rattle.file_forms.specs.Forms.{TypeLine}
-use Rattle.file_forms.specs.TypeForms.{type_line}
-use Rattle.file_forms.specs.ScriptForms.{script_line}
-use Rattle.file_forms.specs.OperationForms.{operation_line}
-use Rattle.file_model.specs.Steps.{State, Step, opening}
-use Rattle.file_model.specs.Declaring.{declared}
-use Rattle.file_model.specs.Typing.{fits_in, typed}
-use Rattle.file_model.specs.Scripting.{scripted}
-use Rattle.file_model.specs.Operating.{operated}
-use Rattle.file_model.specs.Reading.{in_format, unless_long, formed, fitting, unless_not_text, declares, step_outside, step_in, step_words, step, finished_in, finished, at_line, read_from, file}
-use Rattle.file_model.specs.declared.files.File.{File}
-use Rattle.file_model.specs.declared.refusals.Refused.{Refused}
-use Rattle.file_model.specs.declared.refusals.Why.{Why}
+use Rattle.audit_facts.proofs.Common.{[], ℕ, ◌+◌, ◌==◌, ◌∷◌, ◌≡◌, around, Bool, Bytes, Contents, declaration_line, declared, Draft, Err, false, fits_in, header, IfOk, IfSome, IsAuditable, length, lines_of, List, nat_le, None, Ok, opening}
+use Rattle.audit_facts.proofs.{Common.{operated, operation_line, Option, refl, Result, script_line, scripted, Some, State, Step, subst, true, type_line, typed, TypeLine, Why, without_return}, Named.{Named, NamedState, NamedStep}}
+use Rattle.audit_facts.proofs.{Named.phases-named, NamedByLines.{declared-named, operated-named, scripted-named, typed-named}, NamedForms.{NamedTypeLine, declaration-named, operation-named, script_line-named, type_line-named}}
+use Rattle.std.specs.{Prelude.if◌then◌else◌, Str.is_utf8}
+use Rattle.file_words.specs.{Words.{words_of, is_skipped}, Lengths.first_long, declared.lengths.TooLong.TooLong}
+use Rattle.file_model.specs.{Reading.{in_format, unless_long, formed, fitting, unless_not_text, declares, step_outside, step_in, step_words, step, finished_in, finished, at_line, read_from, file}, declared.files.File.File}
+use Rattle.file_model.specs.{declared.refusals.Refused.Refused, declared.states.Section.Section}
 use Rattle.file_model.specs.declared.refusals.Why.TheVariants as why
-use Rattle.file_model.specs.declared.states.Contents.{Contents}
-use Rattle.file_model.specs.declared.states.Section.{Section}
 use Rattle.file_model.specs.declared.states.Section.TheVariants as section
-use Rattle.audit_facts.specs.Facts.{IsAuditable}
-use Rattle.audit_facts.proofs.Named.{Named, NamedState, NamedStep, phases-named}
-use Rattle.audit_facts.proofs.NamedByLines.{declared-named, operated-named, scripted-named, typed-named}
-use Rattle.audit_facts.proofs.NamedForms.{NamedTypeLine, declaration-named, operation-named, script_line-named, type_line-named}
 
 -- ---- a line
 if-named : (test : Bool) (s o : Step) → NamedStep s → NamedStep o → NamedStep (if test then s else o)

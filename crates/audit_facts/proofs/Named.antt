@@ -1,25 +1,12 @@
 -- What holds of names and texts behind each line that is read.
-use Rattle.std.proofs.Common.{◌≡◌, ℕ, zero, suc, Bool, true, false, List, [], ◌∷◌, ◌++◌, map, refl, sym, ap, ◌∙◌, subst, inl, inr, Option, Some, None, if◌then◌else◌}
-use Rattle.std.specs.Prelude.{IfOk, bytes_eq, slice_get}
-use Rattle.std.proofs.lemmas.Bool.{or_parts}
-use Rattle.std.proofs.lemmas.List.{map-append}
-use Rattle.std.proofs.lemmas.Slice.Eq.{bytes_eq-Decides}
+use Rattle.audit_facts.proofs.Common.{[], ℕ, ◌++◌, ◌∙◌, ◌∷◌, ◌≡◌, all_phases, AllRows, ap, AreApart, Bool, by_name, by_number, Bytes, bytes_eq, Contents, false, if_known, IfOk, if◌then◌else◌, inl, inr, is_listed, IsName, IsNamed, List, map}
+use Rattle.audit_facts.proofs.Common.{None, noted, open_lines, Option, or_parts, phases_with, refl, role_noted, roles_noted, RoleWord, slice_get, Some, State, Step, subst, suc, sym, true, unless, Why, with_actor, with_element, with_node}
+use Rattle.audit_facts.proofs.{Common.{with_role, with_roles, with_script_line, WritesOneLine, zero}, NamedForms.NamedRole}
+use Rattle.std.proofs.{lemmas.List.map-append, lemmas.Slice.Eq.bytes_eq-Decides}
 use Rattle.wsm_lists.proofs.Lists.{rows-append}
-use Rattle.wsm_lists.specs.Rows.{AllRows}
 use Rattle.file_facts.proofs.Lists.{at-push}
-use Rattle.file_forms.specs.Forms.{RoleWord, by_number, by_name}
-use Rattle.file_model.specs.Declaring.{roles_noted, with_actor, with_roles}
-use Rattle.file_model.specs.Scripting.{if_known}
-use Rattle.file_model.specs.Steps.{State, Step, all_phases, open_lines, phases_with, role_noted, unless, with_element, with_node, with_role, with_script_line}
-use Rattle.file_model.specs.declared.files.ActorDecl.{ActorDecl}
-use Rattle.file_model.specs.declared.files.Line.{Line}
-use Rattle.file_model.specs.declared.refusals.Why.{Why}
-use Rattle.file_model.specs.declared.states.Contents.{Contents}
-use Rattle.file_names.specs.Names.{is_listed, noted}
+use Rattle.file_model.specs.{declared.files.ActorDecl.ActorDecl, declared.files.Line.Line}
 use Rattle.file_names.specs.declared.declared.DeclaredList.{DeclaredList}
-use Rattle.file_words.specs.Lines.{Bytes}
-use Rattle.audit_facts.specs.Facts.{AreApart, IsName, IsNamed, WritesOneLine}
-use Rattle.audit_facts.proofs.NamedForms.{NamedRole}
 
 pub record AreNamed (ns es rs : List Bytes) (ds : DeclaredList ActorDecl) (ps : List (List Line)) (lines : List Line) : Type 0 where
   pub nodes : AllRows IsName ns

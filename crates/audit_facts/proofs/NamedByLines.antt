@@ -1,35 +1,19 @@
 -- What holds of names and texts behind lines of each kind.
-use Rattle.std.proofs.Common.{◌≡◌, ℕ, Bool, true, false, List, [], ◌∷◌, refl, Option, Some, None}
-use Rattle.wsm_lists.specs.Rows.{AllRows}
-use Rattle.wsm_lists.specs.declared.values.Value.{Value}
+use Rattle.audit_facts.proofs.Common.{[], ℕ, ◌∷◌, ◌≡◌, a_case, a_deed, a_read, a_sync, a_type, a_write, act_of, acted, activity, actor_in, AllRows, an_actor, an_element, at_head, at_place, behind, Bool, Bytes, case_declared, case_in}
+use Rattle.audit_facts.proofs.Common.{closes_block, conditional, Contents, counted, Declaration, declared, Deed, delete, Draft, element, ended, false, first_phase, group_end, grouped, HasOneLineWrites, insert, is_listed, IsName}
+use Rattle.audit_facts.proofs.Common.{IsOneLineWrite, line_of, line_of_group, List, migrate_of, migrating, migrations_with, move, NamedGap, next_phase, node_in, None, numbered, one_install, op_in, opens_and, opens_branch, opens_loop}
+use Rattle.audit_facts.proofs.Common.{opens_xor, operated, OperationLine, Option, outside, parallel, phase_begun, place_of, read, refl, role_numbers, RoleWord, scripted, ScriptLine, set_role, Some, sync, to_change, to_create, to_end}
+use Rattle.audit_facts.proofs.Common.{to_install, to_migrate, to_start, to_withdraw, true, twice, type_end, typed, TypeLine, unread, unsync, unwrite, Value, whole, with_actor, with_case, with_element, with_elements, with_group, with_line}
+use Rattle.audit_facts.proofs.{Common.{with_names, with_node, with_op, with_place, with_role, with_roles, with_script_line, write}, Named.{Named, NamedStep, actor-named, element-named, found-named, node-named, phases-named, role-named}}
+use Rattle.audit_facts.proofs.{Named.{roles-named, script-named, unless-named}, NamedForms.{NamedRole, NamedDeclaration, NamedDeed, NamedOperation, NamedPlace, NamedScriptLine, NamedTypeLine}, Words.IsWrite}
 use Rattle.wsm_ops.specs.declared.operations.Op.{Op}
 use Rattle.wsm_schema.specs.SchemaModel.{SchemaModel}
-use Rattle.wsm_sound.specs.Faults.{fault_of}
-use Rattle.wsm_sound.specs.declared.faults.Fault.{Fault}
-use Rattle.file_drafts.specs.Drafts.{whole}
-use Rattle.file_drafts.specs.declared.drafts.Draft.{Draft}
+use Rattle.wsm_sound.specs.{Faults.fault_of, declared.faults.Fault.Fault}
 use Rattle.file_facts.proofs.Held.{neither}
-use Rattle.file_forms.specs.Forms.{RoleWord, Declaration, a_type, an_actor, a_case, first_phase, TypeLine, activity, opens_and, opens_xor, opens_branch, opens_loop, closes_block, a_sync, an_element, a_read, a_write, type_end}
-use Rattle.file_forms.specs.Forms.{Deed, to_create, to_start, to_withdraw, to_end, to_change, to_install, to_migrate, ScriptLine, next_phase, a_deed}
-use Rattle.file_forms.specs.Forms.{NamedGap, behind, at_head, OperationLine, insert, parallel, conditional, delete, move, sync, unsync, element, read, unread, write, unwrite, set_role, group_end}
-use Rattle.file_model.specs.Declaring.{case_declared, declared, phase_begun, role_numbers, with_actor, with_case, with_roles}
-use Rattle.file_model.specs.Operating.{act_of, grouped, line_of_group, op_in, operated, with_names, with_op, with_place}
-use Rattle.file_model.specs.Scripting.{acted, actor_in, case_in, counted, line_of, migrate_of, migrating, migrations_with, numbered, one_install, scripted, with_elements, with_group, with_line}
-use Rattle.file_model.specs.Steps.{at_place, node_in, outside, twice, with_element, with_node, with_role, with_script_line}
-use Rattle.file_model.specs.Typing.{ended, typed}
-use Rattle.file_model.specs.declared.files.Act.{Act}
+use Rattle.file_model.specs.{declared.files.Act.Act, declared.states.Group.Group, declared.states.Target.Target}
 use Rattle.file_model.specs.declared.files.Act.TheVariants as act
-use Rattle.file_model.specs.declared.states.Contents.{Contents}
-use Rattle.file_model.specs.declared.states.Group.{Group}
 use Rattle.file_model.specs.declared.states.Section.TheVariants as section
-use Rattle.file_model.specs.declared.states.Target.{Target}
 use Rattle.file_model.specs.declared.states.Target.TheVariants as target
-use Rattle.file_names.specs.Names.{is_listed, place_of}
-use Rattle.file_words.specs.Lines.{Bytes}
-use Rattle.audit_facts.specs.Facts.{HasOneLineWrites, IsName, IsOneLineWrite}
-use Rattle.audit_facts.proofs.Named.{Named, NamedStep, actor-named, element-named, found-named, node-named, phases-named, role-named, roles-named, script-named, unless-named}
-use Rattle.audit_facts.proofs.NamedForms.{NamedRole, NamedDeclaration, NamedDeed, NamedOperation, NamedPlace, NamedScriptLine, NamedTypeLine}
-use Rattle.audit_facts.proofs.Words.{IsWrite}
 
 -- ---- declarations
 not-twice : (test : Bool) → twice test ≡ None → test ≡ false

@@ -1,16 +1,7 @@
 -- The names in the forms of lines are names, and the writes are in one line.
-use Rattle.std.proofs.Common.{ℕ, List, [], ◌∷◌}
-use Rattle.std.specs.Prelude.{IfSome}
-use Rattle.wsm_lists.specs.Rows.{AllRows}
-use Rattle.file_words.specs.Lines.{Bytes}
-use Rattle.file_forms.specs.DeclarationForms.{declaration_line}
-use Rattle.file_forms.specs.Forms.{RoleWord, Declaration, TypeLine, Deed, ScriptLine, NamedGap, OperationLine}
+use Rattle.audit_facts.proofs.Common.{[], ℕ, ◌∷◌, AllRows, Bytes, Declaration, declaration_line, Deed, IfSome, IsName, List, NamedGap, operation_line, OperationLine, RoleWord, script_line, ScriptLine, type_line, TypeLine}
 use Rattle.file_forms.specs.NamesInForms.{RoleHas, DeclarationHas, TypeLineHas, DeedHas, ScriptLineHas, GapHas, OperationHas}
-use Rattle.file_forms.specs.OperationForms.{operation_line}
-use Rattle.file_forms.specs.ScriptForms.{script_line}
-use Rattle.file_forms.specs.TypeForms.{type_line}
 use Rattle.file_forms.proofs.NamesInForms.{WordHas, declaration-has, operation-has, script_line-has, type_line-has}
-use Rattle.audit_facts.specs.Facts.{IsName}
 use Rattle.audit_facts.proofs.Words.{IsWrite, name-is, pair-is}
 
 words-are : (ws : List Bytes) → AllRows (WordHas IsName IsWrite) ws

@@ -1,18 +1,10 @@
 -- Words that are names, and values in words.
-use Rattle.std.proofs.Common.{◌≡◌, ℕ, ◌==◌, ne_eqb, Bool, true, false, ◌&&◌, ◌||◌, not, [], ◌∷◌, length, Option, Some, None, refl, arith, inl, inr, if◌then◌else◌}
-use Rattle.std.specs.Prelude.{IfSome, option_map}
-use Rattle.std.proofs.lemmas.Bool.{and_parts, eqb-true, leb-true, or_cases}
-use Rattle.wsm_lists.specs.declared.values.Value.{Value}
+use Rattle.audit_facts.proofs.Common.{[], ℕ, ◌&&◌, ◌==◌, ◌||◌, ◌∷◌, ◌≡◌, and_parts, arith, Bool, Bytes, eqb-true, false, IfSome, if◌then◌else◌, inl, inr, IsName, IsOneLineValue, leb-true, length, ne_eqb, None, not, Option, option_map}
+use Rattle.audit_facts.proofs.Common.{or_cases, refl, Some, true, Value}
 use Rattle.wsm_lists.specs.declared.values.Value.TheVariants as value
-use Rattle.file_words.specs.Lines.{Bytes}
-use Rattle.file_words.specs.Names.{is_name, name}
-use Rattle.file_words.specs.Numbers.{integer}
-use Rattle.file_words.specs.Pairs.{pair, pair_of, parts_at_equals, word_value}
-use Rattle.file_words.specs.Texts.{is_plain, stepped, text, text_step, unquoted}
-use Rattle.file_words.specs.declared.texts.TextStep.{TextStep}
+use Rattle.file_words.specs.{Names.{is_name, name}, Numbers.integer, Pairs.{pair, pair_of, parts_at_equals, word_value}, Texts.{is_plain, stepped, text, text_step, unquoted}, declared.texts.TextStep.TextStep}
 use Rattle.file_words.specs.declared.texts.TextStep.TheVariants.{Stands, Escapes, Ends, Wrong}
 use Rattle.line_readers.specs.Readers.{IsOneLine}
-use Rattle.audit_facts.specs.Facts.{IsName, IsOneLineValue}
 use Rattle.file_forms.proofs.Options.{some-any, some-mapped, some-or}
 
 pub name-is : (w : Bytes) → IfSome (name w) IsName

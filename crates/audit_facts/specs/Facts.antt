@@ -1,15 +1,9 @@
 -- What holds of each file that is read, for those who judge its reports.
 use Rattle.std.specs.Prelude.{◌≡◌, ℕ, true, List, slice_get, Some}
-use Rattle.wsm_lists.specs.Rows.{AllRows}
-use Rattle.wsm_lists.specs.declared.values.Value.{Value}
+use Rattle.wsm_lists.specs.{Rows.AllRows, declared.values.Value.Value}
 use Rattle.wsm_lists.specs.declared.values.Value.TheVariants as value
-use Rattle.file_words.specs.Lines.{Bytes}
-use Rattle.file_words.specs.Names.{is_name}
-use Rattle.file_model.specs.Written.{act_writes}
-use Rattle.file_model.specs.declared.files.Act.{Act}
-use Rattle.file_model.specs.declared.files.ActorDecl.{ActorDecl}
-use Rattle.file_model.specs.declared.files.File.{File}
-use Rattle.file_model.specs.declared.files.Line.{Line}
+use Rattle.file_words.specs.{Lines.Bytes, Names.is_name}
+use Rattle.file_model.specs.{Written.act_writes, declared.files.Act.Act, declared.files.ActorDecl.ActorDecl, declared.files.File.File, declared.files.Line.Line}
 use Rattle.line_readers.specs.Readers.{IsOneLine}
 
 abbrev pub IsName : Bytes → Type 0

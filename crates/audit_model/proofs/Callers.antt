@@ -1,9 +1,8 @@
 -- The beginning of a line of a journal tells its caller: names hold no space, and actors have names of their own.
-use Rattle.std.proofs.Common.{◌≡◌, ◌≢◌, ℕ, suc, ◌+◌, ◌-◌, ◌≤◌, ◌==◌, ne_eqb, Bool, true, false, List, [], ◌∷◌, ◌++◌, length, take, Option, Some, refl, sym, ap, ◌∙◌, subst, arith, lit≤, inl, inr, append_assoc, if◌then◌else◌, ◌&&◌, eq-eqb, eqb-true, codes, decimal, slice_get}
-use Rattle.std.proofs.lemmas.Slice.Eq.{bytes_eq-Decides}
-use Rattle.audit_model.proofs.Common.{actor_name, ActorDecl, AllRows, begins, both_ways, Bytes, caller_from, caller_in, caller_text, case_shown, CaseEntry, cases_Bool, cut-together, ended, ending, event_text, File, IsActor, IsAuditable, IsNamed, IsOneLine, kind_event_text, kind_reply_text, kind_shown, KindEntry, line_start, lines_of, reply_text, row-at, slice_get_cases}
-use Rattle.audit_model.proofs.OneLine.{name-without}
-use Rattle.audit_model.proofs.OneLineTexts.{start-one}
+use Rattle.std.proofs.Common.{◌≡◌, ◌≢◌, ℕ, suc, ◌+◌, ◌-◌, ◌≤◌, ◌==◌, ne_eqb, Bool, true, false, List, [], ◌∷◌, ◌++◌, length, take, Option, Some, refl, sym, ap, ◌∙◌, subst, arith, lit≤, inl, inr, append_assoc, if◌then◌else◌, ◌&&◌, eq-eqb}
+use Rattle.std.proofs.{Common.{eqb-true, codes, decimal, slice_get}, lemmas.Slice.Eq.bytes_eq-Decides}
+use Rattle.audit_model.proofs.Common.{actor_name, ActorDecl, AllRows, begins, both_ways, Bytes, caller_from, caller_in, caller_text, case_shown, CaseEntry, cases_Bool, cut-together, ended, ending, event_text, File, IsActor, IsAuditable}
+use Rattle.audit_model.proofs.{Common.{IsNamed, IsOneLine, kind_event_text, kind_reply_text, kind_shown, KindEntry, line_start, lines_of, reply_text, row-at, slice_get_cases}, OneLine.name-without, OneLineTexts.start-one}
 
 -- ---- beginnings
 -- what begins a text, and its rest

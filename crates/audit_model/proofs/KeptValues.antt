@@ -1,17 +1,14 @@
 -- A case keeps values that stand in one line, where events bring such: so do its replies.
 use Rattle.std.proofs.Common.{◌≡◌, ℕ, ◌==◌, Bool, true, false, ◌||◌, not, List, [], ◌∷◌, filter_map, fold, map, Option, Some, None, Result, Ok, Err, refl, IfSome, nat_lt}
-use Rattle.audit_model.proofs.Common.{AllRows, card_at, case_after, case_reply, CaseModel, change_with, changed, changed_by, created_on, cut_by, cut_entry, end_on, end_refusal, ended_reply, ended_trail, Event, event_on, failed_at, Fault, flat_of, hold_refusal}
-use Rattle.audit_model.proofs.Common.{holder_of, if-either, is_finished, is_one_of, IsOneLineRead, IsOneLineValue, IsOneLineWrite, KeptCase, KeptEntry, KeptLive, KeptTrail, key_eq, key_lt, later_or, LiveModel, loop_nodes, may_work, migrate_live, rows-filter}
-use Rattle.audit_model.proofs.Common.{migrate_refusal, migrate_with, migrated, misfit, Name, option_or, or_reply, overlap_reply, overlap_with, pushed, put_row, reads_now, repeats, replay_of_case, Reply, rows-append, SchemaModel, ShowsOneLine}
-use Rattle.audit_model.proofs.Common.{start_entry, start_on, start_refusal, state_of, taken, TrailModel, Value, value_below, value_in, value_now, VersionModel, when_reply, with_live, with_trail, withdraw_on, WritesValues, Written, written_by}
-use Rattle.audit_model.proofs.Common.{wrong_reply, wrote}
+use Rattle.audit_model.proofs.Common.{AllRows, card_at, case_after, case_reply, CaseModel, change_with, changed, changed_by, created_on, cut_by, cut_entry, end_on, end_refusal, ended_reply, ended_trail, Event, event_on, failed_at, Fault}
+use Rattle.audit_model.proofs.Common.{flat_of, hold_refusal, holder_of, if-either, is_finished, is_one_of, IsOneLineRead, IsOneLineValue, IsOneLineWrite, KeptCase, KeptEntry, KeptLive, KeptTrail, key_eq, key_lt, later_or, LiveModel}
+use Rattle.audit_model.proofs.Common.{loop_nodes, may_work, migrate_live, rows-filter, migrate_refusal, migrate_with, migrated, misfit, Name, option_or, or_reply, overlap_reply, overlap_with, pushed, put_row, reads_now, repeats}
+use Rattle.audit_model.proofs.Common.{replay_of_case, Reply, rows-append, SchemaModel, ShowsOneLine, start_entry, start_on, start_refusal, state_of, taken, TrailModel, Value, value_below, value_in, value_now, VersionModel, when_reply}
+use Rattle.audit_model.proofs.Common.{with_live, with_trail, withdraw_on, WritesValues, Written, written_by, wrong_reply, wrote}
 use Rattle.case_writes.specs.Writes.{by_element, wrong_elements}
 use Rattle.wsm_lists.specs.Keys.{first}
 use Rattle.wsm_ops.specs.declared.operations.Op.{Op}
-use Rattle.wsm_schema.specs.Marks.{is_start_of}
-use Rattle.wsm_schema.specs.Replay.{fits_choice, is_in_state}
-use Rattle.wsm_schema.specs.declared.cards.Card.{Card}
-use Rattle.wsm_schema.specs.declared.entries.Entry.{Entry}
+use Rattle.wsm_schema.specs.{Marks.is_start_of, Replay.{fits_choice, is_in_state}, declared.cards.Card.Card, declared.entries.Entry.Entry}
 use Rattle.wsm_trail.specs.Withdrawn.{withdrawn}
 use Rattle.case_core.specs.declared.events.Event.TheVariants as event
 use Rattle.case_core.specs.declared.replies.Reply.TheVariants as reply

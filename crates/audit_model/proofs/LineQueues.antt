@@ -1,19 +1,16 @@
 -- What stands first in an actor's queues are the calls of its next line.
-use Rattle.std.proofs.Common.{◌≡◌, ◌≢◌, ℕ, zero, suc, ◌+◌, ◌<◌, ◌≤◌, ◌==◌, eqb, eq-eqb, ne_eqb, Bool, true, false, List, [], ◌∷◌, ◌++◌, filter, length, take, Option, Some, None, refl, sym, ap, ◌∙◌, subst, arith, inl, inr, if◌then◌else◌, get_or, nat_lt, slice_get}
-use Rattle.std.proofs.lemmas.Bool.{eqb-true, lt-ltb}
-use Rattle.std.proofs.lemmas.List.{take_all}
+use Rattle.std.proofs.Common.{◌≡◌, ◌≢◌, ℕ, zero, suc, ◌+◌, ◌<◌, ◌≤◌, ◌==◌, eqb, eq-eqb, ne_eqb, Bool, true, false, List, [], ◌∷◌, ◌++◌, filter, length, take, Option, Some, None, refl, sym, ap, ◌∙◌, subst, arith, inl, inr, if◌then◌else◌}
+use Rattle.std.proofs.{Common.{get_or, nat_lt, slice_get}, lemmas.Bool.{eqb-true, lt-ltb}, lemmas.List.take_all}
 use Rattle.audit_model.proofs.Common.{AllRows, and_from, and_told, AreCallsOf, AreCallsOfLines, AreOf, ArePlaced, Asked, asked, asked_among, asks, call_of, calls_case, calls_kind, case_event_in as event_of_case, case_event_of, CaseDecl, CaseEntry, CaseId}
-use Rattle.audit_model.proofs.Common.{cases_of_type, cells-same, cells_in, count_by_more_no, count_by_more_yes, declared-typed, Entry, entry, Event, File, first_of, get_or_from_slice_get, has_case, has_id, has_kind, is_case, is_install, keeps}
+use Rattle.audit_model.proofs.Common.{cases_of_type, cells-same, cells_in, count_by_more_no, count_by_more_yes, declared-typed, Entry, entry, Event, File, first_of, get_or_from_slice_get, has_case, has_id, has_kind, is_case, is_install}
+use Rattle.audit_model.proofs.{Common.keeps, Calls.{FitCase, not-told, to_case, FitKind, to_kind}, OwnLines.{OwnTelling, asked_own, own_left, own_then, own_version}, Queues.{CaseQueues, KindQueues, calls_along, calls_at, calls_in}}
+use Rattle.audit_model.proofs.Queues.{cases_left, cases_then, id_at, kinds_left, kinds_then, of_each, of_one, of_type}
 use Rattle.audit_model.proofs.Common.{IsDeclared, IsKnownAct, IsKnownCall, IsPlain, IsWorkable, kind_event-same, kind_event_in as event_of_kind, kind_event_of, KindEntry, KindEvent, known-call, Line, plain-call, Reply, rest_of, roles_of, same_Some, slice_get_cases, slice_get_within, told, told_by, told_each, told_in, VersionModel}
 use mathlib.Core.Logic.{dite}
 use native.Mathlib.Decide.{ℕ_discrete}
 use Rattle.file_facts.proofs.Lists.{any-at}
 use Rattle.line_calls.specs.declared.calls.Call.{Call}
-use Rattle.audit_model.proofs.Calls.{FitCase, not-told, to_case}
-use Rattle.audit_model.proofs.Calls.{FitKind, to_kind}
 use Rattle.audit_model.specs.Asked.{case_event_in, kind_event_in}
-use Rattle.audit_model.proofs.OwnLines.{OwnTelling, asked_own, own_left, own_then, own_version}
-use Rattle.audit_model.proofs.Queues.{CaseQueues, KindQueues, calls_along, calls_at, calls_in, cases_left, cases_then, id_at, kinds_left, kinds_then, of_each, of_one, of_type}
 use Rattle.case_core.specs.declared.events.Event.TheVariants as event
 use Rattle.line_calls.specs.declared.calls.Call.TheVariants as call
 use Rattle.line_calls.specs.declared.calls.Told.TheVariants as tell

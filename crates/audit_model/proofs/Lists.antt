@@ -1,6 +1,5 @@
 -- Facts about tests, about rows of lists, and about those that pass a test.
-use Rattle.std.proofs.Common.{◌≡◌, ℕ, zero, suc, Bool, true, false, All, List, [], ◌∷◌, filter, map, take, refl, sym, ap, ◌∙◌, if◌then◌else◌}
-use Rattle.std.proofs.lemmas.List.Elements.{All-cons, All-head, All-nil, All-tail}
+use Rattle.std.proofs.{Common.{◌≡◌, ℕ, zero, suc, Bool, true, false, All, List, [], ◌∷◌, filter, map, take, refl, sym, ap, ◌∙◌, if◌then◌else◌}, lemmas.List.Elements.{All-cons, All-head, All-nil, All-tail}}
 use Rattle.wsm_lists.proofs.Lists.{all-rows-map, both_rows, rows-map}
 use Rattle.wsm_lists.specs.Rows.{AllRows}
 

@@ -3,8 +3,7 @@ use Rattle.std.proofs.Common.{◌≡◌, ℕ, zero, suc, ◌+◌, ◌<◌, ◌�
 use Rattle.audit_model.proofs.Common.{actor_of, AllRows, AreTurns, Asked, asked_lines, asked_phases, asks, behind_front, both-phases, call_of, calls_kind, case-light as call-case-light, case_after, case_event_of, CaseEntry, ClosedCase, Event, File, filled, filled-many}
 use Rattle.audit_model.proofs.Common.{filter-phases, how_many, if-either, IsAuditable, IsKnown, IsModest, IsModestLine, IsSteady, IsWorkable, KeptCase, kind-light as call-kind-light, kind_event_of, KindEvent, known-light, left_to_tell, Line, line_of, rows-filter}
 use Rattle.audit_model.proofs.Common.{lines_in, not_created, one_taken, owed_kind, queue_of, roles_of, sum_by-cons, Telling, told_at, version_for, weight as kind_weight, WritesOneLine, WritesValues}
-use Rattle.audit_model.proofs.KeptValues.{case-kept}
-use Rattle.audit_model.proofs.Runs.{phases-asked}
+use Rattle.audit_model.proofs.{KeptValues.case-kept, Runs.phases-asked}
 use Rattle.case_core.proofs.AgesOfSteps.{age-next_case}
 use Rattle.case_core.specs.Ages.{weight}
 

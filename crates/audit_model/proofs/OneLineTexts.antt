@@ -1,16 +1,13 @@
 -- Events and replies are shown in one line.
 use Rattle.std.proofs.Common.{◌≡◌, ℕ, ◌-◌, ◌==◌, true, List, [], ◌∷◌, ◌++◌, flat_map, length, Option, Some, None, refl, IfSome, codes, decimal, nat_lt, slice_get}
-use Rattle.audit_model.proofs.Common.{actor_name, ActorDecl, after_space, AllRows, assigned, block_words, Bytes, caller_text, choice_text, data_words, element, element_is, element_text, entry_text, Event, event_text, Fault, fault_text, fault_words, File}
-use Rattle.audit_model.proofs.Common.{FIRST_NAMED_ROLE, if-either, IsAuditable, IsName, IsNamed, IsOneLine, IsOneLineRead, IsOneLineValue, IsOneLineWrite, kind_event_text, kind_reply_text, KindEvent, KindReply, letter, limit_word, line_start}
-use Rattle.audit_model.proofs.Common.{list_all, listed_element, Name, node, node_and_element, node_and_node, node_text, number, position_text, read_text, Reply, reply_text, role_name, role_text, row-at, said, shown_line, ShowsOneLine, Value, value_or_none, value_text, why_node, why_word, Word, word_text, WritesValues, Written, wrong_choice}
+use Rattle.audit_model.proofs.Common.{actor_name, ActorDecl, after_space, AllRows, assigned, block_words, Bytes, caller_text, choice_text, data_words, element, element_is, element_text, entry_text, Event, event_text, Fault, fault_text}
+use Rattle.audit_model.proofs.Common.{fault_words, File, FIRST_NAMED_ROLE, if-either, IsAuditable, IsName, IsNamed, IsOneLine, IsOneLineRead, IsOneLineValue, IsOneLineWrite, kind_event_text, kind_reply_text, KindEvent, KindReply, letter}
+use Rattle.audit_model.proofs.Common.{limit_word, line_start, list_all, listed_element, Name, node, node_and_element, node_and_node, node_text, number, position_text, read_text, Reply, reply_text, role_name, role_text, row-at, said}
+use Rattle.audit_model.proofs.{Common.{shown_line, ShowsOneLine, Value, value_or_none, value_text, why_node, why_word, Word, word_text, WritesValues, Written, wrong_choice}, OneLine.{stays, decimal-one, is-one, name-one, named-one}}
+use Rattle.audit_model.proofs.OneLine.{one-all, one-append, value-one}
 use Rattle.report_words.specs.Names.{name_text}
 use Rattle.wsm_ops.specs.declared.faults.OpWhy.{OpWhy}
-use Rattle.wsm_schema.specs.declared.entries.Entry.{Entry}
-use Rattle.wsm_schema.specs.declared.faults.BlockFault.{BlockFault}
-use Rattle.wsm_schema.specs.declared.faults.DataFault.{DataFault}
-use Rattle.wsm_schema.specs.declared.faults.LimitKind.{LimitKind}
-use Rattle.wsm_schema.specs.declared.states.State.{State}
-use Rattle.audit_model.proofs.OneLine.{stays, decimal-one, is-one, name-one, named-one, one-all, one-append, value-one}
+use Rattle.wsm_schema.specs.{declared.entries.Entry.Entry, declared.faults.BlockFault.BlockFault, declared.faults.DataFault.DataFault, declared.faults.LimitKind.LimitKind, declared.states.State.State}
 use Rattle.case_core.specs.declared.events.Event.TheVariants as event
 use Rattle.case_core.specs.declared.replies.Reply.TheVariants as reply
 use Rattle.type_core.specs.declared.events.KindEvent.TheVariants as kind_event

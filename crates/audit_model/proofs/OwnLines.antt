@@ -1,10 +1,8 @@
 -- The lines of one actor, with the versions that it was told.
-use Rattle.std.proofs.Common.{◌≡◌, ◌≢◌, ℕ, ◌==◌, eqb, eq-eqb, ne_eqb, Bool, true, false, ◌&&◌, List, [], ◌∷◌, ◌++◌, filter, Option, Some, None, refl, sym, ap, ◌∙◌, if◌then◌else◌}
-use Rattle.std.proofs.lemmas.Bool.{eqb-true}
-use Rattle.audit_model.proofs.Common.{drops, keeps, filter-swap, all_owed, Asked, asked_lines, asked_phases, asks, by-append, CaseId, filter-append, first_of, left_to_tell, Line, lines_by, owed_case, rest_of, Telling, told_at, version_for, VersionModel}
+use Rattle.std.proofs.{Common.{◌≡◌, ◌≢◌, ℕ, ◌==◌, eqb, eq-eqb, ne_eqb, Bool, true, false, ◌&&◌, List, [], ◌∷◌, ◌++◌, filter, Option, Some, None, refl, sym, ap, ◌∙◌, if◌then◌else◌}, lemmas.Bool.eqb-true}
+use Rattle.audit_model.proofs.Common.{drops, keeps, filter-swap, all_owed, Asked, asked_lines, asked_phases, asks, by-append, CaseId, filter-append, first_of, left_to_tell, Line, lines_by, owed_case, rest_of, Telling, told_at, version_for}
+use Rattle.audit_model.proofs.{Common.VersionModel, Calls.{asked_actor, to_case, actor_of, owed_in, to_kind}}
 use Rattle.legal_run.specs.LineCalls.{lines_of}
-use Rattle.audit_model.proofs.Calls.{asked_actor, to_case}
-use Rattle.audit_model.proofs.Calls.{actor_of, owed_in, to_kind}
 
 -- what an actor is told by each type
 abbrev pub OwnTelling : Type 0

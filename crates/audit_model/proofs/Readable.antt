@@ -1,15 +1,10 @@
 -- Types and cases as journals whose lines are read.
 use Rattle.std.proofs.Common.{◌≡◌, ℕ, ◌+◌, ◌<◌, ◌==◌, Bool, true, false, List, [], ◌∷◌, ◌++◌, length, map, Option, Some, None, refl, sym, ap, ◌∙◌, subst, arith, if◌then◌else◌, IfSome}
-use Rattle.audit_model.proofs.Common.{actor_of, AllRows, Asked, call_of, call_writes, case_event_in, case_event_of, case_journal, case_made, CaseDecl, CaseEntry, cases, ClosedCase, ClosedKind, Event, File, filled, first_by, Followed, Follows}
-use Rattle.audit_model.proofs.Common.{follows-mapped, GrowsTo, IsAuditable, IsOneLineWrite, IsWorkable, KeptCase, kind_behind, kind_journal, KindEntry, KindEvent, KindModel, kinds, Line, line_of, not_created, owed_case, owed_kind, roles_of, StopsAt}
-use Rattle.audit_model.proofs.Common.{version_event, VersionModel, with_others, writes-same, WritesOneLine, WritesValues}
-use Rattle.audit_model.proofs.JournalRight.{IsReadable}
-use Rattle.audit_model.proofs.Live.{case-line-one, kind-line-one}
-use Rattle.audit_model.proofs.Callers.{tells-case, tells-kind}
-use Rattle.audit_model.proofs.Phases.{journal-stopped, journal-whole, journal_from}
-use Rattle.audit_model.proofs.Texts.{case-line, kind-line}
-use Rattle.line_calls.specs.declared.calls.Call.{Call}
-use Rattle.line_calls.specs.declared.calls.Told.{Told}
+use Rattle.audit_model.proofs.Common.{actor_of, AllRows, Asked, call_of, call_writes, case_event_in, case_event_of, case_journal, case_made, CaseDecl, CaseEntry, cases, ClosedCase, ClosedKind, Event, File, filled, first_by, Followed}
+use Rattle.audit_model.proofs.Common.{Follows, follows-mapped, GrowsTo, IsAuditable, IsOneLineWrite, IsWorkable, KeptCase, kind_behind, kind_journal, KindEntry, KindEvent, KindModel, kinds, Line, line_of, not_created, owed_case, owed_kind}
+use Rattle.audit_model.proofs.{Common.{roles_of, StopsAt, version_event, VersionModel, with_others, writes-same, WritesOneLine, WritesValues}, JournalRight.IsReadable, Live.{case-line-one, kind-line-one}, Callers.{tells-case, tells-kind}}
+use Rattle.audit_model.proofs.{Phases.{journal-stopped, journal-whole, journal_from}, Texts.{case-line, kind-line}}
+use Rattle.line_calls.specs.{declared.calls.Call.Call, declared.calls.Told.Told}
 use Rattle.line_calls.specs.declared.calls.Call.TheVariants as call
 use Rattle.line_calls.specs.declared.calls.Told.TheVariants as tell
 

@@ -1,16 +1,11 @@
 -- The report of a legal run is taken by the reader, whole: its types, its cases, and all of it.
 use Rattle.std.proofs.Common.{◌≡◌, ℕ, ◌+◌, List, [], ◌∷◌, ◌++◌, length, Some, slice_get, sym, ap, ◌∙◌, subst, arith, append_assoc}
 use Rattle.audit_model.proofs.Common.{and_then, AreTraces, Asked, asked_phases, Bytes, caller_in, case_after, case_event_of, case_head, case_journal, case_line, case_made, case_reader, case_reply, case_shown, case_text, CaseDecl, CaseEntry}
-use Rattle.audit_model.proofs.Common.{cases_behind, cases_reader, cases_text, ClosedCase, ClosedKind, defined, defined_line, end_text, ended, ending, entry, expected-takes, File, first_line, given, how_many, IsActor, IsAuditable, IsLegalCase, rows-All}
-use Rattle.audit_model.proofs.Common.{IsLegalKind, IsReport, IsWorkable, journal, journal-takes, kind_after, kind_behind, kind_event_of, kind_journal, kind_line, kind_reader, kind_reply, kind_shown, kind_text, KindEntry, kinds_reader, kinds_text, Legal, lines_from, mapped-takes, not_created, not_defined, numbered, owed_case, owed_kind, program, report_reader, Run, summary, Takes, telling}
-use Rattle.audit_model.proofs.Common.{text, then-takes, Trace, type_head, TypeDecl}
-use Rattle.audit_model.proofs.Calls.{actor_of}
-use Rattle.audit_model.proofs.Runs.{kind-answers, kind-journal}
-use Rattle.audit_model.proofs.Callers.{tells-case, tells-kind}
-use Rattle.audit_model.proofs.Rows.{IsTaken, row-takes}
+use Rattle.audit_model.proofs.Common.{cases_behind, cases_reader, cases_text, ClosedCase, ClosedKind, defined, defined_line, end_text, ended, ending, entry, expected-takes, File, first_line, given, how_many, IsActor, IsAuditable}
+use Rattle.audit_model.proofs.Common.{IsLegalCase, rows-All, IsLegalKind, IsReport, IsWorkable, journal, journal-takes, kind_after, kind_behind, kind_event_of, kind_journal, kind_line, kind_reader, kind_reply, kind_shown, kind_text}
+use Rattle.audit_model.proofs.Common.{KindEntry, kinds_reader, kinds_text, Legal, lines_from, mapped-takes, not_created, not_defined, numbered, owed_case, owed_kind, program, report_reader, Run, summary, Takes, telling, text, then-takes}
+use Rattle.audit_model.proofs.{Common.{Trace, type_head, TypeDecl}, Calls.{actor_of, asked_actor}, Runs.{kind-answers, kind-journal, case-answers, case-callers}, Callers.{tells-case, tells-kind}, Rows.{IsTaken, row-takes}}
 use Rattle.audit_model.proofs.Texts.{ending-append, kind-line, numbered-lines, whole-lines, case-line, ending-lines, end-ends, head-ends, header-ends, summary-ends}
-use Rattle.audit_model.proofs.Calls.{asked_actor}
-use Rattle.audit_model.proofs.Runs.{case-answers, case-callers}
 use Rattle.type_core.specs.declared.events.KindEvent.TheVariants as event
 
 abbrev pub kind_lines : File → ℕ → List KindEntry → List Bytes

@@ -1,17 +1,12 @@
 -- The types that are read have told each actor what its lines ask for.
-use Rattle.std.proofs.Common.{◌≡◌, ℕ, ◌<◌, ◌==◌, eq-eqb, Bool, true, false, List, [], ◌∷◌, ◌++◌, filter, length, Some, slice_get, inl, inr, refl, sym, ap, ◌∙◌, subst, arith}
-use Rattle.std.proofs.lemmas.Bool.{eqb-true}
-use Rattle.audit_model.proofs.Common.{AllRows, answers-whole, Asked, asked-known, asked_among, asked_lines, asked_phases, asks, by-event, Bytes, call_of, calls_of, cells_in, ClosedKind, defined, drops, Entry, entry, File, has_kind, if-either, IsActor, IsKnown}
+use Rattle.std.proofs.{Common.{◌≡◌, ℕ, ◌<◌, ◌==◌, eq-eqb, Bool, true, false, List, [], ◌∷◌, ◌++◌, filter, length, Some, slice_get, inl, inr, refl, sym, ap, ◌∙◌, subst, arith}, lemmas.Bool.eqb-true}
+use Rattle.audit_model.proofs.Common.{AllRows, answers-whole, Asked, asked-known, asked_among, asked_lines, asked_phases, asks, by-event, Bytes, call_of, calls_of, cells_in, ClosedKind, defined, drops, Entry, entry, File, has_kind}
+use Rattle.audit_model.proofs.{Common.{if-either, IsActor, IsKnown, owed_kind, program, row-at, slice_get_cases, sound-defined, Telling, telling, there-as, told_at, TypeDecl, version_for, VersionModel}, Calls.{FitKind, actor_of, to_kind}}
+use Rattle.audit_model.proofs.{Runs.{not-own, owed-actors}, LineQueues.{AsksReady, IsOfActor, TellsVersion, asks-then, version-there}, OwnLines.{OwnTelling, Same, other-then, own-owed_kind, own-then, own-version, own_lines, own_then}}
+use Rattle.audit_model.proofs.{Queues.{KindQueues, kinds_then}, TakenParts.KindTaken}
 use Rattle.audit_model.proofs.Common.{IsLegal, IsSound, IsWhole, IsWorkable, journal_of, keeps, kind_after, kind_event_in as event_of_kind, kind_event_of, kind_reply, KindEntry, KindModel, known-call, left_to_tell, Line, newest-told, newest_of, not_defined}
-use Rattle.audit_model.proofs.Common.{owed_kind, program, row-at, slice_get_cases, sound-defined, Telling, telling, there-as, told_at, TypeDecl, version_for, VersionModel}
 use Rattle.legal_run.specs.LineCalls.{lines_of}
 use Rattle.line_calls.specs.declared.calls.Call.{Call}
-use Rattle.audit_model.proofs.Calls.{FitKind, actor_of, to_kind}
-use Rattle.audit_model.proofs.Runs.{not-own, owed-actors}
-use Rattle.audit_model.proofs.LineQueues.{AsksReady, IsOfActor, TellsVersion, asks-then, version-there}
-use Rattle.audit_model.proofs.OwnLines.{OwnTelling, Same, other-then, own-owed_kind, own-then, own-version, own_lines, own_then}
-use Rattle.audit_model.proofs.Queues.{KindQueues, kinds_then}
-use Rattle.audit_model.proofs.TakenParts.{KindTaken}
 use Rattle.line_calls.specs.declared.calls.Call.TheVariants as call
 use Rattle.line_calls.specs.declared.calls.Told.TheVariants as tell
 use Rattle.type_core.specs.declared.events.KindEvent.TheVariants as kind_event

@@ -1,12 +1,9 @@
 -- What the reader of a report takes of types and of cases.
 use Rattle.std.proofs.Common.{◌≡◌, ℕ, ◌+◌, List, ◌++◌, Some, slice_get, sym, ap, ◌∙◌, subst, arith}
-use Rattle.audit_model.proofs.Common.{and_then, Answers, Asked, asked_phases, Bytes, caller_in, case_after, case_event_of, case_head, case_journal, case_made, case_reader, case_reply, case_shown, case_text, CaseDecl, cases_behind, cases_reader}
-use Rattle.audit_model.proofs.Common.{ClosedCase, ClosedKind, defined, defined_line, end_text, ended, ending, File, first_line, given, how_many, journal, kind_after, kind_behind, kind_event_of, kind_journal, kind_reader, kind_reply, kind_shown}
-use Rattle.audit_model.proofs.Common.{kind_text, KindEntry, kinds_reader, not_created, owed_case, owed_kind, report_reader, Run, summary, Takes, takes-expected, takes-journal, takes-mapped, takes-then, telling, type_head, TypeDecl}
-use Rattle.audit_model.proofs.Calls.{asked_actor}
-use Rattle.audit_model.proofs.Readers.{case_lines, case-whole, whole_case, kind_front, kind_lines, kind-whole}
-use Rattle.audit_model.proofs.Calls.{actor_of}
-use Rattle.audit_model.proofs.Rows.{RowTaken, row-of}
+use Rattle.audit_model.proofs.Common.{and_then, Answers, Asked, asked_phases, Bytes, caller_in, case_after, case_event_of, case_head, case_journal, case_made, case_reader, case_reply, case_shown, case_text, CaseDecl, cases_behind}
+use Rattle.audit_model.proofs.Common.{cases_reader, ClosedCase, ClosedKind, defined, defined_line, end_text, ended, ending, File, first_line, given, how_many, journal, kind_after, kind_behind, kind_event_of, kind_journal, kind_reader}
+use Rattle.audit_model.proofs.Common.{kind_reply, kind_shown, kind_text, KindEntry, kinds_reader, not_created, owed_case, owed_kind, report_reader, Run, summary, Takes, takes-expected, takes-journal, takes-mapped, takes-then, telling}
+use Rattle.audit_model.proofs.{Common.{type_head, TypeDecl}, Calls.{asked_actor, actor_of}, Readers.{case_lines, case-whole, whole_case, kind_front, kind_lines, kind-whole}, Rows.{RowTaken, row-of}}
 
 -- ---- a type
 pub record KindTaken (f : File) (t : ℕ) (d : TypeDecl) (ls : List Bytes) (k : ClosedKind) : Type 0 where

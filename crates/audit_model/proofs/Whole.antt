@@ -1,23 +1,16 @@
 -- What is taken of the report is the report of a legal run.
 use Rattle.std.proofs.Common.{◌≡◌, ℕ, zero, suc, ◌≤◌, ◌==◌, eq-eqb, Bool, true, false, List, [], ◌∷◌, ◌++◌, append-nil, filter, length, take, Option, Some, None, slice_get, inl, inr, refl, sym, ap, ◌∙◌, subst, arith, if◌then◌else◌}
 use Rattle.std.proofs.lemmas.Bool.{eqb-true}
-use Rattle.audit_model.proofs.Common.{All-rows, all-rows-map, all_owed, all_rows, AllRows, and_from, answers-whole, AreTraces, Asked, asked_phases, Bytes, calls_case, calls_kind, calls_of, calls_of_case, calls_of_kind, case_after, case_event_of, case_reply}
-use Rattle.audit_model.proofs.Common.{CaseDecl, CaseEntry, CaseId, ClosedCase, ClosedKind, done_by, ending, Entry, entry, File, filter-rows, first_wrong, Fit, has_id, HasCalls, ids-distinct, IsActor, IsAuditable, IsDeclared, IsFirstWrong, take-known}
-use Rattle.audit_model.proofs.Common.{IsKnown, IsLegal, IsLegalCase, IsLegalKind, IsReport, IsSound, IsWhole, IsWorkable, kind_after, kind_event_of, kind_reply, KindEntry, Legal, length-map, Line, lines_by, list_any, not_created, not_defined, or_cases, owed_case, owed_kind, program, report_reader, row-at, Run, sound-defined, state_after, take-map, Takes, telling, Trace, TypeDecl}
+use Rattle.audit_model.proofs.Common.{All-rows, all-rows-map, all_owed, all_rows, AllRows, and_from, answers-whole, AreTraces, Asked, asked_phases, Bytes, calls_case, calls_kind, calls_of, calls_of_case, calls_of_kind, case_after}
+use Rattle.audit_model.proofs.Common.{case_event_of, case_reply, CaseDecl, CaseEntry, CaseId, ClosedCase, ClosedKind, done_by, ending, Entry, entry, File, filter-rows, first_wrong, Fit, has_id, HasCalls, ids-distinct, IsActor, IsAuditable}
+use Rattle.audit_model.proofs.Common.{IsDeclared, IsFirstWrong, take-known, IsKnown, IsLegal, IsLegalCase, IsLegalKind, IsReport, IsSound, IsWhole, IsWorkable, kind_after, kind_event_of, kind_reply, KindEntry, Legal, length-map, Line}
+use Rattle.audit_model.proofs.{Common.{lines_by, list_any, not_created, not_defined, or_cases, owed_case, owed_kind, program, report_reader, row-at, Run, sound-defined, state_after, take-map, Takes, telling, Trace, TypeDecl}, Calls.FitCase}
+use Rattle.audit_model.proofs.{Calls.{asked_actor, fit-case_phases, to_case, actor_of, fit-phases, owed_in, take-traces}, Readers.{report-whole, report-taken}, Runs.{case-actors, length-asked, take-asked, told-all, told-front, not-own}}
+use Rattle.audit_model.proofs.{LineQueues.{AsksReady, CasesReady, KnownOwn, lines-done}, Live.report-live, OwnLines.{OwnTelling, asked_own, own-owed_case, own_left, own_lines}, Queues.{CaseQueues, KindQueues, cases-begin, cases_left}}
+use Rattle.audit_model.proofs.{Queues.{kinds-begin, kinds_left, same-id, take-traces_of, traces_of}, Ready.{calls-rows, kind_queues, kinds-ready, whole-kind}, TakenParts.{CaseTaken, CasesTaken, KindTaken, KindsTaken, kind-at, run-of}}
 use mathlib.Core.List.{IsPrefix}
 use Rattle.legal_run.specs.LineCalls.{lines_of}
 use Rattle.turn_cell.proofs.Histories.{calls_of-append}
-use Rattle.audit_model.proofs.Calls.{FitCase, asked_actor, fit-case_phases, to_case}
-use Rattle.audit_model.proofs.Readers.{report-whole, report-taken}
-use Rattle.audit_model.proofs.Runs.{case-actors, length-asked, take-asked, told-all, told-front}
-use Rattle.audit_model.proofs.Calls.{actor_of, fit-phases, owed_in, take-traces}
-use Rattle.audit_model.proofs.Runs.{not-own}
-use Rattle.audit_model.proofs.LineQueues.{AsksReady, CasesReady, KnownOwn, lines-done}
-use Rattle.audit_model.proofs.Live.{report-live}
-use Rattle.audit_model.proofs.OwnLines.{OwnTelling, asked_own, own-owed_case, own_left, own_lines}
-use Rattle.audit_model.proofs.Queues.{CaseQueues, KindQueues, cases-begin, cases_left, kinds-begin, kinds_left, same-id, take-traces_of, traces_of}
-use Rattle.audit_model.proofs.Ready.{calls-rows, kind_queues, kinds-ready, whole-kind}
-use Rattle.audit_model.proofs.TakenParts.{CaseTaken, CasesTaken, KindTaken, KindsTaken, kind-at, run-of}
 use Rattle.line_readers.proofs.FirstWrong.{first-wrong}
 use Rattle.type_core.specs.declared.events.KindEvent.TheVariants as kind_event
 use Rattle.type_core.specs.declared.replies.KindReply.TheVariants as kind_answer

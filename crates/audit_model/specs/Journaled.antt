@@ -1,10 +1,8 @@
 -- How far a journal is gone along, of a type or of a case.
 use Rattle.std.specs.Prelude.{◌≡◌, ◌==◌, Bool, length, ℕ, ◌+◌, ◌*◌, ◌≤◌, suc, true, false, List, ◌∷◌, ◌++◌, drop, map, Option, Some, None, option_map}
-use Rattle.audit_model.specs.Common.{Bytes, Followed, followed, left_of, same_front, age, AreTurns, case_after, case_line, case_reply, CaseModel, ClosedCase, ClosedKind, CountedCase, Entry, Event, File, Follows, front_of, kind_after, kind_line, kind_reply, KindEvent, KindModel, KindReply, Line, queue_of, Reaches, Reader, Reply, rest_journal, with_entries}
-use Rattle.audit_model.specs.Asked.{actor_of, Asked, case_event_of, kind_event_of, line_of}
-use Rattle.audit_model.specs.Kept.{KeptCase}
-use Rattle.audit_model.specs.Printed.{caller_in, case_shown, kind_shown}
-use Rattle.audit_model.specs.ReportReader.{case_reader, in_row, kind_reader}
+use Rattle.audit_model.specs.Common.{Bytes, Followed, followed, left_of, same_front, age, AreTurns, case_after, case_line, case_reply, CaseModel, ClosedCase, ClosedKind, CountedCase, Entry, Event, File, Follows, front_of, kind_after}
+use Rattle.audit_model.specs.{Common.{kind_line, kind_reply, KindEvent, KindModel, KindReply, Line, queue_of, Reaches, Reader, Reply, rest_journal, with_entries}, Asked.{actor_of, Asked, case_event_of, kind_event_of, line_of}}
+use Rattle.audit_model.specs.{Kept.KeptCase, Printed.{caller_in, case_shown, kind_shown}, ReportReader.{case_reader, in_row, kind_reader}}
 use Rattle.case_core.specs.declared.views.View.{View}
 
 -- ---- what is found of a report, piece by piece

@@ -1,6 +1,5 @@
 -- The queues that are filled from the lines of a phase are whose turn it is.
-use Rattle.std.proofs.Common.{ℕ, ◌+◌, List, [], ◌∷◌, ◌++◌, append-nil, append_assoc, length, sym, subst, fold}
-use Rattle.case_audit.proofs.Common.{actor_of, all_turns, AreTurns, Asked, length-replicate, no_queues, set_past, turn-added, turn-foreign, with_turn}
+use Rattle.case_audit.proofs.Common.{[], ℕ, ◌++◌, ◌+◌, ◌∷◌, actor_of, all_turns, append-nil, append_assoc, AreTurns, Asked, fold, length, length-replicate, List, no_queues, set_past, subst, sym, turn-added, turn-foreign, with_turn}
 use Rattle.case_audit.proofs.QueueLists.{At, behind, none-in, where-at, within}
 
 module _ (actors : ℕ) where

@@ -1,15 +1,9 @@
 -- How an audit ends follows from how its bytes were got, and how they were judged.
-use Rattle.std.proofs.Common.{◌≡◌, ℕ, ◌+◌, ◌≤◌, true, false, ◌||◌, List, ◌++◌, append-nil, length, length-append, Option, Some, None, Result, Ok, Err, IfSome, refl, sym, ap, ◌∙◌, subst, arith, nat_lt}
-use Rattle.std.proofs.lemmas.Bool.{le-ltb, lt-ltb}
+use Rattle.case_audit.proofs.Common.{ℕ, ◌++◌, ◌+◌, ◌||◌, ◌∙◌, ◌≡◌, ◌≤◌, ap, append-nil, arith, Err, false, IfSome, le-ltb, length, length-append, List, lt-ltb, nat_lt, None, Ok, Option, refl, Result, Some, subst, sym, true}
 use Rattle.std.specs.Io.KnownBytes.{Appends, Consumes, IsAtEnd}
 use Rattle.case_audit.proofs.Common.{EndsAudit, file, file_part, FileRefusal, is_too_long, IsRefused, IsVerdictOn, most_bytes, most_in_file, most_in_report, report_part, Tells as TellsFile, TellsBytes, TellsOne, verdict_text}
-use Rattle.adept_io.specs.Counts.{Rose}
-use Rattle.adept_io.specs.Read.{ConsumesMany, ConsumesUpTo}
-use Rattle.adept_io.specs.Written.{AppendsPrefix}
-use Rattle.case_audit.specs.Endings.{Tells}
-use Rattle.case_audit.specs.Statuses.{of_file}
-use Rattle.case_audit.specs.declared.reports.Verdict.{Verdict}
-use Rattle.case_audit.specs.declared.unaudited.Unaudited.{Unaudited}
+use Rattle.adept_io.specs.{Counts.Rose, Read.{ConsumesMany, ConsumesUpTo}, Written.AppendsPrefix}
+use Rattle.case_audit.specs.{Endings.Tells, Statuses.of_file, declared.reports.Verdict.Verdict, declared.unaudited.Unaudited.Unaudited}
 use Rattle.case_audit.specs.declared.unaudited.Unaudited.TheVariants as why
 use Rattle.file_model.specs.declared.refusals.FileRefusal.TheVariants as refusal
 

@@ -1,6 +1,6 @@
 -- A case's part of a report: its line, its journal, then its end.
-use Rattle.std.proofs.Common.{true, false, List, Some, None, Option}
-use Rattle.case_audit.proofs.Common.{and_then, Asked, case_head, case_journal, case_reader, CaseDecl, ClosedCase, end-ends, end_text, File, Followed, FollowedBy, Follows, follows-stopped, follows-then, given-follows, given-stops, given-then, given-wrong, head-ends, Reader}
+use Rattle.case_audit.proofs.Common.{and_then, Asked, case_head, case_journal, case_reader, CaseDecl, ClosedCase, end-ends, end_text, false, File, Followed, FollowedBy, Follows, follows-stopped, follows-then, given-follows, given-stops}
+use Rattle.case_audit.proofs.Common.{given-then, given-wrong, head-ends, List, None, Option, Reader, Some, true}
 use Rattle.audit_model.specs.ReportReader.{given}
 
 module _ (f : File) (phases : List (List Asked)) (d : CaseDecl) where

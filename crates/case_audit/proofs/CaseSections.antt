@@ -1,7 +1,7 @@
 -- The cases of a report, joined in their order.
-use Rattle.std.proofs.Common.{◌≡◌, ℕ, zero, suc, ◌+◌, ◌<◌, List, [], ◌∷◌, ◌++◌, length, length-append, get_or, slice_get, Option, Some, None, Result, Ok, Err, IfOk, OnOk, refl, sym, ap, ◌∙◌, subst, arith}
-use Rattle.case_audit.proofs.Common.{IsModestScript, few-filled, called-rows, IsModest, CanAudit, AreOwed, AllZip, AreSections, Asked, Bytes, calls_decl, case_reader, CaseDecl, cases_reader, ClosedCase, File, filled, Followed, Follows, given, HasScript, InCases, IsCaseAt, IsSection, numbers, Owed, owed_case, owed_of, range_with_len, row-on, row-stops, same_Some, Section, slice_get-get_or}
-use Rattle.case_audit.proofs.OwedOf.{each-owed, owed-filled, owed-many}
+use Rattle.case_audit.proofs.Common.{[], ℕ, ◌++◌, ◌+◌, ◌<◌, ◌∙◌, ◌∷◌, ◌≡◌, AllZip, ap, AreOwed, AreSections, arith, Asked, Bytes, called-rows, calls_decl, CanAudit, case_reader, CaseDecl, cases_reader, ClosedCase, Err, few-filled, File}
+use Rattle.case_audit.proofs.Common.{filled, Followed, Follows, get_or, given, HasScript, IfOk, InCases, IsCaseAt, IsModest, IsModestScript, IsSection, length, length-append, List, None, numbers, Ok, OnOk, Option, Owed, owed_case, owed_of}
+use Rattle.case_audit.proofs.{Common.{range_with_len, refl, Result, row-on, row-stops, same_Some, Section, slice_get, slice_get-get_or, Some, subst, suc, sym, zero}, OwedOf.{each-owed, owed-filled, owed-many}}
 
 decl-at : (cs : List CaseDecl) (i : ℕ) → i < length cs → (d : CaseDecl) × (slice_get cs i ≡ Some d) × (d ≡ get_or cs i d)
 decl-at [] i low = absurd (omega (arith, low))

@@ -1,11 +1,10 @@
 -- Types by their numbers and cases by their declarations: which of them a line calls.
-use Rattle.std.proofs.Common.{◌≡◌, ℕ, ◌+◌, ◌≤◌, ◌==◌, ◌&&◌, false, List, [], ◌∷◌, ◌++◌, length, map, Some, None, refl, sym, ap, ◌∙◌, arith, if◌then◌else◌, fold}
-use Rattle.case_audit.proofs.Common.{ArePlaced, Asked, called_case, calls_decl, calls_number, case_among, case_put, CaseDecl, CaseId, Cells, cells_of, changed_where, declared_at, each_among, given, has_case, has_id, has_kind, is_case, kind_among, kind_put, length-map, length-range_with_len, moved_type, put_line, put_where, range_with_len, with_line}
+use Rattle.case_audit.proofs.Common.{[], ℕ, ◌&&◌, ◌++◌, ◌+◌, ◌==◌, ◌∙◌, ◌∷◌, ◌≡◌, ◌≤◌, ap, ArePlaced, arith, Asked, called_case, calls_decl, calls_number, case_among, case_put, CaseDecl, CaseId, Cells, cells_of, changed_where, declared_at}
+use Rattle.case_audit.proofs.Common.{each_among, false, fold, given, has_case, has_id, has_kind, if◌then◌else◌, is_case, kind_among, kind_put, length, length-map, length-range_with_len, List, map, moved_type, None, put_line, put_where}
+use Rattle.case_audit.proofs.{Common.{range_with_len, refl, Some, sym, with_line}, Sharing.{phase-put, put-at, put-map, put-none, put-one, put-same}}
 use Rattle.file_facts.proofs.Cases.{ids-distinct}
 use Rattle.line_calls.proofs.Places.{position-from_0}
-use Rattle.audit_model.proofs.Callers.{other-way}
-use Rattle.audit_model.proofs.Queues.{same-id}
-use Rattle.case_audit.proofs.Sharing.{phase-put, put-at, put-map, put-none, put-one, put-same}
+use Rattle.audit_model.proofs.{Callers.other-way, Queues.same-id}
 use Rattle.line_calls.specs.declared.calls.Cells.TheVariants as cells
 
 -- ---- types

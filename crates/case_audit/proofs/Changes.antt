@@ -1,7 +1,6 @@
 -- What becomes of lists in a list where one of them is changed.
-use Rattle.std.proofs.Common.{◌≡◌, ◌≢◌, ℕ, zero, suc, ◌+◌, ◌-◌, ◌<◌, ◌≤◌, eq-eqb, ne_eqb, List, [], ◌∷◌, ◌++◌, length, map, get_or, set, refl, sym, ap, ◌∙◌, arith, if◌then◌else◌, replicate, slice_set}
-use Rattle.case_audit.proofs.Common.{behind_front, changed_at, map-set, one_taken, queue_of, set_past, with_line}
-use Rattle.case_audit.proofs.Sharing.{changed-suc}
+use Rattle.case_audit.proofs.Common.{[], ℕ, ◌++◌, ◌+◌, ◌-◌, ◌<◌, ◌∙◌, ◌∷◌, ◌≡◌, ◌≢◌, ◌≤◌, ap, arith, behind_front, changed_at, eq-eqb, get_or, if◌then◌else◌, length, List, map, map-set, ne_eqb, one_taken, queue_of, refl, replicate, set}
+use Rattle.case_audit.proofs.{Common.{set_past, slice_set, suc, sym, with_line, zero}, Sharing.changed-suc}
 
 -- one item becomes another
 pub item-changed : {A X : Type 0} (view : A → X) (g : X → X) (items : List A) (i : ℕ) (c d : A) → i < length items → c ≡ get_or items i c → view d ≡ g (view c) → map view (set items i d) ≡ changed_at g i (map view items)

@@ -1,6 +1,6 @@
 -- What is known where a line was judged: whose turn it is, and how a call went.
-use Rattle.std.proofs.Common.{◌≡◌, ℕ, ◌+◌, length, List, Option, Some, Result, Ok, Err, IfOk, OnOk, sym, ap, ◌∙◌, subst, option_map}
-use Rattle.case_audit.proofs.Common.{next-is, shown_of, AskedLine, AllRows, Asked, Bytes, caller_in, File, front-row, IsModest, next_of, one_taken, taken-rows}
+use Rattle.case_audit.proofs.Common.{ℕ, ◌+◌, ◌∙◌, ◌≡◌, AllRows, ap, Asked, AskedLine, Bytes, caller_in, Err, File, front-row, IfOk, IsModest, length, List, next-is, next_of, Ok, one_taken, OnOk, Option, option_map, Result, shown_of, Some}
+use Rattle.case_audit.proofs.Common.{subst, sym, taken-rows}
 
 -- the call that the rest of a report shows, behind so many entries
 pub shows-in : {X : Type 0} (f : File) (queues : List (List Asked)) (r s : Option (ℕ × AskedLine)) (place : ℕ) (es made : List X) (rest text : Bytes) → option_map shown_of r ≡ next_of queues (caller_in f place rest)

@@ -1,6 +1,5 @@
 -- The length of a process file in front of a report, line by line.
-use Rattle.std.proofs.Common.{◌≡◌, ℕ, suc, ◌+◌, ◌∷◌, ◌++◌, length, length-append, append_assoc, sym, ap, ◌∙◌, arith, if◌then◌else◌}
-use Rattle.case_audit.proofs.Common.{before_report, begins_report, Bytes, CutLines, ending, file_length, front_line, lines_of, one_left}
+use Rattle.case_audit.proofs.Common.{ℕ, ◌++◌, ◌+◌, ◌∙◌, ◌∷◌, ◌≡◌, ap, append_assoc, arith, before_report, begins_report, Bytes, CutLines, ending, file_length, front_line, if◌then◌else◌, length, length-append, lines_of, one_left, suc, sym}
 use Rattle.line_readers.proofs.Lines.{cut-together}
 
 abbrev before : CutLines → ℕ

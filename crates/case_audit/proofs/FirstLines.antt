@@ -1,8 +1,6 @@
 -- The verdict on a report that was gone along.
-use Rattle.std.proofs.Common.{◌≡◌, ℕ, zero, suc, ◌+◌, ◌<◌, ◌≤◌, ◌==◌, true, false, [], ◌∷◌, length, take, Some, None, refl, ap, subst, arith, is_some, Option}
-use Rattle.case_audit.proofs.Common.{IsRead, if-either, Bytes, feeds, File, Followed, Follows, IsFirstWrong, IsJudged, IsReport, left_of, passed, report_reader, Run}
-use Rattle.audit_facts.proofs.Auditable.{file-auditable}
-use Rattle.file_facts.proofs.Workable.{file-workable}
+use Rattle.case_audit.proofs.Common.{[], ℕ, ◌+◌, ◌<◌, ◌==◌, ◌∷◌, ◌≡◌, ◌≤◌, ap, arith, Bytes, false, feeds, File, file-auditable, file-workable, Followed, Follows, if-either, is_some, IsFirstWrong, IsJudged, IsRead, IsReport, left_of}
+use Rattle.case_audit.proofs.Common.{length, None, Option, passed, refl, report_reader, Run, Some, subst, suc, take, true, zero}
 use Rattle.audit_model.proofs.Whole.{first-wrong-line}
 use Rattle.line_readers.proofs.Walks.{goes-first_wrong, wrong_behind}
 

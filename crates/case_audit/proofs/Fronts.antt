@@ -1,6 +1,5 @@
 -- The first of a queue, and what is behind it.
-use Rattle.std.proofs.Common.{◌≡◌, List, [], ◌∷◌, ◌++◌, drop, length, map, Option, Some, None, refl, sym, ap, arith, option_map, option_to_list}
-use Rattle.case_audit.proofs.Common.{behind_front, front_of}
+use Rattle.case_audit.proofs.Common.{[], ◌++◌, ◌∷◌, ◌≡◌, ap, arith, behind_front, drop, front_of, length, List, map, None, Option, option_map, option_to_list, refl, Some, sym}
 
 module _ {A X : Type 0} (view : A → X) where
   pub popped-rest : (queue rest : List A) → rest ≡ drop 1 queue → map view rest ≡ behind_front (map view queue)

@@ -1,6 +1,6 @@
 -- A type's part of a report: its line and its definition, then its journal.
-use Rattle.std.proofs.Common.{◌≡◌, ℕ, ◌+◌, true, false, List, ◌++◌, Some, None, refl, subst}
-use Rattle.case_audit.proofs.Common.{Bytes, ClosedKind, defined, defined_line, ends-behind, EndsLine, entry, File, filled, Followed, FollowedBy, Follows, given-then, given-wrong, GrowsTo, kind-line, kind-stopped, kind-whole, kind_journal, kind_reader, kind_reply, kind_shown, KindEntry, kinds, Line, not_defined, owed_kind, program, StopsAt, type_head, TypeDecl}
+use Rattle.case_audit.proofs.Common.{ℕ, ◌++◌, ◌+◌, ◌≡◌, Bytes, ClosedKind, defined, defined_line, ends-behind, EndsLine, entry, false, File, filled, Followed, FollowedBy, Follows, given-then, given-wrong, GrowsTo, kind-line, kind-stopped}
+use Rattle.case_audit.proofs.Common.{kind-whole, kind_journal, kind_reader, kind_reply, kind_shown, KindEntry, kinds, Line, List, None, not_defined, owed_kind, program, refl, Some, StopsAt, subst, true, type_head, TypeDecl}
 use Rattle.type_core.specs.declared.events.KindEvent.TheVariants as kind_event
 
 module _ (f : File) (t : ℕ) (d : TypeDecl) where

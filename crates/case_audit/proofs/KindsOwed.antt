@@ -1,8 +1,7 @@
 -- What is owed to the types of a file, by their numbers.
-use Rattle.std.proofs.Common.{◌≡◌, ℕ, zero, suc, ◌+◌, ◌<◌, ◌≤◌, false, true, List, [], ◌∷◌, length, map, get_or, slice_get, Some, inl, inr, sym, ap, ◌∙◌, subst, arith, filter}
-use Rattle.std.proofs.lemmas.Bool.{leb-true}
-use Rattle.case_audit.proofs.Common.{AllRows, asked_phases, called-rows, calls_number, cards_of, cases_Bool, File, file-modest, filled, given, IsAuditable, IsModest, IsWorkable, kind-owed, length-range_with_len, list_all, numbers, Owed, owed_kind, owed_lines, owed_of, range_with_len, Telling, TypeDecl}
-use Rattle.case_audit.proofs.OwedOf.{owed-filled, owed-many}
+use Rattle.case_audit.proofs.Common.{[], ℕ, ◌+◌, ◌<◌, ◌∙◌, ◌∷◌, ◌≡◌, ◌≤◌, AllRows, ap, arith, asked_phases, called-rows, calls_number, cards_of, cases_Bool, false, File, file-modest, filled, filter, get_or, given, inl, inr, IsAuditable}
+use Rattle.case_audit.proofs.Common.{IsModest, IsWorkable, kind-owed, leb-true, length, length-range_with_len, List, list_all, map, numbers, Owed, owed_kind, owed_lines, owed_of, range_with_len, slice_get, Some, subst, suc, sym, Telling}
+use Rattle.case_audit.proofs.{Common.{true, TypeDecl, zero}, OwedOf.{owed-filled, owed-many}}
 use Rattle.file_model.specs.Sizes.{is_small}
 
 -- ---- each type is small

@@ -1,7 +1,6 @@
 -- The beginning of a line: its number, its caller's name, and a space behind each.
-use Rattle.std.proofs.Common.{◌≡◌, ℕ, suc, ◌+◌, ◌-◌, ◌==◌, ◌&&◌, ne_eqb, true, false, List, [], ◌∷◌, ◌++◌, drop, length, slice_get, Option, Some, None, refl, sym, ap, ◌∙◌, arith, if◌then◌else◌, is_some, MatchOption, codes, decimal}
-use Rattle.std.proofs.lemmas.Bool.{and_right}
-use Rattle.case_audit.proofs.Common.{by-test, actor_name, ActorDecl, begins, begins_with_word, Bytes, caller_from, caller_in, caller_text, File, line_start, named_from}
+use Rattle.case_audit.proofs.Common.{[], ℕ, ◌&&◌, ◌++◌, ◌+◌, ◌-◌, ◌==◌, ◌∙◌, ◌∷◌, ◌≡◌, actor_name, ActorDecl, and_right, ap, arith, begins, begins_with_word, by-test, Bytes, caller_from, caller_in, caller_text, codes, decimal, drop, false}
+use Rattle.case_audit.proofs.Common.{File, if◌then◌else◌, is_some, length, line_start, List, MatchOption, named_from, ne_eqb, None, Option, refl, slice_get, Some, suc, sym, true}
 
 pub begins-both : (a b text : Bytes) → begins (a ++ b) text ≡ (begins a text && begins b (drop (length a) text))
 begins-both [] b text = refl

@@ -1,6 +1,6 @@
 -- What is owed to each cell is the lines that call it, without the phases in which none does.
-use Rattle.std.proofs.Common.{◌≡◌, ℕ, zero, suc, ◌<◌, Bool, List, [], ◌∷◌, length, map, get_or, slice_get, Some, refl, sym, ap, ◌∙◌, subst, arith, filter}
-use Rattle.case_audit.proofs.Common.{AllRows, Asked, calls_in, filled, given, numbered-filled, numbered_from, numbered_of, numbers, Owed, owed_of, PhaseCalls}
+use Rattle.case_audit.proofs.Common.{[], ℕ, ◌<◌, ◌∙◌, ◌∷◌, ◌≡◌, AllRows, ap, arith, Asked, Bool, calls_in, filled, filter, get_or, given, length, List, map, numbered-filled, numbered_from, numbered_of, numbers, Owed, owed_of, PhaseCalls}
+use Rattle.case_audit.proofs.Common.{refl, slice_get, Some, subst, suc, sym, zero}
 
 abbrev lines_in : ℕ × List Asked → List Asked
 lines_in q = q.1

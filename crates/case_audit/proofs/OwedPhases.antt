@@ -1,6 +1,5 @@
 -- The phases of what is owed, one by one.
-use Rattle.std.proofs.Common.{◌≡◌, ℕ, zero, suc, ◌+◌, ◌<◌, ◌≤◌, List, [], ◌∷◌, drop, length, get_or, sym, ap, ◌∙◌, subst, arith}
-use Rattle.case_audit.proofs.Common.{AllRows, asked_of, calls_in, drop_more, how_many, length-map, Owed, owed_of, PhaseCalls}
+use Rattle.case_audit.proofs.Common.{[], ℕ, ◌+◌, ◌<◌, ◌∙◌, ◌∷◌, ◌≡◌, ◌≤◌, AllRows, ap, arith, asked_of, calls_in, drop, drop_more, get_or, how_many, length, length-map, List, Owed, owed_of, PhaseCalls, subst, suc, sym, zero}
 use Rattle.case_audit.proofs.Changes.{map-at}
 
 pub row-at : {X : Type 0} (P : X → Type 0) (xs : List X) (n : ℕ) (x : X) → AllRows P xs → n < length xs → x ≡ get_or xs n x → P x

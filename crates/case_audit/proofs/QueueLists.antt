@@ -1,6 +1,6 @@
 -- Lists in a list, of which one is changed.
-use Rattle.std.proofs.Common.{◌≡◌, ◌≢◌, ℕ, zero, suc, ◌+◌, ◌<◌, ◌≤◌, List, [], ◌∷◌, ◌++◌, length, refl, sym, ap, ◌∙◌, arith, replicate, slice_set}
-use Rattle.case_audit.proofs.Common.{behind_front, get-other, get-set, one_added, one_taken, queue_in, queue_of, set-many, slice_get_past}
+use Rattle.case_audit.proofs.Common.{[], ℕ, ◌++◌, ◌+◌, ◌<◌, ◌∙◌, ◌∷◌, ◌≡◌, ◌≢◌, ◌≤◌, ap, arith, behind_front, get-other, get-set, length, List, one_added, one_taken, queue_in, queue_of, refl, replicate, set-many, slice_get_past, slice_set}
+use Rattle.case_audit.proofs.Common.{suc, sym, zero}
 
 -- within the list, or behind it
 pub data At (n i : ℕ) : Type 0 where

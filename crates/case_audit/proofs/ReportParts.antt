@@ -1,6 +1,6 @@
 -- The parts of a report, one behind another.
-use Rattle.std.proofs.Common.{◌≡◌, ℕ, Bool, true, false, List, Some, None, refl, subst, Option, option_map}
-use Rattle.case_audit.proofs.Common.{and_then, asked_phases, cases_behind, cases_reader, ClosedCase, ClosedKind, File, first_line, Followed, FollowedBy, Follows, follows-mapped, follows-stopped, follows-then, given-follows, given-stops, given-then, given-wrong, header-ends, IsJudged, kinds_reader, Reader, Run, summary, summary-ends, telling}
+use Rattle.case_audit.proofs.Common.{ℕ, ◌≡◌, and_then, asked_phases, Bool, cases_behind, cases_reader, ClosedCase, ClosedKind, false, File, first_line, Followed, FollowedBy, Follows, follows-mapped, follows-stopped, follows-then}
+use Rattle.case_audit.proofs.Common.{given-follows, given-stops, given-then, given-wrong, header-ends, IsJudged, kinds_reader, List, None, Option, option_map, Reader, refl, Run, Some, subst, summary, summary-ends, telling, true}
 use Rattle.audit_model.specs.ReportReader.{given}
 
 -- what is known of a value is known of what it is

@@ -1,8 +1,5 @@
 -- The script's lines, phase by phase.
-use Rattle.std.proofs.Common.{◌≡◌, ℕ, ◌+◌, ◌<◌, List, [], ◌∷◌, ◌++◌, length, take, get_or, sym, ap, ◌∙◌, arith, Vec}
-use Rattle.std.proofs.lemmas.List.{length-take-le}
-use Rattle.case_audit.proofs.Common.{asked_in, length-map, map-append, script_of, take_more}
-use Rattle.case_audit.specs.declared.asked.AskedLine.{AskedLine}
+use Rattle.case_audit.proofs.Common.{[], ℕ, ◌++◌, ◌+◌, ◌<◌, ◌∙◌, ◌∷◌, ◌≡◌, ap, arith, asked_in, AskedLine, get_or, length, length-map, length-take-le, List, map-append, script_of, sym, take, take_more, Vec}
 
 pub script-more : {A : Type 0} (phases : List (Vec AskedLine A)) (i : ℕ) (row : Vec AskedLine A) → i < length phases → row ≡ get_or phases i row → script_of (take (i + 1) phases) ≡ script_of (take i phases) ++ asked_in row.items ∷ []
 script-more phases i row low is =

@@ -1,6 +1,7 @@
 -- What cells get of lines that are put to them one after another.
-use Rattle.std.proofs.Common.{◌≡◌, ℕ, zero, suc, ◌+◌, ◌<◌, ◌≤◌, ◌==◌, Bool, true, false, cond, eq-eqb, ne_eqb, List, [], ◌∷◌, ◌++◌, append_assoc, append-nil, length, length-append, map, take, get_or, slice_get, Option, Some, None, add-one, refl, sym, ap, ◌∙◌, arith, filter, fold, if◌then◌else◌}
-use Rattle.case_audit.proofs.Common.{by-test, if-either, changed_at, changed_where, given, length-map, map-append, numbered-lines, numbered_from, position_from, put_back, put_line, put_where, range_with_len, slice_get_past, with_line, with_lines}
+use Rattle.case_audit.proofs.Common.{[], ℕ, ◌++◌, ◌+◌, ◌<◌, ◌==◌, ◌∙◌, ◌∷◌, ◌≡◌, ◌≤◌, add-one, ap, append-nil, append_assoc, arith, Bool, by-test, changed_at, changed_where, cond, eq-eqb, false, filter, fold, get_or, given, if-either}
+use Rattle.case_audit.proofs.Common.{if◌then◌else◌, length, length-append, length-map, List, map, map-append, ne_eqb, None, numbered-lines, numbered_from, Option, position_from, put_back, put_line, put_where, range_with_len, refl}
+use Rattle.case_audit.proofs.Common.{slice_get, slice_get_past, Some, suc, sym, take, true, with_line, with_lines, zero}
 
 pub map-same : {C X : Type 0} (f g : C → X) (cs : List C) → ((c : C) → f c ≡ g c) → map f cs ≡ map g cs
 map-same f g [] same = refl

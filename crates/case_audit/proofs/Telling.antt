@@ -1,8 +1,8 @@
 -- The queues of versions tell each line the version that its actor was told.
-use Rattle.std.proofs.Common.{◌≡◌, ℕ, zero, suc, ◌+◌, ◌<◌, ◌≤◌, ◌==◌, eq-eqb, eqb-true, Bool, true, false, ◌&&◌, List, [], ◌∷◌, ◌++◌, append-nil, append_assoc, length, slice_get, get_or, drop, Option, Some, None, refl, sym, ap, ◌∙◌, subst, arith, if◌then◌else◌, fold}
-use Rattle.case_audit.proofs.Common.{all_told, AllRows, and_told, Asked, asked_by, asked_lines, asked_phases, asks, behind_front, calls_of, ClosedKind, drop_all, drop_more, File, first_of, front_of, if-either, IsKnown, IsWorkable, journal_of}
-use Rattle.case_audit.proofs.Common.{journal_told, KindEntry, left_by, left_in, left_to_tell, length-replicate, Line, next_version, none_told, one_taken, queue_of, Queues, rest_of, script_by, set-many, Telling, telling, told_at, told_by}
-use Rattle.case_audit.proofs.Common.{told_in, told_to, version_for, VersionModel, with_told, with_version}
+use Rattle.case_audit.proofs.Common.{[], ℕ, ◌&&◌, ◌++◌, ◌+◌, ◌<◌, ◌==◌, ◌∙◌, ◌∷◌, ◌≡◌, ◌≤◌, all_told, AllRows, and_told, ap, append-nil, append_assoc, arith, Asked, asked_by, asked_lines, asked_phases, asks, behind_front, Bool, calls_of}
+use Rattle.case_audit.proofs.Common.{ClosedKind, drop, drop_all, drop_more, eq-eqb, eqb-true, false, File, first_of, fold, front_of, get_or, if-either, if◌then◌else◌, IsKnown, IsWorkable, journal_of, journal_told, KindEntry, left_by}
+use Rattle.case_audit.proofs.Common.{left_in, left_to_tell, length, length-replicate, Line, List, next_version, None, none_told, one_taken, Option, queue_of, Queues, refl, rest_of, script_by, set-many, slice_get, Some, subst, suc, sym}
+use Rattle.case_audit.proofs.Common.{Telling, telling, told_at, told_by, told_in, told_to, true, version_for, VersionModel, with_told, with_version, zero}
 use Rattle.case_audit.proofs.QueueLists.{added-another, added-own, none-in, none-of, set-another, set-own, taken-another, taken-own}
 
 -- the queues are what each of so many actors has yet to be told

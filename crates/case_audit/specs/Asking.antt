@@ -1,12 +1,7 @@
 -- Script lines with the versions that their actors were told, as the code keeps them.
-use Rattle.std.specs.Prelude.{ℕ, ◌+◌, List, [], map, fold, replicate, ◌∷◌, slice_set, Option, Some, None, option_map, Vec}
-use Rattle.audit_model.specs.Common.{one_added, ClosedKind, front_of, KindEntry, Line, one_taken, queue_of, VersionModel}
-use Rattle.audit_model.specs.Asked.{actor_of, Asked, asks, told_by}
-use Rattle.case_audit.specs.declared.turns.Turns.{Turns}
-use Rattle.std.specs.Borrow.{Bor}
-use Rattle.std.specs.declared.collections.VecDeque.{VecDeque}
-use Rattle.case_audit.specs.declared.asked.AskedLine.{AskedLine}
-use Rattle.case_audit.specs.declared.told.Told.{Told}
+use Rattle.std.specs.{Prelude.{ℕ, ◌+◌, List, [], map, fold, replicate, ◌∷◌, slice_set, Option, Some, None, option_map, Vec}, Borrow.Bor, declared.collections.VecDeque.VecDeque}
+use Rattle.audit_model.specs.{Common.{one_added, ClosedKind, front_of, KindEntry, Line, one_taken, queue_of, VersionModel}, Asked.{actor_of, Asked, asks, told_by}}
+use Rattle.case_audit.specs.{declared.turns.Turns.Turns, declared.asked.AskedLine.AskedLine, declared.told.Told.Told}
 
 abbrev pub asked_of : AskedLine → Asked
 asked_of c = (c.line.now, option_map (λ v. v.now) c.version)

@@ -1,7 +1,6 @@
 -- Whose name a text begins with.
 use Rattle.std.specs.Prelude.{ℕ, ◌+◌, Bool, List, [], ◌∷◌, ◌++◌, Option, Some, None, codes, if◌then◌else◌}
-use Rattle.audit_model.specs.Common.{ActorDecl, Bytes}
-use Rattle.audit_model.specs.Printed.{begins}
+use Rattle.audit_model.specs.{Common.{ActorDecl, Bytes}, Printed.begins}
 
 -- a word with a space behind it
 abbrev pub begins_with_word : Bytes → Bytes → Bool

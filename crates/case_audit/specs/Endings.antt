@@ -1,14 +1,8 @@
 -- How an audit ends: what it tells, and what is left of its source and its sink.
-use Rattle.std.specs.Prelude.{◌≡◌, ℕ, false, true, List, Option, Result, Ok, Err, IfSome, IsErr}
-use Rattle.std.specs.Io.KnownBytes.{Appends, IsAtEnd}
+use Rattle.std.specs.{Prelude.{◌≡◌, ℕ, false, true, List, Option, Result, Ok, Err, IfSome, IsErr}, Io.KnownBytes.{Appends, IsAtEnd}}
 use Rattle.audit_model.specs.Common.{File, file}
-use Rattle.adept_io.specs.Counts.{Rose}
-use Rattle.adept_io.specs.Read.{ConsumesUpTo}
-use Rattle.adept_io.specs.Written.{AppendsPrefix}
-use Rattle.case_audit.specs.Parts.{file_part, is_too_long, most_bytes, report_part}
-use Rattle.case_audit.specs.Verdicts.{IsVerdict, verdict_text}
-use Rattle.case_audit.specs.declared.reports.Verdict.{Verdict}
-use Rattle.case_audit.specs.declared.unaudited.Unaudited.{Unaudited}
+use Rattle.adept_io.specs.{Counts.Rose, Read.ConsumesUpTo, Written.AppendsPrefix}
+use Rattle.case_audit.specs.{Parts.{file_part, is_too_long, most_bytes, report_part}, Verdicts.{IsVerdict, verdict_text}, declared.reports.Verdict.Verdict, declared.unaudited.Unaudited.Unaudited}
 use Rattle.case_audit.specs.declared.unaudited.Unaudited.TheVariants as why
 
 -- The bytes are not too many, and are a process file and a report of which this is the verdict; or their file is refused.

@@ -1,10 +1,7 @@
 -- What is owed to types and to cases, as the code keeps it.
 use Rattle.std.specs.Prelude.{ℕ, Bool, List, [], ◌∷◌, map, filter, if◌then◌else◌, Option, position}
-use Rattle.audit_model.specs.Common.{numbered_from, with_line, Act, case_among, CaseDecl, CaseId, cells_of, changed_where, each_among, has_id, kind_among}
-use Rattle.audit_model.specs.Asked.{Asked, calls_case, calls_kind}
-use Rattle.case_audit.specs.Asking.{asked_of}
-use Rattle.case_audit.specs.declared.owed.Owed.{Owed}
-use Rattle.case_audit.specs.declared.owed.PhaseCalls.{PhaseCalls}
+use Rattle.audit_model.specs.{Common.{numbered_from, with_line, Act, case_among, CaseDecl, CaseId, cells_of, changed_where, each_among, has_id, kind_among}, Asked.{Asked, calls_case, calls_kind}}
+use Rattle.case_audit.specs.{Asking.asked_of, declared.owed.Owed.Owed, declared.owed.PhaseCalls.PhaseCalls}
 
 -- ---- what cells get of the lines of phases
 -- those items changed whose cells pass a test

@@ -1,12 +1,7 @@
 -- The cases of a report, each from a place on.
 use Rattle.std.specs.Prelude.{◌≡◌, ℕ, ◌<◌, ◌≤◌, List, length, slice_get, Option, Some, Result, Ok}
-use Rattle.audit_model.specs.Common.{AllRows, Bytes, CaseDecl, ClosedCase, File, Followed, Follows, how_many}
-use Rattle.audit_model.specs.Asked.{Asked, IsModest}
-use Rattle.audit_model.specs.ReportReader.{case_reader}
-use Rattle.case_audit.specs.Owing.{calls_decl, given, numbers, owed_of}
-use Rattle.case_audit.specs.Verdicts.{CanAudit}
-use Rattle.case_audit.specs.declared.owed.Owed.{Owed}
-use Rattle.case_audit.specs.declared.sections.Section.{Section}
+use Rattle.audit_model.specs.{Common.{AllRows, Bytes, CaseDecl, ClosedCase, File, Followed, Follows, how_many}, Asked.{Asked, IsModest}, ReportReader.case_reader}
+use Rattle.case_audit.specs.{Owing.{calls_decl, given, numbers, owed_of}, Verdicts.CanAudit, declared.owed.Owed.Owed, declared.sections.Section.Section}
 
 -- what is asked of a script, and of what is owed: lines that are modest, and not too many
 abbrev pub IsModestScript : List (List Asked) → Type 0

@@ -1,8 +1,7 @@
 -- The statuses with which an audit ends.
 use Rattle.std.specs.Prelude.{ℕ, Result, Ok, Err}
 use Rattle.audit_model.specs.Common.{FileRefusal}
-use Rattle.case_audit.specs.declared.reports.Verdict.{Verdict}
-use Rattle.case_audit.specs.declared.unaudited.Unaudited.{Unaudited}
+use Rattle.case_audit.specs.{declared.reports.Verdict.Verdict, declared.unaudited.Unaudited.Unaudited}
 use Rattle.case_audit.specs.declared.reports.Verdict.TheVariants as verdict
 use Rattle.case_audit.specs.declared.unaudited.Unaudited.TheVariants as why
 use Rattle.file_model.specs.declared.refusals.FileRefusal.TheVariants as refusal

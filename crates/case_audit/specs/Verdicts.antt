@@ -1,9 +1,6 @@
 -- What a verdict says of a report.
-use Rattle.std.specs.Prelude.{◌≡◌, ℕ, ◌++◌, Bool, Option, Some, None, Ok, codes, decimal}
-use Rattle.std.specs.Option.{is_some}
-use Rattle.audit_model.specs.Common.{IsAuditable, IsWorkable, Bytes, File, file, Followed, Follows, IsFirstWrong, Run}
-use Rattle.audit_model.specs.ReportReader.{report_reader}
-use Rattle.audit_model.specs.Reports.{IsReport}
+use Rattle.std.specs.{Prelude.{◌≡◌, ℕ, ◌++◌, Bool, Option, Some, None, Ok, codes, decimal}, Option.is_some}
+use Rattle.audit_model.specs.{Common.{IsAuditable, IsWorkable, Bytes, File, file, Followed, Follows, IsFirstWrong, Run}, ReportReader.report_reader, Reports.IsReport}
 use Rattle.case_audit.specs.declared.reports.Verdict.{Verdict}
 use Rattle.case_audit.specs.declared.reports.Verdict.TheVariants as verdict
 

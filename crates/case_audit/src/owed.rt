@@ -1,6 +1,5 @@
 // What is owed to types and to cases: the lines that call them.
-ghost use Rattle.std.specs.Prelude.{◌≡◌, ◌++◌, ◌∷◌, [], fold, replicate, IfOk, OnOk};
-ghost use Rattle.std.specs.List.{range_with_len};
+ghost use Rattle.std.specs.{Prelude.{◌≡◌, ◌++◌, ◌∷◌, [], fold, replicate, IfOk, OnOk}, List.range_with_len};
 ghost use Rattle.case_audit.specs.Common.{ArePlaced, asked_in, asked_of, calls_decl, calls_number, case_put, changed_at, given, is_among, kind_put, numbered_of, numbers, put_where, script_of, with_line};
 
 use crate::asked::AskedLine;

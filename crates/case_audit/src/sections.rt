@@ -1,6 +1,5 @@
 // The cases of a report, judged in threads.
-ghost use Rattle.std.specs.Prelude.{ℕ, ◌≡◌, ◌≤◌, ◌<◌, List, length, option_map, IfOk, OnOk};
-ghost use Rattle.std.specs.List.{AllZip, range_with_len};
+ghost use Rattle.std.specs.{Prelude.{ℕ, ◌≡◌, ◌≤◌, ◌<◌, List, length, option_map, IfOk, OnOk}, List.{AllZip, range_with_len}};
 ghost use Rattle.case_audit.specs.Common.{AreOwed, AreSections, Asked, calls_decl, CanAudit, CanJudge, cases_reader, Follows, given, IsCaseAt, IsModestScript, IsSection, numbers, script_of};
 
 use crate::asked::AskedLine;

@@ -1,6 +1,5 @@
 // Which versions the types told their callers.
-ghost use Rattle.std.specs.Prelude.{◌≡◌, IfOk, OnOk, Some};
-ghost use Rattle.std.specs.Option.{option_map};
+ghost use Rattle.std.specs.{Prelude.{◌≡◌, IfOk, OnOk, Some}, Option.option_map};
 ghost use Rattle.case_audit.specs.Common.{all_told, deques_of, journal_told, left_in, next_version, none_told, told_versions, with_told};
 
 use script_run::{ClosedKind, KindEntry};

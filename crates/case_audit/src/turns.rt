@@ -1,6 +1,5 @@
 // Whose turn it is: the calls that the actors have yet to make in one phase.
-ghost use Rattle.std.specs.Prelude.{◌≡◌, ◌≤◌, length, IfOk, IfSome, OnOk};
-ghost use Rattle.std.specs.Option.{option_map};
+ghost use Rattle.std.specs.{Prelude.{◌≡◌, ◌≤◌, length, IfOk, IfSome, OnOk}, Option.option_map};
 ghost use Rattle.case_audit.specs.Common.{all_turns, AllRows, asked_in, asked_of, caller_in, front_of, IsModest, next_of, no_queues, one_taken, queue_of, queues_of, shown_of, with_turn};
 
 use crate::asked::AskedLine;

@@ -1,23 +1,12 @@
 -- An event raises the age of a case by its weight at most.
-use Rattle.std.proofs.Common.{◌≡◌, ℕ, ◌+◌, ◌*◌, ◌≤◌, Bool, true, false, not, List, ◌++◌, length, length-append, ◌==◌, refl, arith, Option, Some, None, Result, Ok, Err}
-use Rattle.case_core.specs.Ages.{age, live_age, weight}
-use Rattle.case_core.specs.CaseModel.{CaseModel, LiveModel, created_on, is_finished, replay_of_case}
-use Rattle.case_core.specs.Machine.{next_case, event_on, start_on, end_on, start_refusal, end_refusal, hold_refusal, withdraw_on, repeats, when_reply, or_reply, with_live, with_trail, ended_trail, ended_reply, start_entry, reads_now, misfit, failed_at, changed, change_with, change_live, migrated, migrate_with, migrate_live, migrate_refusal}
-use Rattle.wsm_trail.specs.Withdrawn.{withdrawn}
-use Rattle.case_writes.specs.Writes.{by_element}
-use Rattle.case_core.specs.declared.events.Event.{Event}
+use Rattle.case_core.proofs.Common.{ℕ, ◌*◌, ◌++◌, ◌+◌, ◌≡◌, ◌≤◌, age, arith, Bool, by_element, Card, card_at, CaseModel, change_live, change_with, changed_by, created_on, end_on, end_refusal, ended_reply, ended_trail, Err, Event, event_on}
+use Rattle.case_core.proofs.Common.{failed_at, false, Fault, flat_of, hold_refusal, is_finished, length, length-append, List, live_age, LiveModel, migrate_live, migrate_refusal, migrate_with, migrated, misfit, next_case, None, not, Ok, Op}
+use Rattle.case_core.proofs.Common.{Option, or_reply, pushed, reads_now, refl, repeats, replay_of_case, Reply, Result, SchemaModel, Some, start_entry, start_on, start_refusal, true, VersionModel, weight, when_reply, with_live, with_trail}
+use Rattle.case_core.proofs.Common.{withdraw_on, withdrawn, Written}
+use Rattle.std.proofs.Common.{◌==◌}
+use Rattle.case_core.specs.Machine.{changed}
 use Rattle.case_core.specs.declared.events.Event.TheVariants as event
-use Rattle.case_core.specs.declared.replies.Reply.{Reply}
 use Rattle.case_core.specs.declared.replies.Reply.TheVariants as reply
-use Rattle.wsm_lists.specs.Values.{Written}
-use Rattle.wsm_ops.specs.declared.operations.Op.{Op}
-use Rattle.wsm_schema.specs.SchemaModel.{SchemaModel}
-use Rattle.wsm_sound.specs.Faults.{changed_by}
-use Rattle.wsm_sound.specs.VersionModel.{VersionModel}
-use Rattle.wsm_sound.specs.declared.faults.Fault.{Fault}
-use Rattle.wsm_schema.specs.Flat.{flat_of, card_at}
-use Rattle.wsm_schema.specs.Trail.{pushed}
-use Rattle.wsm_schema.specs.declared.cards.Card.{Card}
 
 abbrev older : LiveModel → LiveModel → ℕ → Type 0
 older l new n = live_age (Some new) ≤ live_age (Some l) + n

@@ -1,36 +1,13 @@
 -- What operations make of a checked schema is checked where it is sound: it has a rank, and its write edges ascend.
-use Rattle.std.proofs.Common.{◌≡◌, ℕ, ◌+◌, false, not, List, [], ◌∷◌, length, refl, sym, ◌∙◌, subst, inl, inr, Option, Some, None, Result, Ok}
-use Rattle.std.specs.Prelude.{◌==◌}
-use Rattle.std.proofs.lemmas.Bool.{cases_Bool}
-use Rattle.std.proofs.lemmas.List.{length-map}
-use Rattle.wsm_block.proofs.Added.{moved-order, moved-same}
-use Rattle.wsm_block.proofs.DocumentStart.{document-start}
-use Rattle.wsm_block.proofs.FirstFault.{ends-there, fault_by_groups, nodes-distinct}
-use Rattle.wsm_block.proofs.Leading.{leads-is_marked}
-use Rattle.wsm_block.proofs.RanksOfSchemas.{order-rank_of}
-use Rattle.wsm_block.specs.Clauses.{cycle_fault, shape_fault}
-use Rattle.wsm_block.specs.Order.{Edges, EndAmong, IsOrder, SameNodes, marked_of, moved, onto_seen}
-use Rattle.wsm_lists.specs.Keys.{both}
-use Rattle.wsm_lists.specs.Rows.{Ascends}
-use Rattle.wsm_lists.proofs.Lists.{all-rows-map}
-use Rattle.wsm_lists.proofs.Rows.{ascends_drop, ascends_put}
-use Rattle.wsm_marks.proofs.NoFault.{no_either}
+use Rattle.case_core.proofs.Common.{[], ℕ, ◌+◌, ◌==◌, ◌∙◌, ◌∷◌, ◌≡◌, all-rows-map, applied_from, Ascends, ascends_drop, ascends_put, block_fault, both, cards_of, cases_Bool, changed_by, control_edges, effect, false, inl, inr, is_one_of}
+use Rattle.case_core.proofs.Common.{is_sound, IsChecked, IsRank, leads, length, length-map, List, no_either, nodes_of, None, not, Ok, Op, Option, refl, refusal, Result, SchemaModel, Some, subst, sym, sync_cycle, taken_parts, unless_refused}
+use Rattle.wsm_block.proofs.{Added.{moved-order, moved-same}, DocumentStart.document-start, FirstFault.{ends-there, fault_by_groups, nodes-distinct}, Leading.leads-is_marked, RanksOfSchemas.order-rank_of}
+use Rattle.wsm_block.specs.{Clauses.{cycle_fault, shape_fault}, Order.{Edges, EndAmong, IsOrder, SameNodes, marked_of, moved, onto_seen}}
 use Rattle.wsm_ops.proofs.Rising.{Ascends-filter}
-use Rattle.wsm_ops.specs.Apply.{applied_from, effect, refusal, unless_refused}
-use Rattle.wsm_ops.specs.declared.faults.OpFault.{OpFault}
-use Rattle.wsm_ops.specs.declared.faults.OpWhy.{OpWhy}
-use Rattle.wsm_ops.specs.declared.operations.Op.{Op}
+use Rattle.wsm_ops.specs.{declared.faults.OpFault.OpFault, declared.faults.OpWhy.OpWhy}
 use Rattle.wsm_ops.specs.declared.operations.Op.TheVariants as op
-use Rattle.wsm_schema.specs.Flat.{cards_of}
-use Rattle.wsm_schema.specs.Rank.{IsRank}
-use Rattle.wsm_schema.specs.SchemaModel.{SchemaModel}
-use Rattle.wsm_schema.specs.Sound.{block_fault, control_edges, leads, nodes_of, sync_cycle}
-use Rattle.wsm_schema.specs.Trail.{is_one_of}
 use Rattle.wsm_schema.specs.declared.faults.BlockFault.TheVariants.{SyncCycle}
-use Rattle.wsm_sound.proofs.NoFaults.{is_sound, taken_parts}
 use Rattle.wsm_sound.proofs.SameSchema.{same_Ok}
-use Rattle.wsm_sound.specs.Faults.{changed_by}
-use Rattle.wsm_sound.specs.Flattened.{IsChecked}
 
 -- ---- a rank
 cycle-parts : (n : ℕ) (edges : Edges) (s : ℕ × ℕ) (ss : Edges) → sync_cycle n edges (s ∷ ss) ≡ None → (leads edges n s.1 s.0 ≡ false) × (sync_cycle n (s ∷ edges) ss ≡ None)

@@ -1,15 +1,7 @@
 -- A copy of what a case is besides its trail is that of the same case.
-use Rattle.std.proofs.Common.{◌≡◌, ◌∙◌, List, Option, Some, None, Result, Ok, Err, IfOk, option_map, refl, ap, sym, subst}
+use Rattle.case_core.proofs.Common.{◌∙◌, ◌≡◌, ap, Err, IfOk, IsLive, KeepsItems, Kept, List, Live, live_in, LiveModel, marks_in, None, Ok, Op, Option, refl, Result, SchemaModel, Some, subst, sym, TrailModel, VersionModel}
+use Rattle.std.proofs.Common.{option_map}
 use Rattle.case_core.proofs.KeptItems.{keeps-of, told-of}
-use Rattle.case_core.specs.CaseModel.{LiveModel}
-use Rattle.case_core.specs.Instances.{IsLive, live_in}
-use Rattle.case_core.specs.Kept.{Kept, marks_in}
-use Rattle.case_core.specs.KeptItems.{KeepsItems}
-use Rattle.case_core.specs.declared.live.Live.{Live}
-use Rattle.wsm_ops.specs.declared.operations.Op.{Op}
-use Rattle.wsm_schema.specs.SchemaModel.{SchemaModel}
-use Rattle.wsm_schema.specs.Trail.{TrailModel}
-use Rattle.wsm_sound.specs.VersionModel.{VersionModel}
 
 abbrev made : TrailModel → VersionModel → List Op → SchemaModel → LiveModel
 made t base own schema = record { base = base; own = own; schema = schema; trail = t }

@@ -1,41 +1,11 @@
 -- What a case shows: it is never stuck, what is offered has its values, and what is held writes apart.
-use Rattle.std.proofs.Common.{◌≡◌, ℕ, true, false, ◌||◌, List, [], ◌∷◌, ◌++◌, map, cond, flat_map, refl, ap, sym, ◌∙◌, subst, inl, inr, Option, Some, None, is_some, eqb}
-use Rattle.std.proofs.lemmas.Bool.{cases_Bool, both_ways, or_cases, or_left, or_right, eqb-true, eq-eqb}
-use Rattle.std.proofs.lemmas.Option.{same_Some}
-use Rattle.case_core.specs.CaseModel.{LiveModel, replay_of_case, shown_after, shown_spots, is_finished}
-use Rattle.case_core.specs.Kept.{Kept}
-use Rattle.case_core.specs.Shown.{item_in, item_of, items_of, values_of, shown_live}
-use Rattle.case_core.specs.Promises.{has_work, goes_on, is_held, IsFilled, IsFair}
-use Rattle.wsm_items.specs.declared.work_items.Item.{Item}
+use Rattle.case_core.proofs.Common.{[], ℕ, ◌++◌, ◌||◌, ◌∙◌, ◌∷◌, ◌≡◌, activated-values, all-rows-map, AllRows, ap, both_ways, Card, card_at, cards_of, cases_Bool, cond, eq-eqb, eqb, eqb-true, false, flat_map, goes_on, has_work, inl, inr}
+use Rattle.case_core.proofs.Common.{is_finished, is_held, is_in_state, is_one_of, is_some, is_sound, IsFair, IsFilled, IsRank, IsSpotOf, Item, item_in, item_of, items_of, Kept, last-below, List, LiveModel, map, marking-rows, marking_of}
+use Rattle.case_core.proofs.Common.{marking_of-spots, node_of-spot_in, None, Option, or_cases, or_left, or_right, parts_places, Place, places, plain_end, refl, replay_of_case, rises-after, RisesAfter, rows-append, same_Some, shown_after}
+use Rattle.case_core.proofs.{Common.{shown_live, shown_spots, Some, Sound, Spot, spot-among, spot_in, Spots, State, subst, sym, true, value_in, value_in-all_values, values_of, whole, worked_on}, Keeping.{table-of, state-is}}
 use Rattle.wsm_items.specs.declared.work_items.Item.TheVariants as item
-use Rattle.case_core.proofs.Keeping.{table-of, state-is}
-use Rattle.wsm_lists.specs.Rows.{AllRows}
-use Rattle.wsm_lists.specs.Values.{value_in}
-use Rattle.wsm_lists.proofs.Lists.{all-rows-map, rows-append}
-use Rattle.wsm_marks.proofs.Cards.{node-has_card}
-use Rattle.wsm_marks.proofs.HeldApart.{held-apart}
-use Rattle.wsm_marks.proofs.NeverIdle.{never-idle}
-use Rattle.wsm_marks.proofs.ReadyValues.{activated-values}
-use Rattle.wsm_marks.specs.Fits.{RisesAfter}
-use Rattle.wsm_replay.proofs.OneEntryMore.{marking_of-spots}
-use Rattle.wsm_schema.specs.Flat.{cards_of, card_at}
-use Rattle.wsm_schema.specs.Kinds.{worked_on}
-use Rattle.wsm_schema.proofs.Rounds.{node_of-spot_in}
-use Rattle.wsm_schema.specs.Places.{plain_end, parts_places, places}
-use Rattle.wsm_schema.specs.Rank.{IsRank}
-use Rattle.wsm_schema.specs.Trail.{is_one_of}
-use Rattle.wsm_schema.specs.declared.places.Place.{Place}
-use Rattle.wsm_schema.specs.Replay.{whole, is_in_state}
-use Rattle.wsm_schema.specs.Rules.{Spots, spot_in, marking_of}
-use Rattle.wsm_schema.specs.Sound.{Sound}
-use Rattle.wsm_schema.specs.declared.cards.Card.{Card}
-use Rattle.wsm_schema.specs.declared.states.Spot.{Spot}
-use Rattle.wsm_schema.specs.declared.states.State.{State}
+use Rattle.wsm_marks.proofs.{Cards.node-has_card, HeldApart.held-apart, NeverIdle.never-idle}
 use Rattle.wsm_schema.specs.declared.states.State.TheVariants.{NotActivated, Activated, Running, Completed, Skipped}
-use Rattle.wsm_sound.proofs.NoFaults.{is_sound}
-use Rattle.wsm_steps.proofs.Markings.{IsSpotOf, marking-rows, spot-among}
-use Rattle.wsm_steps.proofs.Positions.{rises-after, last-below}
-use Rattle.wsm_trail.proofs.LastWrite.{value_in-all_values}
 
 -- ---- items of one spot
 no-item : (l : LiveModel) (c : Card) (x : State) → item_in l c x ≡ [] → (is_in_state x Activated ≡ false) × (is_in_state x Running ≡ false)

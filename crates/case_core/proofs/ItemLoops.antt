@@ -1,31 +1,9 @@
 -- Work items that are made while rows are gone over.
-use Rattle.std.proofs.Common.{◌≡◌, ℕ, zero, suc, ◌+◌, ◌<◌, ◌≢◌, true, false, cond, eqb, List, [], ◌∷◌, ◌++◌, arith, drop, get_or, length, refl, ap, sym, ◌∙◌, subst, inl, inr, Option, Some, None}
-use Rattle.std.specs.Prelude.{option_map}
-use Rattle.std.proofs.lemmas.Bool.{cases_Bool, eq-eqb, eqb-true, ne_eqb}
-use Rattle.std.proofs.lemmas.List.{drop_more}
-use Rattle.case_core.specs.KeptItems.{MakesItems, RenewsItems, entries_with, item_by, item_for, item_then, user_then, with_item, work_item}
-use Rattle.case_core.specs.Machine.{user_of}
-use Rattle.case_core.specs.Remarks.{user_at}
-use Rattle.wsm_items.specs.WorkItems.{IsOfNode, item_node}
-use Rattle.wsm_items.specs.declared.work_items.Item.{Item}
-use Rattle.wsm_lists.specs.ByNumber.{change_row, item_after, item_at}
-use Rattle.wsm_lists.specs.Keys.{first}
-use Rattle.wsm_lists.specs.Rows.{Ascends}
-use Rattle.wsm_lists.proofs.ByNumber.{item_at-above, item_at-changed, item_at-put}
-use Rattle.wsm_schema.specs.Flat.{card_at, cards_of}
-use Rattle.wsm_schema.specs.SchemaModel.{SchemaModel}
-use Rattle.wsm_schema.specs.Kinds.{worked_on}
-use Rattle.wsm_schema.specs.Trail.{TrailModel}
-use Rattle.wsm_schema.specs.declared.cards.Card.{Card}
-use Rattle.wsm_schema.specs.declared.entries.Entry.{Entry}
-use Rattle.wsm_schema.specs.declared.marks.Mark.{Mark}
-use Rattle.wsm_schema.specs.declared.states.State.{State}
+use Rattle.case_core.proofs.Common.{[], ℕ, ◌++◌, ◌+◌, ◌<◌, ◌∙◌, ◌∷◌, ◌≡◌, ◌≢◌, ap, arith, Ascends, Card, card_at, cards_of, cases_Bool, change_row, cond, drop, drop_more, entries_with, Entry, entry_at, eq-eqb, eqb, eqb-true, false, first}
+use Rattle.case_core.proofs.Common.{get_or, inl, inr, IsOfNode, Item, item_after, item_at, item_at-above, item_at-changed, item_at-put, item_by, item_for, item_node, item_then, length, List, MakesItems, Mark, mark_or, mark_spot, ne_eqb}
+use Rattle.case_core.proofs.Common.{no_mark, None, Option, option_map, refl, RenewsItems, rises-le, SchemaModel, Some, State, subst, suc, sym, TrailModel, true, user_at, user_of, user_then, with_item, work_item, worked_on, zero}
 use Rattle.wsm_schema.specs.declared.states.State.TheVariants as state
-use Rattle.wsm_trail.specs.EntryAt.{entry_at}
 use Rattle.wsm_trail.specs.TrailWithRoom.{Rises}
-use Rattle.wsm_trail.proofs.Rising.{rises-le}
-use Rattle.wsm_walk.specs.Kept.{mark_or, no_mark}
-use Rattle.wsm_walk.specs.MarkStates.{mark_spot}
 
 -- ---- what is held of a number while rows are gone over: what was held before as long as its row is ahead
 abbrev pub Held : {M I : Type 0} → Option I → (Option M → Option I) → Option M → Option I → Option M → Type 0

@@ -1,25 +1,8 @@
 -- The work items of a case are those of the nodes that have one.
-use Rattle.std.proofs.Common.{◌≡◌, ℕ, Bool, true, false, ◌||◌, eqb, List, [], ◌∷◌, ◌++◌, fold, flat_map, refl, ap, sym, ◌∙◌, subst, inl, inr, Option, Some, None}
-use Rattle.std.specs.Prelude.{if◌then◌else◌}
-use Rattle.std.specs.List.{list_any}
-use Rattle.std.proofs.lemmas.Bool.{cases_Bool, eqb-true, or_parts}
-use Rattle.case_core.specs.CaseModel.{LiveModel, shown_after, shown_spots}
-use Rattle.case_core.specs.Kept.{Kept}
-use Rattle.case_core.specs.Shown.{item_of, items_at, items_of}
-use Rattle.case_core.proofs.Marked.{shown-spot, spot-missing, table}
-use Rattle.wsm_lists.specs.ByNumber.{item_at}
-use Rattle.wsm_lists.specs.Keys.{first}
-use Rattle.wsm_lists.specs.Rows.{AllRows, Ascends, key_lt, put_row}
-use Rattle.wsm_lists.proofs.ByNumber.{items-same}
-use Rattle.wsm_lists.proofs.Lists.{all-rows-map}
-use Rattle.wsm_lists.proofs.Rows.{ascends_put}
-use Rattle.wsm_schema.specs.Flat.{card_at, cards_of}
-use Rattle.wsm_schema.specs.Kinds.{worked_on}
-use Rattle.wsm_schema.specs.Rules.{Spots, by_node, marking_of, spot, spot_in}
-use Rattle.wsm_schema.specs.declared.cards.Card.{Card}
-use Rattle.wsm_schema.specs.declared.states.Spot.{Spot}
+use Rattle.case_core.proofs.Common.{[], ℕ, ◌++◌, ◌||◌, ◌∙◌, ◌∷◌, ◌≡◌, all-rows-map, AllRows, ap, Ascends, ascends_put, Bool, by_node, Card, card_at, cards_of, cases_Bool, eqb, eqb-true, false, first, flat_map, fold, if◌then◌else◌, inl, inr}
+use Rattle.case_core.proofs.Common.{IsSpotOf, item_at, item_of, items-same, items_at, items_of, Kept, key_lt, List, list_any, LiveModel, marking-rows, marking_of, None, Option, or_parts, put_row, refl, shown_after, shown_spots, Some, Spot}
+use Rattle.case_core.proofs.{Common.{spot, spot_in, Spots, subst, sym, true, worked_on}, Marked.{shown-spot, spot-missing, table}}
 use Rattle.wsm_schema.specs.declared.states.State.TheVariants.{NotActivated}
-use Rattle.wsm_steps.proofs.Markings.{IsSpotOf, marking-rows}
 
 -- ---- what a function gives at the numbers of rows that ascend
 abbrev full : {A : Type 0} → ℕ → List A → List (ℕ × List A)

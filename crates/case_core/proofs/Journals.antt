@@ -1,37 +1,12 @@
 -- The case machine alone: its steps keep what a case keeps, so all that a journal leads to has it.
-use Rattle.std.proofs.Common.{◌≡◌, ℕ, ◌+◌, ◌*◌, ◌≤◌, Bool, true, false, not, List, [], ◌∷◌, ◌++◌, fold, length, length-append, refl, arith, Option, Some, None, Result, Ok, Err}
-use Rattle.std.specs.Prelude.{◌==◌}
-use Rattle.case_core.specs.Ages.{age, live_age, weight}
-use Rattle.case_core.specs.CaseModel.{CaseModel, LiveModel, created_on, is_finished, not_created, replay_of_case}
-use Rattle.case_core.specs.Journals.{BringsChecked, IsShownWell, JournalsKeep, weights}
-use Rattle.case_core.specs.Kept.{Kept, KeptIn}
-use Rattle.case_core.specs.Machine.{case_after, change_live, change_with, changed, end_on, end_refusal, ended_reply, ended_trail, failed_at, migrate_live, migrate_refusal, migrate_with, migrated, misfit, next_case, or_reply, reads_now, hold_refusal, repeats, start_entry, start_on, start_refusal, when_reply, with_live, with_trail, withdraw_on}
-use Rattle.case_core.specs.declared.events.Event.{Event}
+use Rattle.case_core.proofs.Common.{[], ℕ, ◌*◌, ◌++◌, ◌+◌, ◌==◌, ◌∷◌, ◌≡◌, ◌≤◌, age, AllRows, applied-in_a_row, arith, Bool, by_element, Card, card_at, cards_of, case_after, CaseModel, change_live, change_with, changed_by, created_on}
+use Rattle.case_core.proofs.Common.{end_on, end_refusal, ended_reply, ended_trail, Err, Event, failed_at, fails, false, Fault, flat_of, fold, hold_refusal, is_finished, is_whole, IsChecked, Kept, KeptIn, length, length-append, List}
+use Rattle.case_core.proofs.Common.{live_age, LiveModel, migrate_live, migrate_refusal, migrate_with, migrated, misfit, next_case, None, not, not_created, Ok, Op, Option, or_reply, Outcome, pushed, reads_now, refl, repeats, replay_of_case}
+use Rattle.case_core.proofs.Common.{Reply, Result, SchemaModel, Some, start_entry, start_on, start_refusal, taken_parts, true, VersionModel, weight, when_reply, whole, with_live, with_trail, withdraw_on, withdrawn, Written}
+use Rattle.case_core.proofs.{AgesOfSteps.age-next_case, CheckedSchemas.checked-made, Fairness.{fair, never-stuck}, Keeping.{kept-created, kept-end, kept-on_schema, kept-repeat, kept-start, kept-withdrawn}, TrailFacts.last-writes}
+use Rattle.case_core.specs.{Journals.{BringsChecked, IsShownWell, JournalsKeep, weights}, Machine.changed}
 use Rattle.case_core.specs.declared.events.Event.TheVariants as event
-use Rattle.case_core.specs.declared.replies.Reply.{Reply}
 use Rattle.case_core.specs.declared.replies.Reply.TheVariants as reply
-use Rattle.case_core.proofs.AgesOfSteps.{age-next_case}
-use Rattle.case_core.proofs.CheckedSchemas.{checked-made}
-use Rattle.case_core.proofs.Fairness.{fair, never-stuck}
-use Rattle.case_core.proofs.Keeping.{kept-created, kept-end, kept-on_schema, kept-repeat, kept-start, kept-withdrawn}
-use Rattle.case_core.proofs.TrailFacts.{last-writes}
-use Rattle.case_writes.specs.Writes.{by_element}
-use Rattle.wsm_lists.specs.Rows.{AllRows}
-use Rattle.wsm_lists.specs.Values.{Written}
-use Rattle.wsm_ops.specs.declared.operations.Op.{Op}
-use Rattle.wsm_schema.specs.Flat.{card_at, cards_of, flat_of}
-use Rattle.wsm_schema.specs.Replay.{Outcome, fails, whole}
-use Rattle.wsm_schema.specs.SchemaModel.{SchemaModel}
-use Rattle.wsm_schema.specs.Trail.{pushed}
-use Rattle.wsm_schema.specs.declared.cards.Card.{Card}
-use Rattle.wsm_sound.proofs.InARow.{applied-in_a_row}
-use Rattle.wsm_sound.proofs.NoFaults.{taken_parts}
-use Rattle.wsm_sound.specs.Faults.{changed_by}
-use Rattle.wsm_sound.specs.Flattened.{IsChecked}
-use Rattle.wsm_sound.specs.VersionModel.{VersionModel}
-use Rattle.wsm_sound.specs.declared.faults.Fault.{Fault}
-use Rattle.wsm_steps.specs.Whole.{is_whole}
-use Rattle.wsm_trail.specs.Withdrawn.{withdrawn}
 
 -- a step that is refused leaves a case as it is
 module _ {S : Type 0} (P : S → Type 0) where

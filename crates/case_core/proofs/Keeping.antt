@@ -1,59 +1,19 @@
 -- What every step keeps of a case that was created.
-use Rattle.std.proofs.Common.{◌≡◌, ℕ, ◌<◌, ◌^◌, true, false, ◌||◌, List, [], ◌∷◌, ◌++◌, map, filter, length, refl, ap, sym, ◌∙◌, subst, inl, inr, arith, Option, Some, None, is_some, Ok, eqb}
-use Rattle.std.specs.Prelude.{◌==◌}
-use Rattle.std.proofs.lemmas.Bool.{cases_Bool, both_ways, and_parts, eqb-true}
-use Rattle.std.proofs.lemmas.Option.{same_Some}
+use Rattle.case_core.proofs.Common.{[], ℕ, ◌++◌, ◌<◌, ◌==◌, ◌^◌, ◌||◌, ◌∙◌, ◌∷◌, ◌≡◌, activated-values, all_rows, AllRows, and_parts, ap, applied, arith, Ascends, both, both_ways, branch_heads, branch_tails, by_element, Card, card_at}
+use Rattle.case_core.proofs.Common.{card_of, cards_of, cases_Bool, created_on, end_refusal, Entry, eqb, eqb-true, fails, false, filter, fits_choice, flat_of, hold_refusal, inl, inr, is_again_of, is_in_state, is_loop_end, is_some, is_sound}
+use Rattle.case_core.proofs.Common.{is_whole, IsChecked, IsRank, join_kind, Kept, key_lt, labelled, lanes_places, last-below, length, List, LiveModel, loop_nodes, lt_from, lt_means, map, marking_of-spots, no_either, no_when, None}
+use Rattle.case_core.proofs.Common.{not_false, number_key, Ok, on_schema, Op, Option, Outcome, part_places, parts_places, Place, place, places, plain_end, pushed, refl, repeated_trail, repeats, replay_of, replay_of_case, rises-after}
+use Rattle.case_core.proofs.Common.{rises_push, rows-append, running-begun, running-held, same_Some, SchemaModel, shown_after, Some, Sound, sound-regular, split_kind, spot_in, Spots, start_entry, start_refusal, starts_of, State, state_of}
+use Rattle.case_core.proofs.{Common.{subst, sym, true, value_below, value_now, VersionModel, whole, whole-trail, WholeTrail, with_trail, withdrawn, withdrawn-whole, Written, wrong_elements, wrong_reply}, Withdrawing.agains-left}
+use Rattle.case_core.proofs.Withdrawing.{one-start}
 use Rattle.std.proofs.Math.Bool.{or-false}
-use Rattle.case_core.specs.CaseModel.{LiveModel, created_on, on_schema, replay_of_case, shown_after, state_of, value_now}
-use Rattle.case_core.specs.Kept.{Kept}
-use Rattle.case_core.proofs.Withdrawing.{agains-left, one-start}
-use Rattle.case_core.specs.Machine.{start_refusal, hold_refusal, end_refusal, start_entry, repeats, repeated_trail, with_trail, wrong_reply}
 use Rattle.case_writes.proofs.RightWrites.{right-writes}
-use Rattle.case_writes.specs.Writes.{number_key, wrong_elements, by_element}
-use Rattle.wsm_lists.proofs.Lists.{all_rows, rows-append}
-use Rattle.wsm_lists.proofs.Rows.{lt_means, lt_from}
-use Rattle.wsm_lists.specs.Keys.{both}
-use Rattle.wsm_lists.specs.Rows.{AllRows, Ascends, key_lt}
-use Rattle.wsm_lists.specs.Values.{Written}
-use Rattle.wsm_marks.proofs.LastMarking.{WholeTrail, running-held, whole-trail}
-use Rattle.wsm_marks.proofs.NoFault.{no_either, no_when, not_false}
-use Rattle.wsm_marks.proofs.ReadyValues.{activated-values, running-begun}
 use Rattle.wsm_marks.proofs.Repeats.{loop-of_schema, repeat-whole}
-use Rattle.wsm_marks.proofs.SoundSchemas.{sound-regular}
-use Rattle.wsm_replay.proofs.OneEntryMore.{marking_of-spots}
-use Rattle.wsm_schema.specs.Flat.{cards_of, card_at, card_of, flat_of, loop_nodes}
-use Rattle.wsm_schema.specs.Kinds.{is_loop_end}
-use Rattle.wsm_schema.specs.Ends.{first_node, last_of}
-use Rattle.wsm_schema.specs.Marks.{is_again_of}
-use Rattle.wsm_schema.specs.Places.{place, labelled, plain_end, split_kind, join_kind, branch_heads, branch_tails, part_places, parts_places, lanes_places, places}
-use Rattle.wsm_schema.specs.Rank.{IsRank}
-use Rattle.wsm_schema.specs.Replay.{Outcome, whole, fails, replay_of, is_in_state, fits_choice}
-use Rattle.wsm_schema.specs.Rules.{Spots, spot_in}
-use Rattle.wsm_schema.specs.SchemaModel.{SchemaModel}
-use Rattle.wsm_schema.specs.Sound.{Sound}
-use Rattle.wsm_schema.specs.Trail.{pushed, value_below}
-use Rattle.wsm_schema.specs.Tree.{Gate, Part, Parts, Lanes, act, gate, loop, nothing, part, no_lane, lane}
-use Rattle.wsm_schema.specs.declared.cards.Card.{Card}
-use Rattle.wsm_schema.specs.declared.cards.End.{End}
-use Rattle.wsm_schema.specs.declared.entries.Entry.{Entry}
+use Rattle.wsm_schema.specs.{Ends.{first_node, last_of}, Tree.{Gate, Part, Parts, Lanes, act, gate, loop, nothing, part, no_lane, lane}, declared.cards.End.End}
 use Rattle.wsm_schema.specs.declared.entries.Entry.TheVariants as entry
-use Rattle.wsm_schema.specs.declared.places.Place.{Place}
-use Rattle.wsm_schema.specs.declared.states.State.{State}
 use Rattle.wsm_schema.specs.declared.states.State.TheVariants.{Activated, Running}
-use Rattle.wsm_ops.specs.Apply.{applied}
-use Rattle.wsm_ops.specs.declared.operations.Op.{Op}
-use Rattle.wsm_sound.proofs.NoFaults.{is_sound}
-use Rattle.wsm_sound.specs.Flattened.{IsChecked}
-use Rattle.wsm_sound.specs.VersionModel.{VersionModel}
-use Rattle.wsm_steps.proofs.Agains.{agains-push, agains-repeat}
-use Rattle.wsm_steps.proofs.NextEntry.{next-whole, start-applies, end-applies}
-use Rattle.wsm_steps.proofs.Positions.{rises-after, last-below}
-use Rattle.wsm_steps.specs.Whole.{is_whole}
-use Rattle.wsm_trail.proofs.Cutting.{rises_cut}
-use Rattle.wsm_trail.proofs.Rising.{rises_push}
-use Rattle.wsm_trail.proofs.Withdrawing.{rises-left}
-use Rattle.wsm_trail.specs.Withdrawn.{starts_of, withdrawn}
-use Rattle.wsm_walk.proofs.WithdrawnTrails.{withdrawn-whole}
+use Rattle.wsm_steps.proofs.{Agains.{agains-push, agains-repeat}, NextEntry.{next-whole, start-applies, end-applies}}
+use Rattle.wsm_trail.proofs.{Cutting.rises_cut, Withdrawing.rises-left}
 
 -- a replay that fails nowhere ends in a table
 pub table-of : (o : Outcome) → is_whole o ≡ true → (t : Spots) × (o ≡ whole t)

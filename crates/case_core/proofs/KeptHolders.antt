@@ -1,48 +1,14 @@
 -- Who holds a node after an event, told by the work items from before it.
-use Rattle.std.proofs.Common.{◌≡◌, ℕ, Bool, true, false, eqb, List, [], ◌∷◌, ◌++◌, refl, ap, sym, ◌∙◌, subst, inl, inr, Option, Some, None}
-use Rattle.std.specs.Prelude.{option_map, ◌==◌}
-use Rattle.std.proofs.lemmas.Bool.{both_ways, cases_Bool, eq-eqb, eqb-true}
-use Rattle.std.proofs.lemmas.Option.{same_Some}
-use Rattle.case_core.specs.CaseModel.{LiveModel, on_schema, state_of}
-use Rattle.case_core.specs.Kept.{Kept, marks_in}
-use Rattle.case_core.specs.KeptItems.{ChangesItems, KeepsItems, MakesItems, entries_with, held_in, item_by, item_for, item_then, user_from, user_in, user_then}
-use Rattle.case_core.specs.Machine.{holder_of, with_trail}
-use Rattle.case_core.specs.Remarks.{Moves, Remarks, started_in, user_at}
-use Rattle.case_core.specs.Shown.{held_by, shown_state_of}
-use Rattle.case_core.proofs.ItemLoops.{user-of_next, user-of_other}
-use Rattle.case_core.proofs.KeptItems.{held-are}
-use Rattle.case_core.proofs.Marked.{current, holder-kept, spot-marked}
-use Rattle.wsm_items.specs.declared.work_items.Item.{Item}
+use Rattle.case_core.proofs.Common.{[], ℕ, ◌++◌, ◌==◌, ◌∙◌, ◌∷◌, ◌≡◌, ap, Ascends, ascends-listed, Bool, both_ways, Card, card_at, cards_of, cases_Bool, changed, ChangesItems, Current, cut_by, entries_with, Entry, eq-eqb, eqb, eqb-true}
+use Rattle.case_core.proofs.Common.{facts_of, false, find-without, first, flat_of, held_by, held_in, holder_of, inl, inr, is_end_of, is_one_of, is_start_of, Item, item_after, item_at, item_at-changed, item_by, item_for, item_then}
+use Rattle.case_core.proofs.Common.{KeepsItems, Kept, kept-item, kept-mark, List, listed, LiveModel, MakesItems, Mark, mark_now, mark_of, mark_or, mark_spot, marks_in, Moves, None, on_schema, Op, Option, option_map, position_of, pushed}
+use Rattle.case_core.proofs.Common.{refl, Remarks, same_Some, SchemaModel, shown_state_of, Some, Spot, start-gone, started-kept, started_in, state_of, subst, sym, true, user_at, user_from, user_in, user_then, VersionModel, with_trail}
+use Rattle.case_core.proofs.{Common.{withdrawn, without_start, worked_on, Written}, ItemLoops.{user-of_next, user-of_other}, KeptItems.held-are, Marked.{current, holder-kept, spot-marked}}
 use Rattle.wsm_items.specs.declared.work_items.Item.TheVariants as item
-use Rattle.wsm_lists.specs.ByNumber.{changed, item_after, item_at}
-use Rattle.wsm_lists.specs.Keys.{first}
-use Rattle.wsm_lists.specs.Rows.{Ascends}
-use Rattle.wsm_lists.specs.Values.{Written}
-use Rattle.wsm_lists.proofs.ByNumber.{item_at-changed}
 use Rattle.wsm_marks.proofs.CutTrails.{cleared}
 use Rattle.wsm_marks.specs.Loops.{Cleared}
-use Rattle.wsm_ops.specs.declared.operations.Op.{Op}
-use Rattle.wsm_schema.specs.Flat.{card_at, cards_of, flat_of}
-use Rattle.wsm_schema.specs.Kinds.{worked_on}
-use Rattle.wsm_schema.specs.Marks.{facts_of, is_end_of, is_start_of, mark_of, position_of}
-use Rattle.wsm_schema.specs.SchemaModel.{SchemaModel}
-use Rattle.wsm_schema.specs.Trail.{cut_by, is_one_of, pushed}
-use Rattle.wsm_schema.specs.declared.cards.Card.{Card}
-use Rattle.wsm_schema.specs.declared.entries.Entry.{Entry}
 use Rattle.wsm_schema.specs.declared.entries.Entry.TheVariants as entry
-use Rattle.wsm_schema.specs.declared.marks.Mark.{Mark}
-use Rattle.wsm_schema.specs.declared.states.Spot.{Spot}
 use Rattle.wsm_schema.specs.declared.states.State.TheVariants as state
-use Rattle.wsm_sound.specs.VersionModel.{VersionModel}
-use Rattle.wsm_trail.specs.Withdrawn.{withdrawn, without_start}
-use Rattle.wsm_walk.proofs.KeptStates.{started-kept}
-use Rattle.wsm_walk.proofs.Listed.{ascends-listed}
-use Rattle.wsm_walk.proofs.OneMore.{kept-item, kept-mark}
-use Rattle.wsm_walk.proofs.WithdrawnTrails.{find-without, start-gone}
-use Rattle.wsm_walk.specs.Current.{Current, mark_now}
-use Rattle.wsm_walk.specs.Kept.{mark_or}
-use Rattle.wsm_walk.specs.Listed.{listed}
-use Rattle.wsm_walk.specs.MarkStates.{mark_spot}
 
 -- ---- who holds a node counts where it was started and not ended
 module _ (es : List (ℕ × Entry)) (next : ℕ) (e : Option Entry) (held : Option Item) (n : ℕ) (m : Mark) (told : (p : ℕ) → m.started ≡ Some p → m.ended ≡ None → user_from next e held p ≡ user_at es (Some p)) where

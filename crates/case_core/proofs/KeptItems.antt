@@ -1,54 +1,17 @@
 -- What the kept work items of a case tell, and what events make of them.
-use Rattle.std.proofs.Common.{◌≡◌, ℕ, ◌+◌, ◌<◌, Bool, true, false, eqb, List, [], ◌∷◌, ◌++◌, flat_map, refl, ap, sym, ◌∙◌, subst, inl, inr, arith, Option, Some, None}
-use Rattle.std.specs.Prelude.{find, ◌==◌, not, filter, filter_map, option_map}
-use Rattle.std.specs.List.{list_any, cons_option}
-use Rattle.std.specs.Option.{option_or}
-use Rattle.std.proofs.lemmas.Bool.{cases_Bool, both_ways, eq-eqb, ltb-true, ne_eqb}
-use Rattle.std.proofs.lemmas.Option.{same_Some}
-use Rattle.case_core.specs.CaseModel.{LiveModel, shown_spots, state_of}
-use Rattle.case_core.specs.Kept.{Kept, marks_in}
-use Rattle.case_core.specs.KeptItems.{ChangesItems, KeepsItems, TellsItems, entries_with, held_in, item_by, item_for, work_item}
-use Rattle.case_core.specs.Machine.{hold_refusal, holder_of, user_of, when_reply, with_trail}
-use Rattle.case_core.specs.Promises.{HolderStarted}
-use Rattle.case_core.specs.Remarks.{Remarks, started_in, user_at}
-use Rattle.case_core.specs.Shown.{held_by, item_in, item_of, items_at, items_in, items_of, shown_holder, shown_state_of}
+use Rattle.case_core.proofs.Common.{[], ℕ, ◌++◌, ◌+◌, ◌<◌, ◌==◌, ◌∙◌, ◌∷◌, ◌≡◌, all-rows-map, AllRows, ap, arith, Ascends, ascends-listed, Bool, both_ways, Card, card_at, card_at-node, cards_of, cases_Bool, ChangesItems, cons_option}
+use Rattle.case_core.proofs.Common.{cut_by, cut_entry, entries_with, Entry, entry_at, eq-eqb, eqb, false, filter_map, find, first, flat_map, flat_of, found-row, held_by, held_in, hold_refusal, holder_of, HolderStarted, inl, inr}
+use Rattle.case_core.proofs.Common.{is_in_state, is_one_of, is_start_of, Item, item_after, item_at, item_at-changed, item_by, item_for, item_in, item_of, items_at, items_in, items_of, KeepsItems, Kept, key_lt, List, list_any, LiveModel}
+use Rattle.case_core.proofs.Common.{lt_number, ltb-true, Mark, mark_of, mark_or, marks_in, ne_eqb, None, Option, option_map, option_or, pushed, refl, Remarks, rises-after, rises-ascends, rises_push, rows-append, rows-parts, running-held}
+use Rattle.case_core.proofs.Common.{same_Some, shown_holder, shown_spots, shown_state_of, Some, Spot, spot_in, start-found, started_in, State, state_of, subst, sym, TellsItems, TrailModel, true, user_at, user_of, when_reply, whole-trail}
+use Rattle.case_core.proofs.{Common.{WholeTrail, with_trail, withdrawn, work_item, worked_on, Written, wrote}, ItemRows.{flat_map-rows, items-kept, no-item, none-any}, Keeping.state-is, Marked.{current, holder-kept, spot-marked, spot-none}}
+use Rattle.case_core.proofs.{Marked.table, TrailFacts.running-started}
+use Rattle.std.specs.Prelude.{not, filter}
 use Rattle.case_core.specs.declared.replies.Reply.TheVariants as reply
-use Rattle.case_core.proofs.ItemRows.{flat_map-rows, items-kept, no-item, none-any}
-use Rattle.case_core.proofs.Keeping.{state-is}
-use Rattle.case_core.proofs.Marked.{current, holder-kept, spot-marked, spot-none, table}
-use Rattle.case_core.proofs.TrailFacts.{running-started}
 use Rattle.wsm_items.specs.WorkItems.{items_in as listed_items}
-use Rattle.wsm_items.specs.declared.work_items.Item.{Item}
 use Rattle.wsm_items.specs.declared.work_items.Item.TheVariants as item
-use Rattle.wsm_lists.specs.ByNumber.{item_after, item_at}
-use Rattle.wsm_lists.specs.Keys.{first}
-use Rattle.wsm_lists.specs.Rows.{AllRows, Ascends, key_lt}
-use Rattle.wsm_lists.specs.Values.{Written}
-use Rattle.wsm_lists.proofs.ByNumber.{item_at-changed, lt_number}
-use Rattle.wsm_lists.proofs.Lists.{all-rows-map, rows-append, rows-parts}
-use Rattle.wsm_marks.proofs.LastMarking.{WholeTrail, running-held, whole-trail}
-use Rattle.wsm_marks.proofs.SaneTrails.{found-row}
-use Rattle.wsm_schema.specs.Flat.{card_at, cards_of, flat_of}
-use Rattle.wsm_schema.specs.Kinds.{worked_on}
-use Rattle.wsm_schema.specs.Marks.{is_start_of, mark_of}
-use Rattle.wsm_schema.specs.Replay.{is_in_state}
-use Rattle.wsm_schema.specs.Rules.{spot_in}
-use Rattle.wsm_schema.specs.Trail.{TrailModel, cut_by, cut_entry, is_one_of, pushed, wrote}
-use Rattle.wsm_schema.proofs.Rounds.{card_at-node}
-use Rattle.wsm_schema.specs.declared.cards.Card.{Card}
-use Rattle.wsm_schema.specs.declared.entries.Entry.{Entry}
 use Rattle.wsm_schema.specs.declared.entries.Entry.TheVariants as entry
-use Rattle.wsm_schema.specs.declared.marks.Mark.{Mark}
-use Rattle.wsm_schema.specs.declared.states.Spot.{Spot}
-use Rattle.wsm_schema.specs.declared.states.State.{State}
 use Rattle.wsm_schema.specs.declared.states.State.TheVariants as state
-use Rattle.wsm_steps.proofs.Positions.{rises-after}
-use Rattle.wsm_trail.specs.EntryAt.{entry_at}
-use Rattle.wsm_trail.specs.Withdrawn.{withdrawn}
-use Rattle.wsm_trail.proofs.Rising.{rises-ascends, rises_push}
-use Rattle.wsm_walk.proofs.KeptStates.{start-found}
-use Rattle.wsm_walk.proofs.Listed.{ascends-listed}
-use Rattle.wsm_walk.specs.Kept.{mark_or}
 
 -- ---- rows that ascend are found by their numbers
 rows-found : {A : Type 0} (xs : List (ℕ × A)) → Ascends first xs → AllRows (λ r. item_at r.0 xs ≡ Some r.1) xs

@@ -1,3 +1,4 @@
+pub mod Common
 pub mod NoOverlap
 pub mod AgesOfSteps
 pub mod Withdrawing

@@ -1,45 +1,13 @@
 -- What the kept marks of a case tell of its nodes, and what events make of them.
-use Rattle.std.proofs.Common.{◌≡◌, ℕ, true, false, eqb, List, [], ◌∷◌, fold, refl, ap, sym, ◌∙◌, subst, inl, inr, Option, Some, None}
-use Rattle.std.specs.Prelude.{find, option_map}
-use Rattle.std.proofs.lemmas.Bool.{cases_Bool, both_ways, and_parts, eq-eqb}
-use Rattle.case_core.specs.CaseModel.{LiveModel, replay_of_case, shown_after, shown_spots}
-use Rattle.case_core.specs.Kept.{Kept, marks_in}
-use Rattle.case_core.specs.Machine.{end_refusal, failed_at, holder_of, repeats, user_of, with_trail}
-use Rattle.case_core.specs.Remarks.{AgainRemarks, EndRemarks, IsTimedOn, Remarks, Runs, RunsLoop, StartRemarks, started_in, user_at}
-use Rattle.case_core.proofs.Keeping.{ended-running, loop-partner, state-is, table-of}
-use Rattle.wsm_lists.specs.ByNumber.{changed, item_at}
-use Rattle.wsm_lists.specs.Rows.{AllRows, put_row}
-use Rattle.wsm_lists.specs.Values.{Written}
-use Rattle.wsm_lists.proofs.Rows.{all_put}
-use Rattle.wsm_schema.specs.Flat.{FlatModel, card_at, cards_of, flat_of}
-use Rattle.wsm_schema.specs.Kinds.{is_loop_end}
-use Rattle.wsm_schema.specs.Marks.{is_start_of, marks_of}
-use Rattle.wsm_schema.specs.Rank.{IsRank}
-use Rattle.wsm_schema.specs.Replay.{Outcome, fails, is_in_state, replay_of, whole}
-use Rattle.wsm_schema.specs.Rules.{Spots, by_node, marking_of, spot, spot_in}
-use Rattle.wsm_schema.proofs.Rounds.{node_of-spot_in}
-use Rattle.wsm_schema.specs.declared.cards.Card.{Card}
-use Rattle.wsm_schema.specs.declared.entries.Entry.{Entry}
-use Rattle.wsm_schema.specs.declared.marks.Mark.{Mark}
+use Rattle.case_core.proofs.Common.{[], ℕ, ◌∙◌, ◌∷◌, ◌≡◌, AgainRemarks, all_put, AllRows, and_parts, ap, both_ways, by_node, Card, card_at, cards_of, cases_Bool, changed, Current, end_refusal, EndRemarks, EndsRight, Entry, eq-eqb, eqb}
+use Rattle.case_core.proofs.Common.{failed_at, fails, false, find, flat_of, FlatModel, fold, holder_of, inl, inr, is_in_state, is_loop_end, is_sound, is_start_of, is_whole, IsChecked, IsRank, IsTimed, IsTimedOn, item_at, Kept, List}
+use Rattle.case_core.proofs.Common.{LiveModel, Mark, mark_or, mark_spot, marking_of, marking_of-spots, marks_in, marks_of, node_of-spot_in, None, Option, option_map, Outcome, put_row, refl, Remarks, repeats, RepeatsRight, replay_of}
+use Rattle.case_core.proofs.Common.{replay_of_case, Runs, RunsLoop, SchemaModel, shown_after, shown_spots, Some, sound-regular, spot, spot-among, spot-kept, spot-unmarked, spot_in, Spots, start-found, started-kept, started_in, StartRemarks}
+use Rattle.case_core.proofs.{Common.{StartsRight, subst, sym, TrailModel, true, user_at, user_of, whole, with_trail, withdrawn, WithdrawsRight, Written}, Keeping.{ended-running, loop-partner, state-is, table-of}}
 use Rattle.wsm_schema.specs.declared.states.State.TheVariants.{NotActivated, Running}
-use Rattle.wsm_marks.proofs.SoundSchemas.{sound-regular}
-use Rattle.wsm_replay.proofs.OneEntryMore.{marking_of-spots}
 use Rattle.wsm_replay.proofs.Replays.{marking_of-same}
-use Rattle.wsm_schema.specs.SchemaModel.{SchemaModel}
-use Rattle.wsm_schema.specs.Trail.{TrailModel}
-use Rattle.wsm_settle.specs.Events.{EndsRight, RepeatsRight, StartsRight, WithdrawsRight}
-use Rattle.wsm_settle.specs.Timing.{IsTimed}
 use Rattle.wsm_settle.specs.declared.timing.TimedMarks.{TimedMarks}
 use Rattle.wsm_settle.specs.declared.timing.TimedMarks.TheVariants as timed
-use Rattle.wsm_sound.proofs.NoFaults.{is_sound}
-use Rattle.wsm_sound.specs.Flattened.{IsChecked}
-use Rattle.wsm_steps.proofs.Markings.{spot-among}
-use Rattle.wsm_steps.specs.Whole.{is_whole}
-use Rattle.wsm_trail.specs.Withdrawn.{withdrawn}
-use Rattle.wsm_walk.specs.Current.{Current}
-use Rattle.wsm_walk.specs.Kept.{mark_or}
-use Rattle.wsm_walk.specs.MarkStates.{mark_spot}
-use Rattle.wsm_walk.proofs.KeptStates.{spot-kept, spot-unmarked, start-found, started-kept}
 
 -- a marking of cards' nodes has no spot of another node
 others-marked : (n : ℕ) (t : Spots) (cs : List Card) (m : Spots) → card_at n cs ≡ None → AllRows (λ s. eqb s.node n ≡ false) m → AllRows (λ s. eqb s.node n ≡ false) (fold (λ m c. put_row by_node (spot_in c.node t) m) m cs)

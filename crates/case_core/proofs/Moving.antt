@@ -1,37 +1,10 @@
 -- What another schema makes of a case's marks and of its work items.
-use Rattle.std.proofs.Common.{◌≡◌, ℕ, false, List, refl, ap, sym, ◌∙◌, subst, inl, inr, Option, Some, None, Result, Ok, Err}
-use Rattle.std.specs.Prelude.{IfOk, is_some, option_map}
-use Rattle.std.proofs.lemmas.Bool.{both_ways, cases_Bool}
-use Rattle.case_core.specs.CaseModel.{LiveModel}
-use Rattle.case_core.specs.Kept.{Kept, marks_in}
-use Rattle.case_core.specs.KeptItems.{ChangesItems, KeepsItems, TellsItems, item_by, item_for}
-use Rattle.case_core.specs.Remarks.{IsAdaptedTo, Moves, user_at}
-use Rattle.case_core.proofs.Marked.{table}
-use Rattle.wsm_adapt.specs.Adapted.{AdaptsRight, IsAdapted, TellsTouched}
-use Rattle.wsm_adapt.specs.Adapting.{Changes}
-use Rattle.wsm_adapt.specs.Border.{is_known}
-use Rattle.wsm_adapt.specs.Region.{IsNet}
-use Rattle.wsm_adapt.specs.declared.adapting.Adapted.{Adapted}
+use Rattle.case_core.proofs.Common.{ℕ, ◌∙◌, ◌≡◌, AdaptsRight, ap, Ascends, ascends-listed, both_ways, card_at, cards_of, cases_Bool, ChangesItems, Entry, Err, false, first, flat_of, FlatModel, inl, inr, is_one_of, is_sound, is_whole}
+use Rattle.case_core.proofs.Common.{IsAdapted, IsAdaptedTo, IsChecked, IsRank, Item, item_after, item_at, item_at-changed, item_by, item_for, KeepsItems, Kept, List, LiveModel, Mark, mark_of, mark_or, marks_in, marks_of, Moves, None, Ok}
+use Rattle.case_core.proofs.{Common.{Option, option_map, refl, Result, rises-after, SchemaModel, Some, sound-regular, subst, sym, TellsItems, TellsTouched, user_at}, Marked.table}
+use Rattle.std.specs.Prelude.{IfOk, is_some}
+use Rattle.wsm_adapt.specs.{Adapting.Changes, Border.is_known, Region.IsNet, declared.adapting.Adapted.Adapted}
 use Rattle.wsm_adapt.specs.declared.adapting.Adapted.TheVariants as adapted
-use Rattle.wsm_items.specs.declared.work_items.Item.{Item}
-use Rattle.wsm_lists.specs.ByNumber.{item_after, item_at}
-use Rattle.wsm_lists.specs.Keys.{first}
-use Rattle.wsm_lists.specs.Rows.{Ascends}
-use Rattle.wsm_lists.proofs.ByNumber.{item_at-changed}
-use Rattle.wsm_marks.proofs.SoundSchemas.{sound-regular}
-use Rattle.wsm_schema.specs.Flat.{FlatModel, card_at, cards_of, flat_of}
-use Rattle.wsm_schema.specs.Marks.{mark_of, marks_of}
-use Rattle.wsm_schema.specs.Rank.{IsRank}
-use Rattle.wsm_schema.specs.SchemaModel.{SchemaModel}
-use Rattle.wsm_schema.specs.Trail.{is_one_of}
-use Rattle.wsm_schema.specs.declared.entries.Entry.{Entry}
-use Rattle.wsm_schema.specs.declared.marks.Mark.{Mark}
-use Rattle.wsm_sound.proofs.NoFaults.{is_sound}
-use Rattle.wsm_sound.specs.Flattened.{IsChecked}
-use Rattle.wsm_steps.proofs.Positions.{rises-after}
-use Rattle.wsm_steps.specs.Whole.{is_whole}
-use Rattle.wsm_walk.proofs.Listed.{ascends-listed}
-use Rattle.wsm_walk.specs.Kept.{mark_or}
 use Rattle.wsm_walk.specs.Untouched.{Untouched}
 
 -- a sound schema is a net with its rank

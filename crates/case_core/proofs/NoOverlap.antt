@@ -1,8 +1,5 @@
 -- A case without own operations has none in common with a version.
-use Rattle.std.proofs.Common.{◌≡◌, List, [], ◌∷◌, filter, refl, None, ap}
-use Rattle.wsm_ops.specs.declared.operations.Op.{Op}
-use Rattle.wsm_foot.specs.Foot.{all_changes, is_among, least, least_overlap}
-use Rattle.wsm_foot.specs.declared.names.Name.{Name}
+use Rattle.case_core.proofs.Common.{[], ◌∷◌, ◌≡◌, all_changes, ap, filter, is_among, least, least_overlap, List, Name, None, Op, refl}
 
 none-among : (names : List Name) → filter (is_among []) names ≡ []
 none-among [] = refl

@@ -1,38 +1,10 @@
 -- No entry of a loop's nodes stands below the position at which the first of them was started or repeated.
-use Rattle.std.proofs.Common.{◌≡◌, ℕ, ◌≤◌, Bool, true, false, eqb, List, [], ◌∷◌, refl, ap, sym, ◌∙◌, subst, inl, inr, arith, Option, Some, None}
-use Rattle.std.specs.Prelude.{find, nat_lt}
-use Rattle.std.proofs.lemmas.Bool.{cases_Bool, both_ways, eq-eqb, eqb-true, ltb-false, ltb-true, or_cases}
-use Rattle.std.proofs.lemmas.Option.{same_Some}
-use Rattle.case_core.specs.CaseModel.{LiveModel, replay_of_case}
-use Rattle.case_core.specs.Kept.{Kept, marks_in}
-use Rattle.case_core.specs.Rounds.{first_seen, lesser, seen_before}
-use Rattle.case_core.proofs.Keeping.{table-of}
-use Rattle.case_core.proofs.Marked.{current}
-use Rattle.case_core.proofs.TrailFacts.{once-each}
-use Rattle.wsm_lists.proofs.Lists.{all-rows-map, both_rows}
-use Rattle.wsm_lists.specs.ByNumber.{item_at}
-use Rattle.wsm_lists.specs.Rows.{AllRows}
-use Rattle.wsm_marks.proofs.WholeTrails.{whole-orderly}
-use Rattle.wsm_marks.specs.Fits.{InOrder, Orderly}
-use Rattle.wsm_marks.specs.Timed.{early}
-use Rattle.wsm_schema.specs.Flat.{card_at, cards_of, flat_of}
-use Rattle.wsm_schema.specs.Marks.{facts_of, is_again_of, position_of}
-use Rattle.wsm_schema.specs.Replay.{whole}
-use Rattle.wsm_schema.specs.Rules.{Spots}
-use Rattle.wsm_schema.specs.Trail.{cut_entry, is_one_of}
-use Rattle.wsm_schema.specs.declared.cards.Card.{Card}
-use Rattle.wsm_schema.specs.declared.entries.Entry.{Entry}
+use Rattle.case_core.proofs.Common.{[], ℕ, ◌∙◌, ◌∷◌, ◌≡◌, ◌≤◌, all-rows-map, AllRows, ap, arith, AtMostOne, Bool, both_rows, both_ways, Card, card_at, cards_of, cases_Bool, Current, cut_entry, early, Entry, eq-eqb, eqb, eqb-true, facts_of}
+use Rattle.case_core.proofs.Common.{false, find, first_seen, flat_of, inl, InOrder, inr, is_again_of, is_one_of, item_at, Kept, kept-item, kept-mark, lesser, List, listed, LiveModel, ltb-false, ltb-true, Mark, mark_now, mark_or, marks_in}
+use Rattle.case_core.proofs.Common.{nat_lt, None, Option, or_cases, Orderly, position_of, refl, replay_of_case, rises-after, same_Some, seen_before, Some, Spots, started-kept, StaysBelow, subst, sym, true, whole, whole-orderly}
+use Rattle.case_core.proofs.{Keeping.table-of, Marked.current, TrailFacts.once-each}
 use Rattle.wsm_schema.specs.declared.entries.Entry.TheVariants as entry
-use Rattle.wsm_schema.specs.declared.marks.Mark.{Mark}
-use Rattle.wsm_steps.proofs.Positions.{rises-after}
-use Rattle.wsm_trail.specs.Cuts.{StaysBelow}
-use Rattle.wsm_walk.proofs.KeptStates.{started-kept}
-use Rattle.wsm_walk.proofs.OneMore.{kept-item, kept-mark}
 use Rattle.wsm_walk.proofs.Told.{untold}
-use Rattle.wsm_walk.specs.Current.{Current, mark_now}
-use Rattle.wsm_walk.specs.FirstBad.{AtMostOne}
-use Rattle.wsm_walk.specs.Kept.{mark_or}
-use Rattle.wsm_walk.specs.Listed.{listed}
 
 -- ---- the least
 lesser-right : (o : Option ℕ) (q : ℕ) → lesser o q ≤ q

@@ -1,26 +1,10 @@
 -- A start that is accepted reads a value for each element that it must.
-use Rattle.std.proofs.Common.{◌≡◌, ℕ, Bool, true, false, List, [], ◌∷◌, map, refl, ap, sym, ◌∙◌, subst, inl, inr, Option, Some, None, is_some, eqb}
-use Rattle.std.specs.List.{list_any}
-use Rattle.std.specs.Option.{option_or}
-use Rattle.std.specs.Prelude.{◌==◌}
-use Rattle.std.proofs.lemmas.Bool.{cases_Bool, both_ways, eqb-true, eq-eqb, or_left, or_right}
-use Rattle.std.proofs.lemmas.Option.{same_Some}
-use Rattle.case_core.specs.CaseModel.{CaseModel, LiveModel, value_now}
-use Rattle.case_core.specs.Kept.{Kept, KeptIn}
-use Rattle.case_core.specs.Machine.{next_case, or_reply, reads_now, start_entry, start_on, start_refusal, when_reply, with_trail}
-use Rattle.case_core.specs.Promises.{value_read, ReadsAll, StartsFilled}
-use Rattle.case_core.specs.declared.events.Event.{Event}
+use Rattle.case_core.proofs.Common.{[], ℕ, ◌==◌, ◌∙◌, ◌∷◌, ◌≡◌, all-rows-map, AllRows, ap, Bool, both_rows, both_ways, Card, card_at, cards_of, CaseModel, cases_Bool, eq-eqb, eqb, eqb-true, Event, false, inl, inr, is_some, Kept, KeptIn}
+use Rattle.case_core.proofs.Common.{List, list_any, LiveModel, map, next_case, None, Option, option_or, or_left, or_reply, or_right, pushed, reads_now, ReadsAll, refl, Reply, same_Some, Some, start_entry, start_on, start_refusal}
+use Rattle.case_core.proofs.{Common.{StartsFilled, State, subst, sym, true, value_now, value_read, when_reply, with_trail}, Keeping.read-there_now}
 use Rattle.case_core.specs.declared.events.Event.TheVariants as event
-use Rattle.case_core.specs.declared.replies.Reply.{Reply}
 use Rattle.case_core.specs.declared.replies.Reply.TheVariants as reply
-use Rattle.case_core.proofs.Keeping.{read-there_now}
-use Rattle.wsm_lists.specs.Rows.{AllRows}
-use Rattle.wsm_lists.proofs.Lists.{all-rows-map, both_rows}
 use Rattle.wsm_lists.specs.declared.values.Value.{Value}
-use Rattle.wsm_schema.specs.Flat.{cards_of, card_at}
-use Rattle.wsm_schema.specs.Trail.{pushed}
-use Rattle.wsm_schema.specs.declared.cards.Card.{Card}
-use Rattle.wsm_schema.specs.declared.states.State.{State}
 
 -- the value that is recorded for an element that is read
 recorded : (v : ℕ → Option Value) (d : ℕ) (rs : List (ℕ × Bool)) → list_any (λ q. q.0 == d) rs ≡ true → value_read d (map (λ r. (r.0, v r.0)) rs) ≡ v d

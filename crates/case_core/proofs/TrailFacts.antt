@@ -1,53 +1,17 @@
 -- What the trail of a case has: each node's entries once, the Start of who holds it, and the entry that a reply names.
-use Rattle.std.proofs.Common.{◌≡◌, ℕ, Bool, true, false, not, List, [], ◌∷◌, refl, ap, sym, ◌∙◌, subst, Option, Some, None, Result, Ok, Err, is_some}
-use Rattle.std.specs.Prelude.{find, nat_lt, ◌==◌}
-use Rattle.std.specs.List.{list_any}
-use Rattle.std.specs.Option.{option_or}
-use Rattle.std.proofs.lemmas.Bool.{both_ways, and_parts, eqb-true, or_parts}
-use Rattle.std.proofs.lemmas.Option.{same_Some}
-use Rattle.case_core.specs.CaseModel.{CaseModel, LiveModel, is_finished, replay_of_case, state_of}
-use Rattle.case_core.specs.Kept.{IsOnceEach, Kept}
-use Rattle.case_core.specs.Machine.{change_live, change_with, changed, end_on, end_refusal, ended_reply, entry_or, failed_at, hold_refusal, holder_of, migrate_live, migrate_refusal, migrate_with, migrated, misfit, next_case, or_reply, overlap_reply, overlap_with, repeats, start_on, start_refusal, taken, user_of, when_reply, withdraw_on, wrong_reply}
-use Rattle.case_core.specs.Promises.{AreLastWrites, HasStart, NamesEntry, NamesEntryIn, StartedWhereRunning}
-use Rattle.case_core.specs.Shown.{shown_live, shown_state_of}
-use Rattle.case_core.specs.declared.events.Event.{Event}
+use Rattle.case_core.proofs.Common.{[], ℕ, ◌==◌, ◌∙◌, ◌∷◌, ◌≡◌, again_once, agains_once, all_rows, all_values-ascend, and_parts, ap, AreLastWrites, AtMostOne, Bool, both_ways, Card, card_at, cards_of, CaseModel, change_live, change_with}
+use Rattle.case_core.proofs.Common.{changed_by, early, end_on, end_refusal, ended_reply, Entry, entry_at, entry_or, eqb-true, Err, Event, failed_at, fails, false, Fault, find, flat_of, found-row, has_again, HasStart, hold_refusal}
+use Rattle.case_core.proofs.Common.{holder_of, is_again_of, is_finished, is_in_state, is_some, is_start_of, IsOnceEach, Kept, last-below, List, list_any, LiveModel, migrate_live, migrate_refusal, migrate_with, migrated, misfit, Name}
+use Rattle.case_core.proofs.Common.{NamesEntry, NamesEntryIn, nat_lt, next_case, None, not, Ok, Op, Option, option_or, or_parts, or_reply, Outcome, overlap_reply, overlap_with, position-found, position_of, refl, repeats, replay_of}
+use Rattle.case_core.proofs.Common.{replay_of_case, Reply, Result, rises-after, RisesAfter, running-begun, same_Some, SchemaModel, settle, shown_live, shown_state_of, Some, Spot, Spots, start_on, start_refusal, StartedWhereRunning}
+use Rattle.case_core.proofs.{Common.{state_of, subst, sym, taken, true, user_of, value_below, value_in-all_values, VersionModel, when_reply, whole, whole-orderly, withdraw_on, Written, wrong_elements, wrong_reply}, Keeping.state-is}
+use Rattle.case_core.proofs.{Keeping.table-of, Marked.spot-none}
+use Rattle.case_core.specs.Machine.{changed}
 use Rattle.case_core.specs.declared.events.Event.TheVariants as event
-use Rattle.case_core.specs.declared.replies.Reply.{Reply}
 use Rattle.case_core.specs.declared.replies.Reply.TheVariants as reply
-use Rattle.case_core.proofs.Keeping.{state-is, table-of}
-use Rattle.case_core.proofs.Marked.{spot-none}
-use Rattle.case_writes.specs.Writes.{wrong_elements}
-use Rattle.wsm_foot.specs.declared.names.Name.{Name}
-use Rattle.wsm_lists.proofs.Lists.{all_rows}
-use Rattle.wsm_lists.specs.Values.{Written}
-use Rattle.wsm_marks.proofs.ReadyValues.{running-begun}
-use Rattle.wsm_marks.proofs.SaneTrails.{found-row, position-found}
-use Rattle.wsm_marks.proofs.WholeTrails.{whole-orderly}
-use Rattle.wsm_marks.specs.Fits.{RisesAfter}
-use Rattle.wsm_marks.specs.Timed.{early}
-use Rattle.wsm_ops.specs.declared.operations.Op.{Op}
-use Rattle.wsm_schema.specs.Flat.{card_at, cards_of, flat_of}
-use Rattle.wsm_schema.specs.Marks.{is_again_of, is_start_of, position_of}
-use Rattle.wsm_schema.specs.Replay.{Outcome, fails, is_in_state, replay_of, whole}
-use Rattle.wsm_schema.specs.Rules.{Spots, settle}
-use Rattle.wsm_schema.specs.SchemaModel.{SchemaModel}
-use Rattle.wsm_schema.specs.Trail.{value_below}
-use Rattle.wsm_schema.specs.declared.cards.Card.{Card}
-use Rattle.wsm_schema.specs.declared.entries.Entry.{Entry}
 use Rattle.wsm_schema.specs.declared.entries.Entry.TheVariants as entry
-use Rattle.wsm_schema.specs.declared.states.Spot.{Spot}
 use Rattle.wsm_schema.specs.declared.states.State.TheVariants as state
-use Rattle.wsm_sound.specs.Faults.{changed_by}
-use Rattle.wsm_sound.specs.VersionModel.{VersionModel}
-use Rattle.wsm_sound.specs.declared.faults.Fault.{Fault}
-use Rattle.wsm_steps.proofs.Positions.{last-below, rises-after}
-use Rattle.wsm_steps.specs.Whole.{again_once, agains_once, has_again}
-use Rattle.wsm_trail.proofs.LastWrite.{all_values-ascend, value_in-all_values}
-use Rattle.wsm_trail.specs.EntryAt.{entry_at}
-use Rattle.wsm_walk.proofs.Blocked.{fails-entry}
-use Rattle.wsm_walk.proofs.FoundAt.{found-entry}
-use Rattle.wsm_walk.proofs.Once.{ends-once, starts-once}
-use Rattle.wsm_walk.specs.FirstBad.{AtMostOne}
+use Rattle.wsm_walk.proofs.{Blocked.fails-entry, FoundAt.found-entry, Once.{ends-once, starts-once}}
 
 -- ---- each node's entries
 none-found : {X : Type 0} (test : X → Bool) (xs : List X) → list_any test xs ≡ false → find test xs ≡ None

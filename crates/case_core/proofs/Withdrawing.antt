@@ -1,16 +1,7 @@
 -- A trail from which the Start of a node is taken.
-use Rattle.std.proofs.Common.{◌≡◌, ℕ, ◌≤◌, true, false, ◌||◌, not, List, [], ◌∷◌, length, refl, ap, sym, ◌∙◌, inl, inr, arith, Option, Some, None}
-use Rattle.std.proofs.lemmas.Bool.{cases_Bool, both_ways, ltb-true, eqb-true}
-use Rattle.std.proofs.lemmas.Option.{same_Some}
-use Rattle.wsm_lists.specs.Rows.{AllRows}
-use Rattle.wsm_lists.proofs.Lists.{all-rows-map}
-use Rattle.wsm_schema.specs.Marks.{facts_of, is_again_of, is_start_of, position_of}
-use Rattle.wsm_schema.specs.declared.entries.Entry.{Entry}
+use Rattle.case_core.proofs.Common.{[], ℕ, ◌||◌, ◌∙◌, ◌∷◌, ◌≡◌, ◌≤◌, again_once, agains_once, all-rows-map, AllRows, ap, arith, both_ways, cases_Bool, early, Entry, eqb-true, facts_of, false, has_again, inl, InOrder, inr, is_again_of}
+use Rattle.case_core.proofs.Common.{is_start_of, length, List, ltb-true, None, not, Option, Orderly, position_of, refl, RisesAfter, same_Some, Some, starts_of, sym, true, without_start}
 use Rattle.wsm_schema.specs.declared.entries.Entry.TheVariants as entry
-use Rattle.wsm_marks.specs.Fits.{InOrder, Orderly, RisesAfter}
-use Rattle.wsm_marks.specs.Timed.{early}
-use Rattle.wsm_steps.specs.Whole.{again_once, agains_once, has_again}
-use Rattle.wsm_trail.specs.Withdrawn.{starts_of, without_start}
 
 module _ (n : ℕ) where
   -- ---- no loop is repeated twice

@@ -1,7 +1,6 @@
 -- How old a case is: by its trail's positions, and by three for each of its own operations.
 use Rattle.std.specs.Prelude.{ℕ, ◌+◌, ◌-◌, ◌*◌, length, Option, Some, None}
-use Rattle.case_core.specs.CaseModel.{CaseModel, LiveModel}
-use Rattle.case_core.specs.declared.events.Event.{Event}
+use Rattle.case_core.specs.{CaseModel.{CaseModel, LiveModel}, declared.events.Event.Event}
 use Rattle.case_core.specs.declared.events.Event.TheVariants as event
 
 abbrev pub live_age : Option LiveModel → ℕ

@@ -1,12 +1,6 @@
 -- A case as contracts see it.
 use Rattle.std.specs.Prelude.{ℕ, Bool, List, [], Option, None, is_some, if◌then◌else◌}
-use Rattle.wsm_schema.specs.SchemaModel.{SchemaModel}
-use Rattle.wsm_schema.specs.Flat.{flat_of, cards_of}
-use Rattle.wsm_schema.specs.Replay.{Outcome, whole, fails, replay_of}
-use Rattle.wsm_schema.specs.Rules.{Spots, spot_in, marking_of}
-use Rattle.wsm_schema.specs.declared.cards.Card.{Card}
-use Rattle.wsm_schema.specs.Trail.{TrailModel, no_trail, value_below}
-use Rattle.wsm_schema.specs.Replay.{is_in_state}
+use Rattle.wsm_schema.specs.{SchemaModel.SchemaModel, Flat.{flat_of, cards_of}, Replay.{Outcome, whole, fails, replay_of, is_in_state}, Rules.{Spots, spot_in, marking_of}, declared.cards.Card.Card, Trail.{TrailModel, no_trail, value_below}}
 use Rattle.wsm_schema.specs.declared.states.State.{State}
 use Rattle.wsm_schema.specs.declared.states.State.TheVariants.{Completed}
 use Rattle.wsm_lists.specs.declared.values.Value.{Value}

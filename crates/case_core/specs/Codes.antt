@@ -1,16 +1,12 @@
 -- The codes by which a proof tells trails and cases apart.
-use Rattle.std.specs.Prelude.{◌≡◌, ℕ, zero, suc, ℤ, pos, Bool, true, false, List, [], Option, None, refl}
-use Rattle.std.specs.Coded.{Coded, code_by, coded×, coded_ℕ, coded_ℤ, coded_bool, coded_list, coded_option}
+use Rattle.std.specs.{Prelude.{◌≡◌, ℕ, zero, suc, ℤ, pos, Bool, true, false, List, [], Option, None, refl}, Coded.{Coded, code_by, coded×, coded_ℕ, coded_ℤ, coded_bool, coded_list, coded_option}}
 use Rattle.case_core.specs.CaseModel.{CaseModel, LiveModel}
 use Rattle.wsm_lists.specs.declared.values.Value.{Value}
 use Rattle.wsm_lists.specs.declared.values.Value.TheVariants as value
-use Rattle.wsm_schema.specs.SchemaModel.{SchemaModel, schema_code}
-use Rattle.wsm_schema.specs.Trail.{TrailModel}
-use Rattle.wsm_schema.specs.declared.entries.Entry.{Entry}
+use Rattle.wsm_schema.specs.{SchemaModel.{SchemaModel, schema_code}, Trail.TrailModel, declared.entries.Entry.Entry}
 use Rattle.wsm_schema.specs.declared.entries.Entry.TheVariants as entry
 use Rattle.wsm_ops.specs.declared.operations.Op.{Op}
-use Rattle.wsm_sound.specs.OpCodes.{op_code}
-use Rattle.wsm_sound.specs.VersionModel.{VersionModel, version_code}
+use Rattle.wsm_sound.specs.{OpCodes.op_code, VersionModel.{VersionModel, version_code}}
 
 -- a value as a mark of its kind, a number and bytes
 abbrev value_parts : Value → Bool × (ℤ × List ℕ)

@@ -1,18 +1,9 @@
 -- A case as it is kept: its trail, what it is besides where it was created, and how many entries of the trail were read.
-use Rattle.std.specs.Prelude.{◌≡◌, ℕ, ◌+◌, length, Option, Some, None, Result, Ok, Err, option_map, refl}
-use Rattle.std.specs.Coded.{Coded, code_by, coded×, coded_ℕ}
-use Rattle.case_core.specs.CaseModel.{CaseModel, LiveModel}
-use Rattle.case_core.specs.Codes.{case_code}
-use Rattle.case_core.specs.Kept.{Kept, marks_in}
-use Rattle.case_core.specs.KeptItems.{TellsItems}
-use Rattle.case_core.specs.declared.events.Event.{Event}
+use Rattle.std.specs.{Prelude.{◌≡◌, ℕ, ◌+◌, length, Option, Some, None, Result, Ok, Err, option_map, refl}, Coded.{Coded, code_by, coded×, coded_ℕ}}
+use Rattle.case_core.specs.{CaseModel.{CaseModel, LiveModel}, Codes.case_code, Kept.{Kept, marks_in}, KeptItems.TellsItems, declared.events.Event.Event, declared.live.Live.Live}
 use Rattle.case_core.specs.declared.events.Event.TheVariants as event
-use Rattle.case_core.specs.declared.live.Live.{Live}
-use Rattle.wsm_schema.specs.Flat.{cards_of, flat_of}
-use Rattle.wsm_schema.specs.SchemaModel.{SchemaModel}
-use Rattle.wsm_schema.specs.Trail.{TrailModel, no_trail}
-use Rattle.wsm_sound.specs.Faults.{changed_by}
-use Rattle.wsm_sound.specs.declared.faults.Fault.{Fault}
+use Rattle.wsm_schema.specs.{Flat.{cards_of, flat_of}, SchemaModel.SchemaModel, Trail.{TrailModel, no_trail}}
+use Rattle.wsm_sound.specs.{Faults.changed_by, declared.faults.Fault.Fault}
 use Rattle.wsm_touch.specs.TouchedNodes.{touched_nodes}
 
 -- a created case, by its trail and by what it is besides

@@ -1,13 +1,6 @@
 -- What holds of the case machine alone, behind any events.
-use Rattle.std.specs.Prelude.{◌≡◌, ℕ, ◌+◌, ◌≤◌, true, List, [], ◌∷◌}
-use Rattle.std.specs.List.{fold}
-use Rattle.case_core.specs.Ages.{weight}
-use Rattle.case_core.specs.CaseModel.{CaseModel, not_created}
-use Rattle.case_core.specs.Kept.{KeptIn}
-use Rattle.case_core.specs.Machine.{case_after}
-use Rattle.case_core.specs.Promises.{IsFairView, ShowsLastWrites, goes_on}
-use Rattle.case_core.specs.Shown.{shown}
-use Rattle.case_core.specs.declared.events.Event.{Event}
+use Rattle.std.specs.{Prelude.{◌≡◌, ℕ, ◌+◌, ◌≤◌, true, List, [], ◌∷◌}, List.fold}
+use Rattle.case_core.specs.{Ages.weight, CaseModel.{CaseModel, not_created}, Kept.KeptIn, Machine.case_after, Promises.{IsFairView, ShowsLastWrites, goes_on}, Shown.shown, declared.events.Event.Event}
 use Rattle.case_core.specs.declared.events.Event.TheVariants as event
 use Rattle.wsm_lists.specs.Rows.{AllRows}
 use Rattle.wsm_sound.specs.Flattened.{IsChecked}

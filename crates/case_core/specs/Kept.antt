@@ -2,10 +2,7 @@
 use Rattle.std.specs.Prelude.{◌≡◌, ◌<◌, ◌^◌, ℕ, true, List, length, Option, Some, None, Ok}
 use Rattle.case_core.specs.CaseModel.{LiveModel, replay_of_case}
 use Rattle.wsm_ops.specs.Apply.{applied}
-use Rattle.wsm_schema.specs.Flat.{flat_of}
-use Rattle.wsm_schema.specs.Marks.{is_again_of, is_end_of, is_start_of, marks_of}
-use Rattle.wsm_schema.specs.declared.entries.Entry.{Entry}
-use Rattle.wsm_schema.specs.declared.marks.Mark.{Mark}
+use Rattle.wsm_schema.specs.{Flat.flat_of, Marks.{is_again_of, is_end_of, is_start_of, marks_of}, declared.entries.Entry.Entry, declared.marks.Mark.Mark}
 use Rattle.wsm_sound.specs.Flattened.{IsChecked}
 use Rattle.wsm_steps.specs.Whole.{is_whole, agains_once}
 use Rattle.wsm_trail.specs.TrailWithRoom.{Rises}

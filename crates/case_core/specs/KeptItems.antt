@@ -1,25 +1,12 @@
 -- The work items of a case, told by its marks and its trail, and what an event makes of them.
 use Rattle.std.specs.Prelude.{◌≡◌, ℕ, List, Option, Some, None, option_map, ◌==◌, if◌then◌else◌}
-use Rattle.case_core.specs.CaseModel.{LiveModel}
-use Rattle.case_core.specs.Kept.{marks_in}
-use Rattle.case_core.specs.Machine.{user_of}
-use Rattle.case_core.specs.Remarks.{user_at}
-use Rattle.wsm_items.specs.WorkItems.{item_node}
-use Rattle.wsm_items.specs.declared.work_items.Item.{Item}
+use Rattle.case_core.specs.{CaseModel.LiveModel, Kept.marks_in, Machine.user_of, Remarks.user_at}
+use Rattle.wsm_items.specs.{WorkItems.item_node, declared.work_items.Item.Item}
 use Rattle.wsm_items.specs.declared.work_items.Item.TheVariants as item
-use Rattle.wsm_lists.specs.ByNumber.{item_after, item_at}
-use Rattle.wsm_lists.specs.Keys.{first}
-use Rattle.wsm_lists.specs.Rows.{put_row}
-use Rattle.wsm_schema.specs.Flat.{card_at, cards_of}
-use Rattle.wsm_schema.specs.Kinds.{worked_on}
-use Rattle.wsm_schema.specs.Trail.{TrailModel, pushed}
-use Rattle.wsm_schema.specs.declared.cards.Card.{Card}
-use Rattle.wsm_schema.specs.declared.entries.Entry.{Entry}
-use Rattle.wsm_schema.specs.declared.marks.Mark.{Mark}
-use Rattle.wsm_schema.specs.declared.states.State.{State}
+use Rattle.wsm_lists.specs.{ByNumber.{item_after, item_at}, Keys.first, Rows.put_row}
+use Rattle.wsm_schema.specs.{Flat.{card_at, cards_of}, Kinds.worked_on, Trail.{TrailModel, pushed}, declared.cards.Card.Card, declared.entries.Entry.Entry, declared.marks.Mark.Mark, declared.states.State.State}
 use Rattle.wsm_schema.specs.declared.states.State.TheVariants as state
-use Rattle.wsm_walk.specs.Kept.{mark_or}
-use Rattle.wsm_walk.specs.MarkStates.{mark_spot}
+use Rattle.wsm_walk.specs.{Kept.mark_or, MarkStates.mark_spot}
 
 -- the work item of a node with that role in that state, where the user started it
 abbrev pub work_item : ℕ → ℕ → State → ℕ → Option Item

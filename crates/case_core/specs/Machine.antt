@@ -1,34 +1,18 @@
 -- The case machine: what each event does to a case, and what the case answers.
-use Rattle.std.specs.Prelude.{ℕ, Bool, true, false, ◌&&◌, ◌||◌, not, ◌==◌, nat_lt, List, [], ◌∷◌, ◌++◌, map, find, Result, Ok, Err, Option, Some, None, option_map, if◌then◌else◌}
-use Rattle.std.specs.Option.{option_or}
-use Rattle.case_core.specs.CaseModel.{CaseModel, LiveModel, created_on, state_of, value_now, replay_of_case, on_schema, is_finished}
+use Rattle.std.specs.{Prelude.{ℕ, Bool, true, false, ◌&&◌, ◌||◌, not, ◌==◌, nat_lt, List, [], ◌∷◌, ◌++◌, map, find, Result, Ok, Err, Option, Some, None, option_map, if◌then◌else◌}, Option.option_or}
+use Rattle.case_core.specs.{CaseModel.{CaseModel, LiveModel, created_on, state_of, value_now, replay_of_case, on_schema, is_finished}, declared.events.Event.Event, declared.replies.Reply.Reply}
 use Rattle.case_writes.specs.Writes.{wrong_elements, by_element}
-use Rattle.case_core.specs.declared.events.Event.{Event}
 use Rattle.case_core.specs.declared.events.Event.TheVariants as event
-use Rattle.case_core.specs.declared.replies.Reply.{Reply}
 use Rattle.case_core.specs.declared.replies.Reply.TheVariants as reply
-use Rattle.wsm_lists.specs.Values.{Written}
-use Rattle.wsm_lists.specs.declared.values.Value.{Value}
-use Rattle.wsm_schema.specs.Flat.{flat_of, card_at, loop_nodes}
-use Rattle.wsm_schema.specs.Kinds.{is_loop_end}
-use Rattle.wsm_schema.specs.Marks.{is_start_of}
-use Rattle.wsm_schema.specs.Replay.{is_in_state, fits_choice}
-use Rattle.wsm_schema.specs.Trail.{TrailModel, pushed, cut_by, is_one_of}
-use Rattle.wsm_schema.specs.declared.cards.Card.{Card}
-use Rattle.wsm_schema.specs.declared.entries.Entry.{Entry}
+use Rattle.wsm_lists.specs.{Values.Written, declared.values.Value.Value}
+use Rattle.wsm_schema.specs.{Flat.{flat_of, card_at, loop_nodes}, Kinds.is_loop_end, Marks.is_start_of, Replay.{is_in_state, fits_choice, Outcome, whole, fails}, Trail.{TrailModel, pushed, cut_by, is_one_of}, declared.cards.Card.Card}
+use Rattle.wsm_schema.specs.{declared.entries.Entry.Entry, SchemaModel.SchemaModel}
 use Rattle.wsm_schema.specs.declared.entries.Entry.TheVariants as entry
 use Rattle.wsm_schema.specs.declared.states.State.TheVariants as state
-use Rattle.wsm_foot.specs.Foot.{least_overlap}
-use Rattle.wsm_foot.specs.declared.names.Name.{Name}
+use Rattle.wsm_foot.specs.{Foot.least_overlap, declared.names.Name.Name}
 use Rattle.wsm_ops.specs.declared.operations.Op.{Op}
-use Rattle.wsm_schema.specs.Replay.{Outcome, whole, fails}
-use Rattle.wsm_schema.specs.SchemaModel.{SchemaModel}
-use Rattle.wsm_sound.specs.Faults.{changed_by}
-use Rattle.wsm_sound.specs.VersionModel.{VersionModel}
-use Rattle.wsm_sound.specs.Versions.{ops_after}
-use Rattle.wsm_sound.specs.declared.faults.Fault.{Fault}
-use Rattle.wsm_trail.specs.Withdrawn.{withdrawn}
-use Rattle.wsm_trail.specs.EntryAt.{entry_at}
+use Rattle.wsm_sound.specs.{Faults.changed_by, VersionModel.VersionModel, Versions.ops_after, declared.faults.Fault.Fault}
+use Rattle.wsm_trail.specs.{Withdrawn.withdrawn, EntryAt.entry_at}
 
 abbrev pub when_reply : Bool → Reply → Option Reply
 when_reply test r = if test then Some r else None

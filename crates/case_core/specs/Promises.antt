@@ -1,24 +1,13 @@
 -- What a case promises of what it shows.
-use Rattle.std.specs.Prelude.{◌≡◌, ℕ, Bool, true, false, ◌||◌, ◌==◌, List, [], ◌∷◌, Option, Some, None, is_some, if◌then◌else◌}
-use Rattle.std.specs.List.{list_any}
-use Rattle.case_core.specs.CaseModel.{CaseModel, LiveModel, state_of, value_now}
-use Rattle.case_core.specs.declared.events.Event.{Event}
+use Rattle.std.specs.{Prelude.{◌≡◌, ℕ, Bool, true, false, ◌||◌, ◌==◌, List, [], ◌∷◌, Option, Some, None, is_some, if◌then◌else◌}, List.list_any}
+use Rattle.case_core.specs.{CaseModel.{CaseModel, LiveModel, state_of, value_now}, declared.events.Event.Event, declared.replies.Reply.Reply, declared.views.View.View}
 use Rattle.case_core.specs.declared.events.Event.TheVariants as event
 use Rattle.wsm_items.specs.declared.work_items.Item.{Item}
 use Rattle.wsm_items.specs.declared.work_items.Item.TheVariants as item
-use Rattle.case_core.specs.declared.replies.Reply.{Reply}
 use Rattle.case_core.specs.declared.replies.Reply.TheVariants as reply
-use Rattle.case_core.specs.declared.views.View.{View}
 use Rattle.case_core.specs.declared.views.View.TheVariants as view
-use Rattle.wsm_lists.specs.Keys.{first}
-use Rattle.wsm_lists.specs.Rows.{AllRows, Ascends}
-use Rattle.wsm_lists.specs.Values.{Written, value_in}
-use Rattle.wsm_lists.specs.declared.values.Value.{Value}
-use Rattle.wsm_schema.specs.Flat.{cards_of, card_at}
-use Rattle.wsm_schema.specs.SchemaModel.{SchemaModel}
-use Rattle.wsm_schema.specs.Sound.{writes_of}
-use Rattle.wsm_schema.specs.declared.cards.Card.{Card}
-use Rattle.wsm_schema.specs.Replay.{is_in_state}
+use Rattle.wsm_lists.specs.{Keys.first, Rows.{AllRows, Ascends}, Values.{Written, value_in}, declared.values.Value.Value}
+use Rattle.wsm_schema.specs.{Flat.{cards_of, card_at}, SchemaModel.SchemaModel, Sound.writes_of, declared.cards.Card.Card, Replay.is_in_state}
 use Rattle.wsm_schema.specs.declared.entries.Entry.TheVariants as entry
 use Rattle.wsm_schema.specs.declared.states.State.TheVariants.{Running}
 use Rattle.wsm_trail.specs.EntryAt.{entry_at}

@@ -1,34 +1,20 @@
 -- What an event changes of a case's marks.
 use Rattle.std.specs.Prelude.{◌≡◌, ℕ, ◌+◌, ◌≤◌, true, List, Option, Some, None, option_map}
-use Rattle.case_core.specs.CaseModel.{LiveModel, state_of}
-use Rattle.case_core.specs.Kept.{Kept, marks_in}
-use Rattle.case_core.specs.Machine.{repeated_trail, user_of, with_trail}
-use Rattle.wsm_adapt.specs.Adapted.{marks_to_read}
-use Rattle.wsm_adapt.specs.declared.adapting.Adapted.{Adapted}
+use Rattle.case_core.specs.{CaseModel.{LiveModel, state_of}, Kept.{Kept, marks_in}, Machine.{repeated_trail, user_of, with_trail}}
+use Rattle.wsm_adapt.specs.{Adapted.marks_to_read, declared.adapting.Adapted.Adapted}
 use Rattle.wsm_adapt.specs.declared.adapting.Adapted.TheVariants as adapted
-use Rattle.wsm_lists.specs.ByNumber.{changed, item_at}
-use Rattle.wsm_lists.specs.Values.{Written}
-use Rattle.wsm_lists.specs.declared.values.Value.{Value}
-use Rattle.wsm_schema.specs.Flat.{card_at, cards_of, flat_of}
-use Rattle.wsm_schema.specs.Kinds.{is_loop_end}
+use Rattle.wsm_lists.specs.{ByNumber.{changed, item_at}, Values.Written, declared.values.Value.Value}
+use Rattle.wsm_schema.specs.{Flat.{card_at, cards_of, flat_of}, Kinds.is_loop_end, Marks.marks_of, Rank.IsRank, Replay.{fails, is_in_state, replay_of}, SchemaModel.SchemaModel, Trail.{TrailModel, pushed}, declared.cards.Card.Card}
+use Rattle.wsm_schema.specs.{declared.entries.Entry.Entry, declared.marks.Mark.Mark}
 use Rattle.wsm_marks.specs.Schemas.{HasCard}
-use Rattle.wsm_schema.specs.Marks.{marks_of}
-use Rattle.wsm_schema.specs.Rank.{IsRank}
-use Rattle.wsm_schema.specs.Replay.{fails, is_in_state, replay_of}
-use Rattle.wsm_schema.specs.SchemaModel.{SchemaModel}
-use Rattle.wsm_schema.specs.Trail.{TrailModel, pushed}
-use Rattle.wsm_schema.specs.declared.cards.Card.{Card}
-use Rattle.wsm_schema.specs.declared.entries.Entry.{Entry}
 use Rattle.wsm_schema.specs.declared.entries.Entry.TheVariants as entry
-use Rattle.wsm_schema.specs.declared.marks.Mark.{Mark}
 use Rattle.wsm_schema.specs.declared.states.State.TheVariants.{Running}
 use Rattle.wsm_settle.specs.declared.timing.TimedMarks.{TimedMarks}
 use Rattle.wsm_settle.specs.declared.timing.TimedMarks.TheVariants as timed
 use Rattle.wsm_steps.specs.Whole.{is_whole}
 use Rattle.wsm_touch.specs.TouchedNodes.{touched_nodes}
 use Rattle.wsm_trail.specs.EntryAt.{entry_at}
-use Rattle.wsm_walk.specs.Kept.{mark_or}
-use Rattle.wsm_walk.specs.Spent.{reach_size}
+use Rattle.wsm_walk.specs.{Kept.mark_or, Spent.reach_size}
 
 -- changes that make the marks those of the case with another trail
 abbrev pub Remarks : LiveModel → TrailModel → List (ℕ × Option Mark) → Type 0

@@ -1,20 +1,13 @@
 -- What a case shows: its marking, its values and its work items.
 use Rattle.std.specs.Prelude.{ℕ, List, [], ◌∷◌, length, flat_map, Option, Some, None, if◌then◌else◌}
 pub use Rattle.case_core.specs.CaseModel.{shown_after, shown_spots, is_finished}
-use Rattle.case_core.specs.CaseModel.{CaseModel, LiveModel, state_of, shown_spots, is_finished}
-use Rattle.case_core.specs.Machine.{holder_of}
-use Rattle.case_core.specs.declared.views.View.{View}
+use Rattle.case_core.specs.{CaseModel.{CaseModel, LiveModel, state_of, shown_spots, is_finished}, Machine.holder_of, declared.views.View.View}
 use Rattle.case_core.specs.declared.views.View.TheVariants as view
 use Rattle.wsm_lists.specs.Values.{Written}
 use Rattle.wsm_trail.specs.LastWrites.{noted_entries, values_at}
 use Rattle.wsm_items.specs.declared.work_items.Item.{Item}
 use Rattle.wsm_items.specs.declared.work_items.Item.TheVariants as item
-use Rattle.wsm_schema.specs.Flat.{cards_of, card_at}
-use Rattle.wsm_schema.specs.Kinds.{worked_on}
-use Rattle.wsm_schema.specs.Rules.{spot_in}
-use Rattle.wsm_schema.specs.declared.states.Spot.{Spot}
-use Rattle.wsm_schema.specs.declared.cards.Card.{Card}
-use Rattle.wsm_schema.specs.declared.states.State.{State}
+use Rattle.wsm_schema.specs.{Flat.{cards_of, card_at}, Kinds.worked_on, Rules.spot_in, declared.states.Spot.Spot, declared.cards.Card.Card, declared.states.State.State}
 use Rattle.wsm_schema.specs.declared.states.State.TheVariants as state
 
 -- an activated node is offered with its role, and a running one is held by its user

@@ -1,13 +1,9 @@
 // What entries that come, and entries that go, change of a created case.
 ghost use Rattle.std.specs.Prelude.{◌≡◌, ◌+◌, ◌<◌, ◌≤◌, ◌^◌, Some, length, OnOk, OnErr, IfOk};
-ghost use Rattle.case_core.specs.Instances.{IsLive, live_in};
-ghost use Rattle.case_core.specs.Kept.{Kept};
-ghost use Rattle.case_core.specs.Machine.{repeated_trail, with_trail};
-ghost use Rattle.case_core.specs.Remarks.{Remarks, RunsLoop};
+ghost use Rattle.case_core.specs.{Instances.{IsLive, live_in}, Kept.Kept, Machine.{repeated_trail, with_trail}, Remarks.{Remarks, RunsLoop}};
 ghost use Rattle.wsm_schema.specs.Trail.{cut_by, pushed};
 ghost use Rattle.wsm_schema.specs.declared.entries.Entry.TheVariants.{Again};
-ghost use Rattle.wsm_trail.specs.Cuts.{StaysBelow};
-ghost use Rattle.wsm_trail.specs.Withdrawn.{starts_of, withdrawn};
+ghost use Rattle.wsm_trail.specs.{Cuts.StaysBelow, Withdrawn.{starts_of, withdrawn}};
 
 use crate::item_changes::renew_items;
 use crate::live::Live;

@@ -1,12 +1,8 @@
 // Changes of a case's schema.
 ghost use Rattle.std.specs.Prelude.{◌≡◌, ◌+◌, ◌<◌, ◌≤◌, ◌^◌, [], ◌++◌, Ok, length, IfOk, IfErr, OnOk, OnErr};
-ghost use Rattle.case_core.specs.Instances.{IsLive, live_in, reads_onto, reads_where};
-ghost use Rattle.case_core.specs.Kept.{marks_in};
-ghost use Rattle.case_core.specs.Machine.{blocked_in, change_live, migrate_live, migrate_refusal, overlap_with, taken_on};
+ghost use Rattle.case_core.specs.{Instances.{IsLive, live_in, reads_onto, reads_where}, Kept.marks_in, Machine.{blocked_in, change_live, migrate_live, migrate_refusal, overlap_with, taken_on}};
 ghost use Rattle.wsm_ops.specs.Apply.{applied};
-ghost use Rattle.wsm_sound.specs.Faults.{changed_by};
-ghost use Rattle.wsm_sound.specs.Refusals.{IsRefusal};
-ghost use Rattle.wsm_sound.specs.Versions.{ops_after};
+ghost use Rattle.wsm_sound.specs.{Faults.changed_by, Refusals.IsRefusal, Versions.ops_after};
 
 use crate::failing::FailingEntry;
 use crate::live::Live;

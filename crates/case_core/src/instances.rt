@@ -1,14 +1,7 @@
 // Cases, over all that keep a trail.
-ghost use Rattle.std.specs.Prelude.{◌≡◌, ◌==◌, ◌+◌, ◌<◌, ◌≤◌, true, not, Some, None, IfOk, OnErr};
-ghost use Rattle.std.specs.Option.{option_copied, option_map};
-ghost use Rattle.case_core.specs.Ages.{age, weight};
-ghost use Rattle.case_core.specs.CaseModel.{not_created};
-ghost use Rattle.case_core.specs.Instances.{allowed, uncounted};
-ghost use Rattle.case_core.specs.Journals.{JournalsKeep};
-ghost use Rattle.case_core.specs.Kept.{KeptIn, OnceIn};
-ghost use Rattle.case_core.specs.Machine.{next_case};
-ghost use Rattle.case_core.specs.Promises.{HolderStarted, IsFairView, NamesEntryIn, ShowsLastWrites, StartsFilled, goes_on};
-ghost use Rattle.case_core.specs.Shown.{own_of, shown, shown_state, shown_holder};
+ghost use Rattle.std.specs.{Prelude.{◌≡◌, ◌==◌, ◌+◌, ◌<◌, ◌≤◌, true, not, Some, None, IfOk, OnErr}, Option.{option_copied, option_map}};
+ghost use Rattle.case_core.specs.{Ages.{age, weight}, CaseModel.not_created, Instances.{allowed, uncounted}, Journals.JournalsKeep, Kept.{KeptIn, OnceIn}, Machine.next_case, Promises.{HolderStarted, IsFairView, NamesEntryIn}};
+ghost use Rattle.case_core.specs.{Promises.{ShowsLastWrites, StartsFilled, goes_on}, Shown.{own_of, shown, shown_state, shown_holder}};
 ghost use Rattle.wsm_schema.specs.Trail.{no_trail};
 
 use crate::events::Event;

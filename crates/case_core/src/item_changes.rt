@@ -1,11 +1,8 @@
 // The work items of nodes, by their marks and by who held them before.
-ghost use Rattle.std.specs.Prelude.{◌≡◌, ◌+◌, ◌<◌, ◌≤◌, [], length, IfOk, OnOk};
-ghost use Rattle.std.specs.Option.{option_copied};
+ghost use Rattle.std.specs.{Prelude.{◌≡◌, ◌+◌, ◌<◌, ◌≤◌, [], length, IfOk, OnOk}, Option.option_copied};
 ghost use Rattle.case_core.specs.KeptItems.{RenewsItems, TellsItems, item_by, item_for, item_then, user_from, user_in, user_then, with_item, work_item};
 ghost use Rattle.wsm_items.specs.WorkItems.{IsOfNode};
-ghost use Rattle.wsm_lists.specs.ByNumber.{change_row, item_at};
-ghost use Rattle.wsm_lists.specs.Keys.{first};
-ghost use Rattle.wsm_lists.specs.Rows.{Ascends};
+ghost use Rattle.wsm_lists.specs.{ByNumber.{change_row, item_at}, Keys.first, Rows.Ascends};
 ghost use Rattle.wsm_schema.specs.Flat.{cards_of};
 ghost use Rattle.wsm_walk.specs.Kept.{mark_or};
 

@@ -1,7 +1,6 @@
 // What a created case is, besides its trail.
 ghost use Rattle.std.specs.Prelude.{◌≡◌, IfOk};
-ghost use Rattle.case_core.specs.CaseModel.{created_on};
-ghost use Rattle.case_core.specs.Instances.{IsLive, live_in};
+ghost use Rattle.case_core.specs.{CaseModel.created_on, Instances.{IsLive, live_in}};
 ghost use Rattle.wsm_schema.specs.Trail.{no_trail};
 
 use crate::item_changes::items_on;

@@ -1,20 +1,11 @@
 // A case that was created.
-ghost use Rattle.std.specs.Prelude.{◌≡◌, ℕ, ◌+◌, ◌<◌, ◌≤◌, ◌^◌, Some, length, IfOk};
-ghost use Rattle.std.specs.Option.{option_copied};
-ghost use Rattle.case_core.specs.CaseModel.{state_of, value_now};
-ghost use Rattle.case_core.specs.Instances.{IsLive, live_in};
-ghost use Rattle.case_core.specs.Kept.{IsOnceEach, Kept, marks_in};
-ghost use Rattle.case_core.specs.KeptItems.{held_in};
-ghost use Rattle.case_core.specs.Machine.{reads_now};
-ghost use Rattle.case_core.specs.Promises.{HolderStarted};
-ghost use Rattle.case_core.specs.Remarks.{AgainRemarks, EndRemarks, ReadsBehind, ReadsInLoop, Remarks, Runs, RunsLoop, StartRemarks};
-ghost use Rattle.case_core.specs.Shown.{is_finished, items_of, shown_holder, shown_spots};
+ghost use Rattle.std.specs.{Prelude.{◌≡◌, ℕ, ◌+◌, ◌<◌, ◌≤◌, ◌^◌, Some, length, IfOk}, Option.option_copied};
+ghost use Rattle.case_core.specs.{CaseModel.{state_of, value_now}, Instances.{IsLive, live_in}, Kept.{IsOnceEach, Kept, marks_in}, KeptItems.held_in, Machine.reads_now, Promises.HolderStarted, Remarks.{AgainRemarks, EndRemarks}};
+ghost use Rattle.case_core.specs.{Remarks.{ReadsBehind, ReadsInLoop, Remarks, Runs, RunsLoop, StartRemarks}, Shown.{is_finished, items_of, shown_holder, shown_spots}};
 ghost use Rattle.wsm_items.specs.WorkItems.{items_in};
 ghost use Rattle.wsm_lists.specs.ByNumber.{item_at};
-ghost use Rattle.wsm_schema.specs.Flat.{flat_of, card_at, cards_of};
-ghost use Rattle.wsm_schema.specs.Rules.{spot_in};
-ghost use Rattle.wsm_trail.specs.Cuts.{StaysBelow};
-ghost use Rattle.wsm_trail.specs.Withdrawn.{withdrawn};
+ghost use Rattle.wsm_schema.specs.{Flat.{flat_of, card_at, cards_of}, Rules.spot_in};
+ghost use Rattle.wsm_trail.specs.{Cuts.StaysBelow, Withdrawn.withdrawn};
 
 use crate::live::Live;
 use crate::rounds::first_seen;

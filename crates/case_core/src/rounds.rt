@@ -1,6 +1,5 @@
 // Where the round of a loop begins in a trail.
-ghost use Rattle.std.specs.Prelude.{◌≡◌, ◌+◌, ◌≤◌, length};
-ghost use Rattle.std.specs.Option.{option_copied};
+ghost use Rattle.std.specs.{Prelude.{◌≡◌, ◌+◌, ◌≤◌, length}, Option.option_copied};
 ghost use Rattle.case_core.specs.Rounds.{first_seen, lesser, seen_before};
 ghost use Rattle.wsm_walk.specs.Kept.{mark_or};
 

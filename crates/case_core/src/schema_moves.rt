@@ -1,10 +1,6 @@
 // A created case on another schema.
 ghost use Rattle.std.specs.Prelude.{◌≡◌, ◌+◌, ◌<◌, ◌≤◌, ◌^◌, Ok, length, IfOk, OnOk, OnErr};
-ghost use Rattle.case_core.specs.CaseModel.{on_schema, replay_of_case, tried_on};
-ghost use Rattle.case_core.specs.Instances.{IsLive, live_in};
-ghost use Rattle.case_core.specs.Kept.{Kept};
-ghost use Rattle.case_core.specs.Machine.{failed_at};
-ghost use Rattle.case_core.specs.Remarks.{IsAdaptedTo, Moves, ReadsOnto};
+ghost use Rattle.case_core.specs.{CaseModel.{on_schema, replay_of_case, tried_on}, Instances.{IsLive, live_in}, Kept.Kept, Machine.failed_at, Remarks.{IsAdaptedTo, Moves, ReadsOnto}};
 ghost use Rattle.wsm_ops.specs.Apply.{applied};
 ghost use Rattle.wsm_schema.specs.Flat.{flat_of};
 ghost use Rattle.wsm_sound.specs.Flattened.{IsChecked};

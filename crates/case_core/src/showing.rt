@@ -1,7 +1,6 @@
 // What a case that was created shows.
 ghost use Rattle.std.specs.Prelude.{◌≡◌, true, Some, IfOk};
-ghost use Rattle.case_core.specs.Promises.{AreLastWrites, IsFair, goes_on};
-ghost use Rattle.case_core.specs.Shown.{shown_live};
+ghost use Rattle.case_core.specs.{Promises.{AreLastWrites, IsFair, goes_on}, Shown.shown_live};
 
 use crate::live_of::LiveOf;
 use crate::views::View;

@@ -1,11 +1,9 @@
 // The spots of nodes, by their marks.
-ghost use Rattle.std.specs.Prelude.{◌≡◌, None};
-ghost use Rattle.std.specs.Option.{option_copied};
+ghost use Rattle.std.specs.{Prelude.{◌≡◌, None}, Option.option_copied};
 ghost use Rattle.wsm_marks.specs.Timed.{flow, verdict_of};
 ghost use Rattle.wsm_schema.specs.Rules.{spot};
 ghost use Rattle.wsm_schema.specs.declared.states.State.TheVariants as state;
-ghost use Rattle.wsm_walk.specs.Kept.{mark_or, timed_of};
-ghost use Rattle.wsm_walk.specs.MarkStates.{mark_spot};
+ghost use Rattle.wsm_walk.specs.{Kept.{mark_or, timed_of}, MarkStates.mark_spot};
 
 use wsm_rules::{Mark, Verdict, state_by};
 use wsm_schema::{NodeKind, Spot, State};

@@ -1,7 +1,6 @@
 // The marks of a trail, and who made an entry.
 ghost use Rattle.std.specs.Prelude.{◌≡◌, Some, IfOk};
-ghost use Rattle.case_core.specs.Machine.{user_of};
-ghost use Rattle.case_core.specs.Remarks.{IsTimedOn};
+ghost use Rattle.case_core.specs.{Machine.user_of, Remarks.IsTimedOn};
 ghost use Rattle.wsm_sound.specs.Flattened.{IsChecked};
 
 use std::alloc::Global;

@@ -1,8 +1,6 @@
 // Starts and ends of nodes, and nodes that are given back.
 ghost use Rattle.std.specs.Prelude.{◌≡◌, ◌==◌, ◌+◌, ◌<◌, ◌≤◌, ◌^◌, ◌||◌, not, IfOk, OnErr};
-ghost use Rattle.case_core.specs.Instances.{IsLive, live_in};
-ghost use Rattle.case_core.specs.Kept.{marks_in};
-ghost use Rattle.case_core.specs.Machine.{start_refusal, hold_refusal, end_refusal, start_live, end_live, withdraw_live, may_work, repeats, when_reply, wrong_reply, ended_reply};
+ghost use Rattle.case_core.specs.{Instances.{IsLive, live_in}, Kept.marks_in, Machine.{start_refusal, hold_refusal, end_refusal, start_live, end_live, withdraw_live, may_work, repeats, when_reply, wrong_reply, ended_reply}};
 ghost use Rattle.case_core.specs.declared.replies.Reply.TheVariants as reply;
 ghost use Rattle.wsm_schema.specs.Replay.{fits_choice};
 

@@ -1,28 +1,14 @@
 -- The work of a file over a disk that held nothing.
-use Rattle.std.proofs.Common.{◌≡◌, ℕ, ◌+◌, ◌≤◌, ◌^◌, List, [], ◌∷◌, ◌++◌, drop, length, map, Option, Some, None, refl, sym, ap, subst, arith}
-use Rattle.std.specs.Prelude.{IfErr, IfOk, IsErrOf, Result, Ok, Err, if◌then◌else◌}
-use Rattle.std.proofs.lemmas.List.{append-nil, drop_all, length-map}
+use Rattle.case_keep.proofs.Common.{[], ℕ, ◌++◌, ◌+◌, ◌^◌, ◌∷◌, ◌≡◌, ◌≤◌, and_then, ap, append-nil, arith, Bytes, calls, drop, drop_all, File, frames, frames_of, HasList, held, held-list, HoldsBeginning, HoldsBeginningOf, IfErr, IfOk}
+use Rattle.case_keep.proofs.Common.{if◌then◌else◌, IsBegun, IsErrOf, IsPlayFault, IsSettled, IsStored, KeepFault, LeavesOnly, length, length-map, List, map, None, Ok, Option, Overflows, payload_of, payloads, Recorded, refl, rest-content}
+use Rattle.case_keep.proofs.Common.{Result, Some, started, subst, sym, Tells, whole-list}
+use Rattle.std.specs.Prelude.{Err}
 use Rattle.std.proofs.lemmas.Slice.Eq.{bytes_eq-Decides}
-use Rattle.case_keep.specs.Playing.{HoldsBeginningOf, IsPlayFault}
 use Rattle.file_limits.specs.declared.TheConstants.{NEWEST_KEPT_FORMAT}
-use Rattle.file_model.specs.Reading.{file_up_to}
-use Rattle.file_model.specs.declared.files.File.{File}
-use Rattle.file_model.specs.declared.refusals.Refused.{Refused}
-use Rattle.store_calls.specs.Calls.{calls, payloads}
-use Rattle.store_disk.specs.Disk.{IsSettled, LeavesOnly}
-use Rattle.store_disk.specs.Image.{frames, frames_of, HasList}
-use Rattle.store_disk.proofs.Moments.{and_then, started}
-use Rattle.store_form.specs.Payload.{Bytes}
-use Rattle.store_form.specs.declared.stored.Recorded.{Recorded}
-use Rattle.store_keep.specs.Finding.{finds}
-use Rattle.store_keep.specs.Keeping.{held, HoldsBeginning, IsBegun, IsStored}
-use Rattle.store_keep.specs.Refusals.{Tells}
-use Rattle.store_room.specs.Room.{Overflows, payload_of}
-use Rattle.store_keep.specs.declared.faults.KeepFault.{KeepFault}
+use Rattle.file_model.specs.{Reading.file_up_to, declared.refusals.Refused.Refused}
+use Rattle.store_keep.specs.{Finding.finds, declared.finding.Found.Found}
 use Rattle.store_keep.specs.declared.faults.KeepFault.TheVariants as fault
-use Rattle.store_keep.specs.declared.finding.Found.{Found}
 use Rattle.store_keep.specs.declared.finding.Found.TheVariants as found
-use Rattle.store_keep.proofs.Held.{held-list, rest-content, whole-list}
 
 -- what is found where all records are calls
 abbrev pub IsBeginning : Found → Type 0

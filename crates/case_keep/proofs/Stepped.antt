@@ -1,43 +1,22 @@
 -- The calls of a file on a store.
-use Rattle.std.proofs.Common.{◌≡◌, ◌≢◌, ◌⊎◌, inl, inr, ℕ, zero, suc, ◌+◌, ◌-◌, ◌*◌, ◌<◌, ◌≤◌, ◌^◌, ◌==◌, List, [], ◌∷◌, ◌++◌, drop, length, map, take, take-add, refl, sym, ap, subst, ◌∙◌, append_assoc, arith}
-use Rattle.std.specs.Prelude.{OnOk, Ok, Err, Result, sum}
-use Rattle.std.proofs.lemmas.List.{append-nil, drop_all, length-take, map-append, take-append-drop, take-take}
+use Rattle.case_keep.proofs.Common.{[], ℕ, ◌*◌, ◌++◌, ◌+◌, ◌-◌, ◌<◌, ◌==◌, ◌^◌, ◌∙◌, ◌∷◌, ◌≡◌, ◌≢◌, ◌≤◌, ◌⊎◌, AddsFirst, all_framed, and_then, ap, append-nil, append_assoc, AreKnown, arith, beginning, Begins, Bytes, calls, case_counts}
+use Rattle.case_keep.proofs.Common.{cases_of_type, counts_from, disk_refused, drop, drop_all, File, folded, frames, fresh, Held, HoldsBeginning, HoldsRun, inl, inr, IsAddFault, IsFoldOf, IsPlayFault, IsSameRun, IsStore, IsStored, KeepFault}
+use Rattle.case_keep.proofs.Common.{LeavesOnly, length, length-take, List, map, map-append, Ok, Only, OnOk, Overflows, payload_of, payloads, Recorded, refl, rest-image, Result, same-frames, Says, started, starts_of, StoreState, subst, suc}
+use Rattle.case_keep.proofs.Common.{sum, sym, take, take-add, take-append-drop, take-take, weaker, zero}
+use Rattle.std.specs.Prelude.{Err}
 use Rattle.std.proofs.lemmas.List.Sums.{count_by-le-length, sum_by-cons}
-use Rattle.case_keep.specs.Playing.{HoldsRun, IsPlayFault}
-use Rattle.case_keep.specs.Statuses.{keep_status}
-use Rattle.case_keep.specs.Storing.{fault_of, part_of}
+use Rattle.case_keep.specs.{Statuses.keep_status, Storing.{fault_of, part_of}}
 use Rattle.case_store.proofs.Staying.{known-front, known-rest}
-use Rattle.case_store.specs.Damage.{Says, disk_refused}
-use Rattle.case_store.specs.Folding.{folded, fresh, starts_of}
-use Rattle.case_store.specs.Standing.{AddsFirst, AreKnown, Held, IsFoldOf, IsStore, StoreState}
-use Rattle.case_store.specs.declared.refusals.OpenRefusal.{OpenRefusal}
+use Rattle.case_store.specs.{declared.refusals.OpenRefusal.OpenRefusal, declared.refusals.StoreFault.StoreFault}
 use Rattle.case_store.specs.declared.refusals.OpenRefusal.TheVariants as refusal
-use Rattle.case_store.specs.declared.refusals.StoreFault.{StoreFault}
 use Rattle.case_store.specs.declared.refusals.StoreFault.TheVariants as store_fault
 use Rattle.file_facts.specs.Facts.{IsWorkable}
-use Rattle.file_model.specs.CaseCounts.{cases_of_type}
-use Rattle.file_model.specs.declared.files.CaseDecl.{CaseDecl}
-use Rattle.file_model.specs.declared.files.File.{File}
-use Rattle.file_model.specs.declared.files.TypeDecl.{TypeDecl}
+use Rattle.file_model.specs.{declared.files.CaseDecl.CaseDecl, declared.files.TypeDecl.TypeDecl}
 use Rattle.script_run.specs.Serial.{serial}
-use Rattle.store_calls.specs.Calls.{calls, payloads}
-use Rattle.store_disk.specs.Disk.{LeavesOnly, Only}
-use Rattle.store_disk.specs.Image.{all_framed, frames}
-use Rattle.store_disk.specs.Opening.{HoldsAsBefore}
-use Rattle.store_disk.specs.Rest.{HasNoneOrAll}
-use Rattle.store_disk.proofs.Moments.{and_then, started, weaker}
-use Rattle.store_form.specs.Payload.{Bytes}
-use Rattle.store_form.specs.declared.stored.Recorded.{Recorded}
-use Rattle.store_keep.specs.Keeping.{Begins, HoldsBeginning, IsStored}
-use Rattle.store_keep.specs.Refusals.{IsAddFault}
-use Rattle.store_keep.specs.declared.faults.KeepFault.{KeepFault}
+use Rattle.store_disk.specs.{Opening.HoldsAsBefore, Rest.HasNoneOrAll}
 use Rattle.store_keep.specs.declared.faults.KeepFault.TheVariants as fault
-use Rattle.store_keep.proofs.Held.{beginning, rest-image, same-frames}
-use Rattle.store_room.specs.Room.{Overflows, payload_of}
 use Rattle.store_room.proofs.Grouped.{behind, over-behind, over-first, over-here}
-use Rattle.store_runs.proofs.CountedPlaces.{counts-size}
-use Rattle.store_runs.proofs.Folded.{stored-serial}
-use Rattle.store_runs.specs.Stored.{IsSameRun, case_counts, counts_from}
+use Rattle.store_runs.proofs.{CountedPlaces.counts-size, Folded.stored-serial}
 
 -- ---- how many cases each type has
 next-type : (xs : List TypeDecl) (t : ℕ) (ds : List CaseDecl) → t < length xs → counts_from t (drop t xs) ds ≡ cases_of_type t ds ∷ counts_from (t + 1) (drop (t + 1) xs) ds

@@ -1,16 +1,11 @@
 -- The file that bytes stand for, or why there is none.
-use Rattle.std.specs.Prelude.{◌≡◌, ℕ, ◌+◌, ◌≤◌, List, length, Option, IfSome, Ok, Err}
-use Rattle.std.specs.Io.KnownBytes.{IsAtEnd}
-use Rattle.adept_io.specs.Counts.{Rose}
-use Rattle.adept_io.specs.Read.{ConsumesMany, ConsumesUpTo}
-use Rattle.adept_io.specs.declared.reading.ReadRefusal.{ReadRefusal}
+use Rattle.std.specs.{Prelude.{◌≡◌, ℕ, ◌+◌, ◌≤◌, List, length, Option, IfSome, Ok, Err}, Io.KnownBytes.IsAtEnd}
+use Rattle.adept_io.specs.{Counts.Rose, Read.{ConsumesMany, ConsumesUpTo}, declared.reading.ReadRefusal.ReadRefusal}
 use Rattle.adept_io.specs.declared.reading.ReadRefusal.TheVariants as read
 use Rattle.case_keep.specs.declared.unkept.Unkept.{Unkept}
 use Rattle.case_keep.specs.declared.unkept.Unkept.TheVariants as unkept
 use Rattle.file_limits.specs.declared.TheConstants.{MAX_FILE_BYTES, NEWEST_KEPT_FORMAT}
-use Rattle.file_model.specs.Reading.{file_up_to}
-use Rattle.file_model.specs.declared.files.File.{File}
-use Rattle.file_model.specs.declared.refusals.FileRefusal.{FileRefusal}
+use Rattle.file_model.specs.{Reading.file_up_to, declared.files.File.File, declared.refusals.FileRefusal.FileRefusal}
 use Rattle.file_model.specs.declared.refusals.FileRefusal.TheVariants as refusal
 use Rattle.store_disk.specs.declared.file.OpenFault.{OpenFault}
 use Rattle.store_disk.specs.declared.file.OpenFault.TheVariants as open_fault

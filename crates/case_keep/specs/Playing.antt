@@ -1,23 +1,16 @@
 -- How the work of a process file over a disk without bytes ends.
-use Rattle.std.specs.Prelude.{◌≡◌, ◌≢◌, ◌⊎◌, ℕ, List, [], Option, IfSome, IfOk}
-use Rattle.std.specs.Io.KnownBytes.{Appends}
-use Rattle.adept_io.specs.Counts.{Rose}
-use Rattle.adept_io.specs.Written.{AppendsPrefix}
-use Rattle.case_keep.specs.Input.{EndsUnread, StandFor}
-use Rattle.case_keep.specs.Statuses.{status_of}
-use Rattle.case_keep.specs.declared.playing.StoreOutcome.{StoreOutcome}
-use Rattle.case_keep.specs.declared.unkept.Unkept.{Unkept}
+use Rattle.std.specs.{Prelude.{◌≡◌, ◌≢◌, ◌⊎◌, ℕ, List, [], Option, IfSome, IfOk}, Io.KnownBytes.Appends}
+use Rattle.adept_io.specs.{Counts.Rose, Written.AppendsPrefix}
+use Rattle.case_keep.specs.{Input.{EndsUnread, StandFor}, Statuses.status_of, declared.playing.StoreOutcome.StoreOutcome, declared.unkept.Unkept.Unkept}
 use Rattle.case_store.specs.Standing.{IsStore, StoreState}
 use Rattle.file_limits.specs.declared.TheConstants.{NEWEST_KEPT_FORMAT}
-use Rattle.file_model.specs.Reading.{file_up_to}
-use Rattle.file_model.specs.declared.files.File.{File}
+use Rattle.file_model.specs.{Reading.file_up_to, declared.files.File.File}
 use Rattle.report_text.specs.Report.{text}
 use Rattle.script_run.specs.Serial.{serial}
 use Rattle.store_calls.specs.Calls.{calls, payloads}
-use Rattle.store_keep.specs.Keeping.{HoldsBeginning, IsStored}
+use Rattle.store_keep.specs.{Keeping.{HoldsBeginning, IsStored}, declared.faults.KeepFault.KeepFault}
 use Rattle.store_room.specs.Room.{Overflows}
 use Rattle.store_runs.specs.Stored.{IsSameRun, case_counts}
-use Rattle.store_keep.specs.declared.faults.KeepFault.{KeepFault}
 use Rattle.store_keep.specs.declared.faults.KeepFault.TheVariants as fault
 
 -- there is no file: it is refused, not read, or too long

@@ -1,7 +1,6 @@
 -- What a store's refusals and faults are of the work of a file.
-use Rattle.case_store.specs.declared.refusals.OpenRefusal.{OpenRefusal}
+use Rattle.case_store.specs.{declared.refusals.OpenRefusal.OpenRefusal, declared.refusals.StoreFault.StoreFault}
 use Rattle.case_store.specs.declared.refusals.OpenRefusal.TheVariants as refusal
-use Rattle.case_store.specs.declared.refusals.StoreFault.{StoreFault}
 use Rattle.case_store.specs.declared.refusals.StoreFault.TheVariants as store_fault
 use Rattle.store_keep.specs.declared.faults.KeepFault.{KeepFault}
 use Rattle.store_keep.specs.declared.faults.KeepFault.TheVariants as fault

@@ -1,17 +1,13 @@
 // The work of a file over a disk.
-ghost use Rattle.std.specs.Prelude.{◌≡◌, ◌≢◌, ◌⊎◌, ◌≤◌, ◌^◌, length, IfErr, OnOk, IsErrOf};
-ghost use Rattle.std.specs.Io.KnownBytes.{Appends};
-ghost use Rattle.adept_io.specs.Counts.{Rose};
-ghost use Rattle.adept_io.specs.Written.{AppendsPrefix};
+ghost use Rattle.std.specs.{Prelude.{◌≡◌, ◌≢◌, ◌⊎◌, ◌≤◌, ◌^◌, length, IfErr, OnOk, IsErrOf}, Io.KnownBytes.Appends};
+ghost use Rattle.adept_io.specs.{Counts.Rose, Written.AppendsPrefix};
 ghost use Rattle.file_facts.specs.Facts.{IsWorkable};
 ghost use Rattle.file_model.specs.Sizes.{IsBounded};
 ghost use Rattle.report_text.specs.Report.{text};
 ghost use Rattle.script_run.specs.Serial.{serial};
 ghost use Rattle.store_calls.specs.Calls.{calls, payloads};
-ghost use Rattle.store_disk.specs.Disk.{LeavesOnly, Only};
-ghost use Rattle.store_disk.specs.Opening.{HoldsAsBefore};
-ghost use Rattle.store_keep.specs.Keeping.{IsBegun, IsLeft, IsStored, KeepsBeginning};
-ghost use Rattle.store_keep.specs.Refusals.{IsJudgement, IsKeepFault, IsRefusal, Tells};
+ghost use Rattle.store_disk.specs.{Disk.{LeavesOnly, Only}, Opening.HoldsAsBefore};
+ghost use Rattle.store_keep.specs.{Keeping.{IsBegun, IsLeft, IsStored, KeepsBeginning}, Refusals.{IsJudgement, IsKeepFault, IsRefusal, Tells}};
 
 use adept_io::Sink;
 use file_model::File;

@@ -1,8 +1,6 @@
 // The work of a process file over a disk without bytes.
-ghost use Rattle.std.specs.Prelude.{◌≡◌, ◌≢◌, ◌≤◌, ◌^◌, ◌⊎◌, [], IfErr, OnOk, IsErrOf};
-ghost use Rattle.std.specs.Io.KnownBytes.{Appends, IsAtEnd};
-ghost use Rattle.adept_io.specs.Counts.{Rose};
-ghost use Rattle.adept_io.specs.Written.{AppendsPrefix};
+ghost use Rattle.std.specs.{Prelude.{◌≡◌, ◌≢◌, ◌≤◌, ◌^◌, ◌⊎◌, [], IfErr, OnOk, IsErrOf}, Io.KnownBytes.{Appends, IsAtEnd}};
+ghost use Rattle.adept_io.specs.{Counts.Rose, Written.AppendsPrefix};
 ghost use Rattle.case_keep.specs.Playing.{EndsUnplayed, HoldsBeginningOf, HoldsRun, IsPlayFault, IsPlayStatus, IsReadStatus, IsUnreadStatus, IsWorkStatus, OfFile, Reports, Stores};
 ghost use Rattle.file_facts.specs.Facts.{IsWorkable};
 ghost use Rattle.file_model.specs.Sizes.{IsBounded};

@@ -1,6 +1,5 @@
 // The process file that is worked.
-ghost use Rattle.std.specs.Prelude.{IfErr, IfOk, OnOk};
-ghost use Rattle.std.specs.Io.KnownBytes.{IsAtEnd};
+ghost use Rattle.std.specs.{Prelude.{IfErr, IfOk, OnOk}, Io.KnownBytes.IsAtEnd};
 ghost use Rattle.case_keep.specs.Input.{EndsUnread, StandFor};
 ghost use Rattle.file_facts.specs.Facts.{IsWorkable};
 ghost use Rattle.file_model.specs.Sizes.{IsBounded};

@@ -1,18 +1,14 @@
 // The calls of a file on a store.
 ghost use Rattle.std.specs.Prelude.{◌≡◌, ◌≢◌, ◌⊎◌, ℕ, ◌+◌, ◌<◌, ◌≤◌, ◌^◌, List, [], false, length, map, take, IfErr, IfOk, OnOk, IsErrOf};
 ghost use Rattle.adept_io.specs.Counts.{Rose};
-ghost use Rattle.case_keep.specs.Playing.{HoldsRun};
-ghost use Rattle.case_keep.specs.Storing.{fault_of, part_of};
-ghost use Rattle.case_store.specs.Folding.{fresh, starts_of};
-ghost use Rattle.case_store.specs.Standing.{AreKnown, IsStore, Past};
+ghost use Rattle.case_keep.specs.{Playing.HoldsRun, Storing.{fault_of, part_of}};
+ghost use Rattle.case_store.specs.{Folding.{fresh, starts_of}, Standing.{AreKnown, IsStore, Past}};
 ghost use Rattle.file_facts.specs.Facts.{IsWorkable};
-ghost use Rattle.file_model.specs.CaseCounts.{cases_of_type};
-ghost use Rattle.file_model.specs.Sizes.{IsBounded};
+ghost use Rattle.file_model.specs.{CaseCounts.cases_of_type, Sizes.IsBounded};
 ghost use Rattle.script_run.specs.Serial.{serial};
 ghost use Rattle.store_calls.specs.Calls.{calls, payloads};
 ghost use Rattle.store_disk.specs.Disk.{IsSettled, LeavesOnly};
-ghost use Rattle.store_keep.specs.Keeping.{HoldsBeginning, IsStored};
-ghost use Rattle.store_keep.specs.Refusals.{IsAddFault};
+ghost use Rattle.store_keep.specs.{Keeping.{HoldsBeginning, IsStored}, Refusals.IsAddFault};
 ghost use Rattle.store_room.specs.Room.{Overflows, payload_of};
 ghost use Rattle.store_runs.specs.Stored.{IsSameRun, case_counts};
 

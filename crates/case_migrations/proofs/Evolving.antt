@@ -1,14 +1,9 @@
 -- A type's versions go on from one another.
 use Rattle.std.proofs.Common.{◌≡◌, ℕ, suc, ◌+◌, ◌-◌, ◌≤◌, List, [], ◌∷◌, ◌++◌, drop, length, flat_map, refl, ap, sym, ◌∙◌, subst, arith, Result, Ok, Err, length-append, append_assoc, drop_of_length-le, append-nil}
 use Rattle.wsm_schema.specs.SchemaModel.{SchemaModel}
-use Rattle.wsm_ops.specs.Apply.{applied}
-use Rattle.wsm_ops.specs.declared.operations.Op.{Op}
-use Rattle.wsm_sound.specs.Faults.{changed_by}
-use Rattle.wsm_sound.specs.VersionModel.{VersionModel}
-use Rattle.wsm_sound.specs.Versions.{ops_after, with_schema, next_version, evolved}
-use Rattle.wsm_sound.specs.declared.faults.Fault.{Fault}
-use Rattle.wsm_sound.proofs.InARow.{applied-in_a_row}
-use Rattle.wsm_sound.proofs.NoFaults.{taken_parts}
+use Rattle.wsm_ops.specs.{Apply.applied, declared.operations.Op.Op}
+use Rattle.wsm_sound.specs.{Faults.changed_by, VersionModel.VersionModel, Versions.{ops_after, with_schema, next_version, evolved}, declared.faults.Fault.Fault}
+use Rattle.wsm_sound.proofs.{InARow.applied-in_a_row, NoFaults.taken_parts}
 use Rattle.case_migrations.specs.GoesOn.{GoesOn}
 
 -- each version goes on from itself

@@ -1,28 +1,15 @@
 -- A migration to a version that goes on from the case's base is never refused for an operation.
 use Rattle.std.proofs.Common.{◌≡◌, ℕ, Bool, true, false, List, refl, ap, sym, ◌∙◌, subst, Option, Some, None, Result, Ok, Err, option_map}
-use Rattle.std.specs.Prelude.{not, nat_lt, ◌==◌}
-use Rattle.std.specs.Option.{option_or}
-use Rattle.wsm_schema.specs.SchemaModel.{SchemaModel}
-use Rattle.wsm_schema.specs.Sound.{block_fault, data_fault}
-use Rattle.wsm_schema.specs.declared.faults.BlockFault.{BlockFault}
-use Rattle.wsm_schema.specs.declared.faults.DataFault.{DataFault}
-use Rattle.wsm_ops.specs.Apply.{applied}
-use Rattle.wsm_ops.specs.declared.operations.Op.{Op}
-use Rattle.wsm_ops.specs.declared.faults.OpFault.{OpFault}
-use Rattle.wsm_foot.specs.Foot.{least_overlap}
-use Rattle.wsm_foot.specs.declared.names.Name.{Name}
+use Rattle.std.specs.{Prelude.{not, nat_lt, ◌==◌}, Option.option_or}
+use Rattle.wsm_schema.specs.{SchemaModel.SchemaModel, Sound.{block_fault, data_fault}, declared.faults.BlockFault.BlockFault, declared.faults.DataFault.DataFault}
+use Rattle.wsm_ops.specs.{Apply.applied, declared.operations.Op.Op, declared.faults.OpFault.OpFault}
+use Rattle.wsm_foot.specs.{Foot.least_overlap, declared.names.Name.Name}
 use Rattle.wsm_commute.specs.Ordered.{IsOrdered}
-use Rattle.wsm_commute.proofs.Footprints.{no-overlap}
-use Rattle.wsm_commute.proofs.ListsCommute.{two-lists}
-use Rattle.wsm_sound.specs.Faults.{fault_of, unless_fault, sound_after, changed_by}
-use Rattle.wsm_sound.specs.VersionModel.{VersionModel}
-use Rattle.wsm_sound.specs.Versions.{ops_after}
-use Rattle.wsm_sound.specs.declared.faults.Fault.{Fault}
+use Rattle.wsm_commute.proofs.{Footprints.no-overlap, ListsCommute.two-lists}
+use Rattle.wsm_sound.specs.{Faults.{fault_of, unless_fault, sound_after, changed_by}, VersionModel.VersionModel, Versions.ops_after, declared.faults.Fault.Fault}
 use Rattle.wsm_sound.specs.declared.faults.Fault.TheVariants as fault
-use Rattle.case_core.specs.CaseModel.{CaseModel, LiveModel, replay_of_case, is_finished}
-use Rattle.case_core.specs.Kept.{Kept}
-use Rattle.case_core.specs.Machine.{when_reply, or_reply, failed_at, misfit, taken, migrated, migrate_with, overlap_reply, overlap_with, migrate_refusal, migrate_live, with_live, event_on, case_reply}
-use Rattle.case_core.specs.declared.replies.Reply.{Reply}
+use Rattle.case_core.specs.{CaseModel.{CaseModel, LiveModel, replay_of_case, is_finished}, Kept.Kept, Machine.{when_reply, or_reply, failed_at, misfit, taken, migrated, migrate_with, overlap_reply, overlap_with, migrate_refusal}}
+use Rattle.case_core.specs.{Machine.{migrate_live, with_live, event_on, case_reply}, declared.replies.Reply.Reply}
 use Rattle.case_core.specs.declared.replies.Reply.TheVariants as reply
 use Rattle.case_core.specs.declared.events.Event.TheVariants as event
 use Rattle.case_migrations.specs.GoesOn.{GoesOn}

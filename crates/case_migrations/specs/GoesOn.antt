@@ -1,8 +1,7 @@
 -- Versions of one type.
 use Rattle.std.specs.Prelude.{◌≡◌, ◌+◌, ◌≤◌, length, Ok}
 use Rattle.wsm_ops.specs.Apply.{applied}
-use Rattle.wsm_sound.specs.VersionModel.{VersionModel}
-use Rattle.wsm_sound.specs.Versions.{ops_after}
+use Rattle.wsm_sound.specs.{VersionModel.VersionModel, Versions.ops_after}
 
 -- a version that goes on from another: the operations since then make its schema
 pub record GoesOn (base version : VersionModel) : Type 0 where

@@ -1,13 +1,6 @@
 -- Calls that are made one after another.
-use Rattle.std.proofs.Common.{◌≡◌, ℕ, suc, ◌+◌, ◌≤◌, List, [], ◌∷◌, ◌++◌, length, map, take, Some, refl, sym, ap, subst, ◌∙◌, append_assoc, arith}
-use Rattle.std.specs.Prelude.{fold}
-use Rattle.std.proofs.lemmas.List.{append-nil, length-map, length-take-le, map_push}
-use Rattle.std.proofs.lemmas.List.Sums.{sum_by-cons}
-use Rattle.script_run.specs.Oldest.{oldest}
-use Rattle.script_run.specs.declared.runs.Run.{Run}
-use Rattle.store_form.specs.declared.stored.Recorded.{Recorded}
-use Rattle.case_store.specs.Folding.{answer_of, answers_of, called, stored_weight, weight_of_all}
-use Rattle.case_store.specs.Standing.{AreKnown, Held}
+use Rattle.case_store.proofs.Common.{[], ℕ, ◌++◌, ◌+◌, ◌∙◌, ◌∷◌, ◌≡◌, ◌≤◌, answer_of, answers_of, ap, append-nil, append_assoc, AreKnown, arith, called, fold, Held, length, length-map, length-take-le, List, map, map_push, oldest, Recorded}
+use Rattle.case_store.proofs.Common.{refl, Run, Some, stored_weight, subst, suc, sum_by-cons, sym, take, weight_of_all}
 use Rattle.case_store.specs.declared.replies.StoredReply.{StoredReply}
 
 -- how far calls have been made: what they made of what was held, what they were told, and which are left

@@ -1,30 +1,12 @@
 -- Where cases stand, and what types and cases are before any call.
-use Rattle.std.proofs.Common.{◌≡◌, ℕ, zero, suc, ◌+◌, ◌-◌, ◌<◌, ◌≤◌, Bool, true, false, List, [], ◌∷◌, ◌++◌, length, drop, set, Option, Some, None, refl, sym, ap, subst, ◌∙◌, append_assoc, arith, length-append}
-use Rattle.std.specs.Prelude.{if◌then◌else◌, nat_lt, slice_get, sum}
-use Rattle.std.specs.List.{AllByRecursion}
-use Rattle.std.specs.Prelude.{replicate}
-use Rattle.std.proofs.lemmas.Bool.{ltb-true}
-use Rattle.std.proofs.lemmas.List.{drop_more, length-replicate}
-use Rattle.std.proofs.lemmas.List.Sums.{sum_by-cons}
-use Rattle.case_core.specs.CaseModel.{not_created}
-use Rattle.case_core.specs.Ages.{age, weight}
-use Rattle.case_core.specs.Machine.{next_case}
-use Rattle.case_core.specs.declared.events.Event.{Event}
+use Rattle.case_store.proofs.Common.{[], ℕ, ◌++◌, ◌+◌, ◌-◌, ◌<◌, ◌∙◌, ◌∷◌, ◌≡◌, ◌≤◌, age, AllByRecursion, answer_of_case, ap, append_assoc, arith, Bool, call_case, case_answer, case_at, CaseId, changed_at, changed_where, ClosedKind, drop}
+use Rattle.case_store.proofs.Common.{drop_more, Event, false, Fits, fresh_cases, fresh_kinds, HasNoVersion, Held, if◌then◌else◌, length, length-append, length-replicate, List, ltb-true, nat_lt, None, not_created, not_defined, on_case}
+use Rattle.case_store.proofs.Common.{Option, place_between, place_of, put_back, refl, replicate, Run, set, slice_get, Some, starts_from, Stored, subst, suc, sum, sum_by-cons, sym, true, weight, zero}
+use Rattle.case_core.specs.{Machine.next_case, declared.replies.Reply.Reply}
 use Rattle.case_core.specs.declared.events.Event.TheVariants as event
-use Rattle.case_core.specs.declared.replies.Reply.{Reply}
 use Rattle.script_run.proofs.Aging.{age-oldest, oldest-changed_at}
-use Rattle.script_run.specs.Calls.{call_case, changed_at, changed_where, put_back}
-use Rattle.script_run.specs.Oldest.{oldest}
-use Rattle.script_run.specs.declared.runs.ClosedCase.{ClosedCase}
-use Rattle.script_run.specs.declared.runs.ClosedKind.{ClosedKind}
-use Rattle.script_run.specs.declared.runs.Run.{Run}
-use Rattle.type_core.specs.KindModel.{not_defined}
-use Rattle.store_form.specs.Stored.{Fits, HasNoVersion}
-use Rattle.store_form.specs.declared.stored.Stored.{Stored}
+use Rattle.script_run.specs.{Oldest.oldest, declared.runs.ClosedCase.ClosedCase}
 use Rattle.store_form.specs.declared.stored.Stored.TheVariants as stored
-use Rattle.wsm_sound.specs.declared.versions.CaseId.{CaseId}
-use Rattle.case_store.specs.Folding.{answer_of_case, case_answer, case_at, fresh_cases, fresh_kinds, on_case, place_between, place_of, starts_from}
-use Rattle.case_store.specs.Standing.{Held}
 use Rattle.case_store.specs.declared.replies.StoredReply.TheVariants as answer
 
 -- the cases of each type begin and end among all cases

@@ -1,7 +1,5 @@
 -- Items at their indices, where one of them is changed.
-use Rattle.std.proofs.Common.{◌≡◌, ◌≢◌, ℕ, zero, suc, ◌+◌, ◌<◌, List, [], ◌∷◌, ◌++◌, length, Option, Some, None, refl, ap, ◌∙◌, arith}
-use Rattle.std.specs.Prelude.{option_map, replicate, slice_get}
-use Rattle.script_run.specs.Calls.{changed_at, put_back}
+use Rattle.case_store.proofs.Common.{[], ℕ, ◌++◌, ◌+◌, ◌<◌, ◌∙◌, ◌∷◌, ◌≡◌, ◌≢◌, ap, arith, changed_at, length, List, None, Option, option_map, put_back, refl, replicate, slice_get, Some, suc, zero}
 
 module _ {X : Type 0} (f : X → X) where
   pub changed-later : (i : ℕ) (x : X) (xs : List X) → changed_at f (suc i) (x ∷ xs) ≡ x ∷ changed_at f i xs

@@ -1,9 +1,5 @@
 -- What a store holds that was opened on a disk without bytes.
-use Rattle.std.proofs.Common.{◌≡◌, List, [], ◌∷◌, ℕ, map, subst}
-use Rattle.case_store.specs.Standing.{IsStore, Opens, StoreState}
-use Rattle.store_disk.specs.Image.{HasList}
-use Rattle.store_form.specs.declared.stored.Recorded.{Recorded}
-use Rattle.store_room.specs.Room.{payload_of}
+use Rattle.case_store.proofs.Common.{[], ℕ, ◌∷◌, ◌≡◌, HasList, IsStore, List, map, Opens, payload_of, Recorded, StoreState, subst}
 
 -- it holds no record
 pub empty-store : {D : Type 0} (content : D → List ℕ) (may_leave : D → List ℕ → Type 0) (counts image : List ℕ) (store : StoreState D) → image ≡ [] → Opens content may_leave counts image store

@@ -1,32 +1,14 @@
 -- Records that are taken in one after another.
-use Rattle.std.proofs.Common.{◌≡◌, ◌≢◌, inl, inr, ℕ, ◌+◌, ◌<◌, ◌≤◌, ◌^◌, Bool, false, true, List, [], ◌∷◌, ◌++◌, length, map, take, drop, refl, sym, ap, subst, ◌∙◌, append_assoc, arith, length-append}
-use Rattle.std.specs.Prelude.{IfOk, Ok, Err, Result, fold, if◌then◌else◌}
-use Rattle.std.specs.List.{AllByRecursion}
-use Rattle.std.proofs.lemmas.Bool.{and_parts}
-use Rattle.std.proofs.lemmas.List.{length-drop, length-take-le, map-append, map_push}
-use Rattle.std.proofs.lemmas.List.Sums.{fold-append, sum_by-cons}
-use Rattle.script_run.specs.Oldest.{oldest}
-use Rattle.script_run.specs.declared.runs.Run.{Run}
-use Rattle.store_disk.specs.Disk.{IsSettled, LeavesOnly, Only}
-use Rattle.store_disk.specs.Image.{all_framed, closed, damaged, frame, frames, frames_from, frames_of, framed}
-use Rattle.store_disk.specs.Opening.{IsFrame, with_gate}
-use Rattle.store_disk.specs.Rest.{EndsAt, HasNoneOrAll, IsAtRest}
+use Rattle.case_store.proofs.Common.{[], ℕ, ◌++◌, ◌+◌, ◌<◌, ◌^◌, ◌∙◌, ◌∷◌, ◌≡◌, ◌≢◌, ◌≤◌, all_framed, AllByRecursion, and_parts, ap, append_assoc, AreCalls, AreKnown, arith, Bool, Bytes, called, closed, damaged, drop, EndsAt, Err, false}
+use Rattle.case_store.proofs.Common.{fold, fold-append, frame, framed, frames, frames_from, frames_of, fresh, has, has_names, HasNoneOrAll, HasPayload, Held, IfOk, if◌then◌else◌, inl, inr, is_shallow, IsAtRest, IsDamaged, IsDamagedFrom}
+use Rattle.case_store.proofs.Common.{IsFoldOf, IsFrame, IsPayable, IsPayloadOf, IsRefused, IsSettled, IsStore, IsTaken, LeavesOnly, length, length-append, length-drop, length-take-le, List, map, map-append, map_push, Ok, oldest, Only}
+use Rattle.case_store.proofs.Common.{Opens, payload, payload_of, Recorded, refl, refused, Result, Run, Says, starts_of, Stored, stored_weight, StoreState, subst, sum_by-cons, sym, take, TakesIn, TellsDamage, true, weight_of_all, with_gate}
+use Rattle.case_store.proofs.{Cells.fresh-young, Weights.weight-below}
 use Rattle.store_disk.specs.declared.frames.Frame.TheVariants as front
 use Rattle.store_disk.proofs.Framing.{all_short, framed-more, frames_at, one_framed}
-use Rattle.store_form.specs.Payload.{Bytes, IsPayloadOf, payload}
-use Rattle.store_form.specs.Stored.{is_shallow}
-use Rattle.store_form.specs.declared.stored.Recorded.{Recorded}
-use Rattle.store_form.specs.declared.stored.Stored.{Stored}
-use Rattle.store_room.specs.Room.{HasPayload, IsPayable, payload_of}
 use Rattle.store_room.proofs.Grouped.{own-payload}
-use Rattle.case_store.specs.Damage.{IsDamaged, IsDamagedFrom, IsRefused, IsTaken, Says, TakesIn, TellsDamage}
-use Rattle.case_store.specs.Faults.{refused}
-use Rattle.case_store.specs.Folding.{called, fresh, has, has_names, starts_of, stored_weight, weight_of_all}
-use Rattle.case_store.specs.Standing.{AreCalls, AreKnown, Held, IsFoldOf, IsStore, Opens, StoreState}
 use Rattle.case_store.specs.declared.refusals.ImageFault.{ImageFault}
 use Rattle.case_store.specs.declared.refusals.ImageFault.TheVariants as fault
-use Rattle.case_store.proofs.Cells.{fresh-young}
-use Rattle.case_store.proofs.Weights.{weight-below}
 
 -- calls behind others
 calls-append : (starts : List ℕ) (run : Run) (rs qs : List Recorded) → AreCalls starts run rs → AreCalls starts (fold (called starts) run rs) qs → AreCalls starts run (rs ++ qs)

@@ -1,3 +1,4 @@
+pub mod Common
 mod Calling
 mod Cells
 pub mod Changes

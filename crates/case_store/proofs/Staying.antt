@@ -1,32 +1,14 @@
 -- What is there stays there, whatever is called. So calls of which each names what is there may be made one after another.
-use Rattle.std.proofs.Common.{◌≡◌, ℕ, zero, suc, ◌+◌, ◌-◌, ◌==◌, Bool, ◌&&◌, true, false, List, [], ◌∷◌, ◌++◌, length, Option, Some, None, refl, ap, ◌∙◌}
-use Rattle.std.specs.Prelude.{Ok, Err, Result, fold, nat_lt, slice_get, if◌then◌else◌}
-use Rattle.std.specs.List.{AllByRecursion}
+use Rattle.case_store.proofs.Common.{[], ℕ, ◌&&◌, ◌++◌, ◌+◌, ◌-◌, ◌==◌, ◌∙◌, ◌∷◌, ◌≡◌, AllByRecursion, and_from, and_parts, ap, AreKnown, Bool, call_kind, called, CaseId, changed_at, ClosedKind, Err, Event, false, fold, has, has_case}
+use Rattle.case_store.proofs.Common.{has_names, HasNoVersion, if◌then◌else◌, is_shallow, KindModel, length, length-set, List, made, nat_lt, None, Ok, on_version, Op, Option, put_back, Recorded, refl, Result, Run, slice_get, Some, Stored}
+use Rattle.case_store.proofs.{Common.{suc, true, version_of, version_of_kind, zero}, Changes.changed-later}
 use Rattle.std.specs.Option.{is_some}
-use Rattle.std.proofs.lemmas.Bool.{and_from, and_parts}
-use Rattle.std.proofs.lemmas.List.{length-set}
-use Rattle.case_core.specs.declared.events.Event.{Event}
 use Rattle.case_core.specs.declared.events.Event.TheVariants as event
-use Rattle.script_run.specs.Calls.{call_kind, changed_at, put_back}
-use Rattle.script_run.specs.declared.runs.ClosedKind.{ClosedKind}
-use Rattle.script_run.specs.declared.runs.Run.{Run}
-use Rattle.store_form.specs.Stored.{HasNoVersion, is_shallow}
-use Rattle.store_form.specs.declared.stored.Recorded.{Recorded}
-use Rattle.store_form.specs.declared.stored.Stored.{Stored}
 use Rattle.store_form.specs.declared.stored.Stored.TheVariants as stored
-use Rattle.type_core.specs.KindModel.{KindModel}
-use Rattle.type_core.specs.Machine.{defined_by, event_on, install_on, installed_by, newest_of, version_in, with_version}
-use Rattle.type_core.specs.declared.events.KindEvent.{KindEvent}
+use Rattle.type_core.specs.{Machine.{defined_by, event_on, install_on, installed_by, newest_of, version_in, with_version}, declared.events.KindEvent.KindEvent}
 use Rattle.type_core.specs.declared.events.KindEvent.TheVariants as kind_event
 use Rattle.type_core.specs.declared.replies.KindReply.TheVariants as reply
-use Rattle.wsm_ops.specs.declared.operations.Op.{Op}
-use Rattle.wsm_sound.specs.VersionModel.{VersionModel}
-use Rattle.wsm_sound.specs.Versions.{evolved, first_of}
-use Rattle.wsm_sound.specs.declared.faults.Fault.{Fault}
-use Rattle.wsm_sound.specs.declared.versions.CaseId.{CaseId}
-use Rattle.case_store.proofs.Changes.{changed-later}
-use Rattle.case_store.specs.Folding.{called, has, has_case, has_names, made, on_version, version_of, version_of_kind}
-use Rattle.case_store.specs.Standing.{AreKnown}
+use Rattle.wsm_sound.specs.{VersionModel.VersionModel, Versions.{evolved, first_of}, declared.faults.Fault.Fault}
 
 -- so many items as before
 changed-length : {X : Type 0} (f : X → X) (i : ℕ) (xs : List X) → length (changed_at f i xs) ≡ length xs

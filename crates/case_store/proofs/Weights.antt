@@ -1,25 +1,12 @@
 -- No stored call ages a machine by more than its payload has bytes.
-use Rattle.std.proofs.Common.{◌≡◌, ℕ, ◌+◌, ◌*◌, ◌≤◌, List, [], ◌∷◌, ◌++◌, length, Some, None, arith, length-append}
-use Rattle.std.specs.Prelude.{flat_map}
-use Rattle.std.proofs.lemmas.List.{length-map}
-use Rattle.case_core.specs.declared.events.Event.{Event}
+use Rattle.case_store.proofs.Common.{[], ℕ, ◌*◌, ◌++◌, ◌+◌, ◌∷◌, ◌≡◌, ◌≤◌, arith, Bytes, case_bytes, CaseId, Event, flat_map, lanes_bytes, length, length-append, length-map, List, listed, None, Op, op_bytes, part_bytes, part_count}
+use Rattle.case_store.proofs.Common.{parts_bytes, payload, schema_bytes, Some, Stored, stored_weight, u32, weight}
 use Rattle.case_core.specs.declared.events.Event.TheVariants as event
-use Rattle.case_core.specs.Ages.{weight}
-use Rattle.wsm_ops.specs.declared.operations.Op.{Op}
 use Rattle.wsm_ops.specs.declared.operations.Op.TheVariants as op
-use Rattle.wsm_schema.specs.Flat.{cards_of, card_of}
-use Rattle.wsm_schema.specs.Ends.{first_node, last_of}
-use Rattle.wsm_schema.specs.Places.{branch_heads, lanes_places, labelled, part_places, parts_places, place, places, plain_end, split_kind}
-use Rattle.wsm_schema.specs.SchemaModel.{SchemaModel}
-use Rattle.wsm_schema.specs.Tree.{Part, Parts, Lanes, act, gate, loop, nothing, part, no_lane, lane}
-use Rattle.wsm_schema.specs.declared.cards.End.{End}
+use Rattle.wsm_schema.specs.{Flat.{cards_of, card_of}, Ends.{first_node, last_of}, Places.{branch_heads, lanes_places, labelled, part_places, parts_places, place, places, plain_end, split_kind}, SchemaModel.SchemaModel, Tree.{Part, Parts}}
+use Rattle.wsm_schema.specs.{Tree.{Lanes, act, gate, loop, nothing, part, no_lane, lane}, declared.cards.End.End}
 use Rattle.wsm_schema.specs.declared.cards.NodeKind.TheVariants.{LoopStart, Start}
-use Rattle.wsm_sound.specs.declared.versions.CaseId.{CaseId}
-use Rattle.store_form.specs.Payload.{Bytes, case_bytes, lanes_bytes, listed, op_bytes, part_bytes, parts_bytes, payload, schema_bytes, u32}
-use Rattle.store_form.specs.Stored.{part_count}
-use Rattle.store_form.specs.declared.stored.Stored.{Stored}
 use Rattle.store_form.specs.declared.stored.Stored.TheVariants as stored
-use Rattle.case_store.specs.Folding.{stored_weight}
 
 -- what stands in front, and what behind, makes bytes no shorter
 behind : (front bytes : Bytes) (n : ℕ) → n ≤ length bytes → n ≤ length (front ++ bytes)

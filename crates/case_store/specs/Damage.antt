@@ -2,13 +2,9 @@
 use Rattle.std.specs.Prelude.{◌≡◌, ◌⊎◌, ℕ, ◌<◌, ◌≤◌, ◌^◌, Bool, false, true, List, length, Result, Ok, Err}
 use Rattle.script_run.specs.declared.runs.Run.{Run}
 use Rattle.store_disk.specs.Image.{Frames, closed, damaged, frame, frames}
-use Rattle.store_form.specs.Payload.{Bytes, IsPayloadOf, IsPayloadOfNone}
-use Rattle.store_form.specs.declared.stored.Recorded.{Recorded}
-use Rattle.case_store.specs.Folding.{called, fresh, has, starts_of}
-use Rattle.case_store.specs.Standing.{Held, StoreState}
-use Rattle.case_store.specs.declared.refusals.ImageFault.{ImageFault}
+use Rattle.store_form.specs.{Payload.{Bytes, IsPayloadOf, IsPayloadOfNone}, declared.stored.Recorded.Recorded}
+use Rattle.case_store.specs.{Folding.{called, fresh, has, starts_of}, Standing.{Held, StoreState}, declared.refusals.ImageFault.ImageFault, declared.refusals.OpenRefusal.OpenRefusal}
 use Rattle.case_store.specs.declared.refusals.ImageFault.TheVariants as fault
-use Rattle.case_store.specs.declared.refusals.OpenRefusal.{OpenRefusal}
 use Rattle.case_store.specs.declared.refusals.OpenRefusal.TheVariants as refusal
 
 -- bytes that are the payload of none, or of a call that names what is not there

@@ -1,11 +1,9 @@
 -- Faults that stand for one another.
 use Rattle.adept_io.specs.declared.reading.ReadRefusal.{ReadRefusal}
 use Rattle.adept_io.specs.declared.reading.ReadRefusal.TheVariants as read
-use Rattle.case_store.specs.declared.refusals.ImageFault.{ImageFault}
+use Rattle.case_store.specs.{declared.refusals.ImageFault.ImageFault, declared.refusals.OpenRefusal.OpenRefusal, declared.refusals.StoreFault.StoreFault}
 use Rattle.case_store.specs.declared.refusals.ImageFault.TheVariants as fault
-use Rattle.case_store.specs.declared.refusals.OpenRefusal.{OpenRefusal}
 use Rattle.case_store.specs.declared.refusals.OpenRefusal.TheVariants as refusal
-use Rattle.case_store.specs.declared.refusals.StoreFault.{StoreFault}
 use Rattle.case_store.specs.declared.refusals.StoreFault.TheVariants as store_fault
 use Rattle.store_room.specs.declared.faults.RoomFault.{RoomFault}
 use Rattle.store_room.specs.declared.faults.RoomFault.TheVariants as room_fault

@@ -1,27 +1,14 @@
 -- What stored calls do to the types and cases of a store, by fold, and what they answer.
-use Rattle.std.specs.Prelude.{ℕ, ◌+◌, nat_lt, Bool, ◌&&◌, List, [], ◌∷◌, ◌++◌, length, slice_get, fold, Option, Some, None, if◌then◌else◌}
-use Rattle.std.specs.List.{sum_by}
-use Rattle.std.specs.Option.{is_some}
-use Rattle.std.specs.Prelude.{replicate}
-use Rattle.case_core.specs.Ages.{weight}
-use Rattle.case_core.specs.CaseModel.{not_created}
-use Rattle.case_core.specs.Machine.{next_case}
-use Rattle.case_core.specs.declared.events.Event.{Event}
+use Rattle.std.specs.{Prelude.{ℕ, ◌+◌, nat_lt, Bool, ◌&&◌, List, [], ◌∷◌, ◌++◌, length, slice_get, fold, Option, Some, None, if◌then◌else◌, replicate}, List.sum_by, Option.is_some}
+use Rattle.case_core.specs.{Ages.weight, CaseModel.not_created, Machine.next_case, declared.events.Event.Event}
 use Rattle.case_core.specs.declared.events.Event.TheVariants as event
-use Rattle.type_core.specs.KindModel.{not_defined}
+use Rattle.type_core.specs.{KindModel.not_defined, declared.events.KindEvent.KindEvent}
 use Rattle.type_core.specs.Machine.{next_kind, version_in, weight as kind_weight}
-use Rattle.type_core.specs.declared.events.KindEvent.{KindEvent}
 use Rattle.type_core.specs.declared.events.KindEvent.TheVariants as kind_event
-use Rattle.script_run.specs.Calls.{call_case, changed_where, on_kind}
-use Rattle.script_run.specs.declared.runs.ClosedCase.{ClosedCase}
-use Rattle.script_run.specs.declared.runs.ClosedKind.{ClosedKind}
-use Rattle.script_run.specs.declared.runs.Run.{Run}
-use Rattle.store_form.specs.Stored.{is_shallow}
-use Rattle.store_form.specs.declared.stored.Recorded.{Recorded}
-use Rattle.store_form.specs.declared.stored.Stored.{Stored}
+use Rattle.script_run.specs.{Calls.{call_case, changed_where, on_kind}, declared.runs.ClosedCase.ClosedCase, declared.runs.ClosedKind.ClosedKind, declared.runs.Run.Run}
+use Rattle.store_form.specs.{Stored.is_shallow, declared.stored.Recorded.Recorded, declared.stored.Stored.Stored}
 use Rattle.store_form.specs.declared.stored.Stored.TheVariants as stored
-use Rattle.wsm_sound.specs.VersionModel.{VersionModel}
-use Rattle.wsm_sound.specs.declared.versions.CaseId.{CaseId}
+use Rattle.wsm_sound.specs.{VersionModel.VersionModel, declared.versions.CaseId.CaseId}
 use Rattle.case_store.specs.declared.replies.StoredReply.{StoredReply}
 use Rattle.case_store.specs.declared.replies.StoredReply.TheVariants as answer
 

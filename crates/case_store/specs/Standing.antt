@@ -1,12 +1,8 @@
 -- A store as contracts see it, and what it holds.
 use Rattle.std.specs.Prelude.{◌≡◌, ℕ, ◌<◌, ◌≤◌, ◌^◌, Bool, true, List, [], ◌∷◌, map, take}
-use Rattle.script_run.specs.Oldest.{oldest}
-use Rattle.script_run.specs.declared.runs.Run.{Run}
-use Rattle.store_disk.specs.Disk.{LeavesOnly}
-use Rattle.store_disk.specs.Image.{HasList}
-use Rattle.store_disk.specs.Rest.{HasNoneOrAll, IsAtRest}
-use Rattle.store_form.specs.Stored.{HasNoVersion}
-use Rattle.store_form.specs.declared.stored.Recorded.{Recorded}
+use Rattle.script_run.specs.{Oldest.oldest, declared.runs.Run.Run}
+use Rattle.store_disk.specs.{Disk.LeavesOnly, Image.HasList, Rest.{HasNoneOrAll, IsAtRest}}
+use Rattle.store_form.specs.{Stored.HasNoVersion, declared.stored.Recorded.Recorded}
 use Rattle.store_room.specs.Room.{HasPayload, payload_of}
 use Rattle.case_store.specs.Folding.{called, folded, has, starts_of}
 

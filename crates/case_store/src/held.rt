@@ -1,19 +1,11 @@
 // The types and cases of a store, which the records make by fold.
-ghost use Rattle.std.specs.Prelude.{◌≡◌, ℕ, ◌+◌, ◌<◌, ◌≤◌, ◌^◌, List, ◌++◌, ◌∷◌, [], Some, true, fold, length, map, slice_get, sum, IfOk, IfErr, OnErr, OnOk, if◌then◌else◌};
-ghost use Rattle.std.specs.Prelude.{replicate};
-ghost use Rattle.std.specs.Option.{is_some, option_copied};
-ghost use Rattle.case_core.specs.Ages.{age, weight};
-ghost use Rattle.case_core.specs.CaseModel.{not_created};
-ghost use Rattle.case_core.specs.Machine.{next_case};
-ghost use Rattle.case_store.specs.Damage.{TakesIn, TellsDamage};
-ghost use Rattle.case_store.specs.Folding.{answer_of, answer_of_case, answers_of, called, fresh, fresh_cases, fresh_kinds, has, has_case, has_names, kind_answer, made, on_case, place_of, starts_of, stored_weight, version_of, weight_of_all};
-ghost use Rattle.case_store.specs.Standing.{AreKnown, IsFoldOf};
-ghost use Rattle.script_run.specs.Calls.{call_case, call_kind, on_kind};
-ghost use Rattle.script_run.specs.Oldest.{oldest};
-ghost use Rattle.store_disk.specs.Opening.{with_gate};
-ghost use Rattle.store_disk.specs.Rest.{EndsAt};
-ghost use Rattle.store_form.specs.Stored.{HasNoVersion};
-ghost use Rattle.store_form.specs.declared.stored.Recorded.{Recorded};
+ghost use Rattle.std.specs.{Prelude.{◌≡◌, ℕ, ◌+◌, ◌<◌, ◌≤◌, ◌^◌, List, ◌++◌, ◌∷◌, [], Some, true, fold, length, map, slice_get, sum, IfOk, IfErr, OnErr, OnOk, if◌then◌else◌, replicate}, Option.{is_some, option_copied}};
+ghost use Rattle.case_core.specs.{Ages.{age, weight}, CaseModel.not_created, Machine.next_case};
+ghost use Rattle.case_store.specs.{Damage.{TakesIn, TellsDamage}, Folding.{answer_of, answer_of_case, answers_of, called, fresh, fresh_cases, fresh_kinds, has, has_case, has_names, kind_answer, made, on_case, place_of, starts_of}};
+ghost use Rattle.case_store.specs.{Folding.{stored_weight, version_of, weight_of_all}, Standing.{AreKnown, IsFoldOf}};
+ghost use Rattle.script_run.specs.{Calls.{call_case, call_kind, on_kind}, Oldest.oldest};
+ghost use Rattle.store_disk.specs.{Opening.with_gate, Rest.EndsAt};
+ghost use Rattle.store_form.specs.{Stored.HasNoVersion, declared.stored.Recorded.Recorded};
 ghost use Rattle.store_room.specs.Room.{payload_of};
 ghost use Rattle.turn_cell.specs.History.{entry};
 ghost use Rattle.type_core.specs.Machine.{next_kind, weight as kind_weight};

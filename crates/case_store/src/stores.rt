@@ -1,20 +1,10 @@
 // The store.
-ghost use Rattle.std.specs.Prelude.{◌≡◌, ◌+◌, ◌<◌, ◌≤◌, ◌^◌, ◌++◌, ◌∷◌, [], ◌≢◌, ◌⊎◌, ◌↔◌, ℕ, List, Some, false, true, get_or, length, map, max, sum, take, IfOk, IfErr, OnErr, OnOk, IsErrOf};
-ghost use Rattle.std.specs.List.{AllByRecursion};
+ghost use Rattle.std.specs.{Prelude.{◌≡◌, ◌+◌, ◌<◌, ◌≤◌, ◌^◌, ◌++◌, ◌∷◌, [], ◌≢◌, ◌⊎◌, ◌↔◌, ℕ, List, Some, false, true, get_or, length, map, max, sum, take, IfOk, IfErr, OnErr, OnOk, IsErrOf}, List.AllByRecursion};
 ghost use Rattle.adept_io.specs.Counts.{Rose};
-ghost use Rattle.store_disk.specs.Disk.{LeavesOnly};
-ghost use Rattle.store_disk.specs.Image.{HasList, all_framed};
-ghost use Rattle.store_disk.specs.Opening.{HoldsAsBefore, with_gate};
-ghost use Rattle.store_disk.specs.Rest.{HasNoneOrAll, IsBeforeOrAfter, appended, group_appended};
-ghost use Rattle.store_form.specs.Payload.{IsPayloadOf, payload};
-ghost use Rattle.store_form.specs.Stored.{HasNoVersion, is_shallow};
-ghost use Rattle.store_form.specs.declared.stored.Recorded.{Recorded};
-ghost use Rattle.store_room.specs.Groups.{IsFirstGroup};
-ghost use Rattle.store_room.specs.Room.{HasPayload, Overflows, Passes, payload_of};
-ghost use Rattle.case_store.specs.Damage.{Says, disk_of};
-ghost use Rattle.case_store.specs.Folding.{answer_of, answers_of, has, place_of};
-ghost use Rattle.case_store.specs.Standing.{AddsFirst, AreKnown, IsStore, Opens, Past};
-ghost use Rattle.case_store.specs.Faults.{refused};
+ghost use Rattle.store_disk.specs.{Disk.LeavesOnly, Image.{HasList, all_framed}, Opening.{HoldsAsBefore, with_gate}, Rest.{HasNoneOrAll, IsBeforeOrAfter, appended, group_appended}};
+ghost use Rattle.store_form.specs.{Payload.{IsPayloadOf, payload}, Stored.{HasNoVersion, is_shallow}, declared.stored.Recorded.Recorded};
+ghost use Rattle.store_room.specs.{Groups.IsFirstGroup, Room.{HasPayload, Overflows, Passes, payload_of}};
+ghost use Rattle.case_store.specs.{Damage.{Says, disk_of}, Folding.{answer_of, answers_of, has, place_of}, Standing.{AddsFirst, AreKnown, IsStore, Opens, Past}, Faults.refused};
 
 use crate::held::HeldCells;
 use crate::refusals::{ImageFault, OpenRefusal, StoreFault};

@@ -2,18 +2,10 @@
 use Rattle.std.proofs.Common.{◌≡◌, ℕ, Bool, true, false, ◌&&◌, ◌||◌, not, cond, eqb, ltb, List, [], ◌∷◌, ◌++◌, map, filter, fold, refl, ap, sym, ◌∙◌, subst, append_assoc, inl, inr, arith, Option, Some, None, is_some}
 use Rattle.std.proofs.lemmas.Bool.{cases_Bool, both_ways, and_parts, or_cases, eqb-true, eq-eqb, ltb-true}
 use Rattle.case_writes.specs.Writes.{only, only_value, writes_to, is_right, is_wrong, number_key, ascending, wrong_elements, by_element}
-use Rattle.wsm_lists.specs.declared.values.ElementKind.{ElementKind}
-use Rattle.wsm_lists.specs.declared.values.Value.{Value}
-use Rattle.wsm_lists.specs.Keys.{first}
-use Rattle.wsm_lists.specs.Rows.{AllRows, Ascends, key_lt, key_eq, put_row, row_at}
-use Rattle.wsm_lists.specs.Values.{Written}
-use Rattle.wsm_lists.proofs.Lists.{rows-parts, rows-map}
-use Rattle.wsm_lists.proofs.Rows.{ascends_put, all_put}
+use Rattle.wsm_lists.specs.{declared.values.ElementKind.ElementKind, declared.values.Value.Value, Keys.first, Rows.{AllRows, Ascends, key_lt, key_eq, put_row, row_at}, Values.Written}
+use Rattle.wsm_lists.proofs.{Lists.{rows-parts, rows-map}, Rows.{ascends_put, all_put}, ByNumber.{lt_number, eq_number, row_at-put}}
 use Rattle.wsm_marks.proofs.NoFault.{not_false}
-use Rattle.wsm_schema.specs.Flat.{kind_in}
-use Rattle.wsm_schema.specs.Replay.{fits_edges, is_of_kind}
-use Rattle.wsm_schema.specs.Trail.{is_one_of}
-use Rattle.wsm_lists.proofs.ByNumber.{lt_number, eq_number, row_at-put}
+use Rattle.wsm_schema.specs.{Flat.kind_in, Replay.{fits_edges, is_of_kind}, Trail.is_one_of}
 
 -- ---- an empty answer
 is_empty : {X : Type 0} → List X → Bool

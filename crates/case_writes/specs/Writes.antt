@@ -1,13 +1,7 @@
 -- Which of the values that an end brings are wrong, and how right ones are recorded.
 use Rattle.std.specs.Prelude.{ℕ, Bool, false, ◌&&◌, not, List, [], ◌∷◌, ◌++◌, map, filter, fold, Option, Some, None, ◌==◌}
-use Rattle.wsm_lists.specs.declared.values.Value.{Value}
-use Rattle.wsm_lists.specs.Keys.{first}
-use Rattle.wsm_lists.specs.Rows.{put_row}
-use Rattle.wsm_lists.specs.Values.{Written}
-use Rattle.wsm_lists.specs.declared.values.ElementKind.{ElementKind}
-use Rattle.wsm_schema.specs.Flat.{kind_in}
-use Rattle.wsm_schema.specs.Replay.{is_of_kind}
-use Rattle.wsm_schema.specs.Trail.{is_one_of}
+use Rattle.wsm_lists.specs.{declared.values.Value.Value, Keys.first, Rows.put_row, Values.Written, declared.values.ElementKind.ElementKind}
+use Rattle.wsm_schema.specs.{Flat.kind_in, Replay.is_of_kind, Trail.is_one_of}
 
 -- the value of the only write
 abbrev pub only : Value → Written → Option Value

@@ -1,11 +1,9 @@
 //! The values that the end of a node brings: which of them are wrong, and how right ones are recorded.
 #![tactic(auto)]
 
-ghost use Rattle.std.specs.Prelude.{◌≡◌, ℕ, List, [], ◌++◌, map, filter, fold, IfOk, OnOk};
-ghost use Rattle.std.specs.Option.{option_copied};
+ghost use Rattle.std.specs.{Prelude.{◌≡◌, ℕ, List, [], ◌++◌, map, filter, fold, IfOk, OnOk}, Option.option_copied};
 ghost use Rattle.case_writes.specs.Writes.{number_key, is_wrong, is_right, only_value, writes_to, wrong_elements, by_element};
-ghost use Rattle.wsm_lists.specs.Keys.{first};
-ghost use Rattle.wsm_lists.specs.Rows.{put_row};
+ghost use Rattle.wsm_lists.specs.{Keys.first, Rows.put_row};
 ghost use Rattle.wsm_schema.specs.Trail.{is_one_of};
 
 use std::alloc::Global;

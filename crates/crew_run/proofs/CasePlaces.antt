@@ -1,17 +1,7 @@
 -- A declared case stands at its place where each type has as many as are declared.
-use Rattle.std.proofs.Common.{◌≡◌, ℕ, zero, suc, ◌<◌, true, List, [], ◌∷◌, length, map, get_or, Some, slice_get, IsSome, is_some, refl, sym, ap, ◌∙◌, arith}
+use Rattle.crew_run.proofs.Common.{[], ℕ, ◌<◌, ◌∙◌, ◌∷◌, ◌≡◌, any_passes_from_place, ap, AreCounts, arith, at_case, CaseDecl, CaseId, cases_of_type, declared-placed, declared-typed, File, get_or, has_id, in_row, is_some, IsDeclared, IsSome}
+use Rattle.crew_run.proofs.Common.{IsWorkable, length, List, map, refl, slice_get, slice_get-get_or, Some, suc, sym, there_at, true, zero}
 use Rattle.std.proofs.lemmas.Bool.{eq-eqb}
-use Rattle.std.proofs.lemmas.Option.{slice_get-get_or}
-use Rattle.std.proofs.lemmas.Map.Keys.{any_passes_from_place}
-use Rattle.adept_server.proofs.Rows.{there_at}
-use Rattle.adept_server.specs.Desks.{at_case, in_row}
-use Rattle.crew_run.specs.CaseCounts.{AreCounts}
-use Rattle.file_facts.proofs.Cases.{declared-typed, declared-placed}
-use Rattle.file_facts.specs.Facts.{IsDeclared, IsWorkable}
-use Rattle.file_model.specs.CaseCounts.{cases_of_type, has_id}
-use Rattle.file_model.specs.declared.files.CaseDecl.{CaseDecl}
-use Rattle.file_model.specs.declared.files.File.{File}
-use Rattle.wsm_sound.specs.declared.versions.CaseId.{CaseId}
 
 -- a declared case has the id that it was declared with
 own-id : (d : CaseDecl) → has_id d.id d ≡ true

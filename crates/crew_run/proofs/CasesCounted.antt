@@ -1,14 +1,8 @@
 -- Counting the cases of each type.
-use Rattle.std.proofs.Common.{◌+◌, ◌<◌, ◌==◌, ◌∙◌, ◌≡◌, ◌≢◌, ◌≤◌, ℕ, zero, suc, List, length, Some, ap, arith, eq-eqb, false, get_or, inl, inr, ne_eqb, refl, replicate, set, slice_get, subst, sum, sym, take, true}
-use Rattle.std.proofs.Math.ListN.{length-set}
-use Rattle.std.proofs.lemmas.List.{length-replicate, take_all}
-use Rattle.std.proofs.lemmas.List.Sums.{count_by_more_no, count_by_more_yes, get_or-le-sum_by, sum_by-set}
-use Rattle.std.proofs.lemmas.Option.{get_or_from_slice_get}
+use Rattle.crew_run.proofs.Common.{ℕ, ◌+◌, ◌<◌, ◌==◌, ◌∙◌, ◌≡◌, ◌≢◌, ◌≤◌, ap, arith, CaseDecl, cases_of_type, count_by_more_no, count_by_more_yes, eq-eqb, false, get-set_same, get_or, get_or-le-sum_by, get_or_from_slice_get, inl, inr}
+use Rattle.crew_run.proofs.Common.{length, length-replicate, length-set, List, ne_eqb, refl, replicate, set, slice_get, Some, stays_or_set, subst, suc, sum, sum_by-set, sym, take, take_all, true, zero}
 use mathlib.Core.Logic.{dite}
 use native.Mathlib.Decide.{ℕ_discrete}
-use Rattle.adept_server.proofs.Places.{get-set_same, stays_or_set}
-use Rattle.file_model.specs.CaseCounts.{cases_of_type}
-use Rattle.file_model.specs.declared.files.CaseDecl.{CaseDecl}
 
 replicate_at : (n t x : ℕ) → t < n → slice_get (replicate n x) t ≡ Some x
 replicate_at zero t x lt = absurd (omega arith)

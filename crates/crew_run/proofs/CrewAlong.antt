@@ -1,36 +1,12 @@
 -- A crew before the first phase, and behind one phase more.
-use Rattle.std.proofs.Common.{◌+◌, ◌∙◌, ◌≡◌, ◌≤◌, ◌==◌, ℕ, suc, List, [], ◌++◌, ◌∷◌, length, Option, Some, ap, arith, inl, inr, length-append, refl, slice_get, subst, sym, take}
-use Rattle.std.proofs.lemmas.List.Concat.{flat_map-append}
-use Rattle.std.specs.List.{AllZip}
-use Rattle.std.specs.Prelude.{flat_map}
-use Rattle.std.proofs.lemmas.List.Elements.{filter-append}
-use Rattle.std.proofs.lemmas.List.{append-nil}
-use Rattle.adept_actor.proofs.Desks.{case-there}
-use Rattle.adept_server.proofs.Zips.{beside}
-use Rattle.adept_server.specs.Desks.{CasePass, DeskView, IsDeskOf, KindPass, at_case, desk_view}
-use Rattle.adept_server.specs.declared.desks.Desk.{Desk}
-use Rattle.adept_server.specs.declared.servers.Server.{Server}
-use Rattle.case_core.specs.Machine.{case_after, case_reply}
-use Rattle.crew_run.proofs.DesksCanWork.{shape-of}
-use Rattle.crew_run.proofs.DesksMeet.{beside-shape}
-use Rattle.crew_run.proofs.OneCell.{IsCell, done-more, kept-first, kept-more}
-use Rattle.crew_run.proofs.SideBySide.{beside-case, made-at, made-at_case, zip-back}
+use Rattle.crew_run.proofs.Common.{[], ℕ, ◌++◌, ◌+◌, ◌==◌, ◌∙◌, ◌∷◌, ◌≡◌, ◌≤◌, AllZip, ap, append-nil, AreFew, AreHired, AreMet, AreTraces, arith, at_case, beside, Call, calls_of_case, calls_of_kind, case_after, case_at, case_reply, CaseId}
+use Rattle.crew_run.proofs.Common.{CasePass, Defines, Desk, desk_view, DeskHeard, DeskView, done_by, File, filter-append, flat_map-append, HasShape, Heard, inl, inr, IsActor, IsAlong, IsCrew, IsDefinedUpTo, IsDeskOf, IsTrace, joined}
+use Rattle.crew_run.proofs.Common.{kind_after, kind_at, kind_reply, KindPass, length, length-append, Line, lines_of, lines_upto, List, Option, PhaseWorked, refl, roles_of, SeenSame, Server, slice_get, Some, subst, suc, sym, take, there-as}
+use Rattle.crew_run.proofs.{Common.{Trace, Tries, Worker}, DesksCanWork.shape-of, DesksMeet.beside-shape, OneCell.{IsCell, done-more, kept-first, kept-more}, SideBySide.{beside-case, made-at, made-at_case, zip-back}}
 use Rattle.crew_run.proofs.TypesDefined.{shape-defined}
-use Rattle.crew_run.specs.Crew.{AreHired, AreMet, Defines, HasShape, IsCrew, IsDefinedUpTo}
-use Rattle.crew_run.specs.Desks.{DeskHeard, Heard, SeenSame, case_at, kind_at}
-use Rattle.crew_run.specs.Phases.{AreFew, IsAlong, PhaseWorked, Tries, lines_upto}
-use Rattle.crew_run.specs.declared.workers.Worker.{Worker}
-use Rattle.file_model.specs.declared.files.File.{File}
-use Rattle.file_model.specs.declared.files.Line.{Line}
-use Rattle.legal_run.proofs.OnMachines.{calls_of_case-append, calls_of_kind-append}
-use Rattle.legal_run.proofs.OncePerLine.{case_once_begun, case_once_per_line, kind_once_begun, kind_once_per_line}
-use Rattle.legal_run.proofs.Places.{there-as}
-use Rattle.legal_run.specs.Legal.{AreTraces, IsActor, IsTrace, Trace, done_by}
-use Rattle.legal_run.specs.LineCalls.{Call, calls_of_case, calls_of_kind, lines_of}
-use Rattle.line_calls.specs.Files.{roles_of}
-use Rattle.turn_cell.specs.Passes.{joined}
-use Rattle.type_core.specs.Machine.{kind_after, kind_reply}
-use Rattle.wsm_sound.specs.declared.versions.CaseId.{CaseId}
+use Rattle.std.specs.Prelude.{flat_map}
+use Rattle.adept_actor.proofs.Desks.{case-there}
+use Rattle.legal_run.proofs.{OnMachines.{calls_of_case-append, calls_of_kind-append}, OncePerLine.{case_once_begun, case_once_per_line, kind_once_begun, kind_once_per_line}}
 
 -- ---- cells
 pub kind-cell : (t : ℕ) → IsCell (kind_at t) (calls_of_kind t) kind_after kind_reply

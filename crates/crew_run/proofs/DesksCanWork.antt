@@ -1,24 +1,10 @@
 -- Desks that can work each line of a file.
-use Rattle.std.proofs.Common.{◌<◌, ◌∙◌, ◌≡◌, ◌≤◌, ℕ, List, [], ◌∷◌, length, map, None, Option, Some, ap, arith, refl, slice_get, subst, sym}
-use Rattle.std.proofs.lemmas.Option.{get_or_from_slice_get}
+use Rattle.crew_run.proofs.Common.{[], ℕ, ◌<◌, ◌∙◌, ◌∷◌, ◌≡◌, ◌≤◌, AllRows, ap, AreCounts, arith, beside, CanAct, CanWork, case_count, cases_of_type, declared-typed, DeskHeard, DeskSame, DeskView, File, get_or_from_slice_get, has_more}
+use Rattle.crew_run.proofs.Common.{has_version, HasShape, HasShapeOf, Heard, IsDefinedFor, IsKnown, IsKnownAct, IsWorkable, kind_at, KindPass, KnowsTypes, length, Line, List, map, None, Option, prefix_self, refl, SeenSame, slice_get, Some}
+use Rattle.crew_run.proofs.{Common.{subst, sym}, CasePlaces.{has-declared, row_counted}}
 use mathlib.Core.List.{IsPrefix}
-use Rattle.adept_actor.specs.Work.{CanAct, CanWork}
-use Rattle.adept_server.proofs.Keeping.{has_more}
-use Rattle.adept_server.proofs.Zips.{beside}
-use Rattle.adept_server.specs.Desks.{DeskView, IsDefinedFor, KindPass, case_count, has_version}
-use Rattle.crew_run.proofs.CasePlaces.{has-declared, row_counted}
-use Rattle.crew_run.specs.CaseCounts.{AreCounts}
-use Rattle.crew_run.specs.Crew.{HasShape, KnowsTypes}
-use Rattle.crew_run.specs.Desks.{DeskHeard, DeskSame, HasShapeOf, Heard, SeenSame, kind_at}
-use Rattle.file_facts.proofs.Cases.{declared-typed}
-use Rattle.file_facts.specs.Facts.{IsKnown, IsKnownAct, IsWorkable}
-use Rattle.file_model.specs.CaseCounts.{cases_of_type}
 use Rattle.file_model.specs.declared.files.Act.{Act}
 use Rattle.file_model.specs.declared.files.Act.TheVariants as act
-use Rattle.file_model.specs.declared.files.File.{File}
-use Rattle.file_model.specs.declared.files.Line.{Line}
-use Rattle.turn_cell.proofs.Prefixes.{prefix_self}
-use Rattle.wsm_lists.specs.Rows.{AllRows}
 
 pub shape-of : (f : File) (v w : DeskView) → HasShapeOf v w → HasShape f v → HasShape f w
 shape-of f v w (types, rows) k = record { types = types ∙ k.types; counted = subst (AreCounts f) (sym rows) k.counted }

@@ -1,21 +1,9 @@
 -- What two desks have seen once they have met.
-use Rattle.std.proofs.Common.{◌<◌, ◌≤◌, ◌∙◌, ◌≡◌, ℕ, zero, suc, List, [], ◌∷◌, length, Bool, Some, ap, arith, false, if◌then◌else◌, length-append, ltb, refl, slice_get, subst, sym, true}
-use Rattle.std.proofs.lemmas.Bool.{ltb-true}
-use Rattle.std.proofs.lemmas.Slice.Zip.{AllZip-long}
-use Rattle.std.specs.List.{AllZip}
+use Rattle.crew_run.proofs.Common.{[], ℕ, ◌<◌, ◌∙◌, ◌∷◌, ◌≡◌, ◌≤◌, AllCalled, AllZip, AllZip-long, ap, AreLevelDesks, arith, at_case, Beside, Bool, CallFlags, CasePass, DeskHeard, DeskSame, DeskView, Entry, false, first_desk_met, first_met}
+use Rattle.crew_run.proofs.Common.{HasPassesOf, HasShapeOf, Heard, if◌then◌else◌, in_row, IsSeenBy, KindPass, length, length-append, List, longer-same, ltb, ltb-true, PassView, prefix_self, prefix_trans, refl, second_desk_met, second_met}
+use Rattle.crew_run.proofs.{Common.{seen_of, SeenSame, SeesMore, slice_get, Some, subst, suc, sym, true, zero, zip_with}, SideBySide.{made-beside, made-first, made-same, made-second, zip-back, zip-rows, zip-self, zip-so, zip-then}}
 use mathlib.Core.List.{IsPrefix}
-use Rattle.adept_server.specs.Desks.{CasePass, DeskView, KindPass, at_case, in_row}
-use Rattle.adept_server.specs.Noting.{AllCalled, AreLevelDesks}
-use Rattle.adept_server.specs.Opening.{SeesMore, first_desk_met, second_desk_met}
-use Rattle.adept_server.specs.declared.call_flags.CallFlags.{CallFlags}
-use Rattle.crew_run.proofs.SideBySide.{made-beside, made-first, made-same, made-second, zip-back, zip-rows, zip-self, zip-so, zip-then}
-use Rattle.crew_run.specs.Desks.{Beside, DeskHeard, DeskSame, HasPassesOf, HasShapeOf, Heard, SeenSame}
-use Rattle.turn_cell.proofs.Prefixes.{prefix_self, prefix_trans}
-use Rattle.turn_cell.specs.Passes.{PassView}
 use Rattle.turn_cell.specs.Rule.{longer}
-use Rattle.turn_cell.specs.declared.journal.Entry.{Entry}
-use Rattle.turn_rows.proofs.Meetings.{longer-same}
-use Rattle.turn_rows.specs.Rows.{IsSeenBy, first_met, second_met, seen_of, zip_with}
 
 -- ---- passes
 module _ {M E R W S : Type 0} where

@@ -1,29 +1,10 @@
 -- A full journal that one of the crew met was seen by the first desk once all have met.
-use Rattle.std.proofs.Common.{◌∙◌, ◌<◌, ◌≡◌, ◌≤◌, ℕ, List, length, Any, Bool, Err, IfErr, IsErrAnd, None, Ok, Option, Result, Some, ap, arith, length-append, refl, slice_get, subst, sym, true}
+use Rattle.crew_run.proofs.Common.{ℕ, ◌<◌, ◌∙◌, ◌≡◌, ◌≤◌, Any, ap, AreMet, arith, beside, Bool, CallFault, CallsKind, desk_view, DeskView, ended, Err, File, HasWorked, IfErr, is_full_fault, IsErrAnd, IsSeenBy, KindEvent, length}
+use Rattle.crew_run.proofs.Common.{length-append, Line, List, list_any, None, of_case, of_kind, Ok, Option, refl, Result, roles_of, SeesFull, SeesMany, SeesMore, Server, set-here, slice_get, slice_get-get_or, Some, subst, sym, there-as}
+use Rattle.crew_run.proofs.{Common.{true, Worker, WorksLines}, DesksMeet.{heard-is-more, same-is-seen}, SideBySide.beside-case}
 use Rattle.std.proofs.lemmas.List.Folds.{Any-from_list_any}
-use Rattle.std.proofs.lemmas.Option.{slice_get-get_or}
-use Rattle.std.specs.List.{list_any}
-use Rattle.adept_actor.specs.Work.{SeesFull, WorksLines}
 use Rattle.adept_actor.specs.Work.SeesFull.{of_case as case_is_full, of_kind as kind_is_full}
-use Rattle.adept_server.proofs.Zips.{beside}
-use Rattle.adept_server.specs.Calling.{CallsKind}
-use Rattle.adept_server.specs.Desks.{DeskView, desk_view}
-use Rattle.adept_server.specs.Opening.{SeesMore}
-use Rattle.adept_server.specs.declared.servers.Server.{Server}
-use Rattle.crew_run.proofs.DesksMeet.{heard-is-more, same-is-seen}
-use Rattle.crew_run.proofs.SideBySide.{beside-case}
-use Rattle.crew_run.specs.Crew.{AreMet, SeesMany}
-use Rattle.crew_run.specs.Crew.SeesMany.{of_case, of_kind}
-use Rattle.crew_run.specs.Phases.{HasWorked, ended, is_full_fault}
-use Rattle.crew_run.specs.declared.workers.Worker.{Worker}
-use Rattle.file_model.specs.declared.files.File.{File}
-use Rattle.file_model.specs.declared.files.Line.{Line}
-use Rattle.legal_run.proofs.Places.{set-here, there-as}
-use Rattle.line_calls.specs.Files.{roles_of}
-use Rattle.turn_cell.specs.declared.faults.CallFault.{CallFault}
 use Rattle.turn_cell.specs.declared.faults.CallFault.TheVariants as fault
-use Rattle.turn_rows.specs.Rows.{IsSeenBy}
-use Rattle.type_core.specs.declared.events.KindEvent.{KindEvent}
 
 -- what holds of a fault holds of the same fault
 pub if_err-same : {A E : Type 0} (P : E → Type 0) (r : Result A E) (f : E) → IsErrAnd r (λ e. e ≡ f) → P f → IfErr r P

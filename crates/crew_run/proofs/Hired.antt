@@ -1,16 +1,6 @@
 -- A crew that is hired one after another.
-use Rattle.std.proofs.Common.{◌+◌, ◌∙◌, ◌≡◌, ◌⊎◌, ℕ, zero, suc, List, [], ◌++◌, ◌∷◌, length, map, None, Some, ap, arith, inl, inr, length-append, refl, slice_get, subst, sym}
-use Rattle.std.proofs.lemmas.List.{length-map}
-use Rattle.adept_server.proofs.Zips.{map_of_case, map_there}
-use Rattle.adept_server.specs.Desks.{DeskView, IsDeskOf, at_case, desk_view}
-use Rattle.adept_server.specs.Opening.{new_desk, parent_desk}
-use Rattle.adept_server.specs.declared.desks.Desk.{Desk}
-use Rattle.adept_server.specs.declared.servers.Server.{Server}
-use Rattle.crew_run.specs.Crew.{AreHired, IsHiredAt}
-use Rattle.crew_run.specs.Desks.{HasShapeOf, IsIdle, IsIdlePass}
-use Rattle.crew_run.specs.declared.workers.Worker.{Worker}
-use Rattle.turn_cell.specs.Passes.{PassView, split_off}
-use Rattle.turn_rows.specs.Rows.{split_from}
+use Rattle.crew_run.proofs.Common.{[], ℕ, ◌++◌, ◌+◌, ◌∙◌, ◌∷◌, ◌≡◌, ◌⊎◌, ap, AreHired, arith, at_case, Desk, desk_view, DeskView, HasShapeOf, inl, inr, IsDeskOf, IsHiredAt, IsIdle, IsIdlePass, length, length-append, length-map, List, map}
+use Rattle.crew_run.proofs.Common.{map_of_case, map_there, new_desk, None, parent_desk, PassView, refl, Server, slice_get, Some, split_from, split_off, subst, suc, sym, Worker, zero}
 
 pushed : {A : Type 0} (xs : List A) (y : A) (i : ℕ) (x : A) → slice_get (xs ++ y ∷ []) i ≡ Some x → (slice_get xs i ≡ Some x) ⊎ ((i ≡ length xs) × (x ≡ y))
 pushed [] y zero x at = inr (refl, cc)

@@ -1,10 +1,7 @@
 -- What a journal has of each of its callers, who are a first one and some others.
-use Rattle.std.proofs.Common.{◌+◌, ◌<◌, ◌∙◌, ◌≡◌, ◌≢◌, ◌≤◌, ◌==◌, ℕ, zero, suc, List, [], ◌++◌, ◌∷◌, length, Bool, true, false, ap, arith, eq-eqb, ne_eqb, if◌then◌else◌, refl, subst, sym}
-use Rattle.std.specs.List.{AllByRecursion, filter}
+use Rattle.crew_run.proofs.Common.{[], ℕ, ◌++◌, ◌+◌, ◌<◌, ◌==◌, ◌∙◌, ◌∷◌, ◌≡◌, ◌≢◌, ◌≤◌, AllByRecursion, ap, arith, Bool, calls_of, Entry, eq-eqb, false, filter, if◌then◌else◌, length, List, ne_eqb, refl, subst, suc, sym, true, zero}
 use mathlib.Core.Logic.{dite}
 use native.Mathlib.Decide.{ℕ_discrete}
-use Rattle.turn_cell.specs.History.{calls_of}
-use Rattle.turn_cell.specs.declared.journal.Entry.{Entry}
 
 -- of a list those items that have a number, and those that have another
 module _ {A : Type 0} (key : A → ℕ) where

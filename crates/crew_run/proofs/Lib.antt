@@ -1,3 +1,4 @@
+pub mod Common
 pub mod SideBySide
 pub mod DesksMeet
 pub mod FullSeen

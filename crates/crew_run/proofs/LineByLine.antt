@@ -1,25 +1,12 @@
 -- Workers that take the lines of a phase one after another.
-use Rattle.std.proofs.Common.{◌+◌, ◌-◌, ◌<◌, ◌∙◌, ◌≡◌, ◌≢◌, ℕ, zero, suc, List, [], ◌∷◌, length, drop, Err, None, Option, Some, arith, ap, get_or, refl, set, slice_get, subst, sym}
+use Rattle.crew_run.proofs.Common.{[], ℕ, ◌+◌, ◌-◌, ◌<◌, ◌∙◌, ◌∷◌, ◌≡◌, ◌≢◌, Acts, AllRows, AllZip, ap, arith, CallFault, CanWork, desk_view, drop, ended, Err, File, get_or, get_or-set_other, get_or_default, HasForgotten, HasWorkedLines}
+use Rattle.crew_run.proofs.Common.{IsDeskOf, IsReadyAt, IsUnnamedCase, IsUnnamedKind, LeavesUnnamed, length, Line, List, None, Option, refl, roles_in, roles_of, Server, set, slice_get, slice_get-get_or, Some, subst, suc, sym, TakesLine}
+use Rattle.crew_run.proofs.Common.{Worker, WorksLines, zero}
 use Rattle.std.proofs.lemmas.Grind.{get_or-set_at}
-use Rattle.std.proofs.lemmas.List.{get_or-set_other, get_or_default}
-use Rattle.std.proofs.lemmas.Option.{slice_get-get_or}
-use Rattle.std.specs.List.{AllZip}
 use mathlib.Core.Logic.{dite}
 use native.Mathlib.Decide.{ℕ_discrete}
-use Rattle.adept_actor.proofs.Acts.{Leads, leads-all, leads-begun, leads-end, leads-on, leads-over, work-still}
-use Rattle.adept_actor.proofs.Leaving.{leaves-all, leaves-then, line-leaves}
-use Rattle.adept_actor.specs.Others.{IsUnnamedCase, IsUnnamedKind, LeavesUnnamed}
-use Rattle.adept_actor.specs.Work.{Acts, CanWork, WorksLines}
-use Rattle.adept_server.specs.Desks.{IsDeskOf, desk_view}
-use Rattle.adept_server.specs.declared.servers.Server.{Server}
-use Rattle.crew_run.specs.Phases.{HasForgotten, HasWorkedLines, IsReadyAt, TakesLine, ended}
-use Rattle.crew_run.specs.declared.workers.Worker.{Worker}
+use Rattle.adept_actor.proofs.{Acts.{Leads, leads-all, leads-begun, leads-end, leads-on, leads-over, work-still}, Leaving.{leaves-all, leaves-then, line-leaves}}
 use Rattle.file_model.specs.declared.files.ActorDecl.{ActorDecl}
-use Rattle.file_model.specs.declared.files.File.{File}
-use Rattle.file_model.specs.declared.files.Line.{Line}
-use Rattle.line_calls.specs.Files.{roles_in, roles_of}
-use Rattle.turn_cell.specs.declared.faults.CallFault.{CallFault}
-use Rattle.wsm_lists.specs.Rows.{AllRows}
 
 -- without a fault a worker has still to work its own of the lines that are left, and with one it has worked all that it could
 abbrev pub IsOnItsWay : File → List Line → List Line → Worker → Worker → Option CallFault → Type 0

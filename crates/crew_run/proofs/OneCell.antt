@@ -1,29 +1,9 @@
 -- One cell while a crew works: what its journal has of each actor, phase by phase.
-use Rattle.std.proofs.Common.{◌+◌, ◌<◌, ◌∙◌, ◌≡◌, ◌≤◌, ◌⊎◌, ℕ, zero, suc, List, [], ◌++◌, ◌∷◌, length, length-append, take, All, Any, Option, Some, slice_get, ap, append_assoc, arith, inl, inr, refl, subst, sym, get_or}
-use Rattle.std.proofs.lemmas.Bool.{cases_lt}
-use Rattle.std.proofs.lemmas.List.{append-nil, take-append-le, take_all}
-use Rattle.std.proofs.lemmas.List.Concat.{flat_map-append}
-use Rattle.std.proofs.lemmas.List.Elements.{All-push, recursion_from_All}
-use Rattle.std.proofs.lemmas.Option.{slice_get_within}
-use Rattle.std.specs.List.{AllByRecursion}
+use Rattle.crew_run.proofs.Common.{[], ℕ, ◌++◌, ◌+◌, ◌<◌, ◌∙◌, ◌∷◌, ◌≡◌, ◌≤◌, ◌⊎◌, All, All-push, all_joined, AllByRecursion, Any, ap, append-nil, append_assoc, arith, Call, calls_of, cases_lt, desk_view, DeskHasDone, DeskHeard, DeskSame}
+use Rattle.crew_run.proofs.Common.{DeskView, done_by, Entry, File, flat_map-append, get_or, HasCalls, HasDone, HasDoneAndHeard, Heard, inl, inr, IsActor, IsByPhases, IsClosed, IsDesk, IsIdlePass, IsKept, IsLegal, IsLegalFrom, IsLegalView}
+use Rattle.crew_run.proofs.Common.{IsOneOf, IsStateAfter, joined, joined_desk, length, length-append, List, longer-same, Option, PassView, prefix_self, prefix_trans, recursion_from_All, refl, SeenSame, slice_get, slice_get_within, Some}
+use Rattle.crew_run.proofs.Common.{some_one, state_after, subst, suc, sym, take, take-append-le, take_all, there-as, there_at, Trace, Worker, zero}
 use mathlib.Core.List.{IsPrefix}
-use Rattle.adept_actor.specs.Growth.{DeskHasDone, HasDone}
-use Rattle.adept_server.proofs.Rows.{there_at}
-use Rattle.adept_server.specs.Desks.{DeskView, IsDesk, desk_view}
-use Rattle.adept_server.specs.Opening.{joined_desk}
-use Rattle.crew_run.specs.Crew.{IsOneOf}
-use Rattle.crew_run.specs.Desks.{DeskHeard, DeskSame, HasDoneAndHeard, Heard, IsIdlePass, SeenSame, all_joined}
-use Rattle.crew_run.specs.Phases.{IsKept}
-use Rattle.crew_run.specs.declared.workers.Worker.{Worker}
-use Rattle.file_model.specs.declared.files.File.{File}
-use Rattle.legal_run.proofs.Places.{some_one, there-as}
-use Rattle.legal_run.specs.Legal.{HasCalls, IsActor, IsByPhases, Trace, done_by}
-use Rattle.legal_run.specs.LineCalls.{Call}
-use Rattle.turn_cell.proofs.Prefixes.{prefix_self, prefix_trans}
-use Rattle.turn_cell.specs.History.{IsLegal, IsLegalFrom, IsStateAfter, calls_of, state_after}
-use Rattle.turn_cell.specs.Passes.{IsClosed, IsLegalView, PassView, joined}
-use Rattle.turn_cell.specs.declared.journal.Entry.{Entry}
-use Rattle.turn_rows.proofs.Meetings.{longer-same}
 
 -- one phase more of what an actor did
 pub done-more : (a : ℕ) (traces : List Trace) (t : Trace) → done_by a (traces ++ t ∷ []) ≡ done_by a traces ++ t a

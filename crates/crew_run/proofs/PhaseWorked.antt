@@ -1,36 +1,9 @@
 -- What the crew's work in a phase comes to, once all have met.
-use Rattle.std.proofs.Common.{◌∙◌, ◌≡◌, ◌<◌, ◌≤◌, ℕ, zero, suc, List, [], ◌∷◌, length, Err, None, Ok, Option, Result, Some, ap, arith, false, get_or, inl, inr, is_some, refl, slice_get, subst, sym, true}
-use Rattle.std.proofs.lemmas.Option.{get_or_from_slice_get, slice_get_within}
-use Rattle.std.proofs.lemmas.Map.Keys.{any_passes_from_place}
-use Rattle.std.specs.List.{list_any}
+use Rattle.crew_run.proofs.Common.{[], ℕ, ◌<◌, ◌∙◌, ◌∷◌, ◌≡◌, ◌≤◌, AllRows, any_passes_from_place, ap, AreBegun, AreCallsOfLines, AreLevelDesks, AreMet, arith, Call, CallFault, CallFlags, CaseId, Desk, desk_view, DeskHasDone, DeskHeard}
+use Rattle.crew_run.proofs.Common.{DeskView, ended, Err, false, File, get_or, get_or_from_slice_get, HasDoneAndHeard, HasWorkedLines, inl, inr, is_full_fault, is_some, IsActor, IsCalmCase, IsCalmKind, IsCrew, IsDeskOf, IsTrace}
+use Rattle.crew_run.proofs.Common.{IsUnnamedCase, IsUnnamedKind, Leaves, length, Line, lines_of, List, list_any, None, Ok, Option, PhaseWorked, refl, Result, roles_of, seen_of, SeesMany, Server, slice_get, slice_get_within, Some, subst}
+use Rattle.crew_run.proofs.{Common.{suc, sym, there-as, there_at, Trace, Tries, true, Worker, WorksLines, zero}, CrewAlong.crew-of, DesksMeet.same-level, FullSeen.full-among, SideBySide.{all-of, chosen}}
 use Rattle.std.specs.Result.{result_err}
-use Rattle.adept_actor.specs.Growth.{DeskHasDone}
-use Rattle.adept_actor.specs.Others.{IsUnnamedCase, IsUnnamedKind}
-use Rattle.adept_actor.specs.Work.{Leaves, WorksLines}
-use Rattle.adept_server.proofs.Rows.{there_at}
-use Rattle.adept_server.specs.Desks.{DeskView, IsDeskOf, desk_view}
-use Rattle.adept_server.specs.Noting.{AreLevelDesks, IsCalmCase, IsCalmKind}
-use Rattle.adept_server.specs.declared.call_flags.CallFlags.{CallFlags}
-use Rattle.adept_server.specs.declared.desks.Desk.{Desk}
-use Rattle.adept_server.specs.declared.servers.Server.{Server}
-use Rattle.crew_run.proofs.CrewAlong.{crew-of}
-use Rattle.crew_run.proofs.DesksMeet.{same-level}
-use Rattle.crew_run.proofs.FullSeen.{full-among}
-use Rattle.crew_run.proofs.SideBySide.{all-of, chosen}
-use Rattle.crew_run.specs.Crew.{AreMet, IsCrew, SeesMany}
-use Rattle.crew_run.specs.Desks.{DeskHeard, HasDoneAndHeard}
-use Rattle.crew_run.specs.Phases.{HasWorkedLines, PhaseWorked, Tries, ended, is_full_fault}
-use Rattle.crew_run.specs.declared.workers.Worker.{Worker}
-use Rattle.file_model.specs.declared.files.File.{File}
-use Rattle.file_model.specs.declared.files.Line.{Line}
-use Rattle.legal_run.proofs.Places.{there-as}
-use Rattle.legal_run.specs.Legal.{IsActor, IsTrace, Trace}
-use Rattle.legal_run.specs.LineCalls.{AreBegun, AreCallsOfLines, Call, lines_of}
-use Rattle.line_calls.specs.Files.{roles_of}
-use Rattle.turn_cell.specs.declared.faults.CallFault.{CallFault}
-use Rattle.turn_rows.specs.Rows.{seen_of}
-use Rattle.wsm_lists.specs.Rows.{AllRows}
-use Rattle.wsm_sound.specs.declared.versions.CaseId.{CaseId}
 
 -- how an actor's work ended, as the worker keeps it
 pub leaves-ended : {A : Type 0} (Whole Begun : List Call → Type 0) (r : Result A CallFault) (o : Option CallFault) (v w : DeskView) → o ≡ result_err r → Leaves Whole Begun r v w → Leaves Whole Begun (ended o) v w

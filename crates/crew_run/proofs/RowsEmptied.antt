@@ -1,21 +1,9 @@
 -- Rows of cases are emptied from behind, declaration by declaration.
-use Rattle.std.proofs.Common.{◌+◌, ◌-◌, ◌<◌, ◌∙◌, ◌≡◌, ℕ, List, [], ◌++◌, ◌∷◌, length, map, Some, ap, arith, drop, get_or, refl, reverse, set, slice_get, subst, sym, take}
-use Rattle.std.proofs.Math.ListN.{length-set}
-use Rattle.std.proofs.lemmas.List.{drop_all, drop_more, get_or-take, length-map, length-take-le, reverse-append, take-take, take_all}
-use Rattle.std.proofs.lemmas.Option.{get_or_from_slice_get, slice_get-get_or, slice_get_within}
-use Rattle.std.specs.List.{AllZip}
+use Rattle.crew_run.proofs.Common.{[], ℕ, ◌++◌, ◌+◌, ◌-◌, ◌<◌, ◌∙◌, ◌∷◌, ◌≡◌, AllZip, ap, AreCounts, arith, at_case, CaseDecl, cases_of_type, declared-placed, declared-typed, drop, drop_all, drop_more, File, get-set_same, get_or}
+use Rattle.crew_run.proofs.Common.{get_or-take, get_or_from_slice_get, in_row, IsWorkable, length, length-map, length-set, length-take-le, List, map, refl, reverse, reverse-append, set, slice_get, slice_get-get_or, slice_get_within, Some}
+use Rattle.crew_run.proofs.{Common.{subst, sym, take, take-take, take_all}, CasePlaces.{declared_at, row_counted}, CasesCounted.{counted-other, counted-own, other_at}}
 use mathlib.Core.Logic.{dite}
 use native.Mathlib.Decide.{ℕ_discrete}
-use Rattle.adept_server.proofs.Places.{get-set_same}
-use Rattle.adept_server.specs.Desks.{at_case, in_row}
-use Rattle.crew_run.proofs.CasePlaces.{declared_at, row_counted}
-use Rattle.crew_run.proofs.CasesCounted.{counted-other, counted-own, other_at}
-use Rattle.crew_run.specs.CaseCounts.{AreCounts}
-use Rattle.file_facts.proofs.Cases.{declared-placed, declared-typed}
-use Rattle.file_facts.specs.Facts.{IsWorkable}
-use Rattle.file_model.specs.CaseCounts.{cases_of_type}
-use Rattle.file_model.specs.declared.files.CaseDecl.{CaseDecl}
-use Rattle.file_model.specs.declared.files.File.{File}
 
 module _ {X : Type 0} where
   -- of each row the first ones are left, as many as there are cases of its type among these

@@ -1,62 +1,20 @@
 -- How a run ends: legal, and with no full journal.
-use Rattle.std.proofs.Common.{◌+◌, ◌∙◌, ◌<◌, ◌≡◌, ◌≢◌, ◌≤◌, ℕ, zero, suc, List, [], ◌++◌, ◌∷◌, length, map, None, Option, Some, ap, arith, length-append, refl, slice_get, subst, sym, take}
-use Rattle.std.proofs.lemmas.List.{length-map}
-use Rattle.std.proofs.lemmas.List.Elements.{All-from_recursion}
-use Rattle.std.proofs.lemmas.List.Sums.{sum_by-cons}
-use Rattle.std.proofs.lemmas.Option.{slice_get-map, slice_get_within}
-use Rattle.std.specs.List.{AllByRecursion, flat_map}
+use Rattle.crew_run.proofs.Common.{[], ℕ, ◌++◌, ◌+◌, ◌<◌, ◌∙◌, ◌∷◌, ◌≡◌, ◌≢◌, ◌≤◌, All-from_recursion, all_joined, AllByRecursion, ap, AreFew, AreOfActors, arith, at_case, Call, calls_of, calls_of_case, calls_of_kind, case_after, case_at}
+use Rattle.crew_run.proofs.Common.{case_reply, CaseDecl, CaseId, CaseModel, CasePass, Closed, closed_case, closed_kind, CountedCase, Desk, desk_view, DeskSame, DeskView, done_by, Entry, entry, Event, File, flat_map, HasShape, HasShapeOf}
+use Rattle.crew_run.proofs.Common.{HasWorkedAll, IsActor, IsAlong, IsByPhases, IsClosedServer, IsCrew, IsKept, IsLegal, IsLegalCase, IsLegalKind, IsOverfull, IsRunOf, IsSound, IsWorkable, joined, joined_desk, kind_after, kind_at}
+use Rattle.crew_run.proofs.Common.{kind_reply, KindEvent, KindPass, KindReply, Legal, length, length-append, length-map, Line, lines_in, lines_of, lines_upto, List, map, None, not_created, of_case, of_kind, Option, PassView, refl, Reply}
+use Rattle.crew_run.proofs.{Common.{row-at, SeesMany, Server, slice_get, slice_get-map, slice_get_within, Some, some_one, subst, suc, sum_by-cons, sym, take, there-as, Trace, TypeDecl, View, Worker, zero}, CasePlaces.there-for_case}
+use Rattle.crew_run.proofs.{CrewAlong.{case-cell, kind-cell}, DesksCanWork.shape-of, DesksMeet.beside-shape, Journals.{calls-with, no-more, none-of, of-parts, only-first}, OneCell.{HasEnded, has-ended, taken-in}, SideBySide.made-long}
+use Rattle.crew_run.proofs.SideBySide.{made-rows}
 use Rattle.std.specs.Option.{option_map}
-use Rattle.adept_server.specs.Desks.{CasePass, DeskView, KindPass, at_case, desk_view}
-use Rattle.adept_server.specs.Opening.{IsClosedServer, joined_desk}
 use Rattle.adept_server.specs.declared.closing.ClosedServer.{ClosedServer}
-use Rattle.adept_server.specs.declared.desks.Desk.{Desk}
-use Rattle.adept_server.specs.declared.servers.Server.{Server}
-use Rattle.case_core.specs.CaseModel.{CaseModel, not_created}
-use Rattle.case_core.specs.Instances.{CountedCase}
-use Rattle.case_core.specs.Machine.{case_after, case_reply}
-use Rattle.case_core.specs.declared.events.Event.{Event}
-use Rattle.case_core.specs.declared.replies.Reply.{Reply}
-use Rattle.case_core.specs.declared.views.View.{View}
-use Rattle.crew_run.proofs.CasePlaces.{there-for_case}
-use Rattle.crew_run.proofs.CrewAlong.{case-cell, kind-cell}
-use Rattle.crew_run.proofs.DesksCanWork.{shape-of}
-use Rattle.crew_run.proofs.DesksMeet.{beside-shape}
-use Rattle.crew_run.proofs.Journals.{calls-with, no-more, none-of, of-parts, only-first}
-use Rattle.crew_run.proofs.OneCell.{HasEnded, has-ended, taken-in}
-use Rattle.crew_run.proofs.SideBySide.{made-long, made-rows}
-use Rattle.crew_run.specs.Closing.{IsRunOf, closed_case, closed_kind}
-use Rattle.crew_run.specs.Crew.{HasShape, IsCrew, SeesMany}
-use Rattle.crew_run.specs.Crew.SeesMany.{of_case, of_kind}
-use Rattle.crew_run.specs.Desks.{DeskSame, HasShapeOf, all_joined, case_at, kind_at}
-use Rattle.crew_run.specs.Phases.{AreFew, HasWorkedAll, IsAlong, IsKept, IsOverfull, lines_upto}
-use Rattle.crew_run.specs.declared.workers.Worker.{Worker}
-use Rattle.file_facts.proofs.Cases.{row-at}
-use Rattle.file_facts.specs.Facts.{IsSound, IsWorkable, lines_in}
-use Rattle.file_model.specs.declared.files.CaseDecl.{CaseDecl}
-use Rattle.file_model.specs.declared.files.File.{File}
-use Rattle.file_model.specs.declared.files.Line.{Line}
-use Rattle.file_model.specs.declared.files.TypeDecl.{TypeDecl}
-use Rattle.legal_run.proofs.Places.{some_one, there-as}
-use Rattle.legal_run.specs.Legal.{AreOfActors, IsActor, IsByPhases, IsLegalCase, IsLegalKind, Legal, Trace, done_by}
-use Rattle.legal_run.specs.LineCalls.{Call, calls_of_case, calls_of_kind, lines_of}
-use Rattle.script_run.specs.Serial.{program}
-use Rattle.script_run.specs.declared.runs.ClosedCase.{ClosedCase}
-use Rattle.script_run.specs.declared.runs.ClosedKind.{ClosedKind}
-use Rattle.script_run.specs.declared.runs.Run.{Run}
-use Rattle.turn_cell.specs.History.{IsLegal, calls_of, entry}
-use Rattle.turn_cell.specs.Passes.{PassView, joined}
-use Rattle.turn_cell.specs.declared.journal.Closed.{Closed}
-use Rattle.turn_cell.specs.declared.journal.Entry.{Entry}
+use Rattle.script_run.specs.{Serial.program, declared.runs.ClosedCase.ClosedCase, declared.runs.ClosedKind.ClosedKind, declared.runs.Run.Run}
 use Rattle.turn_cell.specs.declared.limits.TheConstants.{MAX_ENTRIES}
 use Rattle.type_core.proofs.Versions.{sound-defined}
 use Rattle.type_core.specs.KindModel.{KindModel, not_defined}
-use Rattle.type_core.specs.Machine.{kind_after, kind_reply}
-use Rattle.type_core.specs.declared.events.KindEvent.{KindEvent}
 use Rattle.type_core.specs.declared.events.KindEvent.TheVariants as event
-use Rattle.type_core.specs.declared.replies.KindReply.{KindReply}
 use Rattle.type_core.specs.declared.replies.KindReply.TheVariants as reply
 use Rattle.wsm_sound.specs.Faults.{fault_of}
-use Rattle.wsm_sound.specs.declared.versions.CaseId.{CaseId}
 
 -- ---- the first desk once it has taken the crew in
 pub record HasTaken (many : ℕ) (v w : DeskView) : Type 0 where

@@ -1,7 +1,6 @@
 -- Workers may go to other threads, and what a server and a file are made of may be shared by threads.
 use denote.Param.Send.{IsSend, IsSync, sendable}
-use Rattle.std.proofs.Crossing.{crosses}
-use Rattle.adept_server.proofs.Sent.{case-send, event-send, version-send, version-sync}
+use Rattle.crew_run.proofs.Common.{case-send, crosses, event-send, version-send, version-sync}
 use Rattle.case_core.proofs.replies.Reply.TheSendSync as reply
 use Rattle.crew_run.specs.contracts.workers.Worker as worker_type
 use Rattle.file_model.specs.contracts.files.Line as line_type

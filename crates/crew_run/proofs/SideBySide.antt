@@ -1,14 +1,7 @@
 -- Lists side by side, item by item.
-use Rattle.std.proofs.Common.{◌<◌, ◌∙◌, ◌≡◌, ℕ, zero, suc, List, [], ◌∷◌, ◌++◌, ◌+◌, length, map, Option, Some, ap, arith, get_or, refl, slice_get, subst, sym, take}
-use Rattle.std.proofs.lemmas.Option.{same_Some}
-use Rattle.std.proofs.lemmas.Slice.Zip.{AllZip-long}
-use Rattle.std.specs.List.{AllZip}
-use Rattle.adept_server.proofs.Zips.{beside, row_of_case}
-use Rattle.adept_server.specs.Desks.{at_case, in_row}
+use Rattle.crew_run.proofs.Common.{[], ℕ, ◌++◌, ◌+◌, ◌<◌, ◌∙◌, ◌∷◌, ◌≡◌, AllRows, AllZip, AllZip-long, ap, arith, at_case, beside, CaseId, get_or, in_row, length, List, map, Option, refl, row_of_case, same_Some, slice_get, Some, subst, suc}
+use Rattle.crew_run.proofs.Common.{sym, take, zero, zip_with}
 use Rattle.turn_rows.proofs.Lists.{take_item}
-use Rattle.turn_rows.specs.Rows.{zip_with}
-use Rattle.wsm_lists.specs.Rows.{AllRows}
-use Rattle.wsm_sound.specs.declared.versions.CaseId.{CaseId}
 
 -- what holds at each place holds of all
 pub all-of : {A : Type 0} (P : A → Type 0) (xs : List A) → ((i : ℕ) (x : A) → slice_get xs i ≡ Some x → P x) → AllRows P xs

@@ -1,23 +1,10 @@
 -- What the definitions of types leave of the first desk.
-use Rattle.std.proofs.Common.{◌+◌, ◌<◌, ◌∙◌, ◌≡◌, ◌≢◌, ◌≤◌, ℕ, List, [], ◌++◌, ◌∷◌, length, map, Err, Ok, Result, Some, ap, arith, refl, slice_get, subst, sym}
-use Rattle.std.proofs.Math.ListN.{length-set}
+use Rattle.crew_run.proofs.Common.{[], ℕ, ◌++◌, ◌+◌, ◌<◌, ◌∙◌, ◌∷◌, ◌≡◌, ◌≢◌, ◌≤◌, ap, AreCounts, arith, CallFault, CallsKind, CasePass, Defines, DeskView, entry, Err, File, HasShape, IsDefinedFor, IsDefinedUpTo, IsDesk, IsIdle}
+use Rattle.crew_run.proofs.Common.{kind_beside, kind_still_defined, KindEvent, KindPass, KindReply, KnowsTypes, length, length-set, List, map, Ok, refl, Result, set-here, set-other, slice_get, Some, some_one, subst, sym, TypeDecl}
 use mathlib.Core.Logic.{dite}
 use native.Mathlib.Decide.{ℕ_discrete}
-use Rattle.adept_server.proofs.Keeping.{kind_beside, kind_still_defined}
-use Rattle.adept_server.specs.Calling.{CallsKind}
-use Rattle.adept_server.specs.Desks.{CasePass, DeskView, IsDefinedFor, IsDesk, KindPass}
-use Rattle.crew_run.specs.CaseCounts.{AreCounts}
-use Rattle.crew_run.specs.Crew.{Defines, HasShape, IsDefinedUpTo, KnowsTypes}
-use Rattle.crew_run.specs.Desks.{IsIdle}
-use Rattle.file_model.specs.declared.files.File.{File}
-use Rattle.file_model.specs.declared.files.TypeDecl.{TypeDecl}
-use Rattle.legal_run.proofs.Places.{set-here, set-other, some_one}
 use Rattle.script_run.specs.Entries.{KindEntry}
-use Rattle.turn_cell.specs.History.{entry}
-use Rattle.turn_cell.specs.declared.faults.CallFault.{CallFault}
-use Rattle.type_core.specs.declared.events.KindEvent.{KindEvent}
 use Rattle.type_core.specs.declared.events.KindEvent.TheVariants as event
-use Rattle.type_core.specs.declared.replies.KindReply.{KindReply}
 
 module _ (types : List TypeDecl) where
   pub defines-none : (v : DeskView) → IsIdle v → Defines types 0 v v

@@ -1,21 +1,11 @@
 -- The run that a closed server leaves, in the order of the file's declarations.
 use Rattle.std.specs.Prelude.{◌≡◌, ℕ, List, length, map, Some, slice_get}
-use Rattle.adept_server.specs.Desks.{at_case}
-use Rattle.adept_server.specs.declared.closing.ClosedServer.{ClosedServer}
-use Rattle.case_core.specs.CaseModel.{CaseModel}
-use Rattle.case_core.specs.Instances.{CountedCase}
-use Rattle.case_core.specs.declared.events.Event.{Event}
-use Rattle.case_core.specs.declared.replies.Reply.{Reply}
-use Rattle.case_core.specs.declared.views.View.{View}
-use Rattle.file_model.specs.declared.files.CaseDecl.{CaseDecl}
-use Rattle.file_model.specs.declared.files.File.{File}
-use Rattle.script_run.specs.declared.runs.ClosedCase.{ClosedCase}
-use Rattle.script_run.specs.declared.runs.ClosedKind.{ClosedKind}
-use Rattle.script_run.specs.declared.runs.Run.{Run}
+use Rattle.adept_server.specs.{Desks.at_case, declared.closing.ClosedServer.ClosedServer}
+use Rattle.case_core.specs.{CaseModel.CaseModel, Instances.CountedCase, declared.events.Event.Event, declared.replies.Reply.Reply, declared.views.View.View}
+use Rattle.file_model.specs.{declared.files.CaseDecl.CaseDecl, declared.files.File.File}
+use Rattle.script_run.specs.{declared.runs.ClosedCase.ClosedCase, declared.runs.ClosedKind.ClosedKind, declared.runs.Run.Run}
 use Rattle.turn_cell.specs.declared.journal.Closed.{Closed}
-use Rattle.type_core.specs.KindModel.{KindModel}
-use Rattle.type_core.specs.declared.events.KindEvent.{KindEvent}
-use Rattle.type_core.specs.declared.replies.KindReply.{KindReply}
+use Rattle.type_core.specs.{KindModel.KindModel, declared.events.KindEvent.KindEvent, declared.replies.KindReply.KindReply}
 
 -- a closed cell as a run keeps it
 abbrev pub closed_kind : Closed KindModel KindEvent KindReply ℕ KindModel → ClosedKind

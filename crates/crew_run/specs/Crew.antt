@@ -1,21 +1,12 @@
 -- A crew: the first desk of a server, and a desk for each actor of a file.
 use Rattle.std.specs.Prelude.{◌≡◌, ℕ, suc, ◌+◌, ◌≤◌, ◌<◌, List, [], ◌∷◌, length, map, Some, slice_get}
 use mathlib.Core.List.{IsPrefix}
-use Rattle.adept_server.specs.Desks.{CasePass, DeskView, IsDefinedFor, IsDesk, IsDeskOf, KindPass, desk_view}
-use Rattle.adept_server.specs.Noting.{AreLevelDesks}
-use Rattle.adept_server.specs.Opening.{SeesMore}
-use Rattle.adept_server.specs.declared.call_flags.CallFlags.{CallFlags}
-use Rattle.adept_server.specs.declared.desks.Desk.{Desk}
+use Rattle.adept_server.specs.{Desks.{CasePass, DeskView, IsDefinedFor, IsDesk, IsDeskOf, KindPass, desk_view}, Noting.AreLevelDesks, Opening.SeesMore, declared.call_flags.CallFlags.CallFlags, declared.desks.Desk.Desk}
 use Rattle.adept_server.specs.declared.servers.Server.{Server}
-use Rattle.crew_run.specs.CaseCounts.{AreCounts}
-use Rattle.crew_run.specs.Desks.{DeskHeard, DeskSame, IsIdle, kind_at, case_at}
-use Rattle.crew_run.specs.declared.workers.Worker.{Worker}
-use Rattle.file_model.specs.declared.files.File.{File}
-use Rattle.file_model.specs.declared.files.TypeDecl.{TypeDecl}
-use Rattle.script_run.specs.Entries.{KindEntry}
-use Rattle.script_run.specs.Serial.{program}
-use Rattle.turn_cell.specs.History.{entry}
-use Rattle.turn_cell.specs.declared.limits.TheConstants.{MAX_ENTRIES}
+use Rattle.crew_run.specs.{CaseCounts.AreCounts, Desks.{DeskHeard, DeskSame, IsIdle, kind_at, case_at}, declared.workers.Worker.Worker}
+use Rattle.file_model.specs.{declared.files.File.File, declared.files.TypeDecl.TypeDecl}
+use Rattle.script_run.specs.{Entries.KindEntry, Serial.program}
+use Rattle.turn_cell.specs.{History.entry, declared.limits.TheConstants.MAX_ENTRIES}
 use Rattle.type_core.specs.declared.events.KindEvent.TheVariants as event
 use Rattle.type_core.specs.declared.replies.KindReply.{KindReply}
 use Rattle.wsm_sound.specs.declared.versions.CaseId.{CaseId}

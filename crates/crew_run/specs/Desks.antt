@@ -1,10 +1,8 @@
 -- What becomes of the passes of desks while a crew works.
-use Rattle.std.specs.Prelude.{◌≡◌, ℕ, List, [], length, map, Option, Some, slice_get, fold}
-use Rattle.std.specs.List.{AllZip}
+use Rattle.std.specs.{Prelude.{◌≡◌, ℕ, List, [], length, map, Option, Some, slice_get, fold}, List.AllZip}
 use mathlib.Core.List.{IsPrefix}
 use Rattle.adept_actor.specs.Growth.{DeskHasDone}
-use Rattle.adept_server.specs.Desks.{CasePass, DeskView, IsDesk, KindPass, case_pass, desk_view}
-use Rattle.adept_server.specs.Opening.{joined_desk}
+use Rattle.adept_server.specs.{Desks.{CasePass, DeskView, IsDesk, KindPass, case_pass, desk_view}, Opening.joined_desk}
 use Rattle.crew_run.specs.declared.workers.Worker.{Worker}
 use Rattle.legal_run.specs.LineCalls.{Call}
 use Rattle.turn_cell.specs.Passes.{PassView}

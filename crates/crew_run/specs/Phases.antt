@@ -1,23 +1,14 @@
 -- The phases of a file, as a crew works them.
 use Rattle.std.specs.Prelude.{◌≡◌, ℕ, suc, ◌+◌, ◌≤◌, ◌⊎◌, Bool, true, false, List, [], ◌∷◌, length, take, flat_map, Option, Some, None, Result, Ok, Err, slice_get}
 use mathlib.Core.List.{IsPrefix}
-use Rattle.adept_actor.specs.Others.{LeavesOthers, LeavesUnnamed}
-use Rattle.adept_actor.specs.Work.{Acts, CanWork, WorksLines}
-use Rattle.adept_server.specs.Desks.{CasePass, DeskView, IsDeskOf, KindPass, desk_view}
-use Rattle.adept_server.specs.declared.servers.Server.{Server}
-use Rattle.crew_run.specs.Crew.{IsDefinedUpTo, SeesMany}
-use Rattle.crew_run.specs.Desks.{HasDoneAndHeard, IsIdlePass, kind_at, case_at}
-use Rattle.crew_run.specs.declared.workers.Worker.{Worker}
-use Rattle.file_model.specs.declared.files.File.{File}
-use Rattle.file_model.specs.declared.files.Line.{Line}
-use Rattle.legal_run.specs.Legal.{AreTraces, IsActor, IsByPhases, Trace, done_by}
-use Rattle.legal_run.specs.LineCalls.{AreBegun, AreCallsOfLines, Call, calls_of_case, calls_of_kind, lines_of}
+use Rattle.adept_actor.specs.{Others.{LeavesOthers, LeavesUnnamed}, Work.{Acts, CanWork, WorksLines}}
+use Rattle.adept_server.specs.{Desks.{CasePass, DeskView, IsDeskOf, KindPass, desk_view}, declared.servers.Server.Server}
+use Rattle.crew_run.specs.{Crew.{IsDefinedUpTo, SeesMany}, Desks.{HasDoneAndHeard, IsIdlePass, kind_at, case_at}, declared.workers.Worker.Worker}
+use Rattle.file_model.specs.{declared.files.File.File, declared.files.Line.Line}
+use Rattle.legal_run.specs.{Legal.{AreTraces, IsActor, IsByPhases, Trace, done_by}, LineCalls.{AreBegun, AreCallsOfLines, Call, calls_of_case, calls_of_kind, lines_of}}
 use Rattle.line_calls.specs.Files.{roles_of}
-use Rattle.turn_cell.specs.History.{calls_of}
-use Rattle.turn_cell.specs.Passes.{PassView}
-use Rattle.turn_cell.specs.declared.faults.CallFault.{CallFault}
+use Rattle.turn_cell.specs.{History.calls_of, Passes.PassView, declared.faults.CallFault.CallFault, declared.journal.Entry.Entry}
 use Rattle.turn_cell.specs.declared.faults.CallFault.TheVariants as fault
-use Rattle.turn_cell.specs.declared.journal.Entry.{Entry}
 use Rattle.wsm_sound.specs.declared.versions.CaseId.{CaseId}
 
 -- a worker at a place of the crew that can work these lines

@@ -1,10 +1,7 @@
 // How a run ends.
-ghost use Rattle.std.specs.Prelude.{◌≡◌, ◌+◌, ◌≤◌, map, length, IfOk};
-ghost use Rattle.std.specs.List.{AllZip};
+ghost use Rattle.std.specs.{Prelude.{◌≡◌, ◌+◌, ◌≤◌, map, length, IfOk}, List.AllZip};
 ghost use Rattle.adept_server.specs.Desks.{IsDeskOf, desk_view};
-ghost use Rattle.crew_run.specs.CaseCounts.{AreCounts};
-ghost use Rattle.crew_run.specs.Closing.{IsClosedAt, IsRunOf, closed_case, closed_kind};
-ghost use Rattle.crew_run.specs.Desks.{all_joined};
+ghost use Rattle.crew_run.specs.{CaseCounts.AreCounts, Closing.{IsClosedAt, IsRunOf, closed_case, closed_kind}, Desks.all_joined};
 ghost use Rattle.file_facts.specs.Facts.{IsWorkable};
 ghost use Rattle.wsm_lists.specs.Rows.{AllRows};
 

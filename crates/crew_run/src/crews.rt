@@ -1,9 +1,7 @@
 // A file's script, worked by a crew.
 ghost use Rattle.std.specs.Prelude.{◌≡◌, ◌≢◌, length, IfErr, IfOk, OnOk};
-ghost use Rattle.adept_server.specs.Desks.{desk_view};
-ghost use Rattle.adept_server.specs.Noting.{AllCalled, IsCalledOf};
-ghost use Rattle.crew_run.specs.Crew.{AreHired, HasShape, IsCrew};
-ghost use Rattle.crew_run.specs.Phases.{HasWorkedAll, IsOverfull};
+ghost use Rattle.adept_server.specs.{Desks.desk_view, Noting.{AllCalled, IsCalledOf}};
+ghost use Rattle.crew_run.specs.{Crew.{AreHired, HasShape, IsCrew}, Phases.{HasWorkedAll, IsOverfull}};
 ghost use Rattle.file_facts.specs.Facts.{IsWorkable};
 ghost use Rattle.legal_run.specs.Legal.{Legal};
 

@@ -1,9 +1,7 @@
 // The definitions of types.
-ghost use Rattle.std.specs.Prelude.{◌≡◌, ◌<◌, ◌≤◌, ◌^◌, ℕ, true, length, IfErr, OnOk};
-ghost use Rattle.std.specs.List.{list_all};
+ghost use Rattle.std.specs.{Prelude.{◌≡◌, ◌<◌, ◌≤◌, ◌^◌, ℕ, true, length, IfErr, OnOk}, List.list_all};
 ghost use Rattle.adept_server.specs.Desks.{IsDeskOf, desk_view};
-ghost use Rattle.crew_run.specs.Crew.{Defines, KnowsTypes, SeesMany};
-ghost use Rattle.crew_run.specs.Desks.{IsIdle};
+ghost use Rattle.crew_run.specs.{Crew.{Defines, KnowsTypes, SeesMany}, Desks.IsIdle};
 ghost use Rattle.file_facts.specs.Facts.{IsSound};
 ghost use Rattle.file_model.specs.Sizes.{is_small};
 ghost use Rattle.wsm_lists.specs.Rows.{AllRows};

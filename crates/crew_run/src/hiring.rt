@@ -1,8 +1,7 @@
 // How a crew is hired.
 ghost use Rattle.std.specs.Prelude.{◌≡◌, ◌≤◌, length, IfOk};
 ghost use Rattle.adept_server.specs.Desks.{IsDeskOf, desk_view};
-ghost use Rattle.crew_run.specs.Crew.{AreHired};
-ghost use Rattle.crew_run.specs.Desks.{HasShapeOf, IsIdle};
+ghost use Rattle.crew_run.specs.{Crew.AreHired, Desks.{HasShapeOf, IsIdle}};
 
 use crate::workers::Worker;
 use adept_server::{Desk, Server};

@@ -1,6 +1,5 @@
 // A phase of few lines, worked by the caller in the order of the file.
-ghost use Rattle.std.specs.Prelude.{◌≡◌, ◌<◌, None, length, slice_index_or};
-ghost use Rattle.std.specs.List.{AllZip};
+ghost use Rattle.std.specs.{Prelude.{◌≡◌, ◌<◌, None, length, slice_index_or}, List.AllZip};
 ghost use Rattle.adept_actor.specs.Work.{CanAct};
 ghost use Rattle.adept_server.specs.Desks.{IsDeskOf, desk_view};
 ghost use Rattle.crew_run.specs.Phases.{HasForgotten, HasWorkedLines, IsReadyAt, TakesLine};

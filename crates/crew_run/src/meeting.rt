@@ -1,10 +1,7 @@
 // How a crew meets.
 ghost use Rattle.std.specs.List.{AllZip};
-ghost use Rattle.adept_server.specs.Desks.{IsDeskOf, desk_view};
-ghost use Rattle.adept_server.specs.Noting.{AreLevelDesks, IsCalledOf};
-ghost use Rattle.adept_server.specs.Opening.{SeesMore};
-ghost use Rattle.crew_run.specs.Crew.{AreMet, HasMet};
-ghost use Rattle.crew_run.specs.Desks.{DeskHeard, DeskSame, HasPassesOf};
+ghost use Rattle.adept_server.specs.{Desks.{IsDeskOf, desk_view}, Noting.{AreLevelDesks, IsCalledOf}, Opening.SeesMore};
+ghost use Rattle.crew_run.specs.{Crew.{AreMet, HasMet}, Desks.{DeskHeard, DeskSame, HasPassesOf}};
 ghost use Rattle.wsm_lists.specs.Rows.{AllRows};
 
 use crate::workers::Worker;

@@ -1,12 +1,7 @@
 // How a crew works.
-ghost use Rattle.std.specs.Prelude.{◌≡◌, ◌<◌, [], length, is_some, true, false, IfErr, OnOk, slice_index_or, ◌≤◌, ◌/◌};
-ghost use Rattle.std.specs.List.{list_any};
-ghost use Rattle.std.specs.Thread.{IsSync};
-ghost use Rattle.adept_server.specs.Desks.{desk_view};
-ghost use Rattle.adept_server.specs.Noting.{IsCalledOf, rows_of};
-ghost use Rattle.crew_run.specs.Crew.{IsCrew, KnowsTypes, SeesMany};
-ghost use Rattle.crew_run.specs.Desks.{DeskHeard};
-ghost use Rattle.crew_run.specs.Phases.{HasWorkedAll, HasWorkedLines, IsAlong, IsOverfull, IsReadyAt, PhaseWorked, is_full_fault};
+ghost use Rattle.std.specs.{Prelude.{◌≡◌, ◌<◌, [], length, is_some, true, false, IfErr, OnOk, slice_index_or, ◌≤◌, ◌/◌}, List.list_any, Thread.IsSync};
+ghost use Rattle.adept_server.specs.{Desks.desk_view, Noting.{IsCalledOf, rows_of}};
+ghost use Rattle.crew_run.specs.{Crew.{IsCrew, KnowsTypes, SeesMany}, Desks.DeskHeard, Phases.{HasWorkedAll, HasWorkedLines, IsAlong, IsOverfull, IsReadyAt, PhaseWorked, is_full_fault}};
 ghost use Rattle.file_facts.specs.Facts.{IsKnown, IsWorkable};
 ghost use Rattle.legal_run.specs.Legal.{IsTrace, Trace};
 ghost use Rattle.wsm_lists.specs.Rows.{AllRows};

@@ -1,7 +1,6 @@
 // What becomes of the marks of a trail on a changed schema.
 ghost use Rattle.std.specs.Prelude.{◌≡◌, ◌+◌, ◌<◌, ◌≤◌, ◌^◌, length, OnOk};
-ghost use Rattle.wsm_adapt.specs.Adapted.{marks_to_read};
-ghost use Rattle.wsm_adapt.specs.Region.{IsNet};
+ghost use Rattle.wsm_adapt.specs.{Adapted.marks_to_read, Region.IsNet};
 
 use crate::schemas::row_of;
 use std::alloc::Global;

@@ -1,11 +1,7 @@
 -- The words of a fault, written one after another, are its text.
-use Rattle.std.proofs.Common.{◌≡◌, List, [], ◌∷◌, ◌++◌, ap, sym, ◌∙◌}
-use Rattle.std.proofs.lemmas.List.{append-nil}
-use Rattle.std.proofs.lemmas.List.Concat.{flat_map-append}
+use Rattle.std.proofs.{Common.{◌≡◌, List, [], ◌∷◌, ◌++◌, ap, sym, ◌∙◌}, lemmas.List.append-nil, lemmas.List.Concat.flat_map-append}
 use Rattle.file_words.specs.Lines.{Bytes}
-use Rattle.fault_words.specs.FaultWords.{Word, word_text, after_space, words_text, fault_words, fault_text}
-use Rattle.fault_words.specs.Shown.{shown_word, shown_option, shown_words}
-use Rattle.fault_words.specs.declared.words.FaultWords.{FaultWords}
+use Rattle.fault_words.specs.{FaultWords.{Word, word_text, after_space, words_text, fault_words, fault_text}, Shown.{shown_word, shown_option, shown_words}, declared.words.FaultWords.FaultWords}
 use Rattle.wsm_sound.specs.declared.faults.Fault.{Fault}
 
 pub one_word : (nodes elements : List Bytes) (w : Word) → after_space (word_text nodes elements w) ≡ words_text nodes elements (w ∷ [])

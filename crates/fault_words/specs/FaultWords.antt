@@ -1,14 +1,11 @@
 -- The words of a fault.
 use Rattle.std.specs.Prelude.{ℕ, List, [], ◌∷◌, map, flat_map, slice_get, Option, Some, None, codes, decimal}
 use Rattle.file_words.specs.Lines.{Bytes}
-use Rattle.wsm_ops.specs.declared.faults.OpFault.{OpFault}
-use Rattle.wsm_ops.specs.declared.faults.OpWhy.{OpWhy}
+use Rattle.wsm_ops.specs.{declared.faults.OpFault.OpFault, declared.faults.OpWhy.OpWhy}
 use Rattle.wsm_ops.specs.declared.faults.OpWhy.TheVariants as why
-use Rattle.wsm_schema.specs.declared.faults.BlockFault.{BlockFault}
+use Rattle.wsm_schema.specs.{declared.faults.BlockFault.BlockFault, declared.faults.DataFault.DataFault, declared.faults.LimitKind.LimitKind}
 use Rattle.wsm_schema.specs.declared.faults.BlockFault.TheVariants as block
-use Rattle.wsm_schema.specs.declared.faults.DataFault.{DataFault}
 use Rattle.wsm_schema.specs.declared.faults.DataFault.TheVariants as on_data
-use Rattle.wsm_schema.specs.declared.faults.LimitKind.{LimitKind}
 use Rattle.wsm_schema.specs.declared.faults.LimitKind.TheVariants as limit
 use Rattle.wsm_sound.specs.declared.faults.Fault.{Fault}
 use Rattle.wsm_sound.specs.declared.faults.Fault.TheVariants as fault

@@ -1,9 +1,7 @@
 -- Words as contracts see them: without where their bytes lie in memory.
 use Rattle.std.specs.Prelude.{List, [], ◌∷◌, ◌++◌, Option, Some, None}
-use Rattle.fault_words.specs.FaultWords.{Word, said, number, node, element}
-use Rattle.fault_words.specs.declared.words.FaultWord.{FaultWord}
+use Rattle.fault_words.specs.{FaultWords.{Word, said, number, node, element}, declared.words.FaultWord.FaultWord, declared.words.FaultWords.FaultWords}
 use Rattle.fault_words.specs.declared.words.FaultWord.TheVariants as word
-use Rattle.fault_words.specs.declared.words.FaultWords.{FaultWords}
 
 abbrev pub shown_word : FaultWord → Word
 shown_word (word.Said w) = said w.now

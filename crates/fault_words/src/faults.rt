@@ -1,7 +1,6 @@
 // The table of faults and their words.
 ghost use Rattle.std.specs.Prelude.{◌≡◌, [], ◌∷◌, ◌++◌, codes};
-ghost use Rattle.fault_words.specs.FaultWords.{said, number, node, element, limit_word, why_word, why_node, op_words, block_words, data_words, fault_words};
-ghost use Rattle.fault_words.specs.Shown.{shown_option, shown_words};
+ghost use Rattle.fault_words.specs.{FaultWords.{said, number, node, element, limit_word, why_word, why_node, op_words, block_words, data_words, fault_words}, Shown.{shown_option, shown_words}};
 
 use crate::words::{FaultWord, FaultWords};
 use wsm_ops::{OpFault, OpWhy};

@@ -1,19 +1,12 @@
 -- A type while its lines are read: open blocks, the innermost first, and the parts of that one.
 use Rattle.std.specs.Prelude.{ℕ, Bool, List, [], ◌∷◌, ◌++◌, Option, Some, None}
-use Rattle.wsm_lists.specs.Rows.{put_row}
-use Rattle.wsm_lists.specs.Keys.{both, first, first_two, put_role}
-use Rattle.wsm_lists.specs.declared.values.ElementKind.{ElementKind}
-use Rattle.wsm_schema.specs.Tree.{Gate, Part, Parts, act, gate, and_gate, xor_gate, loop, parts, lanes}
-use Rattle.wsm_schema.specs.SchemaModel.{SchemaModel, plain}
+use Rattle.wsm_lists.specs.{Rows.put_row, Keys.{both, first, first_two, put_role}, declared.values.ElementKind.ElementKind}
+use Rattle.wsm_schema.specs.{Tree.{Gate, Part, Parts, act, gate, and_gate, xor_gate, loop, parts, lanes}, SchemaModel.{SchemaModel, plain}}
 use Rattle.wsm_schema.specs.Tree as tree
 use Rattle.file_words.specs.Lines.{Bytes}
-use Rattle.file_drafts.specs.declared.frames.Frame.{Frame}
+use Rattle.file_drafts.specs.{declared.frames.Frame.Frame, declared.frames.OpenGate.OpenGate, declared.frames.GateKind.GateKind, declared.drafts.Draft.Draft, declared.drafts.Around.Around}
 use Rattle.file_drafts.specs.declared.frames.Frame.TheVariants as frame
-use Rattle.file_drafts.specs.declared.frames.OpenGate.{OpenGate}
-use Rattle.file_drafts.specs.declared.frames.GateKind.{GateKind}
 use Rattle.file_drafts.specs.declared.frames.GateKind.TheVariants as kind
-use Rattle.file_drafts.specs.declared.drafts.Draft.{Draft}
-use Rattle.file_drafts.specs.declared.drafts.Around.{Around}
 use Rattle.file_drafts.specs.declared.drafts.Around.TheVariants.{NoBlock, BeforeBranches, InBranch, InBody}
 
 -- node 0 is the start and node 1 the finish

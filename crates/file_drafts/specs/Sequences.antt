@@ -1,9 +1,7 @@
 -- Parts of a tree one after another, and branches side by side, as contracts see them while a type is read.
-use Rattle.std.specs.Prelude.{◌≡◌, ℕ, List, [], ◌∷◌, refl}
-use Rattle.std.specs.Coded.{Coded, code_by, coded×, coded_ℕ, coded_list}
+use Rattle.std.specs.{Prelude.{◌≡◌, ℕ, List, [], ◌∷◌, refl}, Coded.{Coded, code_by, coded×, coded_ℕ, coded_list}}
 use Rattle.std.proofs.Common.{ap}
-use Rattle.wsm_schema.specs.Tree.{Part, Parts, nothing, part, parts}
-use Rattle.wsm_schema.specs.Tokens.{tree_code}
+use Rattle.wsm_schema.specs.{Tree.{Part, Parts, nothing, part, parts}, Tokens.tree_code}
 
 abbrev pub list_of : Parts → List Part
 list_of nothing = []

@@ -1,8 +1,6 @@
 // A type whose end was not read yet.
-ghost use Rattle.std.specs.Prelude.{◌≡◌, ℕ, [], ◌∷◌, ◌++◌, not, length, OnOk, IfOk, if◌then◌else◌};
-ghost use Rattle.std.specs.Option.{is_some};
-ghost use Rattle.wsm_lists.specs.Rows.{row_at};
-ghost use Rattle.wsm_lists.specs.Keys.{both, first, first_two};
+ghost use Rattle.std.specs.{Prelude.{◌≡◌, ℕ, [], ◌∷◌, ◌++◌, not, length, OnOk, IfOk, if◌then◌else◌}, Option.is_some};
+ghost use Rattle.wsm_lists.specs.{Rows.row_at, Keys.{both, first, first_two}};
 ghost use Rattle.file_drafts.specs.Drafts.{new_draft, with_role, with_activity, gate_opened, loop_opened, closed, branched, around, with_sync, with_element, with_read, with_write, whole};
 
 use crate::frames::{Frame, Frames, GateKind, OpenGate, OpenLoop};

@@ -1,11 +1,7 @@
 // A schema without blocks while its lists grow.
-ghost use Rattle.std.specs.Prelude.{◌≡◌, not, IfOk, OnErr, OnOk, if◌then◌else◌};
-ghost use Rattle.std.specs.Option.{is_some};
-ghost use Rattle.wsm_lists.specs.Keys.{both, first, first_two, put_role};
-ghost use Rattle.wsm_lists.specs.Rows.{put_row, row_at};
-ghost use Rattle.wsm_schema.specs.SchemaModel.{plain};
-ghost use Rattle.wsm_schema.specs.Tree.{nothing};
-ghost use Rattle.wsm_schema.specs.TreeOf.{parts_of};
+ghost use Rattle.std.specs.{Prelude.{◌≡◌, not, IfOk, OnErr, OnOk, if◌then◌else◌}, Option.is_some};
+ghost use Rattle.wsm_lists.specs.{Keys.{both, first, first_two, put_role}, Rows.{put_row, row_at}};
+ghost use Rattle.wsm_schema.specs.{SchemaModel.plain, Tree.nothing, TreeOf.parts_of};
 
 use std::alloc::Global;
 use std::marker::Model;

@@ -1,7 +1,6 @@
 // Blocks one after another, and branches side by side.
 ghost use Rattle.std.specs.Prelude.{◌≡◌, ℕ, [], ◌∷◌, ◌++◌, OnOk};
-ghost use Rattle.wsm_schema.specs.Tree.{act, gate, and_gate, xor_gate, loop, parts, lanes};
-ghost use Rattle.wsm_schema.specs.TreeOf.{part_of, parts_of, lanes_of};
+ghost use Rattle.wsm_schema.specs.{Tree.{act, gate, and_gate, xor_gate, loop, parts, lanes}, TreeOf.{part_of, parts_of, lanes_of}};
 
 use std::alloc::Global;
 use std::marker::Model;

@@ -1,15 +1,7 @@
 -- What follows for the ids of cases: a declared id is one of its type's, and no two cases have one id.
-use Rattle.std.proofs.Common.{◌≡◌, ◌≤◌, ◌<◌, ℕ, zero, suc, ◌+◌, Bool, true, List, [], ◌∷◌, take, get_or, refl, ap, sym, inl, inr, arith, Some}
-use Rattle.std.proofs.lemmas.Bool.{eqb-true, eq-eqb, and_parts, or_cases, cases_order}
-use Rattle.std.proofs.lemmas.List.Sums.{sum_by-take-le, count_by_more_yes}
-use Rattle.std.proofs.lemmas.Option.{same_Some, slice_get_within, get_or_from_slice_get}
-use Rattle.std.specs.Prelude.{slice_get, ◌==◌}
-use Rattle.std.specs.List.{list_any}
-use Rattle.wsm_lists.specs.Rows.{AllRows}
-use Rattle.wsm_sound.specs.declared.versions.CaseId.{CaseId}
-use Rattle.file_model.specs.CaseCounts.{cases_of_type, has_id}
-use Rattle.file_model.specs.declared.files.CaseDecl.{CaseDecl}
-use Rattle.file_facts.specs.Facts.{HasType, ArePlaced, IsDeclared}
+use Rattle.file_facts.proofs.Common.{[], ℕ, ◌+◌, ◌<◌, ◌∷◌, ◌≡◌, ◌≤◌, AllRows, and_parts, ap, ArePlaced, arith, Bool, CaseDecl, CaseId, cases_of_type, cases_order, count_by_more_yes, eq-eqb, eqb-true, get_or, get_or_from_slice_get, has_id}
+use Rattle.file_facts.proofs.Common.{HasType, inl, inr, IsDeclared, List, list_any, or_cases, refl, same_Some, slice_get, slice_get_within, Some, suc, sum_by-take-le, sym, take, true, zero}
+use Rattle.std.specs.Prelude.{◌==◌}
 
 -- ---- at an index
 pub row-at : {X : Type 0} (P : X → Type 0) (xs : List X) (k : ℕ) (x : X) → AllRows P xs → slice_get xs k ≡ Some x → P x

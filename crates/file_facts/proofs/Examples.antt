@@ -1,18 +1,8 @@
 -- Small files, computed from the definitions alone.
-use Rattle.std.specs.Prelude.{◌≡◌, ℕ, List, [], ◌∷◌, map, length, Result, Ok, Err, refl, codes}
-use Rattle.std.specs.Str.{is_utf8, chars}
-use Rattle.std.proofs.Common.{zero, suc, ◌<◌, ◌≤◌, true, false, arith}
-use Rattle.std.proofs.lemmas.Option.{same_Some}
+use Rattle.file_facts.proofs.Common.{◌<◌, ◌≤◌, Act, ArePlaced, arith, CaseDecl, CaseId, codes, false, File, file, IsKnown, Line, lines_in, map, Refused, same_Some, suc, true, zero}
+use Rattle.std.specs.{Prelude.{◌≡◌, ℕ, List, [], ◌∷◌, length, Result, Ok, Err, refl}, Str.{is_utf8, chars}}
 use Rattle.wsm_sound.specs.Faults.{fault_of}
-use Rattle.wsm_sound.specs.declared.versions.CaseId.{CaseId}
-use Rattle.file_model.specs.Reading.{file}
-use Rattle.file_model.specs.declared.files.Act.{Act}
 use Rattle.file_model.specs.declared.files.Act.TheVariants as act
-use Rattle.file_model.specs.declared.files.CaseDecl.{CaseDecl}
-use Rattle.file_model.specs.declared.files.File.{File}
-use Rattle.file_model.specs.declared.files.Line.{Line}
-use Rattle.file_model.specs.declared.refusals.Refused.{Refused}
-use Rattle.file_facts.specs.Facts.{lines_in, ArePlaced, IsKnown}
 
 -- ---- what is read
 abbrev ids_in : List CaseDecl → List (ℕ × ℕ)

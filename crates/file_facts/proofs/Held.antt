@@ -1,23 +1,8 @@
 -- What holds behind each line that is read.
-use Rattle.std.proofs.Common.{◌≡◌, ◌≤◌, ◌<◌, ℕ, ◌+◌, Bool, true, false, List, length, refl, Option, Some, None}
-use Rattle.std.specs.Prelude.{IfOk}
-use Rattle.std.specs.Option.{option_or}
-use Rattle.wsm_lists.specs.Rows.{AllRows}
-use Rattle.file_names.specs.declared.declared.DeclaredList.{DeclaredList}
-use Rattle.file_model.specs.Steps.{State, Step, open_lines, over, unless}
-use Rattle.file_model.specs.Scripting.{if_known}
-use Rattle.file_model.specs.Operating.{line_of_group}
-use Rattle.file_model.specs.declared.files.ActorDecl.{ActorDecl}
-use Rattle.file_model.specs.declared.files.CaseDecl.{CaseDecl}
-use Rattle.file_model.specs.declared.files.Line.{Line}
-use Rattle.file_model.specs.declared.files.TypeDecl.{TypeDecl}
+use Rattle.file_facts.proofs.Common.{ℕ, ◌+◌, ◌<◌, ◌≡◌, ◌≤◌, ActorDecl, AllRows, ArePlaced, Bool, CaseDecl, Contents, DeclaredList, false, HasType, if_known, IfOk, IsKnown, IsSound, length, Limits, Line, line_of_group, lines_in, List, None}
+use Rattle.file_facts.proofs.Common.{open_lines, Option, option_or, over, refl, Section, Some, State, Step, true, TypeDecl, unless, Why}
 use Rattle.file_model.specs.declared.refusals.FileLimit.{FileLimit}
-use Rattle.file_model.specs.declared.refusals.Why.{Why}
-use Rattle.file_model.specs.declared.states.Contents.{Contents}
-use Rattle.file_model.specs.declared.states.Limits.{Limits}
-use Rattle.file_model.specs.declared.states.Section.{Section}
 use Rattle.file_model.specs.declared.states.Section.TheVariants as section
-use Rattle.file_facts.specs.Facts.{lines_in, IsSound, HasType, ArePlaced, IsKnown}
 
 -- of declarations: nothing has more names than items, there are no more than may be, and what a file promises of them
 pub record AreDeclared (limits : Limits) (types : DeclaredList TypeDecl) (actors : DeclaredList ActorDecl) (cases : DeclaredList CaseDecl) : Type 0 where

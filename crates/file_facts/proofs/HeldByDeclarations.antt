@@ -1,39 +1,13 @@
 -- What holds behind declarations and lines of a type.
-use Rattle.std.proofs.Common.{◌≡◌, ◌≤◌, ◌<◌, ◌==◌, ℕ, cond, List, [], ◌∷◌, ◌++◌, length, take, refl, inl, inr, arith, Option, Some, None}
+use Rattle.file_facts.proofs.Common.{[], ℕ, ◌++◌, ◌<◌, ◌==◌, ◌∷◌, ◌≡◌, ◌≤◌, a_case, a_read, a_sync, a_type, a_write, Act, activity, ActorDecl, all-rows-map, AllRows, an_actor, an_element, ArePlaced, arith, at_place, Bytes, case_declared}
+use Rattle.file_facts.proofs.Common.{CaseDecl, CaseId, cases_of_type, closes_block, cond, Contents, Declaration, declared, DeclaredList, Draft, ended, Fault, fault_of, first_phase, has_id, HasType, inl, inr, IsDeclared, IsKnown, IsKnownAct}
+use Rattle.file_facts.proofs.Common.{IsSound, leb-false, length, length_push, Limits, Line, List, new_draft, None, open_lines, opens_and, opens_branch, opens_loop, opens_xor, Option, outside, phase_begun, phases_with, place_of, refl}
+use Rattle.file_facts.proofs.Common.{role_numbers, rows-append, SchemaModel, slice_get_within, Some, sum_by_push, take, take-append-le, type_end, typed, TypeDecl, TypeLine, whole, with_actor, with_case, with_element, with_node, with_roles}
+use Rattle.file_facts.proofs.{Common.with_type, Held.{AreDeclared, IsScript, Typing, Script, HasDeclared, HeldStep, unless-held, same-held, not_over, neither}, Lists.{any-more, at-push, length-noted, place_within}}
 use Rattle.std.proofs.Math.Seq.{take-append_seam}
-use Rattle.std.proofs.lemmas.Bool.{leb-false}
-use Rattle.std.proofs.lemmas.List.{length_push, take-append-le}
-use Rattle.std.proofs.lemmas.List.Sums.{sum_by_push}
-use Rattle.std.proofs.lemmas.Option.{slice_get_within}
-use Rattle.wsm_lists.specs.Rows.{AllRows}
-use Rattle.wsm_lists.proofs.Lists.{all-rows-map, rows-append}
-use Rattle.wsm_schema.specs.SchemaModel.{SchemaModel}
-use Rattle.wsm_sound.specs.Faults.{fault_of}
-use Rattle.wsm_sound.specs.declared.faults.Fault.{Fault}
-use Rattle.wsm_sound.specs.declared.versions.CaseId.{CaseId}
-use Rattle.file_words.specs.Lines.{Bytes}
-use Rattle.file_names.specs.Names.{place_of}
-use Rattle.file_names.specs.declared.declared.DeclaredList.{DeclaredList}
-use Rattle.file_forms.specs.Forms.{Declaration, a_type, an_actor, a_case, first_phase, TypeLine, activity, opens_and, opens_xor, opens_branch, opens_loop, closes_block, a_sync, an_element, a_read, a_write, type_end}
-use Rattle.file_drafts.specs.Drafts.{new_draft, whole}
-use Rattle.file_drafts.specs.declared.drafts.Draft.{Draft}
-use Rattle.file_model.specs.Steps.{at_place, open_lines, outside, phases_with, with_node, with_element}
-use Rattle.file_model.specs.CaseCounts.{cases_of_type, has_id}
-use Rattle.file_model.specs.Declaring.{with_type, with_actor, with_case, with_roles, role_numbers, case_declared, declared, phase_begun}
-use Rattle.file_model.specs.Typing.{ended, typed}
-use Rattle.file_model.specs.declared.files.Act.{Act}
 use Rattle.file_model.specs.declared.files.Act.TheVariants as act
-use Rattle.file_model.specs.declared.files.ActorDecl.{ActorDecl}
-use Rattle.file_model.specs.declared.files.CaseDecl.{CaseDecl}
-use Rattle.file_model.specs.declared.files.Line.{Line}
-use Rattle.file_model.specs.declared.files.TypeDecl.{TypeDecl}
 use Rattle.file_model.specs.declared.refusals.FileLimit.TheVariants as limit
-use Rattle.file_model.specs.declared.states.Contents.{Contents}
-use Rattle.file_model.specs.declared.states.Limits.{Limits}
 use Rattle.file_model.specs.declared.states.Section.TheVariants as section
-use Rattle.file_facts.specs.Facts.{IsSound, HasType, ArePlaced, IsDeclared, IsKnown, IsKnownAct}
-use Rattle.file_facts.proofs.Held.{AreDeclared, IsScript, Typing, Script, HasDeclared, HeldStep, unless-held, same-held, not_over, neither}
-use Rattle.file_facts.proofs.Lists.{any-more, at-push, length-noted, place_within}
 
 -- ---- one more declaration
 more_types : (n m : ℕ) → n ≤ m → (cases : List CaseDecl) → AllRows (HasType n) cases → AllRows (HasType m) cases

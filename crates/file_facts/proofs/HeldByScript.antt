@@ -1,36 +1,15 @@
 -- What holds behind lines of a phase and of a group.
-use Rattle.std.proofs.Common.{◌≡◌, ◌≤◌, ◌<◌, ℕ, ◌+◌, true, false, List, [], ◌∷◌, ◌++◌, length, refl, arith, Option, Some, None}
-use Rattle.std.proofs.lemmas.Bool.{leb-false, eq-eqb, and_from}
-use Rattle.std.proofs.lemmas.List.{length_push}
-use Rattle.std.proofs.lemmas.Option.{same_Some}
-use Rattle.std.specs.Prelude.{nat_le, slice_get, option_map}
-use Rattle.wsm_lists.proofs.Lists.{rows-append}
-use Rattle.wsm_lists.specs.declared.values.Value.{Value}
-use Rattle.wsm_ops.specs.declared.operations.Op.{Op}
-use Rattle.wsm_sound.specs.declared.versions.CaseId.{CaseId}
-use Rattle.file_words.specs.Lines.{Bytes}
-use Rattle.file_names.specs.Names.{place_of}
+use Rattle.file_facts.proofs.Common.{[], ℕ, ◌++◌, ◌+◌, ◌<◌, ◌∷◌, ◌≡◌, ◌≤◌, a_deed, Act, act_of, acted, actor_in, and_from, arith, at_head, at_place, behind, Bytes, case_in, CaseDecl, CaseId, changing, conditional, Contents, counted, Deed}
+use Rattle.file_facts.proofs.Common.{delete, element, eq-eqb, false, Group, group_end, grouped, has_id, insert, installing, IsDeclared, IsKnownAct, leb-false, length, length_push, Line, line_of, line_of_group, List, migrate_of, migrating}
+use Rattle.file_facts.proofs.Common.{migrations_with, move, NamedGap, nat_le, next_phase, node_in, None, numbered, one_install, Op, op_in, open_lines, operated, OperationLine, Option, option_map, parallel, place_of, read, refl, rows-append}
+use Rattle.file_facts.proofs.Common.{same_Some, scripted, ScriptLine, set_role, slice_get, Some, sync, Target, to_change, to_create, to_end, to_install, to_migrate, to_start, to_withdraw, true, unread, unsync, unwrite, Value, with_element}
+use Rattle.file_facts.proofs.{Common.{with_elements, with_group, with_line, with_names, with_node, with_op, with_place, with_script_line, write}, Held.{Script, KnownIn, HeldState, HeldStep, unless-held, found-held, not_over, neither}}
+use Rattle.file_facts.proofs.{HeldByDeclarations.begun-held, Lists.{any-at, place_within}}
 use Rattle.file_forms.specs.PieceForms.{◌>>=◌}
-use Rattle.file_forms.specs.Forms.{Deed, to_create, to_start, to_withdraw, to_end, to_change, to_install, to_migrate, ScriptLine, next_phase, a_deed}
-use Rattle.file_forms.specs.Forms.{NamedGap, behind, at_head, OperationLine, insert, parallel, conditional, delete, move, sync, unsync, element, read, unread, write, unwrite, set_role, group_end}
-use Rattle.file_model.specs.Steps.{at_place, node_in, open_lines, with_node, with_element, with_script_line}
-use Rattle.file_model.specs.Scripting.{case_in, actor_in, counted, line_of, with_line, with_group, changing, one_install, installing, migrate_of, migrations_with, migrating, with_elements, numbered, acted, scripted}
-use Rattle.file_model.specs.Operating.{with_place, op_in, with_names, act_of, line_of_group, with_op, grouped, operated}
-use Rattle.file_model.specs.declared.files.Act.{Act}
 use Rattle.file_model.specs.declared.files.Act.TheVariants as act
-use Rattle.file_model.specs.declared.files.CaseDecl.{CaseDecl}
-use Rattle.file_model.specs.declared.files.Line.{Line}
 use Rattle.file_model.specs.declared.refusals.FileLimit.TheVariants as limit
-use Rattle.file_model.specs.declared.states.Contents.{Contents}
-use Rattle.file_model.specs.declared.states.Group.{Group}
-use Rattle.file_model.specs.declared.states.Target.{Target}
 use Rattle.file_model.specs.declared.states.Target.TheVariants as target
 use Rattle.file_model.specs.declared.states.Section.TheVariants as section
-use Rattle.file_facts.specs.Facts.{IsDeclared, IsKnownAct}
-use Rattle.file_facts.proofs.Held.{Script, KnownIn, HeldState, HeldStep, unless-held, found-held, not_over, neither}
-use Rattle.file_facts.proofs.HeldByDeclarations.{begun-held}
-use Rattle.file_facts.proofs.Lists.{any-at, place_within}
-use Rattle.file_model.specs.CaseCounts.{has_id}
 
 -- ---- what is found was declared
 own_id : (d : CaseDecl) → has_id d.id d ≡ true

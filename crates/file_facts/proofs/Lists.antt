@@ -1,12 +1,6 @@
 -- Lists with one more element, and names in a list.
-use Rattle.std.proofs.Common.{◌≡◌, ◌≤◌, ◌<◌, ℕ, zero, suc, ◌+◌, Bool, true, List, [], ◌∷◌, ◌++◌, length, refl, ap, inl, inr, arith, Some, ◌⊎◌}
-use Rattle.std.specs.Prelude.{slice_get, bytes_eq}
-use Rattle.std.specs.List.{list_any}
-use Rattle.std.proofs.lemmas.Bool.{cases_Bool, or_cases, or_left, or_right}
-use Rattle.std.proofs.lemmas.List.{length_push}
-use Rattle.std.proofs.lemmas.Option.{same_Some, cond_some}
-use Rattle.file_words.specs.Lines.{Bytes}
-use Rattle.file_names.specs.Names.{is_listed, noted, number_of, place_of}
+use Rattle.file_facts.proofs.Common.{[], ℕ, ◌++◌, ◌+◌, ◌<◌, ◌∷◌, ◌≡◌, ◌≤◌, ◌⊎◌, ap, arith, Bool, Bytes, bytes_eq, cases_Bool, cond_some, inl, inr, is_listed, length, length_push, List, list_any, noted, number_of, or_cases, or_left}
+use Rattle.file_facts.proofs.Common.{or_right, place_of, refl, same_Some, slice_get, Some, suc, true, zero}
 
 -- ---- one more element
 -- an element of a list with one more is an old one, or the new one at the end

@@ -1,50 +1,17 @@
 -- In formats 1 and 2 nothing is declared once a phase has begun, so a migrate calls all cases of its type.
-use Rattle.std.proofs.Common.{◌≡◌, ℕ, ◌+◌, ◌==◌, Bool, true, false, List, [], ◌∷◌, length, refl, subst, sym, Option, Some, None, Result, Ok, Err}
-use Rattle.std.specs.Prelude.{IfOk, nat_le, not, if◌then◌else◌}
-use Rattle.std.specs.Option.{is_some}
-use Rattle.std.specs.Str.{is_utf8}
-use Rattle.wsm_lists.proofs.Lists.{rows-append}
-use Rattle.wsm_lists.specs.Rows.{AllRows}
-use Rattle.wsm_lists.specs.declared.values.Value.{Value}
-use Rattle.wsm_ops.specs.declared.operations.Op.{Op}
-use Rattle.wsm_schema.specs.SchemaModel.{SchemaModel}
-use Rattle.wsm_sound.specs.Faults.{fault_of}
-use Rattle.wsm_sound.specs.declared.faults.Fault.{Fault}
-use Rattle.file_words.specs.Lines.{Bytes, lines_of, without_return}
-use Rattle.file_words.specs.Words.{words_of, is_skipped}
-use Rattle.file_words.specs.Lengths.{first_long}
-use Rattle.file_words.specs.declared.lengths.TooLong.{TooLong}
-use Rattle.file_names.specs.Names.{place_of}
-use Rattle.file_forms.specs.DeclarationForms.{begins_reserved, header, declaration_line}
-use Rattle.file_forms.specs.Forms.{Declaration, a_type, an_actor, a_case, first_phase, TypeLine, activity, opens_and, opens_xor, opens_branch, opens_loop, closes_block, a_sync, an_element, a_read, a_write, type_end}
-use Rattle.file_forms.specs.Forms.{Deed, to_create, to_start, to_withdraw, to_end, to_change, to_install, to_migrate, ScriptLine, next_phase, a_deed}
-use Rattle.file_forms.specs.Forms.{NamedGap, behind, at_head, OperationLine, insert, parallel, conditional, delete, move, sync, unsync, element, read, unread, write, unwrite, set_role, group_end}
-use Rattle.file_forms.specs.TypeForms.{type_line}
-use Rattle.file_forms.specs.ScriptForms.{script_line}
-use Rattle.file_forms.specs.OperationForms.{operation_line}
-use Rattle.file_drafts.specs.Drafts.{whole}
-use Rattle.file_drafts.specs.declared.drafts.Draft.{Draft}
-use Rattle.file_model.specs.Steps.{State, Step, all_phases, at_place, open_lines, opening, outside, phases_with, unless, node_in, with_node, with_element, with_script_line}
-use Rattle.file_model.specs.Declaring.{case_declared, declared, phase_begun, with_case}
-use Rattle.file_model.specs.Typing.{ended, typed}
-use Rattle.file_model.specs.Scripting.{acted, actor_in, case_in, counted, if_known, line_of, migrate_of, migrating, migrations_with, numbered, one_install, scripted, with_elements, with_group, with_line}
-use Rattle.file_model.specs.Operating.{act_of, grouped, line_of_group, op_in, operated, with_names, with_op, with_place}
-use Rattle.file_model.specs.Reading.{in_format, unless_long, formed, fitting, unless_not_text, declares, step_outside, step_in, step_words, step, finished_in, finished, at_line, read_from, file_up_to}
-use Rattle.file_model.specs.declared.files.Act.{Act}
+use Rattle.file_facts.proofs.Common.{[], ℕ, ◌+◌, ◌==◌, ◌∷◌, ◌≡◌, a_case, a_deed, a_read, a_sync, a_type, a_write, Act, act_of, acted, activity, actor_in, all_phases, AllRows, an_actor, an_element, at_head, at_line, at_place}
+use Rattle.file_facts.proofs.Common.{begins_reserved, behind, Bool, Bytes, case_declared, case_in, CaseDecl, closes_block, conditional, Contents, counted, Declaration, declaration_line, declared, declares, Deed, delete, Draft, element}
+use Rattle.file_facts.proofs.Common.{ended, Err, false, Fault, fault_of, File, file_up_to, finished, finished_in, first_long, first_phase, fitting, formed, Group, group_end, grouped, header, if_known, IfOk, if◌then◌else◌, in_format, insert}
+use Rattle.file_facts.proofs.Common.{is_skipped, is_some, is_utf8, length, Line, line_of, line_of_group, lines_of, LinesMoveAll, List, migrate_of, MigratesAll, migrating, migrations_with, move, MovesAll, NamedGap, nat_le, next_phase}
+use Rattle.file_facts.proofs.Common.{node_in, None, not, numbered, Ok, one_install, Op, op_in, open_lines, opening, opens_and, opens_branch, opens_loop, opens_xor, operated, operation_line, OperationLine, Option, outside, parallel}
+use Rattle.file_facts.proofs.Common.{phase_begun, phases_with, place_of, read, read_from, refl, Refused, Result, rows-append, SchemaModel, script_line, scripted, ScriptLine, Section, set_role, Some, State, Step, step, step_in, step_outside}
+use Rattle.file_facts.proofs.Common.{step_words, subst, sym, sync, Target, to_change, to_create, to_end, to_install, to_migrate, to_start, to_withdraw, TooLong, true, type_end, type_line, typed, TypeLine, unless, unless_long}
+use Rattle.file_facts.proofs.Common.{unless_not_text, unread, unsync, unwrite, Value, whole, Why, with_case, with_element, with_elements, with_group, with_line, with_names, with_node, with_op, with_place, with_script_line, without_return}
+use Rattle.file_facts.proofs.Common.{words_of, write}
 use Rattle.file_model.specs.declared.files.Act.TheVariants as act
-use Rattle.file_model.specs.declared.files.CaseDecl.{CaseDecl}
-use Rattle.file_model.specs.declared.files.File.{File}
-use Rattle.file_model.specs.declared.files.Line.{Line}
-use Rattle.file_model.specs.declared.refusals.Refused.{Refused}
-use Rattle.file_model.specs.declared.refusals.Why.{Why}
 use Rattle.file_model.specs.declared.refusals.Why.TheVariants as why
-use Rattle.file_model.specs.declared.states.Contents.{Contents}
-use Rattle.file_model.specs.declared.states.Group.{Group}
-use Rattle.file_model.specs.declared.states.Section.{Section}
 use Rattle.file_model.specs.declared.states.Section.TheVariants as section
-use Rattle.file_model.specs.declared.states.Target.{Target}
 use Rattle.file_model.specs.declared.states.Target.TheVariants as target
-use Rattle.file_facts.specs.Facts.{LinesMoveAll, MigratesAll, MovesAll}
 
 -- no phase has ended where none is open, and each migrate calls all cases
 pub record IsFixed (cases : List CaseDecl) (phases : List (List Line)) (current : Option (List Line)) : Type 0 where

@@ -1,37 +1,12 @@
 -- What holds of each file that is read.
-use Rattle.std.proofs.Common.{◌≡◌, ℕ, ◌+◌, ◌==◌, Bool, true, false, List, [], ◌∷◌, length, refl, subst, ap, arith, Option, Some, None, Result, Ok, Err}
-use Rattle.std.proofs.lemmas.Option.{slice_get_within}
-use Rattle.std.specs.Prelude.{IfOk, nat_le, if◌then◌else◌}
-use Rattle.std.specs.Str.{is_utf8}
-use Rattle.file_words.specs.Lines.{Bytes, lines_of, without_return}
-use Rattle.file_words.specs.Words.{words_of, is_skipped}
-use Rattle.file_words.specs.Lengths.{first_long}
-use Rattle.file_words.specs.declared.lengths.TooLong.{TooLong}
-use Rattle.file_forms.specs.DeclarationForms.{header, declaration_line}
-use Rattle.file_forms.specs.TypeForms.{type_line}
-use Rattle.file_forms.specs.ScriptForms.{script_line}
-use Rattle.file_forms.specs.OperationForms.{operation_line}
-use Rattle.file_model.specs.Steps.{State, Step, file_limits, opening}
-use Rattle.file_model.specs.Declaring.{declared}
-use Rattle.file_model.specs.Typing.{typed}
-use Rattle.file_model.specs.Scripting.{scripted}
-use Rattle.file_model.specs.Operating.{operated}
-use Rattle.file_model.specs.Reading.{in_format, unless_long, formed, fitting, unless_not_text, declares, step_outside, step_in, step_words, step, file_of, finished_in, finished, at_line, read_from, file, file_up_to}
+use Rattle.file_facts.proofs.Common.{[], ℕ, ◌+◌, ◌==◌, ◌∷◌, ◌≡◌, ap, arith, at_line, Bool, Bytes, Contents, declaration_line, declared, declares, Err, false, File, file, file_limits, file_of, file_up_to, finished, finished_in, first_long}
+use Rattle.file_facts.proofs.Common.{fitting, formed, header, IfOk, if◌then◌else◌, in_format, is_skipped, is_utf8, IsWorkable, length, Limits, lines_of, List, nat_le, None, Ok, opening, operated, operation_line, Option, read_from, refl}
+use Rattle.file_facts.proofs.Common.{Refused, Result, script_line, scripted, Section, slice_get_within, Some, State, Step, step, step_in, step_outside, step_words, subst, TooLong, true, type_line, typed, unless_long, unless_not_text, Why}
+use Rattle.file_facts.proofs.{Common.{without_return, words_of}, Held.{Script, HeldIn, HeldState, HeldStep}, HeldByDeclarations.{declared-held, phase-ended, typed-held}, HeldByScript.{scripted-held, operated-held}}
 use Rattle.file_model.specs.Sizes.{IsBounded}
-use Rattle.file_model.specs.declared.files.File.{File}
-use Rattle.file_model.specs.declared.refusals.Refused.{Refused}
-use Rattle.file_model.specs.declared.refusals.Why.{Why}
 use Rattle.file_model.specs.declared.refusals.Why.TheVariants as why
-use Rattle.file_model.specs.declared.states.Contents.{Contents}
-use Rattle.file_model.specs.declared.states.Limits.{Limits}
-use Rattle.file_model.specs.declared.states.Section.{Section}
 use Rattle.file_model.specs.declared.states.Section.TheVariants as section
-use Rattle.file_model.proofs.Bounds.{file-bounded}
-use Rattle.file_model.proofs.LimitsStay.{step-with}
-use Rattle.file_facts.specs.Facts.{IsWorkable}
-use Rattle.file_facts.proofs.Held.{Script, HeldIn, HeldState, HeldStep}
-use Rattle.file_facts.proofs.HeldByDeclarations.{declared-held, phase-ended, typed-held}
-use Rattle.file_facts.proofs.HeldByScript.{scripted-held, operated-held}
+use Rattle.file_model.proofs.{Bounds.file-bounded, LimitsStay.step-with}
 
 -- ---- a line
 if-held : (test : Bool) (s o : Step) → HeldStep s → HeldStep o → HeldStep (if test then s else o)

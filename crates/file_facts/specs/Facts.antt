@@ -1,18 +1,10 @@
 -- What holds of each file that is read, for those who work its lines.
-use Rattle.std.specs.Prelude.{ℕ, ◌≡◌, ◌≤◌, ◌<◌, ◌==◌, true, false, List, length, take, slice_get, Some, None}
-use Rattle.std.specs.List.{list_all, list_any, sum_by}
+use Rattle.std.specs.{Prelude.{ℕ, ◌≡◌, ◌≤◌, ◌<◌, ◌==◌, true, false, List, length, take, slice_get, Some, None}, List.{list_all, list_any, sum_by}}
 use Rattle.wsm_lists.specs.Rows.{AllRows}
-use Rattle.wsm_sound.specs.Faults.{fault_of}
-use Rattle.wsm_sound.specs.declared.versions.CaseId.{CaseId}
+use Rattle.wsm_sound.specs.{Faults.fault_of, declared.versions.CaseId.CaseId}
 use Rattle.file_limits.specs.declared.TheConstants.{MAX_ACTORS, MAX_CASES, MAX_LINES, MAX_OPS, MAX_TYPES}
-use Rattle.file_model.specs.CaseCounts.{cases_of_type, has_id}
-use Rattle.file_model.specs.Sizes.{is_small}
-use Rattle.file_model.specs.declared.files.Act.{Act}
+use Rattle.file_model.specs.{CaseCounts.{cases_of_type, has_id}, Sizes.is_small, declared.files.Act.Act, declared.files.CaseDecl.CaseDecl, declared.files.File.File, declared.files.Line.Line, declared.files.TypeDecl.TypeDecl}
 use Rattle.file_model.specs.declared.files.Act.TheVariants as act
-use Rattle.file_model.specs.declared.files.CaseDecl.{CaseDecl}
-use Rattle.file_model.specs.declared.files.File.{File}
-use Rattle.file_model.specs.declared.files.Line.{Line}
-use Rattle.file_model.specs.declared.files.TypeDecl.{TypeDecl}
 
 -- how many script lines there are in all phases
 abbrev pub lines_in : List (List Line) → ℕ

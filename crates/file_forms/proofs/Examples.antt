@@ -3,11 +3,8 @@ use Rattle.std.specs.Prelude.{◌≡◌, pos, neg_ℤ, true, false, [], ◌∷�
 use Rattle.wsm_lists.specs.declared.values.ElementKind.TheVariants as kind
 use Rattle.wsm_lists.specs.declared.values.Value.TheVariants as value
 use Rattle.file_words.specs.Words.{words_of}
-use Rattle.file_forms.specs.Forms.{by_number, by_name, an_actor, a_case, first_phase, activity, opens_xor, opens_branch, an_element, a_read, to_withdraw, to_end, to_create, a_deed, behind, at_head, insert, parallel, conditional, set_role, group_end}
-use Rattle.file_forms.specs.DeclarationForms.{header, declaration_line}
-use Rattle.file_forms.specs.TypeForms.{type_line}
-use Rattle.file_forms.specs.ScriptForms.{script_line}
-use Rattle.file_forms.specs.OperationForms.{operation_line}
+use Rattle.file_forms.specs.Forms.{by_number, by_name, an_actor, a_case, first_phase, activity, opens_xor, opens_branch, an_element, a_read, to_withdraw, to_end, to_create, a_deed, behind, at_head, insert, parallel, conditional, set_role}
+use Rattle.file_forms.specs.{Forms.group_end, DeclarationForms.{header, declaration_line}, TypeForms.type_line, ScriptForms.script_line, OperationForms.operation_line}
 
 first_format : header (words_of (codes "\tadept  1 ")) ≡ Some 1
 first_format = refl

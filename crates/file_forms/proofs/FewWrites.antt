@@ -2,16 +2,10 @@
 use Rattle.std.proofs.Common.{◌≤◌, ℕ, List, [], ◌∷◌, length, ◌==◌, ◌&&◌, Option, None, Some, arith}
 use Rattle.std.specs.Prelude.{IfSome, nat_le, nat_lt, codes}
 use Rattle.wsm_lists.specs.declared.values.Value.{Value}
-use Rattle.file_words.specs.Lines.{Bytes}
-use Rattle.file_words.specs.Names.{name}
-use Rattle.file_words.specs.Numbers.{code}
-use Rattle.file_words.specs.Pairs.{pair}
-use Rattle.file_words.specs.Words.{is}
-use Rattle.file_forms.specs.DeclarationForms.{actor_ahead, actor_line, begins_reserved, declaration_line, plain_line, roles, roles_at_end, some_roles}
-use Rattle.file_forms.specs.Forms.{RoleWord, Declaration, a_type, an_actor, a_case, first_phase, Deed, to_create, to_start, to_withdraw, to_end, to_change, to_install, to_migrate, ScriptLine, a_deed}
-use Rattle.file_forms.specs.NamesInForms.{roles_in, writes_in_deed, writes_in}
-use Rattle.file_forms.specs.PieceForms.{◌>>=◌, name_ahead, nothing_more, one_name, role_word, two_names, two_names_ahead}
-use Rattle.file_forms.specs.ScriptForms.{choice_ahead, code_ahead, deed, deed_line, end_behind, end_deed, named_deed, pairs, plain_deed, script_line}
+use Rattle.file_words.specs.{Lines.Bytes, Names.name, Numbers.code, Pairs.pair, Words.is}
+use Rattle.file_forms.specs.{DeclarationForms.{actor_ahead, actor_line, begins_reserved, declaration_line, plain_line, roles, roles_at_end, some_roles}, Forms.{RoleWord, Declaration, a_type, an_actor, a_case, first_phase, Deed, to_create}}
+use Rattle.file_forms.specs.{Forms.{to_start, to_withdraw, to_end, to_change, to_install, to_migrate, ScriptLine, a_deed}, NamesInForms.{roles_in, writes_in_deed, writes_in}, PieceForms.{◌>>=◌, name_ahead, nothing_more, one_name}}
+use Rattle.file_forms.specs.{PieceForms.{role_word, two_names, two_names_ahead}, ScriptForms.{choice_ahead, code_ahead, deed, deed_line, end_behind, end_deed, named_deed, pairs, plain_deed, script_line}}
 use Rattle.file_forms.proofs.Options.{some-any, some-bound, some-either, some-mapped}
 
 abbrev Any : {A : Type 0} → A → Type 0

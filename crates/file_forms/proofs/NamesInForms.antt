@@ -1,22 +1,15 @@
 -- What holds of the words of a line holds of the names and the writes in its form.
 use Rattle.std.proofs.Common.{◌≤◌, ℕ, List, [], ◌∷◌, length, ◌==◌, ◌&&◌, Option, None, Some, arith}
 use Rattle.std.specs.Prelude.{IfSome, nat_le, nat_lt, codes}
-use Rattle.wsm_lists.specs.Rows.{AllRows}
-use Rattle.wsm_lists.specs.declared.values.Value.{Value}
-use Rattle.file_words.specs.Lines.{Bytes}
-use Rattle.file_words.specs.Names.{name}
-use Rattle.file_words.specs.Numbers.{code, role}
-use Rattle.file_words.specs.Pairs.{pair}
-use Rattle.file_words.specs.Words.{is}
-use Rattle.file_forms.specs.DeclarationForms.{actor_ahead, actor_line, begins_reserved, declaration_line, plain_line, roles, roles_at_end, some_roles}
-use Rattle.file_forms.specs.Forms.{RoleWord, by_number, by_name, Declaration, a_type, an_actor, a_case, first_phase, TypeLine, activity, opens_and, opens_xor, opens_branch, opens_loop, closes_block, a_sync, an_element, a_read, a_write, type_end}
-use Rattle.file_forms.specs.Forms.{Deed, to_create, to_start, to_withdraw, to_end, to_change, to_install, to_migrate, ScriptLine, next_phase, a_deed}
-use Rattle.file_forms.specs.Forms.{NamedGap, behind, at_head, OperationLine, insert, parallel, conditional, delete, move, sync, unsync, element, read, unread, write, unwrite, set_role, group_end}
-use Rattle.file_forms.specs.NamesInForms.{RoleHas, DeclarationHas, TypeLineHas, DeedHas, ScriptLineHas, GapHas, OperationHas}
-use Rattle.file_forms.specs.OperationForms.{around_items, conditional_line, edge_line, edge_operation, first_and_last, insert_line, last_item, move_line, name_and_code, new_node, operation_line, parallel_line, place, role_ahead, role_line, role_word_ahead, row_line, tree_operation, with_block}
-use Rattle.file_forms.specs.PieceForms.{◌>>=◌, element_and_kind, element_kind, element_read, is_mandatory, low_or_name, name_ahead, name_and_role, nothing_more, one_name, only, read_edge, role_at_end, role_word, two_names, two_names_ahead, two_names_and_role}
-use Rattle.file_forms.specs.ScriptForms.{choice_ahead, code_ahead, deed, deed_line, end_behind, end_deed, named_deed, pairs, plain_deed, script_line}
-use Rattle.file_forms.specs.TypeForms.{outer_line, tree_line, type_line}
+use Rattle.wsm_lists.specs.{Rows.AllRows, declared.values.Value.Value}
+use Rattle.file_words.specs.{Lines.Bytes, Names.name, Numbers.{code, role}, Pairs.pair, Words.is}
+use Rattle.file_forms.specs.{DeclarationForms.{actor_ahead, actor_line, begins_reserved, declaration_line, plain_line, roles, roles_at_end, some_roles}, Forms.{RoleWord, by_number, by_name, Declaration, a_type, an_actor, a_case}}
+use Rattle.file_forms.specs.Forms.{first_phase, TypeLine, activity, opens_and, opens_xor, opens_branch, opens_loop, closes_block, a_sync, an_element, a_read, a_write, type_end, Deed, to_create, to_start, to_withdraw, to_end, to_change}
+use Rattle.file_forms.specs.Forms.{to_install, to_migrate, ScriptLine, next_phase, a_deed, NamedGap, behind, at_head, OperationLine, insert, parallel, conditional, delete, move, sync, unsync, element, read, unread, write, unwrite, set_role}
+use Rattle.file_forms.specs.{Forms.group_end, NamesInForms.{RoleHas, DeclarationHas, TypeLineHas, DeedHas, ScriptLineHas, GapHas, OperationHas}, OperationForms.{around_items, conditional_line, edge_line, edge_operation, first_and_last}}
+use Rattle.file_forms.specs.{OperationForms.{insert_line, last_item, move_line, name_and_code, new_node, operation_line, parallel_line, place, role_ahead, role_line, role_word_ahead, row_line, tree_operation, with_block}, PieceForms.◌>>=◌}
+use Rattle.file_forms.specs.PieceForms.{element_and_kind, element_kind, element_read, is_mandatory, low_or_name, name_ahead, name_and_role, nothing_more, one_name, only, read_edge, role_at_end, role_word, two_names, two_names_ahead}
+use Rattle.file_forms.specs.{PieceForms.two_names_and_role, ScriptForms.{choice_ahead, code_ahead, deed, deed_line, end_behind, end_deed, named_deed, pairs, plain_deed, script_line}, TypeForms.{outer_line, tree_line, type_line}}
 use Rattle.file_forms.proofs.Options.{some-any, some-bound, some-either, some-mapped, some-or}
 
 -- ---- what a word may be

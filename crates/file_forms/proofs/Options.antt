@@ -1,6 +1,5 @@
 -- What holds of a value that steps give, where they give one.
-use Rattle.std.specs.Prelude.{Bool, true, false, Option, Some, None, option_map, IfSome, if◌then◌else◌}
-use Rattle.std.specs.Option.{option_or}
+use Rattle.std.specs.{Prelude.{Bool, true, false, Option, Some, None, option_map, IfSome, if◌then◌else◌}, Option.option_or}
 use Rattle.file_forms.specs.PieceForms.{◌>>=◌}
 
 pub some-either : {A : Type 0} (P : A → Type 0) (test : Bool) (x y : Option A) → IfSome x P → IfSome y P → IfSome (if test then x else y) P

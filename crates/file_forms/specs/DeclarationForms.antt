@@ -1,9 +1,7 @@
 -- The first line, and declarations.
 use Rattle.std.specs.Prelude.{ℕ, Bool, false, ◌&&◌, ◌||◌, nat_lt, ◌==◌, List, [], ◌∷◌, length, Option, Some, None, option_map, if◌then◌else◌, codes}
-use Rattle.file_words.specs.Lines.{Bytes}
-use Rattle.file_words.specs.Words.{is}
-use Rattle.file_forms.specs.Forms.{RoleWord, Declaration, a_type, an_actor, a_case, first_phase}
-use Rattle.file_forms.specs.PieceForms.{◌>>=◌, nothing_more, one_name, name_ahead, role_word, two_names}
+use Rattle.file_words.specs.{Lines.Bytes, Words.is}
+use Rattle.file_forms.specs.{Forms.{RoleWord, Declaration, a_type, an_actor, a_case, first_phase}, PieceForms.{◌>>=◌, nothing_more, one_name, name_ahead, role_word, two_names}}
 
 -- whether the one word of a list is k
 abbrev pub is_only : Bytes → List Bytes → Bool

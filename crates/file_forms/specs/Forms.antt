@@ -1,7 +1,6 @@
 -- The forms of lines: one set for each place where a line may stand.
 use Rattle.std.specs.Prelude.{ℕ, Bool, List, Option}
-use Rattle.wsm_lists.specs.declared.values.ElementKind.{ElementKind}
-use Rattle.wsm_lists.specs.declared.values.Value.{Value}
+use Rattle.wsm_lists.specs.{declared.values.ElementKind.ElementKind, declared.values.Value.Value}
 use Rattle.file_words.specs.Lines.{Bytes}
 
 -- a role as it is written

@@ -1,11 +1,10 @@
 -- What holds of the names and the writes in a form: P of each name that a file keeps, and W of each write.
 use Rattle.std.specs.Prelude.{ℕ, List, length}
-use Rattle.wsm_lists.specs.Rows.{AllRows}
-use Rattle.wsm_lists.specs.declared.values.Value.{Value}
+use Rattle.wsm_lists.specs.{Rows.AllRows, declared.values.Value.Value}
 use Rattle.file_words.specs.Lines.{Bytes}
-use Rattle.file_forms.specs.Forms.{RoleWord, by_number, by_name, Declaration, a_type, an_actor, a_case, first_phase, TypeLine, activity, opens_and, opens_xor, opens_branch, opens_loop, closes_block, a_sync, an_element, a_read, a_write, type_end}
-use Rattle.file_forms.specs.Forms.{Deed, to_create, to_start, to_withdraw, to_end, to_change, to_install, to_migrate, ScriptLine, next_phase, a_deed}
-use Rattle.file_forms.specs.Forms.{NamedGap, behind, at_head, OperationLine, insert, parallel, conditional, delete, move, sync, unsync, element, read, unread, write, unwrite, set_role, group_end}
+use Rattle.file_forms.specs.Forms.{RoleWord, by_number, by_name, Declaration, a_type, an_actor, a_case, first_phase, TypeLine, activity, opens_and, opens_xor, opens_branch, opens_loop, closes_block, a_sync, an_element, a_read, a_write}
+use Rattle.file_forms.specs.Forms.{type_end, Deed, to_create, to_start, to_withdraw, to_end, to_change, to_install, to_migrate, ScriptLine, next_phase, a_deed, NamedGap, behind, at_head, OperationLine, insert, parallel, conditional, delete}
+use Rattle.file_forms.specs.Forms.{move, sync, unsync, element, read, unread, write, unwrite, set_role, group_end}
 
 abbrev pub RoleHas : (Bytes → Type 0) → RoleWord → Type 0
 RoleHas P (by_number n) = Unit {0}

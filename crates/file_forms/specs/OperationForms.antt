@@ -1,11 +1,8 @@
 -- Lines of a group of operations.
-use Rattle.std.specs.Prelude.{ℕ, List, [], ◌∷◌, length, ◌==◌, Option, Some, None, option_map, if◌then◌else◌, codes}
-use Rattle.std.specs.Option.{option_or}
-use Rattle.file_words.specs.Lines.{Bytes}
-use Rattle.file_words.specs.Words.{is}
-use Rattle.file_words.specs.Numbers.{code}
-use Rattle.file_forms.specs.Forms.{RoleWord, by_number, NamedGap, behind, at_head, OperationLine, insert, parallel, conditional, delete, move, sync, unsync, element, read, unread, write, unwrite, set_role, group_end}
-use Rattle.file_forms.specs.PieceForms.{◌>>=◌, nothing_more, only, one_name, name_ahead, role_word, two_names, two_names_ahead, element_and_kind, read_edge}
+use Rattle.std.specs.{Prelude.{ℕ, List, [], ◌∷◌, length, ◌==◌, Option, Some, None, option_map, if◌then◌else◌, codes}, Option.option_or}
+use Rattle.file_words.specs.{Lines.Bytes, Words.is, Numbers.code}
+use Rattle.file_forms.specs.{Forms.{RoleWord, by_number, NamedGap, behind, at_head, OperationLine, insert, parallel, conditional, delete, move, sync, unsync, element, read, unread, write, unwrite, set_role, group_end}, PieceForms.◌>>=◌}
+use Rattle.file_forms.specs.PieceForms.{nothing_more, only, one_name, name_ahead, role_word, two_names, two_names_ahead, element_and_kind, read_edge}
 
 abbrev pub name_and_code : List Bytes → Option (Bytes × ℕ)
 name_and_code ws = do

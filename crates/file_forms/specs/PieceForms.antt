@@ -3,10 +3,7 @@ use Rattle.std.specs.Prelude.{ℕ, Bool, true, false, nat_lt, List, [], ◌∷�
 use Rattle.wsm_lists.specs.declared.values.ElementKind.{ElementKind}
 use Rattle.wsm_lists.specs.declared.values.ElementKind.TheVariants as kind
 use Rattle.file_limits.specs.declared.TheConstants.{FIRST_NAMED_ROLE}
-use Rattle.file_words.specs.Lines.{Bytes}
-use Rattle.file_words.specs.Words.{is}
-use Rattle.file_words.specs.Names.{name}
-use Rattle.file_words.specs.Numbers.{role}
+use Rattle.file_words.specs.{Lines.Bytes, Words.is, Names.name, Numbers.role}
 use Rattle.file_forms.specs.Forms.{RoleWord, by_number, by_name}
 
 infixl 10 ◌>>=◌

@@ -1,13 +1,8 @@
 -- Lines of a phase.
 use Rattle.std.specs.Prelude.{ℕ, ◌&&◌, nat_le, List, [], ◌∷◌, length, ◌==◌, Option, Some, None, option_map, if◌then◌else◌, codes}
 use Rattle.wsm_lists.specs.declared.values.Value.{Value}
-use Rattle.file_words.specs.Lines.{Bytes}
-use Rattle.file_words.specs.Words.{is}
-use Rattle.file_words.specs.Names.{name}
-use Rattle.file_words.specs.Numbers.{code}
-use Rattle.file_words.specs.Pairs.{pair}
-use Rattle.file_forms.specs.Forms.{Deed, to_create, to_start, to_withdraw, to_end, to_change, to_install, to_migrate, ScriptLine, next_phase, a_deed}
-use Rattle.file_forms.specs.PieceForms.{◌>>=◌, one_name, two_names, two_names_ahead}
+use Rattle.file_words.specs.{Lines.Bytes, Words.is, Names.name, Numbers.code, Pairs.pair}
+use Rattle.file_forms.specs.{Forms.{Deed, to_create, to_start, to_withdraw, to_end, to_change, to_install, to_migrate, ScriptLine, next_phase, a_deed}, PieceForms.{◌>>=◌, one_name, two_names, two_names_ahead}}
 
 abbrev pub pairs : List Bytes → Option (List (Bytes × Value))
 pairs [] = Some []

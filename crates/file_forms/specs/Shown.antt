@@ -1,23 +1,15 @@
 -- Forms as contracts see them: without where their words lie in memory.
-use Rattle.std.specs.Prelude.{ℕ, List, map}
-use Rattle.std.specs.Borrow.{Bor}
-use Rattle.file_words.specs.Lines.{Bytes}
-use Rattle.file_words.specs.Shown.{shown, shown_pair}
-use Rattle.file_words.specs.declared.names.NameWord.{NameWord}
+use Rattle.std.specs.{Prelude.{ℕ, List, map}, Borrow.Bor}
+use Rattle.file_words.specs.{Lines.Bytes, Shown.{shown, shown_pair}, declared.names.NameWord.NameWord}
 use Rattle.file_forms.specs.Forms as form
-use Rattle.file_forms.specs.declared.pieces.RoleWord.{RoleWord}
+use Rattle.file_forms.specs.{declared.pieces.RoleWord.RoleWord, declared.declarations.Declaration.Declaration, declared.type_lines.TypeLine.TypeLine, declared.script_lines.Deed.Deed, declared.script_lines.ScriptLine.ScriptLine}
+use Rattle.file_forms.specs.{declared.operation_lines.NamedGap.NamedGap, declared.operation_lines.OperationLine.OperationLine}
 use Rattle.file_forms.specs.declared.pieces.RoleWord.TheVariants as role_word
-use Rattle.file_forms.specs.declared.declarations.Declaration.{Declaration}
 use Rattle.file_forms.specs.declared.declarations.Declaration.TheVariants as declaration
-use Rattle.file_forms.specs.declared.type_lines.TypeLine.{TypeLine}
 use Rattle.file_forms.specs.declared.type_lines.TypeLine.TheVariants as type_line
-use Rattle.file_forms.specs.declared.script_lines.Deed.{Deed}
 use Rattle.file_forms.specs.declared.script_lines.Deed.TheVariants as deed
-use Rattle.file_forms.specs.declared.script_lines.ScriptLine.{ScriptLine}
 use Rattle.file_forms.specs.declared.script_lines.ScriptLine.TheVariants as script_line
-use Rattle.file_forms.specs.declared.operation_lines.NamedGap.{NamedGap}
 use Rattle.file_forms.specs.declared.operation_lines.NamedGap.TheVariants as place
-use Rattle.file_forms.specs.declared.operation_lines.OperationLine.{OperationLine}
 use Rattle.file_forms.specs.declared.operation_lines.OperationLine.TheVariants as operation_line
 
 abbrev pub shown_word : Bor Bytes → Bytes

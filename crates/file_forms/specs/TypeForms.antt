@@ -1,11 +1,8 @@
 -- Lines of a type.
-use Rattle.std.specs.Prelude.{ℕ, List, [], ◌∷◌, Option, None, option_map, if◌then◌else◌, codes}
-use Rattle.std.specs.Option.{option_or}
-use Rattle.file_words.specs.Lines.{Bytes}
-use Rattle.file_words.specs.Words.{is}
-use Rattle.file_words.specs.Numbers.{code}
-use Rattle.file_forms.specs.Forms.{TypeLine, activity, opens_and, opens_xor, opens_branch, opens_loop, closes_block, a_sync, an_element, a_read, a_write, type_end}
-use Rattle.file_forms.specs.PieceForms.{◌>>=◌, nothing_more, only, two_names, name_and_role, two_names_and_role, element_and_kind, read_edge}
+use Rattle.std.specs.{Prelude.{ℕ, List, [], ◌∷◌, Option, None, option_map, if◌then◌else◌, codes}, Option.option_or}
+use Rattle.file_words.specs.{Lines.Bytes, Words.is, Numbers.code}
+use Rattle.file_forms.specs.{Forms.{TypeLine, activity, opens_and, opens_xor, opens_branch, opens_loop, closes_block, a_sync, an_element, a_read, a_write, type_end}, PieceForms.{◌>>=◌, nothing_more, only, two_names, name_and_role}}
+use Rattle.file_forms.specs.PieceForms.{two_names_and_role, element_and_kind, read_edge}
 
 -- lines that make the tree of blocks, of which the keyword is k
 abbrev pub tree_line : ℕ → Bytes → List Bytes → Option TypeLine

@@ -1,8 +1,7 @@
 // Lines of a phase.
 ghost use Rattle.std.specs.Prelude.{◌≡◌, option_map, map, IfOk};
 ghost use Rattle.file_words.specs.Shown.{shown, shown_pair};
-ghost use Rattle.file_forms.specs.ScriptForms.{pairs, code_ahead, choice_ahead, end_behind, end_deed, named_deed, plain_deed, deed, deed_line, script_line};
-ghost use Rattle.file_forms.specs.Shown.{shown_behind, shown_deed, shown_script_line};
+ghost use Rattle.file_forms.specs.{ScriptForms.{pairs, code_ahead, choice_ahead, end_behind, end_deed, named_deed, plain_deed, deed, deed_line, script_line}, Shown.{shown_behind, shown_deed, shown_script_line}};
 
 use crate::pieces::{one_name, two_names, two_names_ahead};
 use file_words::{Literal, NameWord, NoMemory, code, pair};

@@ -1,8 +1,7 @@
 // Lines of a type.
 ghost use Rattle.std.specs.Prelude.{◌≡◌, option_map};
 ghost use Rattle.file_words.specs.Shown.{shown};
-ghost use Rattle.file_forms.specs.TypeForms.{tree_line, outer_line, type_line};
-ghost use Rattle.file_forms.specs.Shown.{shown_type_line};
+ghost use Rattle.file_forms.specs.{TypeForms.{tree_line, outer_line, type_line}, Shown.shown_type_line};
 
 use crate::pieces::{
     RoleWord, element_and_kind, name_and_role, only, read_edge, two_names, two_names_and_role,

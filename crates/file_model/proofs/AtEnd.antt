@@ -1,13 +1,7 @@
 -- The end of a file, a line that is skipped, and the first line that is refused.
-use Rattle.std.proofs.Common.{◌≡◌, ℕ, List, length, ◌+◌, false, true, refl, ap, ◌==◌, ◌∷◌}
-use Rattle.std.specs.Prelude.{Ok, Err, if◌then◌else◌}
-use Rattle.file_words.specs.Lines.{Bytes, without_return}
-use Rattle.file_words.specs.Words.{words_of, is_skipped}
-use Rattle.file_model.specs.Steps.{State, Step}
-use Rattle.file_model.specs.Reading.{step_in, step, finished, refused, at_line, read_from}
-use Rattle.file_model.specs.declared.refusals.Why.{Why}
+use Rattle.file_model.proofs.Common.{ℕ, ◌+◌, ◌==◌, ◌∷◌, ◌≡◌, ap, at_line, Bytes, Contents, false, finished, if◌then◌else◌, is_skipped, length, List, read_from, refl, refused, State, Step, step, step_in, true, Why, without_return, words_of}
+use Rattle.std.specs.Prelude.{Ok, Err}
 use Rattle.file_model.specs.declared.refusals.Why.TheVariants as why
-use Rattle.file_model.specs.declared.states.Contents.{Contents}
 
 -- bytes behind the last line feed
 pub not_ended : (s : State) (left : Bytes) → (length left == 0) ≡ false → finished s left ≡ Err (why.Unended, s.contents)

@@ -1,33 +1,11 @@
 -- How large a file that is read can be.
-use Rattle.std.proofs.Common.{◌≡◌, ℕ, ◌+◌, ◌==◌, Bool, true, false, List, [], ◌∷◌, length, refl, subst, ap, arith, Option, Some, None, Result, Ok, Err}
-use Rattle.std.specs.Prelude.{IfOk, nat_le, if◌then◌else◌}
-use Rattle.std.specs.Str.{is_utf8}
-use Rattle.file_words.specs.Lines.{Bytes, lines_of, without_return}
-use Rattle.file_words.specs.Words.{words_of, is_skipped}
-use Rattle.file_words.specs.Lengths.{first_long}
-use Rattle.file_words.specs.declared.lengths.TooLong.{TooLong}
-use Rattle.file_forms.specs.DeclarationForms.{header, declaration_line}
-use Rattle.file_forms.specs.TypeForms.{type_line}
-use Rattle.file_forms.specs.ScriptForms.{script_line}
-use Rattle.file_forms.specs.OperationForms.{operation_line}
-use Rattle.file_model.specs.Steps.{State, Step, file_limits, opening}
-use Rattle.file_model.specs.Declaring.{declared}
-use Rattle.file_model.specs.Typing.{typed}
-use Rattle.file_model.specs.Scripting.{scripted}
-use Rattle.file_model.specs.Operating.{operated}
-use Rattle.file_model.specs.Reading.{in_format, unless_long, formed, fitting, unless_not_text, declares, step_outside, step_in, step_words, step, file_of, finished_in, finished, at_line, read_from, file_up_to}
-use Rattle.file_model.specs.Sizes.{IsBounded}
-use Rattle.file_model.specs.declared.files.File.{File}
-use Rattle.file_model.specs.declared.refusals.Refused.{Refused}
-use Rattle.file_model.specs.declared.refusals.Why.{Why}
+use Rattle.file_model.proofs.Common.{[], ℕ, ◌+◌, ◌==◌, ◌∷◌, ◌≡◌, ap, arith, at_line, Bool, Bytes, Contents, declaration_line, declared, declares, Err, false, File, file_limits, file_of, file_up_to, finished, finished_in, first_long}
+use Rattle.file_model.proofs.Common.{fitting, formed, header, IfOk, if◌then◌else◌, in_format, is_skipped, is_utf8, IsBounded, length, Limits, lines_of, List, nat_le, None, Ok, opening, operated, operation_line, Option, read_from, refl}
+use Rattle.file_model.proofs.Common.{Refused, script_line, scripted, Section, Some, State, Step, step, step_in, step_outside, step_words, subst, TooLong, true, type_line, typed, unless_long, unless_not_text, Why, without_return, words_of}
+use Rattle.file_model.proofs.{Kept.{CountsKept, KeptIn, KeptState, KeptStep, all_effort}, LimitsStay.step-with, KeptByLines.{declared-kept, typed-kept, scripted-kept, operated-kept}}
+use Rattle.std.proofs.Common.{Result}
 use Rattle.file_model.specs.declared.refusals.Why.TheVariants as why
-use Rattle.file_model.specs.declared.states.Contents.{Contents}
-use Rattle.file_model.specs.declared.states.Limits.{Limits}
-use Rattle.file_model.specs.declared.states.Section.{Section}
 use Rattle.file_model.specs.declared.states.Section.TheVariants as section
-use Rattle.file_model.proofs.Kept.{CountsKept, KeptIn, KeptState, KeptStep, all_effort}
-use Rattle.file_model.proofs.LimitsStay.{step-with}
-use Rattle.file_model.proofs.KeptByLines.{declared-kept, typed-kept, scripted-kept, operated-kept}
 
 -- ---- a line
 if-kept : (test : Bool) (s o : Step) → KeptStep s → KeptStep o → KeptStep (if test then s else o)

@@ -1,10 +1,6 @@
 -- The counts of cases by their types.
-use Rattle.std.proofs.Common.{◌≡◌, ◌≤◌, ℕ, zero, suc, ◌+◌, ◌-◌, ◌<◌, ◌==◌, Bool, true, false, List, [], ◌∷◌, ◌++◌, length, take, refl, sym, subst, ap, ◌∙◌, arith}
-use Rattle.std.proofs.lemmas.Bool.{eqb-true, eqb-false, eq-eqb}
-use Rattle.std.proofs.lemmas.List.{get_or-set_same, get_or-set_other, take_more}
-use Rattle.std.proofs.lemmas.List.Sums.{count_by-le-length, sum_by_push}
-use Rattle.std.specs.Prelude.{get_or, set, cond, slice_index}
-use Rattle.file_model.specs.CaseCounts.{cases_of_type, AreCounted}
+use Rattle.file_model.proofs.Common.{[], ℕ, ◌++◌, ◌+◌, ◌-◌, ◌<◌, ◌==◌, ◌∙◌, ◌∷◌, ◌≡◌, ◌≤◌, ap, AreCounted, arith, Bool, cases_of_type, cond, count_by-le-length, eq-eqb, eqb-false, eqb-true, false, get_or, get_or-set_other, get_or-set_same}
+use Rattle.file_model.proofs.Common.{length, List, refl, set, slice_index, subst, suc, sum_by_push, sym, take, take_more, true, zero}
 use Rattle.file_model.specs.declared.files.CaseDecl.{CaseDecl}
 
 -- a count of 0 behind the others changes none

@@ -1,11 +1,7 @@
 -- Files and refusals, computed from the definitions alone.
-use Rattle.std.specs.Prelude.{◌≡◌, ℕ, [], Result, Ok, Err, refl, codes}
-use Rattle.std.specs.Str.{is_utf8, chars}
+use Rattle.file_model.proofs.Common.{Bytes, codes, File, file, Refused, Result}
+use Rattle.std.specs.{Prelude.{◌≡◌, ℕ, [], Ok, Err, refl}, Str.{is_utf8, chars}}
 use Rattle.wsm_sound.specs.Faults.{fault_of}
-use Rattle.file_words.specs.Lines.{Bytes}
-use Rattle.file_model.specs.Reading.{file}
-use Rattle.file_model.specs.declared.files.File.{File}
-use Rattle.file_model.specs.declared.refusals.Refused.{Refused}
 
 -- the line and the text of a refusal
 abbrev pub told : Result File Refused → ℕ × Bytes

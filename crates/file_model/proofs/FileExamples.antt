@@ -1,10 +1,7 @@
 -- Whole files, computed from the definitions alone.
-use Rattle.std.specs.Prelude.{◌≡◌, [], refl, codes}
-use Rattle.std.specs.Str.{is_utf8, chars}
-use Rattle.std.specs.Fmt.{digits}
+use Rattle.file_model.proofs.{Common.{codes, file}, Examples.told}
+use Rattle.std.specs.{Prelude.{◌≡◌, [], refl}, Str.{is_utf8, chars}, Fmt.digits}
 use Rattle.wsm_sound.specs.Faults.{fault_of}
-use Rattle.file_model.specs.Reading.{file}
-use Rattle.file_model.proofs.Examples.{told}
 
 pub sequence-of-two : told (file (codes "adept 1\ntype t\nact A\nact B\nend\nactor ann\ncase c t\nphase\nann create c\nann start c A\nann end c A\nann start c B\nann end c B\n")) ≡ (0, [])
 unfolding is_utf8 chars lib.Utf8.encode digits fault_of

@@ -1,15 +1,8 @@
 -- Files of format 3, which declare as they go on, computed from the definitions alone.
-use Rattle.std.specs.Prelude.{◌≡◌, ℕ, List, [], ◌∷◌, flat_map, map, length, Result, Ok, Err, refl, codes}
-use Rattle.std.specs.Str.{is_utf8, chars}
-use Rattle.std.specs.Fmt.{digits}
+use Rattle.file_model.proofs.{Common.{Act, Bytes, codes, File, file, file_up_to, flat_map, map, Refused, Result}, Examples.told}
+use Rattle.std.specs.{Prelude.{◌≡◌, ℕ, List, [], ◌∷◌, length, Ok, Err, refl}, Str.{is_utf8, chars}, Fmt.digits}
 use Rattle.wsm_sound.specs.Faults.{fault_of}
-use Rattle.file_words.specs.Lines.{Bytes}
-use Rattle.file_model.specs.Reading.{file, file_up_to}
-use Rattle.file_model.specs.declared.files.Act.{Act}
 use Rattle.file_model.specs.declared.files.Act.TheVariants as act
-use Rattle.file_model.specs.declared.files.File.{File}
-use Rattle.file_model.specs.declared.refusals.Refused.{Refused}
-use Rattle.file_model.proofs.Examples.{told}
 
 -- how many lines each phase has
 abbrev phases : Result File Refused → List ℕ

@@ -1,39 +1,14 @@
 -- How many names a line adds: at most six, and one for each of its words.
-use Rattle.std.proofs.Common.{◌≤◌, ℕ, ◌+◌, Bool, true, false, List, [], ◌∷◌, ◌++◌, length, arith, Option, Some, None, Ok, Err}
-use Rattle.std.proofs.lemmas.List.{length-append}
-use Rattle.std.specs.Prelude.{IfOk, IfSome, nat_le, if◌then◌else◌}
-use Rattle.std.specs.Str.{is_utf8}
-use Rattle.wsm_lists.specs.declared.values.Value.{Value}
-use Rattle.wsm_ops.specs.declared.operations.Op.{Op}
-use Rattle.wsm_schema.specs.SchemaModel.{SchemaModel}
-use Rattle.wsm_sound.specs.Faults.{fault_of}
-use Rattle.wsm_sound.specs.declared.faults.Fault.{Fault}
-use Rattle.file_words.specs.Lengths.{first_long}
-use Rattle.file_words.specs.Lines.{Bytes}
-use Rattle.file_words.specs.declared.lengths.TooLong.{TooLong}
-use Rattle.file_names.specs.Names.{is_listed, noted, place_of}
-use Rattle.file_forms.specs.DeclarationForms.{header, declaration_line}
-use Rattle.file_forms.specs.Forms.{RoleWord, by_number, by_name, Declaration, a_type, an_actor, a_case, first_phase, TypeLine, activity, opens_and, opens_xor, opens_branch, opens_loop, closes_block, a_sync, an_element, a_read, a_write, type_end}
-use Rattle.file_forms.specs.Forms.{Deed, to_create, to_start, to_withdraw, to_end, to_change, to_install, to_migrate, ScriptLine, next_phase, a_deed}
-use Rattle.file_forms.specs.Forms.{NamedGap, behind, at_head, OperationLine, insert, parallel, conditional, delete, move, sync, unsync, element, read, unread, write, unwrite, set_role, group_end}
+use Rattle.file_model.proofs.Common.{[], ℕ, ◌++◌, ◌+◌, ◌∷◌, ◌≤◌, a_case, a_deed, a_read, a_sync, a_type, a_write, acted, activity, actor_in, an_actor, an_element, arith, at_head, behind, Bool, by_name, by_number, Bytes, case_declared}
+use Rattle.file_model.proofs.Common.{case_in, closes_block, conditional, Contents, Declaration, declaration_line, declared, declares, Deed, delete, Draft, element, ended, Err, false, Fault, fault_of, first_long, first_phase, fitting}
+use Rattle.file_model.proofs.Common.{formed, Group, group_end, grouped, header, if_known, IfOk, IfSome, if◌then◌else◌, in_format, insert, is_listed, is_utf8, length, length-append, List, move, NamedGap, nat_le, next_phase, None, noted, Ok}
+use Rattle.file_model.proofs.Common.{Op, op_in, opens_and, opens_branch, opens_loop, opens_xor, operated, operation_line, OperationLine, Option, outside, parallel, phase_begun, place_of, read, role_noted, role_numbers, roles_noted}
+use Rattle.file_model.proofs.Common.{RoleWord, SchemaModel, script_line, scripted, ScriptLine, Section, set_role, Some, State, Step, step_in, step_outside, sync, to_change, to_create, to_end, to_install, to_migrate, to_start, to_withdraw}
+use Rattle.file_model.proofs.Common.{TooLong, true, type_end, type_line, typed, TypeLine, unless, unless_long, unless_not_text, unread, unsync, unwrite, Value, whole, Why, with_actor, with_case, with_element, with_elements, with_names}
+use Rattle.file_model.proofs.Common.{with_node, with_place, with_role, with_roles, write}
 use Rattle.file_forms.specs.NamesInForms.{roles_in, writes_in_deed, writes_in}
-use Rattle.file_forms.specs.OperationForms.{operation_line}
-use Rattle.file_forms.specs.ScriptForms.{script_line}
-use Rattle.file_forms.specs.TypeForms.{type_line}
 use Rattle.file_forms.proofs.FewWrites.{declaration-few, script_line-few}
-use Rattle.file_drafts.specs.Drafts.{whole}
-use Rattle.file_drafts.specs.declared.drafts.Draft.{Draft}
-use Rattle.file_model.specs.Declaring.{case_declared, declared, phase_begun, role_numbers, roles_noted, with_actor, with_case, with_roles}
-use Rattle.file_model.specs.Operating.{grouped, op_in, operated, with_names, with_place}
-use Rattle.file_model.specs.Reading.{declares, fitting, formed, in_format, step_in, step_outside, unless_long, unless_not_text}
 use Rattle.file_model.specs.Room.{count_of_names}
-use Rattle.file_model.specs.Scripting.{acted, actor_in, case_in, if_known, scripted, with_elements}
-use Rattle.file_model.specs.Steps.{State, Step, outside, role_noted, unless, with_element, with_node, with_role}
-use Rattle.file_model.specs.Typing.{ended, typed}
-use Rattle.file_model.specs.declared.refusals.Why.{Why}
-use Rattle.file_model.specs.declared.states.Contents.{Contents}
-use Rattle.file_model.specs.declared.states.Group.{Group}
-use Rattle.file_model.specs.declared.states.Section.{Section}
 use Rattle.file_model.specs.declared.states.Section.TheVariants as section
 
 -- at most n names more

@@ -1,30 +1,13 @@
 -- What holds behind each line that is read: all types are small, and no more was asked for than the script lines so far may ask for.
-use Rattle.std.proofs.Common.{◌≡◌, ◌≤◌, ◌<◌, ℕ, ◌+◌, ◌*◌, Bool, true, false, List, [], ◌∷◌, ◌++◌, length, refl, arith, Option, Some, None}
-use Rattle.std.proofs.lemmas.Bool.{leb-false, ltb-false, le-leb}
-use Rattle.std.proofs.lemmas.List.{length-append}
+use Rattle.file_model.proofs.Common.{[], ℕ, ◌*◌, ◌++◌, ◌+◌, ◌<◌, ◌∷◌, ◌≡◌, ◌≤◌, all_phases, arith, Bool, Bytes, Contents, counted, false, fault_of, if_known, IfOk, is_small, le-leb, leb-false, length, length-append, line_effort, List}
+use Rattle.file_model.proofs.Common.{list_all, ltb-false, nat_le, nat_lt, None, open_lines, Option, option_or, over, phase_effort, phases_with, refl, SchemaModel, Section, Some, State, Step, sum_by, sum_by_push, true, unless, Why}
+use Rattle.file_model.proofs.Common.{with_script_line, with_type}
 use Rattle.std.proofs.lemmas.List.Folds.{list_all-append}
-use Rattle.std.proofs.lemmas.List.Sums.{sum_by_push}
-use Rattle.std.specs.Prelude.{IfOk, nat_le, nat_lt}
-use Rattle.std.specs.List.{list_all, sum_by}
-use Rattle.std.specs.Option.{option_or}
-use Rattle.wsm_schema.specs.SchemaModel.{SchemaModel}
-use Rattle.wsm_schema.specs.Flat.{cards_of}
-use Rattle.wsm_schema.specs.Sound.{when, block_fault}
+use Rattle.wsm_schema.specs.{Flat.cards_of, Sound.{when, block_fault}}
 use Rattle.wsm_schema.specs.declared.faults.BlockFault.TheVariants.{Limit}
 use Rattle.wsm_schema.specs.declared.faults.LimitKind.TheVariants.{Nodes}
-use Rattle.wsm_sound.specs.Faults.{fault_of}
 use Rattle.wsm_sound.proofs.NoFaults.{is_sound}
-use Rattle.file_words.specs.Lines.{Bytes}
-use Rattle.file_model.specs.Steps.{State, Step, all_phases, open_lines, over, phases_with, unless, with_script_line}
-use Rattle.file_model.specs.Declaring.{with_type}
-use Rattle.file_model.specs.Scripting.{counted, if_known}
-use Rattle.file_model.specs.Sizes.{is_small, line_effort, phase_effort}
-use Rattle.file_model.specs.declared.files.Line.{Line}
-use Rattle.file_model.specs.declared.files.TypeDecl.{TypeDecl}
-use Rattle.file_model.specs.declared.refusals.FileLimit.{FileLimit}
-use Rattle.file_model.specs.declared.refusals.Why.{Why}
-use Rattle.file_model.specs.declared.states.Contents.{Contents}
-use Rattle.file_model.specs.declared.states.Section.{Section}
+use Rattle.file_model.specs.{declared.files.Line.Line, declared.files.TypeDecl.TypeDecl, declared.refusals.FileLimit.FileLimit}
 use Rattle.file_model.specs.declared.states.Section.TheVariants as section
 
 -- a line asks for 769 at most: one, and three for each of 256 operations

@@ -1,32 +1,14 @@
 -- What holds of the state behind each form of a line.
-use Rattle.std.proofs.Common.{◌≡◌, ◌≤◌, ◌<◌, ℕ, ◌*◌, Bool, true, false, List, [], ◌∷◌, length, refl, arith, Option, Some, None, length-append}
-use Rattle.std.proofs.lemmas.Bool.{leb-false}
-use Rattle.std.specs.Prelude.{nat_le, nat_lt}
-use Rattle.std.specs.Option.{option_or}
-use Rattle.wsm_lists.specs.declared.values.Value.{Value}
-use Rattle.wsm_ops.specs.declared.operations.Op.{Op}
-use Rattle.wsm_schema.specs.SchemaModel.{SchemaModel}
-use Rattle.wsm_sound.specs.Faults.{fault_of}
-use Rattle.wsm_sound.specs.declared.faults.Fault.{Fault}
+use Rattle.file_model.proofs.Common.{[], ℕ, ◌*◌, ◌<◌, ◌∷◌, ◌≡◌, ◌≤◌, a_case, a_deed, a_read, a_sync, a_type, a_write, Act, act_effort, act_of, acted, activity, actor_in, an_actor, an_element, arith, at_head, at_place, behind, Bool, Bytes}
+use Rattle.file_model.proofs.Common.{case_declared, case_in, changing, closes_block, conditional, Contents, counted, Declaration, declared, Deed, delete, Draft, element, ended, false, Fault, fault_of, first_phase, Group, group_end, grouped}
+use Rattle.file_model.proofs.Common.{insert, installing, is_listed, leb-false, length, line_of, line_of_group, List, migrate_of, migrating, migrations_with, move, NamedGap, nat_le, nat_lt, new_draft, next_phase, node_in, None, numbered}
+use Rattle.file_model.proofs.Common.{one_install, Op, op_in, opens_and, opens_branch, opens_loop, opens_xor, operated, OperationLine, Option, option_or, outside, over, parallel, phase_begun, place_of, read, refl, SchemaModel, scripted}
+use Rattle.file_model.proofs.Common.{ScriptLine, set_role, Some, sync, to_change, to_create, to_end, to_install, to_migrate, to_start, to_withdraw, true, twice, type_end, typed, TypeLine, unless, unread, unsync, unwrite, Value, whole}
+use Rattle.file_model.proofs.Common.{with_element, with_elements, with_group, with_line, with_names, with_node, with_op, with_place, with_script_line, write}
+use Rattle.std.proofs.Common.{length-append}
 use Rattle.wsm_sound.specs.declared.versions.CaseId.{CaseId}
-use Rattle.file_words.specs.Lines.{Bytes}
-use Rattle.file_names.specs.Names.{is_listed, place_of}
-use Rattle.file_forms.specs.Forms.{Declaration, a_type, an_actor, a_case, first_phase, TypeLine, activity, opens_and, opens_xor, opens_branch, opens_loop, closes_block, a_sync, an_element, a_read, a_write, type_end}
-use Rattle.file_forms.specs.Forms.{Deed, to_create, to_start, to_withdraw, to_end, to_change, to_install, to_migrate, ScriptLine, next_phase, a_deed}
-use Rattle.file_forms.specs.Forms.{NamedGap, behind, at_head, OperationLine, insert, parallel, conditional, delete, move, sync, unsync, element, read, unread, write, unwrite, set_role, group_end}
-use Rattle.file_drafts.specs.Drafts.{new_draft, whole}
-use Rattle.file_drafts.specs.declared.drafts.Draft.{Draft}
-use Rattle.file_model.specs.Steps.{at_place, outside, over, twice, unless, node_in, with_node, with_element, with_script_line}
-use Rattle.file_model.specs.Declaring.{case_declared, declared, phase_begun}
-use Rattle.file_model.specs.Typing.{ended, typed}
-use Rattle.file_model.specs.Scripting.{case_in, actor_in, counted, line_of, with_line, with_group, changing, one_install, installing, migrate_of, migrations_with, migrating, with_elements, numbered, acted, scripted}
-use Rattle.file_model.specs.Operating.{with_place, op_in, with_names, act_of, line_of_group, with_op, grouped, operated}
-use Rattle.file_model.specs.Sizes.{act_effort}
-use Rattle.file_model.specs.declared.files.Act.{Act}
 use Rattle.file_model.specs.declared.files.Act.TheVariants as act
 use Rattle.file_model.specs.declared.refusals.FileLimit.TheVariants as limit
-use Rattle.file_model.specs.declared.states.Contents.{Contents}
-use Rattle.file_model.specs.declared.states.Group.{Group}
 use Rattle.file_model.specs.declared.states.Target.{Target}
 use Rattle.file_model.specs.declared.states.Target.TheVariants as target
 use Rattle.file_model.specs.declared.states.Section.TheVariants as section

@@ -1,3 +1,4 @@
+pub mod Common
 pub mod CountedCases
 pub mod AtEnd
 pub mod Kept

@@ -1,10 +1,7 @@
 -- Forms of lines and the order of refusals, computed from the definitions alone.
-use Rattle.std.specs.Prelude.{◌≡◌, [], ◌∷◌, ◌++◌, refl, codes}
-use Rattle.std.specs.Str.{is_utf8, chars}
-use Rattle.std.specs.Fmt.{digits}
+use Rattle.file_model.proofs.{Common.{codes, file}, Examples.told}
+use Rattle.std.specs.{Prelude.{◌≡◌, [], ◌∷◌, ◌++◌, refl}, Str.{is_utf8, chars}, Fmt.digits}
 use Rattle.wsm_sound.specs.Faults.{fault_of}
-use Rattle.file_model.specs.Reading.{file}
-use Rattle.file_model.proofs.Examples.{told}
 
 pub act-right-behind-and : told (file (codes "adept 1\ntype t\nand p q\nact A\n")) ≡ (4, codes "form")
 unfolding is_utf8 chars lib.Utf8.encode digits fault_of

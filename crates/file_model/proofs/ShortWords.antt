@@ -1,21 +1,11 @@
 -- A line whose words are not too long has a form whose names and texts are not.
-use Rattle.std.proofs.Common.{◌≡◌, ℕ, Bool, true, false, ◌==◌, List, [], ◌∷◌, length, Option, Some, None, refl, inl, inr}
-use Rattle.std.specs.Prelude.{IfSome, option_map, nat_lt, nat_le, if◌then◌else◌}
-use Rattle.std.specs.List.{list_all}
-use Rattle.std.specs.Option.{option_or}
-use Rattle.std.proofs.lemmas.Bool.{and_parts, cases_Bool, eqb-true, le-leb, ltb-false}
+use Rattle.file_model.proofs.Common.{[], ℕ, ◌==◌, ◌∷◌, ◌≡◌, and_parts, Bool, Bytes, cases_Bool, eqb-true, false, first_long, has_long_text, IfSome, if◌then◌else◌, inl, inr, is_longer, le-leb, length, List, list_all, long, long_part}
+use Rattle.file_model.proofs.Common.{ltb-false, nat_le, nat_lt, None, Option, option_map, option_or, refl, Some, TooLong, true}
 use Rattle.wsm_lists.specs.Rows.{AllRows}
 use Rattle.wsm_lists.specs.declared.values.Value.TheVariants as value
-use Rattle.file_words.specs.Lengths.{first_long, has_long_text, is_longer, long, long_part}
-use Rattle.file_words.specs.Lines.{Bytes}
-use Rattle.file_words.specs.Names.{in_name, is_name, name}
-use Rattle.file_words.specs.Numbers.{integer}
-use Rattle.file_words.specs.Pairs.{pair, pair_of, parts_at_equals, word_value}
-use Rattle.file_words.specs.Texts.{text}
-use Rattle.file_words.specs.declared.lengths.TooLong.{TooLong}
+use Rattle.file_words.specs.{Names.{in_name, is_name, name}, Numbers.integer, Pairs.{pair, pair_of, parts_at_equals, word_value}, Texts.text}
 use Rattle.file_words.specs.declared.lengths.TooLong.TheVariants as too_long
-use Rattle.file_forms.proofs.NamesInForms.{WordHas}
-use Rattle.file_forms.proofs.Options.{some-mapped, some-or, some-any}
+use Rattle.file_forms.proofs.{NamesInForms.WordHas, Options.{some-mapped, some-or, some-any}}
 use Rattle.file_model.specs.ShortForms.{IsShort, IsShortValue, IsShortWrite}
 
 -- ---- a name has no =

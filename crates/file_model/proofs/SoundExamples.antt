@@ -1,10 +1,7 @@
 -- Which fault of a schema comes first, computed from the definitions alone.
-use Rattle.std.specs.Prelude.{◌≡◌, [], refl, codes}
-use Rattle.std.specs.Str.{is_utf8, chars}
-use Rattle.std.specs.Fmt.{digits}
+use Rattle.file_model.proofs.{Common.{codes, file}, Examples.told}
+use Rattle.std.specs.{Prelude.{◌≡◌, [], refl}, Str.{is_utf8, chars}, Fmt.digits}
 use Rattle.wsm_sound.specs.Faults.{fault_of}
-use Rattle.file_model.specs.Reading.{file}
-use Rattle.file_model.proofs.Examples.{told}
 
 pub both-xor-branches-write : told (file (codes "adept 1\ntype t\nelement d int\nxor s j\nbranch 0\nact A\nbranch 1\nact B\ndone\nact C\nwrite A d\nwrite B d\nread C d\nend\n")) ≡ (0, [])
 unfolding is_utf8 chars lib.Utf8.encode digits fault_of

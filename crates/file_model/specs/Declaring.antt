@@ -1,18 +1,14 @@
 -- Declarations.
-use Rattle.std.specs.Prelude.{ℕ, List, [], ◌∷◌, ◌++◌, length, nat_lt, nat_le, Option, Some, None}
-use Rattle.std.specs.Option.{option_or}
+use Rattle.std.specs.{Prelude.{ℕ, List, [], ◌∷◌, ◌++◌, length, nat_lt, nat_le, Option, Some, None}, Option.option_or}
 use Rattle.wsm_schema.specs.SchemaModel.{SchemaModel}
 use Rattle.file_limits.specs.declared.TheConstants.{MAX_PHASES, MAX_ROLES}
 use Rattle.file_words.specs.Lines.{Bytes}
-use Rattle.file_names.specs.Names.{is_listed, noted, place_of}
-use Rattle.file_names.specs.declared.declared.DeclaredList.{DeclaredList}
+use Rattle.file_names.specs.{Names.{is_listed, noted, place_of}, declared.declared.DeclaredList.DeclaredList}
 use Rattle.file_forms.specs.Forms.{RoleWord, Declaration, a_type, an_actor, a_case, first_phase}
 use Rattle.file_drafts.specs.Drafts.{new_draft}
-use Rattle.file_model.specs.CaseCounts.{cases_of_type}
-use Rattle.file_model.specs.Steps.{Step, all_phases, at_place, outside, refuse, role_noted, role_number, unless, over, twice}
+use Rattle.file_model.specs.{CaseCounts.cases_of_type, Steps.{Step, all_phases, at_place, outside, refuse, role_noted, role_number, unless, over, twice}, declared.states.Contents.Contents}
 use Rattle.file_model.specs.declared.refusals.FileLimit.TheVariants as limit
 use Rattle.file_model.specs.declared.refusals.Why.TheVariants as why
-use Rattle.file_model.specs.declared.states.Contents.{Contents}
 use Rattle.file_model.specs.declared.states.Section.TheVariants as section
 
 -- one more declaration

@@ -1,19 +1,14 @@
 -- Lines of a group of operations. Names get their numbers in the order of the line.
 use Rattle.std.specs.Prelude.{List, [], ◌∷◌, ◌++◌, length, nat_le, Option, Some, None, Ok}
-use Rattle.wsm_ops.specs.declared.operations.Op.{Op}
+use Rattle.wsm_ops.specs.{declared.operations.Op.Op, declared.operations.Gap.Gap}
 use Rattle.wsm_ops.specs.declared.operations.Op.TheVariants as op
-use Rattle.wsm_ops.specs.declared.operations.Gap.{Gap}
 use Rattle.wsm_ops.specs.declared.operations.Gap.TheVariants as gap
 use Rattle.file_limits.specs.declared.TheConstants.{MAX_OPS}
 use Rattle.file_forms.specs.Forms.{NamedGap, behind, at_head, OperationLine, insert, parallel, conditional, delete, move, sync, unsync, element, read, unread, write, unwrite, set_role, group_end}
-use Rattle.file_model.specs.Steps.{Step, at_place, outside, unless, over, role_in, with_role, node_in, with_node, element_in, with_element, with_script_line}
-use Rattle.file_model.specs.declared.files.Line.{Line}
-use Rattle.file_model.specs.declared.files.Act.{Act}
+use Rattle.file_model.specs.{Steps.{Step, at_place, outside, unless, over, role_in, with_role, node_in, with_node, element_in, with_element, with_script_line}, declared.files.Line.Line, declared.files.Act.Act}
+use Rattle.file_model.specs.{declared.states.Contents.Contents, declared.states.Group.Group, declared.states.Target.Target}
 use Rattle.file_model.specs.declared.files.Act.TheVariants as act
 use Rattle.file_model.specs.declared.refusals.FileLimit.TheVariants as limit
-use Rattle.file_model.specs.declared.states.Contents.{Contents}
-use Rattle.file_model.specs.declared.states.Group.{Group}
-use Rattle.file_model.specs.declared.states.Target.{Target}
 use Rattle.file_model.specs.declared.states.Target.TheVariants as target
 use Rattle.file_model.specs.declared.states.Section.TheVariants as section
 

@@ -1,12 +1,7 @@
 -- Which answer stands for which outcome.
 use Rattle.std.specs.Prelude.{◌≡◌, Result, Err}
-use Rattle.file_model.specs.declared.files.File.{File}
-use Rattle.file_model.specs.declared.refusals.Refused.{Refused}
-use Rattle.file_model.specs.declared.refusals.FileRefusal.{FileRefusal}
+use Rattle.file_model.specs.{declared.files.File.File, declared.refusals.Refused.Refused, declared.refusals.FileRefusal.FileRefusal, declared.refusals.Why.Why, declared.states.Contents.Contents, declared.states.Stop.Stop}
 use Rattle.file_model.specs.declared.refusals.FileRefusal.TheVariants as refusal
-use Rattle.file_model.specs.declared.refusals.Why.{Why}
-use Rattle.file_model.specs.declared.states.Contents.{Contents}
-use Rattle.file_model.specs.declared.states.Stop.{Stop}
 use Rattle.file_model.specs.declared.states.Stop.TheVariants as stop
 
 -- the outcome is that the line is refused, behind these contents; want of memory may come at any outcome

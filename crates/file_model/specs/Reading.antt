@@ -1,33 +1,14 @@
 -- What the bytes of a process file say: a file, or the first refusal.
-use Rattle.std.specs.Prelude.{ℕ, ◌+◌, length, ◌==◌, nat_le, Bool, true, false, not, List, [], ◌∷◌, Option, Some, None, Result, Ok, Err, if◌then◌else◌}
-use Rattle.std.specs.Option.{is_some}
-use Rattle.std.specs.Str.{is_utf8}
+use Rattle.std.specs.{Prelude.{ℕ, ◌+◌, length, ◌==◌, nat_le, Bool, true, false, not, List, [], ◌∷◌, Option, Some, None, Result, Ok, Err, if◌then◌else◌}, Option.is_some, Str.is_utf8}
 use Rattle.file_limits.specs.declared.TheConstants.{NEWEST_FORMAT}
-use Rattle.file_words.specs.Lines.{Bytes, lines_of, without_return}
-use Rattle.file_words.specs.Words.{words_of, is_skipped}
-use Rattle.file_words.specs.Lengths.{first_long}
-use Rattle.file_words.specs.declared.lengths.TooLong.{TooLong}
+use Rattle.file_words.specs.{Lines.{Bytes, lines_of, without_return}, Words.{words_of, is_skipped}, Lengths.first_long, declared.lengths.TooLong.TooLong}
 use Rattle.file_words.specs.declared.lengths.TooLong.TheVariants as long
-use Rattle.file_forms.specs.Forms.{TypeLine}
-use Rattle.file_forms.specs.DeclarationForms.{begins_reserved, header, declaration_line}
-use Rattle.file_forms.specs.TypeForms.{type_line}
-use Rattle.file_forms.specs.ScriptForms.{script_line}
-use Rattle.file_forms.specs.OperationForms.{operation_line}
-use Rattle.file_drafts.specs.Drafts.{around}
-use Rattle.file_drafts.specs.declared.drafts.Draft.{Draft}
-use Rattle.file_model.specs.RefusalTexts.{refusal}
-use Rattle.file_model.specs.Steps.{State, Step, all_phases, opening, outside, refuse}
-use Rattle.file_model.specs.Declaring.{declared}
-use Rattle.file_model.specs.Typing.{fits_in, typed}
-use Rattle.file_model.specs.Scripting.{scripted}
-use Rattle.file_model.specs.Operating.{operated}
-use Rattle.file_model.specs.declared.files.File.{File}
+use Rattle.file_forms.specs.{Forms.TypeLine, DeclarationForms.{begins_reserved, header, declaration_line}, TypeForms.type_line, ScriptForms.script_line, OperationForms.operation_line}
+use Rattle.file_drafts.specs.{Drafts.around, declared.drafts.Draft.Draft}
+use Rattle.file_model.specs.{RefusalTexts.refusal, Steps.{State, Step, all_phases, opening, outside, refuse}, Declaring.declared, Typing.{fits_in, typed}, Scripting.scripted, Operating.operated, declared.files.File.File}
+use Rattle.file_model.specs.{declared.refusals.Refused.Refused, declared.refusals.Why.Why, declared.states.Contents.Contents, declared.states.Section.Section}
 use Rattle.file_model.specs.declared.refusals.FileLimit.TheVariants as limit
-use Rattle.file_model.specs.declared.refusals.Refused.{Refused}
-use Rattle.file_model.specs.declared.refusals.Why.{Why}
 use Rattle.file_model.specs.declared.refusals.Why.TheVariants as why
-use Rattle.file_model.specs.declared.states.Contents.{Contents}
-use Rattle.file_model.specs.declared.states.Section.{Section}
 use Rattle.file_model.specs.declared.states.Section.TheVariants as section
 
 -- a name or a text of the line is too long

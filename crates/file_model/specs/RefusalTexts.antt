@@ -2,11 +2,9 @@
 use Rattle.std.specs.Prelude.{ℕ, List, ◌++◌, codes}
 use Rattle.file_words.specs.Lines.{Bytes}
 use Rattle.fault_words.specs.FaultWords.{fault_text}
-use Rattle.file_model.specs.declared.refusals.FileLimit.{FileLimit}
+use Rattle.file_model.specs.{declared.refusals.FileLimit.FileLimit, declared.refusals.Why.Why, declared.refusals.Refused.Refused}
 use Rattle.file_model.specs.declared.refusals.FileLimit.TheVariants as limit
-use Rattle.file_model.specs.declared.refusals.Why.{Why}
 use Rattle.file_model.specs.declared.refusals.Why.TheVariants as why
-use Rattle.file_model.specs.declared.refusals.Refused.{Refused}
 
 abbrev pub limit_text : FileLimit → Bytes
 limit_text limit.Name = codes "limit name"

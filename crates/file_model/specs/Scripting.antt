@@ -1,23 +1,16 @@
 -- Lines of a phase.
-use Rattle.std.specs.Prelude.{ℕ, ◌+◌, List, [], ◌∷◌, nat_lt, nat_le, slice_get, Option, Some, None, option_map}
-use Rattle.std.specs.Option.{option_or}
+use Rattle.std.specs.{Prelude.{ℕ, ◌+◌, List, [], ◌∷◌, nat_lt, nat_le, slice_get, Option, Some, None, option_map}, Option.option_or}
 use Rattle.wsm_lists.specs.declared.values.Value.{Value}
 use Rattle.wsm_sound.specs.declared.versions.CaseId.{CaseId}
 use Rattle.file_limits.specs.declared.TheConstants.{MAX_INSTALLS, MAX_LINES}
 use Rattle.file_words.specs.Lines.{Bytes}
 use Rattle.file_names.specs.Names.{place_of}
-use Rattle.file_forms.specs.PieceForms.{◌>>=◌}
-use Rattle.file_forms.specs.Forms.{Deed, to_create, to_start, to_withdraw, to_end, to_change, to_install, to_migrate, ScriptLine, next_phase, a_deed}
-use Rattle.file_model.specs.Steps.{State, Step, at_place, outside, refuse, unless, over, node_in, with_node, element_in, with_element, with_script_line}
-use Rattle.file_model.specs.Declaring.{phase_begun}
-use Rattle.file_model.specs.CaseCounts.{cases_of_type}
-use Rattle.file_model.specs.declared.files.Line.{Line}
-use Rattle.file_model.specs.declared.files.Act.{Act}
+use Rattle.file_forms.specs.{PieceForms.◌>>=◌, Forms.{Deed, to_create, to_start, to_withdraw, to_end, to_change, to_install, to_migrate, ScriptLine, next_phase, a_deed}}
+use Rattle.file_model.specs.{Steps.{State, Step, at_place, outside, refuse, unless, over, node_in, with_node, element_in, with_element, with_script_line}, Declaring.phase_begun, CaseCounts.cases_of_type, declared.files.Line.Line}
+use Rattle.file_model.specs.{declared.files.Act.Act, declared.states.Contents.Contents, declared.states.Target.Target}
 use Rattle.file_model.specs.declared.files.Act.TheVariants as act
 use Rattle.file_model.specs.declared.refusals.FileLimit.TheVariants as limit
 use Rattle.file_model.specs.declared.refusals.Why.TheVariants as why
-use Rattle.file_model.specs.declared.states.Contents.{Contents}
-use Rattle.file_model.specs.declared.states.Target.{Target}
 use Rattle.file_model.specs.declared.states.Target.TheVariants as target
 use Rattle.file_model.specs.declared.states.Section.TheVariants as section
 

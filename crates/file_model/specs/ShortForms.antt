@@ -5,8 +5,7 @@ use Rattle.wsm_lists.specs.declared.values.Value.TheVariants as value
 use Rattle.file_limits.specs.declared.TheConstants.{MAX_TEXT}
 use Rattle.file_words.specs.Lines.{Bytes}
 use Rattle.file_names.specs.ShortNames.{is_short_name}
-use Rattle.file_forms.specs.Forms.{Declaration, TypeLine, Deed, ScriptLine, NamedGap, OperationLine}
-use Rattle.file_forms.specs.NamesInForms.{DeclarationHas, TypeLineHas, DeedHas, ScriptLineHas, GapHas, OperationHas}
+use Rattle.file_forms.specs.{Forms.{Declaration, TypeLine, Deed, ScriptLine, NamedGap, OperationLine}, NamesInForms.{DeclarationHas, TypeLineHas, DeedHas, ScriptLineHas, GapHas, OperationHas}}
 
 abbrev pub IsShort : Bytes → Type 0
 IsShort n = is_short_name n ≡ true

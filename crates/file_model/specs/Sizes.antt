@@ -1,12 +1,8 @@
 -- How large a file that is read can be.
-use Rattle.std.specs.Prelude.{ℕ, ◌+◌, ◌*◌, ◌≡◌, ◌≤◌, ◌<◌, ◌^◌, Bool, true, List, length, nat_le}
-use Rattle.std.specs.List.{list_all, sum_by}
+use Rattle.std.specs.{Prelude.{ℕ, ◌+◌, ◌*◌, ◌≡◌, ◌≤◌, ◌<◌, ◌^◌, Bool, true, List, length, nat_le}, List.{list_all, sum_by}}
 use Rattle.file_limits.specs.declared.TheConstants.{MAX_TYPES}
-use Rattle.file_model.specs.declared.files.Act.{Act}
+use Rattle.file_model.specs.{declared.files.Act.Act, declared.files.File.File, declared.files.Line.Line, declared.files.TypeDecl.TypeDecl}
 use Rattle.file_model.specs.declared.files.Act.TheVariants as act
-use Rattle.file_model.specs.declared.files.File.{File}
-use Rattle.file_model.specs.declared.files.Line.{Line}
-use Rattle.file_model.specs.declared.files.TypeDecl.{TypeDecl}
 use Rattle.wsm_schema.specs.Flat.{cards_of}
 
 abbrev pub is_small : TypeDecl → Bool

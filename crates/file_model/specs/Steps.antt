@@ -4,13 +4,8 @@ use Rattle.file_limits.specs.declared.TheConstants.{FIRST_NAMED_ROLE, MAX_ACTORS
 use Rattle.file_words.specs.Lines.{Bytes}
 use Rattle.file_names.specs.Names.{noted, number_of}
 use Rattle.file_forms.specs.Forms.{RoleWord, by_number, by_name}
-use Rattle.file_model.specs.declared.files.Line.{Line}
-use Rattle.file_model.specs.declared.refusals.FileLimit.{FileLimit}
-use Rattle.file_model.specs.declared.refusals.Why.{Why}
+use Rattle.file_model.specs.{declared.files.Line.Line, declared.refusals.FileLimit.FileLimit, declared.refusals.Why.Why, declared.states.Contents.Contents, declared.states.Limits.Limits, declared.states.Section.Section}
 use Rattle.file_model.specs.declared.refusals.Why.TheVariants as why
-use Rattle.file_model.specs.declared.states.Contents.{Contents}
-use Rattle.file_model.specs.declared.states.Limits.{Limits}
-use Rattle.file_model.specs.declared.states.Section.{Section}
 use Rattle.file_model.specs.declared.states.Section.TheVariants as section
 
 -- how much a file may declare

@@ -1,26 +1,19 @@
 -- Lines of a type. Names get their numbers in the order of the line.
-use Rattle.std.specs.Prelude.{Bool, true, false, not, length, nat_le, Option, Some, None, Ok}
-use Rattle.std.specs.Option.{is_some}
-use Rattle.wsm_lists.specs.Rows.{row_at}
-use Rattle.wsm_lists.specs.Keys.{both, first, first_two}
-use Rattle.wsm_lists.specs.declared.values.ElementKind.{ElementKind}
+use Rattle.std.specs.{Prelude.{Bool, true, false, not, length, nat_le, Option, Some, None, Ok}, Option.is_some}
+use Rattle.wsm_lists.specs.{Rows.row_at, Keys.{both, first, first_two}, declared.values.ElementKind.ElementKind}
 use Rattle.wsm_schema.specs.SchemaModel.{SchemaModel}
-use Rattle.wsm_sound.specs.Faults.{fault_of}
-use Rattle.wsm_sound.specs.declared.faults.Fault.{Fault}
+use Rattle.wsm_sound.specs.{Faults.fault_of, declared.faults.Fault.Fault}
 use Rattle.file_limits.specs.declared.TheConstants.{MAX_DEPTH}
 use Rattle.file_words.specs.Lines.{Bytes}
 use Rattle.file_forms.specs.Forms.{RoleWord, TypeLine, activity, opens_and, opens_xor, opens_branch, opens_loop, closes_block, a_sync, an_element, a_read, a_write, type_end}
-use Rattle.file_drafts.specs.Drafts.{with_activity, gate_opened, loop_opened, closed, branched, around, with_sync, with_read, with_write, whole}
+use Rattle.file_drafts.specs.{Drafts.{with_activity, gate_opened, loop_opened, closed, branched, around, with_sync, with_read, with_write, whole}, declared.drafts.Draft.Draft, declared.drafts.Around.Around}
 use Rattle.file_drafts.specs.Drafts as draft
-use Rattle.file_drafts.specs.declared.drafts.Draft.{Draft}
-use Rattle.file_drafts.specs.declared.drafts.Around.{Around}
 use Rattle.file_drafts.specs.declared.drafts.Around.TheVariants.{NoBlock, BeforeBranches, InBranch, InBody}
 use Rattle.file_drafts.specs.declared.frames.GateKind.TheVariants as kind
 use Rattle.file_model.specs.Steps.{State, Step, at_place, outside, refuse, unless, over, twice, role_in, with_role, node_in, with_node, element_in, with_element, node_behind, with_nodes, element_behind, with_node_and_element}
-use Rattle.file_model.specs.Declaring.{with_type}
+use Rattle.file_model.specs.{Declaring.with_type, declared.states.Contents.Contents}
 use Rattle.file_model.specs.declared.refusals.FileLimit.TheVariants as limit
 use Rattle.file_model.specs.declared.refusals.Why.TheVariants as why
-use Rattle.file_model.specs.declared.states.Contents.{Contents}
 use Rattle.file_model.specs.declared.states.Section.TheVariants as section
 
 -- whether blocks and branches may stand there

@@ -1,8 +1,7 @@
 // Cases while they are declared.
 ghost use Rattle.std.specs.Prelude.{◌≡◌, ◌<◌, ◌^◌, [], ◌∷◌, ◌++◌, ◌+◌, ℕ, length, take, slice_index, OnOk};
 ghost use Rattle.file_names.specs.Names.{noted};
-ghost use Rattle.file_model.specs.CaseCounts.{cases_of_type, AreCounted};
-ghost use Rattle.file_model.specs.ShortForms.{IsShort};
+ghost use Rattle.file_model.specs.{CaseCounts.{cases_of_type, AreCounted}, ShortForms.IsShort};
 
 use crate::files::{CaseDecl, CaseDecls};
 use file_names::{DeclaredList, NameTable};

@@ -1,7 +1,5 @@
 -- The first so many of names.
-use Rattle.std.proofs.Common.{◌≡◌, ◌<◌, ◌^◌, ◌&&◌, ℕ, Bool, true, false, List, length, map, take, drop, refl, sym, ap, ◌∙◌, arith}
-use Rattle.std.proofs.lemmas.List.{length-take, take-append-drop, take-map}
-use Rattle.std.proofs.lemmas.List.Folds.{list_all-append}
+use Rattle.std.proofs.{Common.{◌≡◌, ◌<◌, ◌^◌, ◌&&◌, ℕ, Bool, true, false, List, length, map, take, drop, refl, sym, ap, ◌∙◌, arith}, lemmas.List.{length-take, take-append-drop, take-map}, lemmas.List.Folds.list_all-append}
 use Rattle.std.specs.List.{list_all}
 use Rattle.file_words.specs.Lines.{Bytes}
 use Rattle.file_names.specs.ShortNames.{is_short_name}

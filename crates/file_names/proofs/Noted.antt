@@ -1,9 +1,6 @@
 -- Names in a list of rows.
-use Rattle.std.proofs.Common.{◌≡◌, ℕ, suc, true, false, List, [], ◌∷◌, ◌++◌, map, length, Some, None, position, nat_lt, refl, ap, sym, ◌∙◌, inl, inr, arith, rules, cond, OnOk}
-use Rattle.std.specs.Prelude.{Result, Ok, Err}
-use Rattle.std.specs.List.{position_or_len, list_any}
-use Rattle.std.specs.Str.{bytes_eq}
-use Rattle.std.proofs.lemmas.Bool.{cases_Bool}
+use Rattle.std.proofs.{Common.{◌≡◌, ℕ, suc, true, false, List, [], ◌∷◌, ◌++◌, map, length, Some, None, position, nat_lt, refl, ap, sym, ◌∙◌, inl, inr, arith, rules, cond, OnOk}, lemmas.Bool.cases_Bool}
+use Rattle.std.specs.{Prelude.{Result, Ok, Err}, List.{position_or_len, list_any}, Str.bytes_eq}
 use Rattle.file_words.specs.Lines.{Bytes}
 use Rattle.file_names.specs.Names.{is_listed, noted, number_of, place_of}
 

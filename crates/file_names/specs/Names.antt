@@ -1,6 +1,5 @@
 -- Names get numbers in order of first occurrence, and declarations in order.
-use Rattle.std.specs.Prelude.{ℕ, suc, Bool, List, [], ◌∷◌, ◌++◌, if◌then◌else◌, bytes_eq, Option, Some, None}
-use Rattle.std.specs.List.{list_any}
+use Rattle.std.specs.{Prelude.{ℕ, suc, Bool, List, [], ◌∷◌, ◌++◌, if◌then◌else◌, bytes_eq, Option, Some, None}, List.list_any}
 use Rattle.file_words.specs.Lines.{Bytes}
 
 abbrev pub is_listed : Bytes → List Bytes → Bool

@@ -1,7 +1,6 @@
 // What a file declares, by name.
 ghost use Rattle.std.specs.Prelude.{◌≡◌, ◌<◌, ◌^◌, ◌+◌, [], ◌∷◌, ◌++◌, length, take, true, OnOk, IfOk};
-ghost use Rattle.file_names.specs.Names.{noted};
-ghost use Rattle.file_names.specs.ShortNames.{is_short_name};
+ghost use Rattle.file_names.specs.{Names.noted, ShortNames.is_short_name};
 
 use crate::name_tables::NameTable;
 use file_words::{NameWord, NoMemory};

@@ -1,8 +1,6 @@
 // Names with their numbers.
-ghost use Rattle.std.specs.Prelude.{◌≡◌, ◌<◌, ◌^◌, ◌+◌, [], ◌∷◌, ◌++◌, length, take, slice_get, true, false, OnOk, IfOk, IfSome, codes};
-ghost use Rattle.std.specs.Option.{option_copied};
-ghost use Rattle.file_names.specs.Names.{is_listed, noted, number_of, place_of};
-ghost use Rattle.file_names.specs.ShortNames.{is_short_name};
+ghost use Rattle.std.specs.{Prelude.{◌≡◌, ◌<◌, ◌^◌, ◌+◌, [], ◌∷◌, ◌++◌, length, take, slice_get, true, false, OnOk, IfOk, IfSome, codes}, Option.option_copied};
+ghost use Rattle.file_names.specs.{Names.{is_listed, noted, number_of, place_of}, ShortNames.is_short_name};
 
 use crate::names::{Name64, Names};
 use file_words::{NameWord, NoMemory};

@@ -2,10 +2,8 @@
 use Rattle.std.proofs.Common.{◌≡◌, ℕ, List, Option, Some, refl, subst, sym}
 use Rattle.file_words.specs.Lines.{Bytes}
 use Rattle.file_forms.specs.Forms.{to_end}
-use Rattle.file_model.specs.Scripting.{acted, case_in, if_known, numbered, with_elements, with_line}
-use Rattle.file_model.specs.Steps.{node_in, with_node}
+use Rattle.file_model.specs.{Scripting.{acted, case_in, if_known, numbered, with_elements, with_line}, Steps.{node_in, with_node}, declared.states.Contents.Contents}
 use Rattle.file_model.specs.declared.files.Act.TheVariants as act
-use Rattle.file_model.specs.declared.states.Contents.{Contents}
 use Rattle.wsm_lists.specs.declared.values.Value.{Value}
 use Rattle.wsm_sound.specs.declared.versions.CaseId.{CaseId}
 

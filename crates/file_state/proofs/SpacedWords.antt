@@ -1,10 +1,7 @@
 -- The words of a fault behind others.
-use Rattle.std.proofs.Common.{◌≡◌, List, [], ◌∷◌, ◌++◌, ap, sym, ◌∙◌, append_assoc}
-use Rattle.std.proofs.lemmas.List.{append-nil}
+use Rattle.std.proofs.{Common.{◌≡◌, List, [], ◌∷◌, ◌++◌, ap, sym, ◌∙◌, append_assoc}, lemmas.List.append-nil}
 use Rattle.file_words.specs.Lines.{Bytes}
-use Rattle.fault_words.specs.FaultWords.{Word, word_text, after_space, words_text, fault_words, fault_text}
-use Rattle.fault_words.specs.Shown.{shown_word, shown_option, shown_words}
-use Rattle.fault_words.specs.declared.words.FaultWords.{FaultWords}
+use Rattle.fault_words.specs.{FaultWords.{Word, word_text, after_space, words_text, fault_words, fault_text}, Shown.{shown_word, shown_option, shown_words}, declared.words.FaultWords.FaultWords}
 use Rattle.fault_words.proofs.InOrder as in_order
 use Rattle.wsm_sound.specs.declared.faults.Fault.{Fault}
 

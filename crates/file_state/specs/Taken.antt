@@ -2,9 +2,7 @@
 use Rattle.std.specs.Prelude.{◌≡◌, Bool, true, false, Ok}
 use Rattle.file_forms.specs.Forms.{TypeLine, type_end}
 use Rattle.file_drafts.specs.declared.drafts.Draft.{Draft}
-use Rattle.file_model.specs.Steps.{at_place}
-use Rattle.file_model.specs.Typing.{typed}
-use Rattle.file_model.specs.declared.states.Contents.{Contents}
+use Rattle.file_model.specs.{Steps.at_place, Typing.typed, declared.states.Contents.Contents}
 use Rattle.file_model.specs.declared.states.Section.TheVariants as section
 
 -- the draft and the contents behind a line that stays in the type; a line that ends the type has left them as they were

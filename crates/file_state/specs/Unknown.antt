@@ -2,8 +2,7 @@
 use Rattle.std.specs.Prelude.{◌≡◌, Option, None}
 use Rattle.wsm_sound.specs.declared.versions.CaseId.{CaseId}
 use Rattle.file_model.specs.declared.refusals.Why.TheVariants as why
-use Rattle.file_model.specs.declared.states.Contents.{Contents}
-use Rattle.file_model.specs.declared.states.Stop.{Stop}
+use Rattle.file_model.specs.{declared.states.Contents.Contents, declared.states.Stop.Stop}
 use Rattle.file_model.specs.declared.states.Stop.TheVariants as stop
 
 -- no case was found, and nothing was noted; want of memory may come at any case

@@ -1,14 +1,9 @@
 // What was read so far: names and refusals.
 ghost use Rattle.std.specs.Prelude.{◌≡◌, ◌≤◌, ◌+◌, length, map, Err, IfOk, OnOk};
 ghost use Rattle.wsm_lists.specs.Rows.{AllRows};
-ghost use Rattle.file_forms.specs.NamesInForms.{RoleHas};
-ghost use Rattle.file_forms.specs.Shown.{shown_role};
-ghost use Rattle.file_model.specs.Declaring.{role_numbers, with_roles};
-ghost use Rattle.file_model.specs.Outcomes.{Tells};
-ghost use Rattle.file_model.specs.Reading.{refused};
-ghost use Rattle.file_model.specs.Room.{HasRoom, count_of_names};
-ghost use Rattle.file_model.specs.ShortForms.{IsShort};
-ghost use Rattle.file_model.specs.Steps.{no_contents, node_in, with_node, element_in, with_element, node_behind, with_nodes, element_behind, with_node_and_element, role_in, with_role};
+ghost use Rattle.file_forms.specs.{NamesInForms.RoleHas, Shown.shown_role};
+ghost use Rattle.file_model.specs.{Declaring.{role_numbers, with_roles}, Outcomes.Tells, Reading.refused, Room.{HasRoom, count_of_names}, ShortForms.IsShort, Steps.{no_contents, node_in, with_node, element_in, with_element, node_behind}};
+ghost use Rattle.file_model.specs.Steps.{with_nodes, element_behind, with_node_and_element, role_in, with_role};
 
 use crate::texts::text_of;
 use file_forms::RoleWord;

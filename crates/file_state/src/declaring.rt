@@ -2,15 +2,8 @@
 ghost use Rattle.std.specs.Prelude.{◌≡◌, ◌<◌, ◌+◌, ◌^◌, length, map, nat_le, None, Ok, Some, IfOk, IfErr, OnOk};
 ghost use Rattle.wsm_lists.specs.Rows.{AllRows};
 ghost use Rattle.file_words.specs.Shown.{shown};
-ghost use Rattle.file_forms.specs.NamesInForms.{RoleHas, roles_in};
-ghost use Rattle.file_forms.specs.Shown.{shown_declaration, shown_role};
-ghost use Rattle.file_forms.specs.Forms.{a_type, an_actor, a_case};
-ghost use Rattle.file_model.specs.Outcomes.{Stops};
-ghost use Rattle.file_model.specs.Room.{HasRoom};
-ghost use Rattle.file_model.specs.ShortForms.{IsShort, IsShortDeclaration};
-ghost use Rattle.file_model.specs.Steps.{all_phases, at_place};
-ghost use Rattle.file_model.specs.Declaring.{declared, phase_begun, with_actor, case_declared, with_case};
-ghost use Rattle.file_model.specs.Reading.{headed, in_format};
+ghost use Rattle.file_forms.specs.{NamesInForms.{RoleHas, roles_in}, Shown.{shown_declaration, shown_role}, Forms.{a_type, an_actor, a_case}};
+ghost use Rattle.file_model.specs.{Outcomes.Stops, Room.HasRoom, ShortForms.{IsShort, IsShortDeclaration}, Steps.{all_phases, at_place}, Declaring.{declared, phase_begun, with_actor, case_declared, with_case}, Reading.{headed, in_format}};
 
 use crate::contents::role_numbers;
 use file_drafts::Draft;

@@ -1,13 +1,7 @@
 // Lines of a group of operations.
 ghost use Rattle.std.specs.Prelude.{◌≡◌, [], ◌∷◌, ◌++◌, Ok, Some, IfOk, IfErr, OnOk};
-ghost use Rattle.file_forms.specs.NamesInForms.{RoleHas};
-ghost use Rattle.file_forms.specs.Shown.{shown_role, shown_place, shown_operation};
-ghost use Rattle.file_forms.specs.Forms.{insert, delete, move, sync, unsync, element, read, unread, write, unwrite, set_role};
-ghost use Rattle.file_model.specs.Outcomes.{Stops};
-ghost use Rattle.file_model.specs.Room.{HasRoom};
-ghost use Rattle.file_model.specs.ShortForms.{IsShort, IsShortGap, IsShortOperation};
-ghost use Rattle.file_model.specs.Steps.{at_place, node_in, with_node};
-ghost use Rattle.file_model.specs.Operating.{gap_in, with_place, op_in, with_names, line_of_group, grouped, operated};
+ghost use Rattle.file_forms.specs.{NamesInForms.RoleHas, Shown.{shown_role, shown_place, shown_operation}, Forms.{insert, delete, move, sync, unsync, element, read, unread, write, unwrite, set_role}};
+ghost use Rattle.file_model.specs.{Outcomes.Stops, Room.HasRoom, ShortForms.{IsShort, IsShortGap, IsShortOperation}, Steps.{at_place, node_in, with_node}, Operating.{gap_in, with_place, op_in, with_names, line_of_group, grouped, operated}};
 
 use crate::contents::{
     element_number, node_and_element_numbers, node_number, node_numbers, role_number,

@@ -1,16 +1,11 @@
 // Lines of a phase.
 ghost use Rattle.std.specs.Prelude.{◌≡◌, ◌≤◌, ◌+◌, ◌<◌, length, [], ◌∷◌, ◌++◌, map, Ok, Some, IfOk, IfErr, OnOk};
 ghost use Rattle.wsm_lists.specs.Rows.{AllRows};
-ghost use Rattle.file_forms.specs.NamesInForms.{writes_in, writes_in_deed};
+ghost use Rattle.file_forms.specs.{NamesInForms.{writes_in, writes_in_deed}, Shown.{shown_deed, shown_script_line}, Forms.{to_create, to_change, to_install, to_migrate, a_deed}};
 ghost use Rattle.file_words.specs.Shown.{shown_literal, shown_pair};
-ghost use Rattle.file_forms.specs.Shown.{shown_deed, shown_script_line};
-ghost use Rattle.file_forms.specs.Forms.{to_create, to_change, to_install, to_migrate, a_deed};
-ghost use Rattle.file_model.specs.Outcomes.{Stops};
-ghost use Rattle.file_model.specs.Room.{HasRoom, count_of_names};
-ghost use Rattle.file_model.specs.ShortForms.{IsShort, IsShortDeed, IsShortScriptLine, IsShortValue, IsShortWrite};
-ghost use Rattle.file_model.specs.Steps.{at_place, node_in, with_node, with_script_line};
+ghost use Rattle.file_model.specs.{Outcomes.Stops, Room.{HasRoom, count_of_names}, ShortForms.{IsShort, IsShortDeed, IsShortScriptLine, IsShortValue, IsShortWrite}, Steps.{at_place, node_in, with_node, with_script_line}, Scripting.actor_in};
+ghost use Rattle.file_model.specs.Scripting.{if_known, case_in, with_line, line_of, counted, with_group, changing, one_install, installing, migrations_with, migrating, with_elements, numbered, acted, acted_by, scripted};
 ghost use Rattle.file_state.specs.Unknown.{StopsUnknown};
-ghost use Rattle.file_model.specs.Scripting.{actor_in, if_known, case_in, with_line, line_of, counted, with_group, changing, one_install, installing, migrations_with, migrating, with_elements, numbered, acted, acted_by, scripted};
 
 use crate::contents::{element_number, node_number};
 use crate::declaring::phase_begun;

@@ -1,7 +1,6 @@
 // The texts of refusals.
 ghost use Rattle.std.specs.Prelude.{◌≡◌, ◌++◌, decimal, IfOk, OnOk};
-ghost use Rattle.fault_words.specs.FaultWords.{named, word_text, after_space, words_text, fault_text};
-ghost use Rattle.fault_words.specs.Shown.{shown_word, shown_option};
+ghost use Rattle.fault_words.specs.{FaultWords.{named, word_text, after_space, words_text, fault_text}, Shown.{shown_word, shown_option}};
 ghost use Rattle.file_model.specs.RefusalTexts.{limit_text, text_of};
 
 use adept_io::Bytes;

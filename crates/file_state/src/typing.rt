@@ -1,15 +1,9 @@
 // Lines of a type.
 ghost use Rattle.std.specs.Prelude.{◌≡◌, not, Ok, IfOk, IfErr, OnOk, if◌then◌else◌};
-ghost use Rattle.file_forms.specs.NamesInForms.{RoleHas};
-ghost use Rattle.file_forms.specs.Shown.{shown_role, shown_type_line};
-ghost use Rattle.file_forms.specs.Forms.{activity, opens_and, opens_xor, opens_branch, opens_loop, closes_block, a_sync, an_element, a_read, a_write, type_end};
+ghost use Rattle.file_forms.specs.{NamesInForms.RoleHas, Shown.{shown_role, shown_type_line}, Forms.{activity, opens_and, opens_xor, opens_branch, opens_loop, closes_block, a_sync, an_element, a_read, a_write, type_end}};
 ghost use Rattle.file_drafts.specs.Drafts.{closed, branched, whole};
-ghost use Rattle.file_model.specs.Outcomes.{Stops};
-ghost use Rattle.file_model.specs.Room.{HasRoom};
-ghost use Rattle.file_model.specs.ShortForms.{IsShort, IsShortTypeLine};
-ghost use Rattle.file_model.specs.Steps.{at_place, with_role, with_node, with_element, with_nodes, with_node_and_element};
-ghost use Rattle.file_model.specs.Declaring.{with_type};
-ghost use Rattle.file_model.specs.Typing.{takes_blocks, takes_branch, is_outside, fits_in, typed, with_role_of, with_and, with_xor, with_loop, has_sync, put_sync, has_element, put_element, has_read, put_read, has_write, put_write};
+ghost use Rattle.file_model.specs.{Outcomes.Stops, Room.HasRoom, ShortForms.{IsShort, IsShortTypeLine}, Steps.{at_place, with_role, with_node, with_element, with_nodes, with_node_and_element}, Declaring.with_type, Typing.takes_blocks};
+ghost use Rattle.file_model.specs.Typing.{takes_branch, is_outside, fits_in, typed, with_role_of, with_and, with_xor, with_loop, has_sync, put_sync, has_element, put_element, has_read, put_read, has_write, put_write};
 ghost use Rattle.file_state.specs.Taken.{Taken};
 
 use crate::contents::{

@@ -1,37 +1,11 @@
 -- A line adds no more names than it has words.
-use Rattle.std.proofs.Common.{◌≡◌, ◌≤◌, ℕ, ◌+◌, Bool, true, false, List, [], ◌∷◌, ◌++◌, length, arith, subst, Option, Some, None, Ok, Err}
-use Rattle.std.proofs.lemmas.List.{length-append}
-use Rattle.std.specs.Prelude.{IfSome, nat_le, if◌then◌else◌}
-use Rattle.std.specs.Str.{is_utf8}
-use Rattle.wsm_lists.specs.declared.values.Value.{Value}
-use Rattle.wsm_ops.specs.declared.operations.Op.{Op}
-use Rattle.wsm_schema.specs.SchemaModel.{SchemaModel}
-use Rattle.wsm_sound.specs.Faults.{fault_of}
-use Rattle.wsm_sound.specs.declared.faults.Fault.{Fault}
-use Rattle.file_words.specs.Lengths.{first_long}
-use Rattle.file_words.specs.Lines.{Bytes}
-use Rattle.file_words.specs.declared.lengths.TooLong.{TooLong}
-use Rattle.file_names.specs.Names.{is_listed, noted, place_of}
-use Rattle.file_forms.specs.DeclarationForms.{header, declaration_line}
-use Rattle.file_forms.specs.Forms.{Declaration, a_type, an_actor, a_case, first_phase, TypeLine, activity, opens_and, opens_xor, opens_branch, opens_loop, closes_block, a_sync, an_element, a_read, a_write, type_end}
-use Rattle.file_forms.specs.Forms.{Deed, to_create, to_start, to_withdraw, to_end, to_change, to_install, to_migrate, ScriptLine, next_phase, a_deed}
-use Rattle.file_forms.specs.Forms.{NamedGap, behind, at_head, OperationLine, insert, parallel, conditional, delete, move, sync, unsync, element, read, unread, write, unwrite, set_role, group_end}
-use Rattle.file_forms.specs.OperationForms.{operation_line}
-use Rattle.file_forms.specs.ScriptForms.{script_line}
-use Rattle.file_forms.specs.TypeForms.{type_line}
-use Rattle.file_drafts.specs.Drafts.{around, whole}
-use Rattle.file_drafts.specs.declared.drafts.Draft.{Draft}
-use Rattle.file_model.specs.Declaring.{case_declared, declared, phase_begun, role_numbers, with_actor, with_case, with_roles}
-use Rattle.file_model.specs.Operating.{grouped, op_in, operated, with_names, with_place}
-use Rattle.file_model.specs.Reading.{declares, fitting, formed, in_format, step_in, step_outside, unless_long, unless_not_text}
-use Rattle.file_model.specs.Room.{count_of_names}
-use Rattle.file_model.specs.Scripting.{acted, actor_in, case_in, if_known, scripted, with_elements}
-use Rattle.file_model.specs.Steps.{State, Step, at_place, outside, unless, with_element, with_node}
-use Rattle.file_model.specs.Typing.{ended, fits_in, typed}
-use Rattle.file_model.specs.declared.refusals.Why.{Why}
-use Rattle.file_model.specs.declared.states.Contents.{Contents}
-use Rattle.file_model.specs.declared.states.Group.{Group}
-use Rattle.file_model.specs.declared.states.Section.{Section}
+use Rattle.file_units.proofs.Common.{[], ℕ, ◌++◌, ◌+◌, ◌∷◌, ◌≡◌, ◌≤◌, a_case, a_deed, a_read, a_sync, a_type, a_write, acted, activity, actor_in, an_actor, an_element, arith, around, at_head, at_place, behind, Bool, Bytes, case_declared}
+use Rattle.file_units.proofs.Common.{case_in, closes_block, conditional, Contents, count_of_names, Declaration, declaration_line, declared, declares, Deed, delete, Draft, element, ended, Err, false, Fault, fault_of, first_long, first_phase}
+use Rattle.file_units.proofs.Common.{fits_in, fitting, formed, Group, group_end, grouped, header, if_known, IfSome, if◌then◌else◌, in_format, insert, is_listed, is_utf8, length, length-append, List, move, NamedGap, nat_le, next_phase, None}
+use Rattle.file_units.proofs.Common.{noted, Ok, Op, op_in, opens_and, opens_branch, opens_loop, opens_xor, operated, operation_line, OperationLine, Option, outside, parallel, phase_begun, place_of, read, role_numbers, SchemaModel}
+use Rattle.file_units.proofs.Common.{script_line, scripted, ScriptLine, Section, set_role, Some, State, Step, step_in, step_outside, subst, sync, to_change, to_create, to_end, to_install, to_migrate, to_start, to_withdraw, TooLong, true}
+use Rattle.file_units.proofs.Common.{type_end, type_line, typed, TypeLine, unless, unless_long, unless_not_text, unread, unsync, unwrite, Value, whole, Why, with_actor, with_case, with_element, with_elements, with_names, with_node}
+use Rattle.file_units.proofs.Common.{with_place, with_roles, write}
 use Rattle.file_model.specs.declared.states.Section.TheVariants as section
 use Rattle.file_model.proofs.Grown.{Grown, GrownStep, element_grown, node_grown, role_grown, roles_grown}
 use Rattle.file_units.proofs.FewNames.{names_in_declaration, names_in_type_line, names_in_deed, names_in_script_line, names_in_operation, declaration-names, type_line-names, script_line-names, operation-names}

@@ -1,25 +1,6 @@
 -- What holds behind each form of a line holds behind each line.
-use Rattle.std.proofs.Common.{ℕ, Bool, true, false, List, Option, Some, None}
-use Rattle.std.specs.Prelude.{IfOk, if◌then◌else◌}
-use Rattle.std.specs.Str.{is_utf8}
-use Rattle.file_words.specs.Lengths.{first_long}
-use Rattle.file_words.specs.Lines.{Bytes}
-use Rattle.file_words.specs.declared.lengths.TooLong.{TooLong}
-use Rattle.file_forms.specs.DeclarationForms.{declaration_line}
-use Rattle.file_forms.specs.Forms.{Declaration, OperationLine, ScriptLine, TypeLine}
-use Rattle.file_forms.specs.OperationForms.{operation_line}
-use Rattle.file_forms.specs.ScriptForms.{script_line}
-use Rattle.file_forms.specs.TypeForms.{type_line}
-use Rattle.file_drafts.specs.declared.drafts.Draft.{Draft}
-use Rattle.file_model.specs.Declaring.{declared}
-use Rattle.file_model.specs.Operating.{operated}
-use Rattle.file_model.specs.Reading.{declares, fitting, formed, step_in, step_outside, unless_long, unless_not_text}
-use Rattle.file_model.specs.Scripting.{if_known, scripted}
-use Rattle.file_model.specs.Steps.{State, Step, unless}
-use Rattle.file_model.specs.Typing.{typed}
-use Rattle.file_model.specs.declared.refusals.Why.{Why}
-use Rattle.file_model.specs.declared.states.Contents.{Contents}
-use Rattle.file_model.specs.declared.states.Group.{Group}
+use Rattle.file_units.proofs.Common.{ℕ, Bool, Bytes, Contents, Declaration, declaration_line, declared, declares, Draft, false, first_long, fitting, formed, Group, if_known, IfOk, if◌then◌else◌, is_utf8, List, None, operated}
+use Rattle.file_units.proofs.Common.{operation_line, OperationLine, Option, script_line, scripted, ScriptLine, Some, State, Step, step_in, step_outside, TooLong, true, type_line, typed, TypeLine, unless, unless_long, unless_not_text, Why}
 use Rattle.file_model.specs.declared.states.Section.TheVariants as section
 
 -- ---- a state behind tests

@@ -1,8 +1,5 @@
 -- What was added is taken back.
-use Rattle.std.proofs.Common.{◌≡◌, List, [], ◌∷◌, ◌++◌, length, take, refl, ap, sym, ◌∙◌}
-use Rattle.file_model.specs.declared.states.Contents.{Contents}
-use Rattle.file_units.specs.Growing.{Begins, Grows, IsEven, cut, marks_of}
-use Rattle.file_units.specs.Units.{IsSettled}
+use Rattle.file_units.proofs.Common.{[], ◌++◌, ◌∙◌, ◌∷◌, ◌≡◌, ap, Begins, Contents, cut, Grows, IsEven, IsSettled, length, List, marks_of, refl, sym, take}
 
 take-front : {A : Type 0} (xs rest : List A) → take (length xs) (xs ++ rest) ≡ xs
 take-front [] rest = refl

@@ -1,20 +1,7 @@
 -- The end of a unit.
-use Rattle.std.proofs.Common.{◌≡◌, ◌≤◌, ℕ, ◌*◌, false, List, [], ◌∷◌, length, ap, sym, subst, ◌∙◌, arith, Result, Ok, Err}
-use Rattle.std.specs.Prelude.{IfErr, OnOk}
-use Rattle.file_words.specs.Lines.{Bytes, lines_of, one_left}
-use Rattle.file_words.specs.Words.{is_skipped}
-use Rattle.file_model.specs.Reading.{at_line}
-use Rattle.file_model.specs.Steps.{at_place}
-use Rattle.file_model.specs.declared.refusals.FileRefusal.{FileRefusal}
-use Rattle.file_model.specs.declared.refusals.Refused.{Refused}
-use Rattle.file_model.specs.declared.states.Contents.{Contents}
-use Rattle.file_model.specs.declared.states.Section.{Section}
+use Rattle.file_units.proofs.Common.{[], ℕ, ◌*◌, ◌∙◌, ◌∷◌, ◌≡◌, ◌≤◌, ap, arith, at_line, at_place, Bytes, Contents, Err, false, FileRefusal, IfErr, is_skipped, IsHeld, length, lines_of, lines_read, List, Ok, one_left, OnOk, Refused, Result}
+use Rattle.file_units.proofs.{Common.{said, SaysSome, Section, settled, subst, sym, Tells, unit_end}, Inside.{Inside, end-says, inside-end}, SaidLines.end-left}
 use Rattle.file_model.specs.declared.states.Section.TheVariants as section
-use Rattle.file_units.specs.Facts.{IsHeld}
-use Rattle.file_units.specs.Taking.{SaysSome, Tells}
-use Rattle.file_units.specs.Units.{lines_read, said, settled, unit_end}
-use Rattle.file_units.proofs.Inside.{Inside, end-says, inside-end}
-use Rattle.file_units.proofs.SaidLines.{end-left}
 
 -- what follows from a fact holds where it does
 pub on-ok : {E : Type 0} (r : Result (Unit {0}) E) (P Q : Type 0) → (P → Q) → OnOk r P → OnOk r Q

@@ -1,43 +1,16 @@
 -- Behind each line of a unit each declaration has its name.
-use Rattle.std.proofs.Common.{◌≡◌, ℕ, Bool, true, false, List, [], ◌∷◌, length, refl, ap, subst, ◌∙◌, arith, if◌then◌else◌, Option, Some, None, Ok}
-use Rattle.std.proofs.lemmas.List.{length-append}
-use Rattle.std.specs.Prelude.{IfOk}
-use Rattle.std.specs.Option.{option_or}
-use Rattle.std.specs.Str.{is_utf8}
-use Rattle.wsm_lists.specs.declared.values.Value.{Value}
-use Rattle.wsm_ops.specs.declared.operations.Op.{Op}
-use Rattle.wsm_schema.specs.SchemaModel.{SchemaModel}
-use Rattle.wsm_sound.specs.Faults.{fault_of}
-use Rattle.wsm_sound.specs.declared.faults.Fault.{Fault}
-use Rattle.file_words.specs.Lengths.{first_long}
-use Rattle.file_words.specs.Lines.{Bytes}
-use Rattle.file_words.specs.declared.lengths.TooLong.{TooLong}
-use Rattle.file_names.specs.Names.{is_listed, place_of}
+use Rattle.file_units.proofs.Common.{[], ℕ, ◌∙◌, ◌∷◌, ◌≡◌, a_case, a_deed, a_read, a_sync, a_type, a_write, acted, activity, actor_in, an_actor, an_element, ap, arith, at_head, at_place, behind, Bool, branched, branched_in, Bytes}
+use Rattle.file_units.proofs.Common.{case_declared, case_in, closed, closed_in, closes_block, conditional, Contents, Declaration, declaration_line, declared, declares, Deed, delete, Draft, element, ended, false, Fault, fault_of, first_long}
+use Rattle.file_units.proofs.Common.{first_phase, fitting, formed, Group, group_end, grouped, if_known, IfOk, insert, is_listed, is_utf8, IsEven, length, length-append, List, listed, move, NamedGap, new_draft, next_phase, None, Ok, Op}
+use Rattle.file_units.proofs.Common.{op_in, opens_and, opens_branch, opens_loop, opens_xor, operated, operation_line, OperationLine, Option, option_or, outside, parallel, phase_begun, place_of, read, refl, role_numbers, SchemaModel}
+use Rattle.file_units.proofs.Common.{script_line, scripted, ScriptLine, Section, set_role, Some, State, Step, step_in, step_outside, subst, sync, to_change, to_create, to_end, to_install, to_migrate, to_start, to_withdraw, TooLong, true}
+use Rattle.file_units.proofs.Common.{twice, type_end, type_line, typed, TypeLine, unless, unless_long, unless_not_text, unread, unsync, unwrite, Value, whole, Why, with_actor, with_case, with_element, with_elements, with_names, with_node}
+use Rattle.file_units.proofs.{Common.{with_place, with_roles, with_type, write}, Grows.IsInUnit}
+use Rattle.std.proofs.Common.{if◌then◌else◌}
 use Rattle.file_names.specs.declared.declared.DeclaredList.{DeclaredList}
 use Rattle.file_names.proofs.Noted.{absent_noted}
-use Rattle.file_forms.specs.DeclarationForms.{declaration_line}
-use Rattle.file_forms.specs.Forms.{Declaration, a_type, an_actor, a_case, first_phase, TypeLine, activity, opens_and, opens_xor, opens_branch, opens_loop, closes_block, a_sync, an_element, a_read, a_write, type_end}
-use Rattle.file_forms.specs.Forms.{Deed, to_create, to_start, to_withdraw, to_end, to_change, to_install, to_migrate, ScriptLine, next_phase, a_deed}
-use Rattle.file_forms.specs.Forms.{NamedGap, behind, at_head, OperationLine, insert, parallel, conditional, delete, move, sync, unsync, element, read, unread, write, unwrite, set_role, group_end}
-use Rattle.file_forms.specs.OperationForms.{operation_line}
-use Rattle.file_forms.specs.ScriptForms.{script_line}
-use Rattle.file_forms.specs.TypeForms.{type_line}
-use Rattle.file_drafts.specs.Drafts.{branched, branched_in, closed, closed_in, new_draft, whole}
-use Rattle.file_drafts.specs.declared.drafts.Draft.{Draft}
 use Rattle.file_drafts.specs.declared.frames.Frame.{Frame}
-use Rattle.file_model.specs.Declaring.{case_declared, declared, listed, phase_begun, role_numbers, with_actor, with_case, with_roles, with_type}
-use Rattle.file_model.specs.Operating.{grouped, op_in, operated, with_names, with_place}
-use Rattle.file_model.specs.Reading.{declares, fitting, formed, step_in, step_outside, unless_long, unless_not_text}
-use Rattle.file_model.specs.Scripting.{acted, actor_in, case_in, if_known, scripted, with_elements}
-use Rattle.file_model.specs.Steps.{State, Step, at_place, outside, twice, unless, with_element, with_node}
-use Rattle.file_model.specs.Typing.{ended, typed}
-use Rattle.file_model.specs.declared.refusals.Why.{Why}
-use Rattle.file_model.specs.declared.states.Contents.{Contents}
-use Rattle.file_model.specs.declared.states.Group.{Group}
-use Rattle.file_model.specs.declared.states.Section.{Section}
 use Rattle.file_model.specs.declared.states.Section.TheVariants as section
-use Rattle.file_units.specs.Growing.{IsEven}
-use Rattle.file_units.proofs.Grows.{IsInUnit}
 
 -- while the lines of a type are read its name is not listed
 abbrev pub EvenIn : Section → Contents → Type 0

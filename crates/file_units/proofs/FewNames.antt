@@ -1,20 +1,13 @@
 -- A line's form has no more names that may get a number than the line has words.
-use Rattle.std.proofs.Common.{◌≤◌, ℕ, ◌+◌, List, [], ◌∷◌, length, ◌==◌, ◌&&◌, Option, None, Some, arith}
-use Rattle.std.specs.Prelude.{IfSome, nat_le, nat_lt, codes}
-use Rattle.wsm_lists.specs.declared.values.Value.{Value}
-use Rattle.file_words.specs.Lines.{Bytes}
-use Rattle.file_words.specs.Names.{name}
-use Rattle.file_words.specs.Numbers.{code}
-use Rattle.file_words.specs.Pairs.{pair}
-use Rattle.file_words.specs.Words.{is}
-use Rattle.file_forms.specs.DeclarationForms.{actor_ahead, actor_line, begins_reserved, declaration_line, plain_line, roles, roles_at_end, some_roles}
-use Rattle.file_forms.specs.Forms.{RoleWord, Declaration, a_type, an_actor, a_case, first_phase, TypeLine, activity, opens_and, opens_xor, opens_branch, opens_loop, closes_block, a_sync, an_element, a_read, a_write, type_end}
-use Rattle.file_forms.specs.Forms.{Deed, to_create, to_start, to_withdraw, to_end, to_change, to_install, to_migrate, ScriptLine, next_phase, a_deed}
-use Rattle.file_forms.specs.Forms.{behind, at_head, OperationLine, insert, parallel, conditional, delete, move, sync, unsync, element, read, unread, write, unwrite, set_role, group_end}
-use Rattle.file_forms.specs.OperationForms.{around_items, conditional_line, edge_line, edge_operation, first_and_last, insert_line, last_item, move_line, name_and_code, new_node, operation_line, parallel_line, place, role_ahead, role_line, role_word_ahead, row_line, tree_operation, with_block}
-use Rattle.file_forms.specs.PieceForms.{◌>>=◌, element_and_kind, element_kind, element_read, is_mandatory, name_ahead, name_and_role, nothing_more, one_name, only, read_edge, role_at_end, role_word, two_names, two_names_ahead, two_names_and_role}
-use Rattle.file_forms.specs.ScriptForms.{choice_ahead, code_ahead, deed, deed_line, end_behind, end_deed, named_deed, pairs, plain_deed, script_line}
-use Rattle.file_forms.specs.TypeForms.{outer_line, tree_line, type_line}
+use Rattle.file_units.proofs.Common.{[], ℕ, ◌&&◌, ◌+◌, ◌==◌, ◌∷◌, ◌≤◌, a_case, a_deed, a_read, a_sync, a_type, a_write, activity, actor_ahead, actor_line, an_actor, an_element, arith, around_items, at_head, begins_reserved, behind, Bytes}
+use Rattle.file_units.proofs.Common.{choice_ahead, closes_block, code_ahead, codes, conditional, conditional_line, Declaration, declaration_line, Deed, deed, deed_line, delete, edge_line, edge_operation, element, end_behind, end_deed}
+use Rattle.file_units.proofs.Common.{first_and_last, first_phase, group_end, IfSome, insert, insert_line, is, last_item, length, List, move, move_line, name_and_code, named_deed, nat_le, nat_lt, new_node, next_phase, None, opens_and}
+use Rattle.file_units.proofs.Common.{opens_branch, opens_loop, opens_xor, operation_line, OperationLine, Option, outer_line, pairs, parallel, parallel_line, place, plain_deed, plain_line, read, role_ahead, role_line, role_word_ahead, roles}
+use Rattle.file_units.proofs.Common.{roles_at_end, RoleWord, row_line, script_line, ScriptLine, set_role, Some, some_roles, sync, to_change, to_create, to_end, to_install, to_migrate, to_start, to_withdraw, tree_line, tree_operation}
+use Rattle.file_units.proofs.Common.{type_end, type_line, TypeLine, unread, unsync, unwrite, Value, with_block, write}
+use Rattle.file_words.specs.{Names.name, Numbers.code, Pairs.pair}
+use Rattle.file_forms.specs.PieceForms.{◌>>=◌, element_and_kind, element_kind, element_read, is_mandatory, name_ahead, name_and_role, nothing_more, one_name, only, read_edge, role_at_end, role_word, two_names, two_names_ahead}
+use Rattle.file_forms.specs.PieceForms.{two_names_and_role}
 use Rattle.file_forms.proofs.Options.{some-any, some-bound, some-either, some-mapped, some-or}
 
 -- ---- how many names may get a number by a form: those of nodes, elements and roles, and of what is declared

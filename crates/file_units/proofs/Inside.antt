@@ -1,31 +1,13 @@
 -- What is known behind each line of a unit, and at its end.
-use Rattle.std.proofs.Common.{◌≡◌, ◌≤◌, ℕ, ◌+◌, ◌*◌, Bool, true, false, List, length, refl, ap, sym, subst, ◌∙◌, arith, Ok, Err}
-use Rattle.std.specs.Prelude.{IfOk, if◌then◌else◌}
+use Rattle.file_units.proofs.Common.{ℕ, ◌*◌, ◌+◌, ◌∙◌, ◌≡◌, ◌≤◌, ap, arith, at_place, Bool, Bytes, Contents, count_of_names, Err, false, Grows, has_ended, HasShortNames, IfOk, if◌then◌else◌, IsHeld, IsSmall, length, List, Ok, refl, refuse}
+use Rattle.file_units.proofs.{Common.{SaysSome, Section, settled, Step, step_in, subst, sym, true, unit_step, Why}, AddedNames.step-adds, ByForms.{group-by, outside-by, type-by}, Evens.{EvenIn, even-in_unit, step-even}, Grows.grows-refl}
+use Rattle.file_units.proofs.{Grows.{grows-trans, refused-grows, step-grows}, Saying.{HasTypes, SaysIn, SaysState, said-some, sound-small, step-says}, ShortNames.step-short}
 use Rattle.wsm_lists.proofs.Lists.{all-rows-map}
-use Rattle.file_words.specs.Lines.{Bytes}
-use Rattle.file_model.specs.Reading.{step_in}
-use Rattle.file_model.specs.Room.{count_of_names}
-use Rattle.file_model.specs.Steps.{Step, at_place, refuse}
-use Rattle.file_model.specs.declared.refusals.Why.{Why}
 use Rattle.file_model.specs.declared.refusals.Why.TheVariants as why
-use Rattle.file_model.specs.declared.states.Contents.{Contents}
 use Rattle.file_model.specs.declared.states.Limits.{Limits}
-use Rattle.file_model.specs.declared.states.Section.{Section}
 use Rattle.file_model.specs.declared.states.Section.TheVariants as section
 use Rattle.file_facts.specs.Facts.{IsSound}
-use Rattle.file_facts.proofs.Held.{HeldIn, HeldState, HeldStep, Script}
-use Rattle.file_facts.proofs.HeldByDeclarations.{declared-held, typed-held}
-use Rattle.file_facts.proofs.HeldByScript.{operated-held, scripted-held}
-use Rattle.file_units.specs.Facts.{HasShortNames, IsHeld, IsSmall}
-use Rattle.file_units.specs.Growing.{Grows}
-use Rattle.file_units.specs.Taking.{SaysSome}
-use Rattle.file_units.specs.Units.{has_ended, settled, unit_step}
-use Rattle.file_units.proofs.AddedNames.{step-adds}
-use Rattle.file_units.proofs.ByForms.{group-by, outside-by, type-by}
-use Rattle.file_units.proofs.Evens.{EvenIn, even-in_unit, step-even}
-use Rattle.file_units.proofs.Grows.{grows-refl, grows-trans, refused-grows, step-grows}
-use Rattle.file_units.proofs.Saying.{HasTypes, SaysIn, SaysState, said-some, sound-small, step-says}
-use Rattle.file_units.proofs.ShortNames.{step-short}
+use Rattle.file_facts.proofs.{Held.{HeldIn, HeldState, HeldStep, Script}, HeldByDeclarations.{declared-held, typed-held}, HeldByScript.{operated-held, scripted-held}}
 
 -- behind so many lines of a unit that is read behind contents
 pub record Inside (first : Contents) (k : ℕ) (p : Section) (c : Contents) : Type 0 where

@@ -1,3 +1,4 @@
+pub mod Common
 pub mod FewNames
 pub mod AddedNames
 pub mod ByForms

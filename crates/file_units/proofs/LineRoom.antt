@@ -1,13 +1,7 @@
 -- How much of a unit a line takes.
-use Rattle.std.proofs.Common.{◌≡◌, ◌≤◌, ℕ, ◌+◌, ◌-◌, ◌==◌, Bool, true, false, List, [], ◌∷◌, length, filter, take, arith, subst, sym, ap, ◌∙◌}
-use Rattle.std.proofs.lemmas.List.{length-map, length-take}
-use Rattle.std.specs.Prelude.{if◌then◌else◌, slice_index}
-use Rattle.std.specs.Borrow.{Bor}
-use Rattle.std.specs.List.{onto_first}
-use Rattle.file_words.specs.Lines.{Bytes, CutLines, front_line, lines_of, onto_lines, put_first, without_return}
-use Rattle.file_words.specs.Shown.{shown}
-use Rattle.file_words.specs.Words.{behind, cuts, fields, is_word, onto_fields, words_of}
-use Rattle.file_words.specs.declared.words.Quote.{Quote}
+use Rattle.file_units.proofs.Common.{[], ℕ, ◌+◌, ◌-◌, ◌==◌, ◌∙◌, ◌∷◌, ◌≡◌, ◌≤◌, ap, arith, Bool, Bor, Bytes, CutLines, cuts, false, fields, filter, front_line, if◌then◌else◌, is_word, length, length-map, length-take, lines_of, List}
+use Rattle.file_units.proofs.Common.{onto_fields, onto_first, onto_lines, put_first, shown, slice_index, subst, sym, take, true, without_return, words_of}
+use Rattle.file_words.specs.{Words.behind, declared.words.Quote.Quote}
 use Rattle.file_words.specs.declared.words.Quote.TheVariants.{Outside}
 
 -- ---- a line has no more words than bytes

@@ -1,14 +1,7 @@
 -- The file beside the contents is brought up to them.
-use Rattle.std.proofs.Common.{◌≡◌, ◌≤◌, ◌<◌, List, [], ◌∷◌, ◌++◌, length, refl, ap, sym, subst, ◌∙◌, append-nil, append_assoc, arith, Some, None}
-use Rattle.std.proofs.lemmas.List.{length-append}
-use Rattle.std.proofs.lemmas.Option.{same_Some}
-use Rattle.std.specs.Prelude.{slice_get}
-use Rattle.file_model.specs.Reading.{file_of}
-use Rattle.file_model.specs.Steps.{all_phases}
+use Rattle.file_units.proofs.Common.{[], ◌++◌, ◌<◌, ◌∙◌, ◌∷◌, ◌≡◌, ◌≤◌, all_phases, ap, append-nil, append_assoc, arith, Begins, Contents, file_of, Grows, IsFrontOf, IsSettled, length, length-append, List, None, refl, same_Some, slice_get}
+use Rattle.file_units.proofs.Common.{Some, subst, sym}
 use Rattle.file_model.specs.declared.files.File.{File}
-use Rattle.file_model.specs.declared.states.Contents.{Contents}
-use Rattle.file_units.specs.Growing.{Begins, Grows, IsFrontOf}
-use Rattle.file_units.specs.Units.{IsSettled}
 
 -- ---- a list that begins another is brought up to it
 pub nothing-begins : {A : Type 0} (all : List A) → Begins [] all

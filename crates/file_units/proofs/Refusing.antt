@@ -1,21 +1,10 @@
 -- Refusals of the reader's and of units, and contents in which nothing is declared.
-use Rattle.std.proofs.Common.{◌≡◌, ◌≢◌, Bool, List, [], refl, ap, ◌∙◌, arith, Result, Err}
-use Rattle.std.proofs.lemmas.Option.{slice_get_within}
-use Rattle.wsm_lists.specs.Rows.{AllRows}
-use Rattle.file_words.specs.Lines.{Bytes}
+use Rattle.file_units.proofs.Common.{[], ◌∙◌, ◌≡◌, ◌≢◌, AllRows, ap, arith, Bool, Bytes, Contents, cut, Err, FileRefusal, Grows, IsHeld, IsShort, List, marks_of, no_units, refl, Refused, Refuses, Result, slice_get_within, Tells}
+use Rattle.file_units.proofs.{Common.unit_refusal, CutBack.cut-grown}
 use Rattle.file_model.specs.Outcomes as reading
-use Rattle.file_model.specs.ShortForms.{IsShort}
-use Rattle.file_model.specs.declared.refusals.FileRefusal.{FileRefusal}
 use Rattle.file_model.specs.declared.refusals.FileRefusal.TheVariants as reader
-use Rattle.file_model.specs.declared.refusals.Refused.{Refused}
-use Rattle.file_model.specs.declared.states.Contents.{Contents}
-use Rattle.file_units.specs.Facts.{IsHeld}
-use Rattle.file_units.specs.Growing.{Grows, cut, marks_of}
-use Rattle.file_units.specs.Taking.{Refuses, Tells, unit_refusal}
-use Rattle.file_units.specs.Units.{no_units}
 use Rattle.file_units.specs.declared.held.UnitRefusal.TheVariants as refusal
 use Rattle.file_units.specs.declared.reading.Marks.{Marks}
-use Rattle.file_units.proofs.CutBack.{cut-grown}
 
 -- what is read is a refusal that the reader tells
 pub tells-of : (read : Result Contents Refused) (r : Refused) (o : FileRefusal) → read ≡ Err r → reading.Tells (Err r) o → Tells read o

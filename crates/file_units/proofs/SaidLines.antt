@@ -1,15 +1,7 @@
 -- The lines of a unit that say something, as they are read from its bytes.
-use Rattle.std.proofs.Common.{◌≡◌, ℕ, ◌+◌, Bool, true, false, List, [], ◌∷◌, map, ap, sym, ◌∙◌, Ok, Err}
-use Rattle.std.specs.Prelude.{not, if◌then◌else◌}
+use Rattle.file_units.proofs.Common.{[], ℕ, ◌+◌, ◌∙◌, ◌∷◌, ◌≡◌, ap, at_line, at_place, Bool, Bytes, Contents, CutLines, Err, false, front_line, if◌then◌else◌, is_skipped, lines_of, lines_read, List, map, not, Ok, one_left, refused, said}
+use Rattle.file_units.proofs.Common.{says, Section, State, Step, sym, true, unit_end, unit_step, Why, without_return, words_of}
 use Rattle.std.specs.List.{filter}
-use Rattle.file_words.specs.Lines.{Bytes, CutLines, front_line, lines_of, one_left, without_return}
-use Rattle.file_words.specs.Words.{is_skipped, words_of}
-use Rattle.file_model.specs.Reading.{at_line, refused}
-use Rattle.file_model.specs.Steps.{State, Step, at_place}
-use Rattle.file_model.specs.declared.refusals.Why.{Why}
-use Rattle.file_model.specs.declared.states.Contents.{Contents}
-use Rattle.file_model.specs.declared.states.Section.{Section}
-use Rattle.file_units.specs.Units.{lines_read, said, says, unit_end, unit_step}
 
 -- those of lines that were cut
 abbrev said_in : CutLines → List Bytes

@@ -1,53 +1,25 @@
 -- What a unit says, line by line: a type, a case, a line of an actor, or nothing that is called.
-use Rattle.std.proofs.Common.{◌≡◌, ◌≤◌, ◌<◌, ℕ, zero, suc, ◌+◌, ◌*◌, Bool, true, false, List, [], ◌∷◌, ◌++◌, length, refl, ap, sym, subst, ◌∙◌, arith, Option, Some, None}
+use Rattle.file_units.proofs.Common.{[], ℕ, ◌*◌, ◌++◌, ◌+◌, ◌<◌, ◌∙◌, ◌∷◌, ◌≡◌, ◌≤◌, a_case, a_deed, a_read, a_sync, a_type, a_write, act_of, acted, activity, actor_in, all_phases, an_actor, an_element, ap, arith, at_head, at_place, behind}
+use Rattle.file_units.proofs.Common.{Bool, Bytes, case_declared, case_in, CaseDecl, changing, closes_block, conditional, Contents, counted, Declaration, declared, Deed, delete, Draft, element, ended, false, Fault, fault_of, first_phase}
+use Rattle.file_units.proofs.Common.{Group, group_end, grouped, has_ended, IfOk, insert, installing, IsSmall, last_line, length, length-append, line_of, line_of_group, List, marks_of, migrate_of, migrating, migrations_with, move, NamedGap}
+use Rattle.file_units.proofs.Common.{nat_lt, new_draft, next_phase, node_in, None, numbered, one_install, Op, op_in, open_lines, opens_and, opens_branch, opens_loop, opens_xor, operated, OperationLine, Option, option_or, outside, parallel}
+use Rattle.file_units.proofs.Common.{phase_begun, place_of, read, refl, role_numbers, said_behind, said_by, said_effort, said_line, SaysBehind, SaysSome, SchemaModel, scripted, ScriptLine, Section, set_role, Some, State, Step, step_in}
+use Rattle.file_units.proofs.Common.{subst, suc, sym, sync, to_change, to_create, to_end, to_install, to_migrate, to_start, to_withdraw, true, type_end, typed, TypeDecl, TypeLine, unread, unsync, unwrite, Value, whole, with_actor}
+use Rattle.file_units.proofs.{Common.{with_case, with_element, with_elements, with_group, with_line, with_names, with_node, with_op, with_place, with_roles, with_script_line, with_type, write, zero}, ByForms.{group-by, known-by}}
+use Rattle.file_units.proofs.ByForms.{outside-by, type-by, unless-by}
 use Rattle.std.proofs.lemmas.Bool.{le-ltb, lt-ltb, ltb-false}
-use Rattle.std.proofs.lemmas.List.{length-append}
-use Rattle.std.specs.Prelude.{IfOk, nat_lt}
-use Rattle.std.specs.Option.{option_or}
-use Rattle.wsm_lists.specs.declared.values.Value.{Value}
-use Rattle.wsm_ops.specs.declared.operations.Op.{Op}
-use Rattle.wsm_schema.specs.SchemaModel.{SchemaModel}
-use Rattle.wsm_schema.specs.Flat.{cards_of}
-use Rattle.wsm_schema.specs.Sound.{block_fault, when}
+use Rattle.wsm_schema.specs.{Flat.cards_of, Sound.{block_fault, when}}
 use Rattle.wsm_schema.specs.declared.faults.BlockFault.TheVariants.{Limit}
 use Rattle.wsm_schema.specs.declared.faults.LimitKind.TheVariants.{Nodes}
-use Rattle.wsm_sound.specs.Faults.{fault_of}
-use Rattle.wsm_sound.specs.declared.faults.Fault.{Fault}
 use Rattle.wsm_sound.specs.declared.versions.CaseId.{CaseId}
 use Rattle.wsm_sound.proofs.NoFaults.{is_sound}
-use Rattle.file_words.specs.Lines.{Bytes}
-use Rattle.file_names.specs.Names.{place_of}
-use Rattle.file_forms.specs.Forms.{Declaration, a_type, an_actor, a_case, first_phase, TypeLine, activity, opens_and, opens_xor, opens_branch, opens_loop, closes_block, a_sync, an_element, a_read, a_write, type_end}
-use Rattle.file_forms.specs.Forms.{Deed, to_create, to_start, to_withdraw, to_end, to_change, to_install, to_migrate, ScriptLine, next_phase, a_deed}
-use Rattle.file_forms.specs.Forms.{NamedGap, behind, at_head, OperationLine, insert, parallel, conditional, delete, move, sync, unsync, element, read, unread, write, unwrite, set_role, group_end}
-use Rattle.file_drafts.specs.Drafts.{new_draft, whole}
-use Rattle.file_drafts.specs.declared.drafts.Draft.{Draft}
-use Rattle.file_model.specs.Declaring.{case_declared, declared, phase_begun, role_numbers, with_actor, with_case, with_roles, with_type}
-use Rattle.file_model.specs.Operating.{act_of, grouped, line_of_group, op_in, operated, with_names, with_op, with_place}
-use Rattle.file_model.specs.Reading.{step_in}
-use Rattle.file_model.specs.Scripting.{acted, actor_in, case_in, changing, counted, installing, line_of, migrate_of, migrating, migrations_with, numbered, one_install, scripted, with_elements, with_group, with_line}
-use Rattle.file_model.specs.Sizes.{act_effort, line_effort}
-use Rattle.file_model.specs.Steps.{State, Step, all_phases, at_place, node_in, open_lines, outside, with_element, with_node, with_script_line}
-use Rattle.file_model.specs.Typing.{ended, typed}
-use Rattle.file_model.specs.declared.files.Act.{Act}
+use Rattle.file_model.specs.{Sizes.{act_effort, line_effort}, declared.files.Act.Act, declared.files.Line.Line, declared.states.Target.Target}
 use Rattle.file_model.specs.declared.files.Act.TheVariants as act
-use Rattle.file_model.specs.declared.files.CaseDecl.{CaseDecl}
-use Rattle.file_model.specs.declared.files.Line.{Line}
-use Rattle.file_model.specs.declared.files.TypeDecl.{TypeDecl}
-use Rattle.file_model.specs.declared.states.Contents.{Contents}
-use Rattle.file_model.specs.declared.states.Group.{Group}
-use Rattle.file_model.specs.declared.states.Section.{Section}
 use Rattle.file_model.specs.declared.states.Section.TheVariants as section
-use Rattle.file_model.specs.declared.states.Target.{Target}
 use Rattle.file_model.specs.declared.states.Target.TheVariants as target
 use Rattle.file_facts.proofs.Lists.{place_within}
-use Rattle.file_units.specs.Facts.{IsSmall}
-use Rattle.file_units.specs.Growing.{marks_of}
-use Rattle.file_units.specs.Taking.{SaysBehind, SaysSome, said_behind, said_by, said_effort}
-use Rattle.file_units.specs.Units.{has_ended, last_line, said_line}
 use Rattle.file_units.specs.declared.held.Said.{Said}
 use Rattle.file_units.specs.declared.held.Said.TheVariants as say
-use Rattle.file_units.proofs.ByForms.{group-by, known-by, outside-by, type-by, unless-by}
 
 -- ---- a type without a fault is small
 first-none : {X : Type 0} (a b : Option X) → option_or a b ≡ None → a ≡ None

@@ -3,13 +3,9 @@ use Rattle.std.specs.Prelude.{◌≡◌, ◌≤◌, List, length}
 use Rattle.wsm_lists.specs.Rows.{AllRows}
 use Rattle.wsm_schema.specs.Flat.{cards_of}
 use Rattle.file_words.specs.Lines.{Bytes}
-use Rattle.file_model.specs.ShortForms.{IsShort}
-use Rattle.file_model.specs.declared.files.TypeDecl.{TypeDecl}
-use Rattle.file_model.specs.declared.states.Contents.{Contents}
+use Rattle.file_model.specs.{ShortForms.IsShort, declared.files.TypeDecl.TypeDecl, declared.states.Contents.Contents}
 use Rattle.file_facts.specs.Facts.{ArePlaced, HasType, IsSound}
-use Rattle.file_units.specs.Growing.{IsEven}
-use Rattle.file_units.specs.Units.{IsSettled, held_limits}
-use Rattle.file_units.specs.declared.limits.TheConstants.{MAX_HELD_ACTORS, MAX_HELD_CASES, MAX_HELD_TYPES}
+use Rattle.file_units.specs.{Growing.IsEven, Units.{IsSettled, held_limits}, declared.limits.TheConstants.{MAX_HELD_ACTORS, MAX_HELD_CASES, MAX_HELD_TYPES}}
 
 abbrev pub IsSmall : TypeDecl → Type 0
 IsSmall t = length (cards_of t.schema) ≤ 1024

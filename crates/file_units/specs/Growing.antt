@@ -1,13 +1,8 @@
 -- What is named and declared is only added to, so it can be taken back.
 use Rattle.std.specs.Prelude.{◌≡◌, ℕ, List, [], ◌++◌, length, take}
 use Rattle.file_names.specs.declared.declared.DeclaredList.{DeclaredList}
-use Rattle.file_model.specs.declared.files.ActorDecl.{ActorDecl}
-use Rattle.file_model.specs.declared.files.CaseDecl.{CaseDecl}
-use Rattle.file_model.specs.declared.files.File.{File}
-use Rattle.file_model.specs.declared.files.TypeDecl.{TypeDecl}
-use Rattle.file_model.specs.declared.states.Contents.{Contents}
-use Rattle.file_units.specs.Units.{settled}
-use Rattle.file_units.specs.declared.reading.Marks.{Marks}
+use Rattle.file_model.specs.{declared.files.ActorDecl.ActorDecl, declared.files.CaseDecl.CaseDecl, declared.files.File.File, declared.files.TypeDecl.TypeDecl, declared.states.Contents.Contents}
+use Rattle.file_units.specs.{Units.settled, declared.reading.Marks.Marks}
 
 -- a list begins with another
 abbrev pub Begins : {A : Type 0} → List A → List A → Type 0

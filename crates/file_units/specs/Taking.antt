@@ -1,21 +1,11 @@
 -- What is taken of a unit, and why it is not.
 use Rattle.std.specs.Prelude.{◌≡◌, ℕ, ◌≤◌, Bool, false, [], ◌∷◌, ◌++◌, length, nat_lt, Option, Some, None, Result, Ok, Err, if◌then◌else◌}
-use Rattle.file_model.specs.Sizes.{line_effort}
-use Rattle.file_model.specs.declared.files.CaseDecl.{CaseDecl}
-use Rattle.file_model.specs.declared.files.Line.{Line}
-use Rattle.file_model.specs.declared.files.TypeDecl.{TypeDecl}
-use Rattle.file_model.specs.declared.refusals.FileRefusal.{FileRefusal}
-use Rattle.file_model.specs.declared.refusals.FileRefusal.TheVariants as reader
-use Rattle.file_model.specs.declared.refusals.Refused.{Refused}
+use Rattle.file_model.specs.{Sizes.line_effort, declared.files.CaseDecl.CaseDecl, declared.files.Line.Line, declared.files.TypeDecl.TypeDecl, declared.refusals.FileRefusal.FileRefusal, declared.refusals.Refused.Refused}
 use Rattle.file_model.specs.declared.states.Contents.{Contents}
+use Rattle.file_model.specs.declared.refusals.FileRefusal.TheVariants as reader
 use Rattle.file_facts.specs.Facts.{HasType}
-use Rattle.file_units.specs.Facts.{IsHeld, IsSmall}
-use Rattle.file_units.specs.Growing.{Grows, marks_of}
-use Rattle.file_units.specs.Units.{said_line, settled}
-use Rattle.file_units.specs.declared.held.Said.{Said}
+use Rattle.file_units.specs.{Facts.{IsHeld, IsSmall}, Growing.{Grows, marks_of}, Units.{said_line, settled}, declared.held.Said.Said, declared.reading.Marks.Marks, declared.held.UnitRefusal.UnitRefusal}
 use Rattle.file_units.specs.declared.held.Said.TheVariants as say
-use Rattle.file_units.specs.declared.reading.Marks.{Marks}
-use Rattle.file_units.specs.declared.held.UnitRefusal.{UnitRefusal}
 use Rattle.file_units.specs.declared.held.UnitRefusal.TheVariants as refusal
 
 -- behind contents, others say a type more, a case more, a line, or nothing that is called

@@ -1,17 +1,9 @@
 -- A file that grows by units: the lines of a unit are read one after another, all of them or none.
-use Rattle.std.specs.Prelude.{◌≡◌, ℕ, ◌+◌, ◌-◌, nat_lt, Bool, false, not, List, [], ◌∷◌, length, map, fold, slice_get, Option, None, Result, Ok, Err, if◌then◌else◌}
-use Rattle.std.specs.List.{filter}
-use Rattle.file_words.specs.Lines.{Bytes, lines_of, without_return}
-use Rattle.file_words.specs.Words.{is_skipped, words_of}
-use Rattle.file_model.specs.Reading.{at_line, step_in}
-use Rattle.file_model.specs.Steps.{State, Step, no_contents, open_lines, outside, refuse}
-use Rattle.file_model.specs.declared.files.Line.{Line}
-use Rattle.file_model.specs.declared.refusals.Refused.{Refused}
-use Rattle.file_model.specs.declared.refusals.Why.{Why}
+use Rattle.std.specs.{Prelude.{◌≡◌, ℕ, ◌+◌, ◌-◌, nat_lt, Bool, false, not, List, [], ◌∷◌, length, map, fold, slice_get, Option, None, Result, Ok, Err, if◌then◌else◌}, List.filter}
+use Rattle.file_words.specs.{Lines.{Bytes, lines_of, without_return}, Words.{is_skipped, words_of}}
+use Rattle.file_model.specs.{Reading.{at_line, step_in}, Steps.{State, Step, no_contents, open_lines, outside, refuse}, declared.files.Line.Line, declared.refusals.Refused.Refused, declared.refusals.Why.Why}
+use Rattle.file_model.specs.{declared.states.Contents.Contents, declared.states.Limits.Limits, declared.states.Section.Section}
 use Rattle.file_model.specs.declared.refusals.Why.TheVariants as why
-use Rattle.file_model.specs.declared.states.Contents.{Contents}
-use Rattle.file_model.specs.declared.states.Limits.{Limits}
-use Rattle.file_model.specs.declared.states.Section.{Section}
 use Rattle.file_model.specs.declared.states.Section.TheVariants as section
 use Rattle.file_units.specs.declared.limits.TheConstants.{MAX_HELD_ACTORS, MAX_HELD_CASES, MAX_HELD_TYPES}
 

@@ -1,15 +1,8 @@
 // The file that is held.
 ghost use Rattle.std.specs.Prelude.{◌≡◌, ◌≢◌, [], ◌+◌, ◌*◌, ◌≤◌, length, true, IfOk, IfErr, OnOk};
-ghost use Rattle.file_model.specs.Reading.{file_of};
-ghost use Rattle.file_model.specs.Room.{HasRoom, count_of_names};
-ghost use Rattle.file_model.specs.Scripting.{actor_in};
+ghost use Rattle.file_model.specs.{Reading.file_of, Room.{HasRoom, count_of_names}, Scripting.actor_in, Sizes.HasNumbers, declared.states.Contents.Contents};
 ghost use Rattle.file_names.specs.Names.{place_of};
-ghost use Rattle.file_model.specs.Sizes.{HasNumbers};
-ghost use Rattle.file_model.specs.declared.states.Contents.{Contents};
-ghost use Rattle.file_units.specs.Facts.{IsHeld, IsReady};
-ghost use Rattle.file_units.specs.Growing.{Grows, marks_of};
-ghost use Rattle.file_units.specs.Taking.{GoesOn, IsBehind, Refuses, Says, said_behind, said_effort, unit_refusal};
-ghost use Rattle.file_units.specs.Units.{no_units, settled, unit_read};
+ghost use Rattle.file_units.specs.{Facts.{IsHeld, IsReady}, Growing.{Grows, marks_of}, Taking.{GoesOn, IsBehind, Refuses, Says, said_behind, said_effort, unit_refusal}, Units.{no_units, settled, unit_read}};
 
 use crate::reading::{Marks, cut_back, read_unit, settle};
 use crate::shown::{bring_up, cut_file, no_file, nothing};

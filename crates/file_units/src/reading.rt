@@ -1,14 +1,8 @@
 // The lines of a unit.
 ghost use Rattle.std.specs.Prelude.{◌≡◌, ◌≢◌, ◌+◌, ◌*◌, ◌≤◌, ◌<◌, ◌^◌, length, Ok, IfOk, IfErr, OnOk};
 ghost use Rattle.file_words.specs.Shown.{shown};
-ghost use Rattle.file_model.specs.Outcomes.{Stops};
-ghost use Rattle.file_model.specs.Reading.{at_line};
-ghost use Rattle.file_model.specs.Room.{HasRoom, count_of_names};
-ghost use Rattle.file_model.specs.Steps.{at_place};
-ghost use Rattle.file_units.specs.Facts.{IsHeld};
-ghost use Rattle.file_units.specs.Growing.{Grows, cut, marks_of};
-ghost use Rattle.file_units.specs.Taking.{SaysSome, Tells};
-ghost use Rattle.file_units.specs.Units.{has_ended, said_line, settled, unit_end, unit_read, unit_step};
+ghost use Rattle.file_model.specs.{Outcomes.Stops, Reading.at_line, Room.{HasRoom, count_of_names}, Steps.at_place};
+ghost use Rattle.file_units.specs.{Facts.IsHeld, Growing.{Grows, cut, marks_of}, Taking.{SaysSome, Tells}, Units.{has_ended, said_line, settled, unit_end, unit_read, unit_step}};
 
 use file_model::{Contents, Counts, FileRefusal, Line, Phases, Section, Stop, Why};
 use file_state::refusal;

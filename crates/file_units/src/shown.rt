@@ -1,11 +1,8 @@
 // The file that contents stand for, kept beside them for those who write of it.
 ghost use Rattle.std.specs.Prelude.{◌≡◌, [], take, OnOk};
 ghost use Rattle.wsm_lists.specs.Rows.{AllRows};
-ghost use Rattle.file_model.specs.Reading.{file_of};
-ghost use Rattle.file_model.specs.ShortForms.{IsShort};
-ghost use Rattle.file_units.specs.Facts.{HasShortNames};
-ghost use Rattle.file_units.specs.Growing.{Begins, IsFrontOf, file_cut};
-ghost use Rattle.file_units.specs.Units.{no_units, settled};
+ghost use Rattle.file_model.specs.{Reading.file_of, ShortForms.IsShort};
+ghost use Rattle.file_units.specs.{Facts.HasShortNames, Growing.{Begins, IsFrontOf, file_cut}, Units.{no_units, settled}};
 
 use crate::limits::{MAX_HELD_ACTORS, MAX_HELD_CASES, MAX_HELD_TYPES};
 use crate::reading::Marks;

@@ -1,13 +1,7 @@
 -- Lines and words, computed from the definitions alone.
 use Rattle.std.specs.Prelude.{◌≡◌, pos, neg_ℤ, ◌++◌, true, false, [], ◌∷◌, Some, None, refl, codes}
 use Rattle.wsm_lists.specs.declared.values.Value.TheVariants as value
-use Rattle.file_words.specs.Lines.{Bytes, lines_of, without_return}
-use Rattle.file_words.specs.Words.{words_of, is_skipped}
-use Rattle.file_words.specs.Names.{name}
-use Rattle.file_words.specs.Numbers.{role, code, integer}
-use Rattle.file_words.specs.Texts.{text}
-use Rattle.file_words.specs.Pairs.{pair}
-use Rattle.file_words.specs.Lengths.{first_long}
+use Rattle.file_words.specs.{Lines.{Bytes, lines_of, without_return}, Words.{words_of, is_skipped}, Names.name, Numbers.{role, code, integer}, Texts.text, Pairs.pair, Lengths.first_long}
 use Rattle.file_words.specs.declared.lengths.TooLong.TheVariants.{Name}
 
 abbrev name_of_64 : Bytes

@@ -1,7 +1,5 @@
 -- The first line, and the bytes behind it.
-use Rattle.std.proofs.Common.{◌≡◌, ℕ, suc, ◌-◌, false, [], ◌∷◌, take, drop, length, ◌++◌, ◌≤◌, append-nil, take_all, refl, ap, sym, ◌∙◌, inl, inr, arith, ◌<◌, ◌==◌}
-use Rattle.std.proofs.lemmas.Bool.{cases_Bool}
-use Rattle.std.proofs.lemmas.List.{take-append-drop}
+use Rattle.std.proofs.{Common.{◌≡◌, ℕ, suc, ◌-◌, false, [], ◌∷◌, take, drop, length, ◌++◌, ◌≤◌, append-nil, take_all, refl, ap, sym, ◌∙◌, inl, inr, arith, ◌<◌, ◌==◌}, lemmas.Bool.cases_Bool, lemmas.List.take-append-drop}
 use Rattle.file_words.specs.Lines.{Bytes, CutLines, lines_of, onto_lines, one_left, front_line, line_end}
 
 -- a line and what begins with its line feed, or what is left

@@ -1,12 +1,7 @@
 -- A word that is no longer than a name may be has nothing that is too long.
-use Rattle.std.proofs.Common.{◌≡◌, ℕ, suc, Bool, ◌≤◌, false, [], ◌∷◌, length, Option, Some, None, refl, inl, inr, arith, rules, nat_lt, IfSome, option_map, ◌==◌}
-use Rattle.std.proofs.lemmas.Bool.{cases_Bool}
+use Rattle.std.proofs.{Common.{◌≡◌, ℕ, suc, Bool, ◌≤◌, false, [], ◌∷◌, length, Option, Some, None, refl, inl, inr, arith, rules, nat_lt, IfSome, option_map, ◌==◌}, lemmas.Bool.cases_Bool}
 use Rattle.file_limits.specs.declared.TheConstants.{MAX_NAME, MAX_TEXT}
-use Rattle.file_words.specs.Lines.{Bytes}
-use Rattle.file_words.specs.Texts.{text, unquoted, stepped}
-use Rattle.file_words.specs.Pairs.{parts_at_equals}
-use Rattle.file_words.specs.Lengths.{long, long_part, has_long_text}
-use Rattle.file_words.specs.declared.texts.TextStep.{TextStep}
+use Rattle.file_words.specs.{Lines.Bytes, Texts.{text, unquoted, stepped}, Pairs.parts_at_equals, Lengths.{long, long_part, has_long_text}, declared.texts.TextStep.TextStep}
 use Rattle.file_words.specs.declared.texts.TextStep.TheVariants.{Stands, Escapes, Ends, Wrong}
 
 -- one more byte makes a text's value at most one longer

@@ -1,9 +1,6 @@
 -- The first word of a line, and those behind it.
-use Rattle.std.proofs.Common.{◌≡◌, ℕ, suc, ◌+◌, true, false, List, [], ◌∷◌, filter, take, drop, length, refl, ap, sym, ◌∙◌, IsTrue, inl, inr, arith, ◌<◌, ◌==◌, get_or, rules}
-use Rattle.std.proofs.lemmas.Bool.{cases_Bool}
-use Rattle.file_words.specs.Lines.{Bytes}
-use Rattle.file_words.specs.Words.{cuts, behind, fields, is_word, words_of, word_end, is_bare, bare_end, begins_word}
-use Rattle.file_words.specs.declared.words.Quote.{Quote}
+use Rattle.std.proofs.{Common.{◌≡◌, ℕ, suc, ◌+◌, true, false, List, [], ◌∷◌, filter, take, drop, length, refl, ap, sym, ◌∙◌, IsTrue, inl, inr, arith, ◌<◌, ◌==◌, get_or, rules}, lemmas.Bool.cases_Bool}
+use Rattle.file_words.specs.{Lines.Bytes, Words.{cuts, behind, fields, is_word, words_of, word_end, is_bare, bare_end, begins_word}, declared.words.Quote.Quote}
 use Rattle.file_words.specs.declared.words.Quote.TheVariants.{Outside, Inside, Escaped}
 
 -- a blank that cuts stands outside, and so does what follows it

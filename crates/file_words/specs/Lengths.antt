@@ -1,11 +1,7 @@
 -- Names and texts that are too long. In a right line a word of more than 64 bytes is a name of more than 64 bytes, or a pair.
-use Rattle.std.specs.Prelude.{Bool, false, nat_lt, List, [], ◌∷◌, length, Option, Some, None, if◌then◌else◌}
-use Rattle.std.specs.Option.{option_or}
+use Rattle.std.specs.{Prelude.{Bool, false, nat_lt, List, [], ◌∷◌, length, Option, Some, None, if◌then◌else◌}, Option.option_or}
 use Rattle.file_limits.specs.declared.TheConstants.{MAX_NAME, MAX_TEXT}
-use Rattle.file_words.specs.Lines.{Bytes}
-use Rattle.file_words.specs.Texts.{text}
-use Rattle.file_words.specs.Pairs.{parts_at_equals}
-use Rattle.file_words.specs.declared.lengths.TooLong.{TooLong}
+use Rattle.file_words.specs.{Lines.Bytes, Texts.text, Pairs.parts_at_equals, declared.lengths.TooLong.TooLong}
 use Rattle.file_words.specs.declared.lengths.TooLong.TheVariants.{Name, Text}
 
 abbrev pub is_longer : Bool → TooLong → Option TooLong

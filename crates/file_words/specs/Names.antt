@@ -1,6 +1,5 @@
 -- Words that are names.
-use Rattle.std.specs.Prelude.{ℕ, Bool, ◌&&◌, ◌||◌, nat_lt, nat_le, length, slice_index, ◌==◌, if◌then◌else◌, Option, Some, None}
-use Rattle.std.specs.List.{list_all}
+use Rattle.std.specs.{Prelude.{ℕ, Bool, ◌&&◌, ◌||◌, nat_lt, nat_le, length, slice_index, ◌==◌, if◌then◌else◌, Option, Some, None}, List.list_all}
 use Rattle.file_words.specs.Lines.{Bytes}
 
 abbrev pub in_range : ℕ → ℕ → ℕ → Bool

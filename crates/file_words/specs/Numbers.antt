@@ -1,8 +1,6 @@
 -- Words that are numbers.
-use Rattle.std.specs.Prelude.{ℕ, ◌+◌, ◌-◌, ◌*◌, ◌^◌, ℤ, pos, neg_ℤ, Bool, ◌&&◌, nat_lt, nat_le, [], ◌∷◌, length, ◌==◌, if◌then◌else◌, Option, Some, None, option_map}
-use Rattle.std.specs.List.{list_all}
-use Rattle.file_words.specs.Lines.{Bytes}
-use Rattle.file_words.specs.Names.{is_digit}
+use Rattle.std.specs.{Prelude.{ℕ, ◌+◌, ◌-◌, ◌*◌, ◌^◌, ℤ, pos, neg_ℤ, Bool, ◌&&◌, nat_lt, nat_le, [], ◌∷◌, length, ◌==◌, if◌then◌else◌, Option, Some, None, option_map}, List.list_all}
+use Rattle.file_words.specs.{Lines.Bytes, Names.is_digit}
 
 -- the value of digits, behind others with the value n
 abbrev pub value_from : ℕ → Bytes → ℕ

@@ -1,12 +1,8 @@
 -- Words that are pairs: the name of an element, =, and a value.
-use Rattle.std.specs.Prelude.{Option, Some, None, option_map, [], ◌∷◌, ◌==◌, if◌then◌else◌}
-use Rattle.std.specs.Option.{option_or}
+use Rattle.std.specs.{Prelude.{Option, Some, None, option_map, [], ◌∷◌, ◌==◌, if◌then◌else◌}, Option.option_or}
 use Rattle.wsm_lists.specs.declared.values.Value.{Value}
 use Rattle.wsm_lists.specs.declared.values.Value.TheVariants as value
-use Rattle.file_words.specs.Lines.{Bytes}
-use Rattle.file_words.specs.Names.{is_name}
-use Rattle.file_words.specs.Numbers.{integer}
-use Rattle.file_words.specs.Texts.{text}
+use Rattle.file_words.specs.{Lines.Bytes, Names.is_name, Numbers.integer, Texts.text}
 
 -- the value of a word that is an integer or a text
 abbrev pub word_value : Bytes → Option Value

@@ -1,11 +1,8 @@
 -- Words as contracts see them: without where they lie in memory.
-use Rattle.std.specs.Prelude.{List, map}
-use Rattle.std.specs.Borrow.{Bor}
+use Rattle.std.specs.{Prelude.{List, map}, Borrow.Bor}
 use Rattle.wsm_lists.specs.declared.values.Value.{Value}
 use Rattle.wsm_lists.specs.declared.values.Value.TheVariants as value
-use Rattle.file_words.specs.Lines.{Bytes}
-use Rattle.file_words.specs.declared.names.NameWord.{NameWord}
-use Rattle.file_words.specs.declared.pairs.Literal.{Literal}
+use Rattle.file_words.specs.{Lines.Bytes, declared.names.NameWord.NameWord, declared.pairs.Literal.Literal}
 use Rattle.file_words.specs.declared.pairs.Literal.TheVariants.{Int, Text}
 
 abbrev pub shown : List (Bor Bytes) → List Bytes

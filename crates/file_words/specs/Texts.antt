@@ -1,7 +1,6 @@
 -- Words that are quoted texts.
 use Rattle.std.specs.Prelude.{ℕ, Bool, true, false, ◌&&◌, ◌||◌, not, nat_le, [], ◌∷◌, length, ◌==◌, if◌then◌else◌, Option, Some, None, option_map}
-use Rattle.file_words.specs.Lines.{Bytes}
-use Rattle.file_words.specs.declared.texts.TextStep.{TextStep}
+use Rattle.file_words.specs.{Lines.Bytes, declared.texts.TextStep.TextStep}
 use Rattle.file_words.specs.declared.texts.TextStep.TheVariants.{Stands, Escapes, Ends, Wrong}
 
 -- a byte that stands for itself in a text: no control, no quotation mark and no backslash

@@ -1,8 +1,6 @@
 -- The words of a line, on bytes alone.
-use Rattle.std.specs.Prelude.{ℕ, suc, Bool, true, false, ◌||◌, not, List, [], ◌∷◌, ◌==◌, if◌then◌else◌, filter, bytes_eq}
-use Rattle.std.specs.List.{onto_first}
-use Rattle.file_words.specs.Lines.{Bytes}
-use Rattle.file_words.specs.declared.words.Quote.{Quote}
+use Rattle.std.specs.{Prelude.{ℕ, suc, Bool, true, false, ◌||◌, not, List, [], ◌∷◌, ◌==◌, if◌then◌else◌, filter, bytes_eq}, List.onto_first}
+use Rattle.file_words.specs.{Lines.Bytes, declared.words.Quote.Quote}
 use Rattle.file_words.specs.declared.words.Quote.TheVariants.{Outside, Inside, Escaped}
 
 -- where the byte behind b stands

@@ -1,8 +1,6 @@
 // Names and texts that are too long.
 ghost use Rattle.std.specs.Prelude.{◌≡◌};
-ghost use Rattle.file_words.specs.Texts.{text};
-ghost use Rattle.file_words.specs.Lengths.{has_long_text, long, first_long};
-ghost use Rattle.file_words.specs.Shown.{shown};
+ghost use Rattle.file_words.specs.{Texts.text, Lengths.{has_long_text, long, first_long}, Shown.shown};
 
 use crate::pairs::parts_at_equals;
 use crate::texts::text_len;

@@ -1,6 +1,5 @@
 // Lines of bytes.
-ghost use Rattle.std.specs.Prelude.{◌≡◌, ◌<◌, ◌≤◌, length, IfSome, MatchOption};
-ghost use Rattle.std.specs.Str.{is_utf8};
+ghost use Rattle.std.specs.{Prelude.{◌≡◌, ◌<◌, ◌≤◌, length, IfSome, MatchOption}, Str.is_utf8};
 ghost use Rattle.file_words.specs.Lines.{lines_of, line_end, one_left, front_line, without_return};
 
 /// How long the first line is.

@@ -1,6 +1,5 @@
 // Names in a line.
-ghost use Rattle.std.specs.Prelude.{◌≡◌, true, false, IfSome, IfNone};
-ghost use Rattle.std.specs.List.{list_all};
+ghost use Rattle.std.specs.{Prelude.{◌≡◌, true, false, IfSome, IfNone}, List.list_all};
 ghost use Rattle.file_words.specs.Names.{is_name, starts_name, in_name};
 
 /// A letter or `_`.

@@ -1,8 +1,6 @@
 // Numbers in a line.
-ghost use Rattle.std.specs.Prelude.{◌≡◌, ◌≤◌, ◌+◌, ◌^◌, length, option_map, neg_ℤ, pos, true};
-ghost use Rattle.std.specs.List.{list_all};
-ghost use Rattle.file_words.specs.Names.{is_digit};
-ghost use Rattle.file_words.specs.Numbers.{are_digits, value_from, number, role, code, integer};
+ghost use Rattle.std.specs.{Prelude.{◌≡◌, ◌≤◌, ◌+◌, ◌^◌, length, option_map, neg_ℤ, pos, true}, List.list_all};
+ghost use Rattle.file_words.specs.{Names.is_digit, Numbers.{are_digits, value_from, number, role, code, integer}};
 
 fn is_digit(byte: u8) -> bool
     ensures { result ≡ is_digit byte }

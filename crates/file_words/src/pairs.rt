@@ -1,7 +1,6 @@
 // Pairs of an element's name and a value in a line.
 ghost use Rattle.std.specs.Prelude.{◌≡◌, option_map, IfOk};
-ghost use Rattle.file_words.specs.Pairs.{word_value, parts_at_equals, pair};
-ghost use Rattle.file_words.specs.Shown.{shown_parts, shown_literal, shown_pair};
+ghost use Rattle.file_words.specs.{Pairs.{word_value, parts_at_equals, pair}, Shown.{shown_parts, shown_literal, shown_pair}};
 
 use crate::names::NameWord;
 use crate::numbers::integer;

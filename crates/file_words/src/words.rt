@@ -1,8 +1,7 @@
 // Words of a line.
 ghost use Rattle.std.specs.Prelude.{◌≡◌, ◌≤◌, ◌+◌, length, drop, IfOk, OnOk, IsTrue, MatchOption, [], ◌∷◌};
 ghost use Rattle.file_words.specs.declared.words.Quote.TheVariants.{Outside};
-ghost use Rattle.file_words.specs.Words.{cuts, behind, words_of, word_end, is_bare, bare_end, begins_word, is_comment, is_skipped};
-ghost use Rattle.file_words.specs.Shown.{shown};
+ghost use Rattle.file_words.specs.{Words.{cuts, behind, words_of, word_end, is_bare, bare_end, begins_word, is_comment, is_skipped}, Shown.shown};
 
 use std::alloc::Global;
 use wsm_lists::NoMemory;

@@ -1,34 +1,16 @@
 -- A small run that is legal, and runs beside it that are not.
-use Rattle.std.proofs.Common.{◌≡◌, ℕ, zero, suc, ◌≤◌, ◌==◌, List, [], ◌∷◌, ◌++◌, length, take, Some, refl, ap, ◌∙◌, subst, arith, if◌then◌else◌, slice_get}
-use Rattle.std.proofs.lemmas.List.Elements.{All-cons, All-nil}
-use Rattle.std.specs.Prelude.{codes}
+use Rattle.legal_run.proofs.Common.{[], ℕ, ◌++◌, ◌==◌, ◌∙◌, ◌∷◌, ◌≡◌, ◌≤◌, All-cons, All-nil, ap, AreCallsOfLines, AreTraces, arith, asked, Call, calls_of, calls_of_case, calls_of_kind, case_after, CaseEntry, CaseId, ClosedCase, ClosedKind}
+use Rattle.legal_run.proofs.Common.{codes, done_by, entry, File, HasCalls, if◌then◌else◌, IsActor, IsLegalCase, IsLegalKind, IsTrace, kind_after, KindEntry, Legal, length, Line, lines_of, List, not_created, not_defined, refl, roles_of, Run}
+use Rattle.legal_run.proofs.Common.{serial, slice_get, Some, state_after, subst, suc, take, told, Trace, VersionModel, zero}
 use mathlib.Core.List.{IsPrefix}
-use Rattle.case_core.specs.Machine.{case_after}
 use Rattle.case_core.specs.declared.events.Event.TheVariants as event
 use Rattle.case_core.specs.declared.replies.Reply.TheVariants as reply
-use Rattle.case_core.specs.CaseModel.{not_created}
-use Rattle.legal_run.specs.Legal.{Trace, IsActor, IsTrace, AreTraces, HasCalls, IsLegalCase, IsLegalKind, Legal, done_by}
-use Rattle.legal_run.specs.LineCalls.{Call, AreCallsOfLines, asked, lines_of, calls_of_case, calls_of_kind, told}
 use Rattle.file_model.specs.declared.files.Act.TheVariants as act
-use Rattle.file_model.specs.declared.files.File.{File}
-use Rattle.file_model.specs.declared.files.Line.{Line}
-use Rattle.line_calls.specs.Files.{roles_of}
-use Rattle.script_run.specs.Entries.{CaseEntry, KindEntry}
-use Rattle.script_run.specs.Serial.{serial}
-use Rattle.script_run.specs.declared.runs.ClosedCase.{ClosedCase}
-use Rattle.script_run.specs.declared.runs.ClosedKind.{ClosedKind}
-use Rattle.script_run.specs.declared.runs.Run.{Run}
-use Rattle.turn_cell.specs.History.{calls_of, entry, state_after}
-use Rattle.type_core.specs.KindModel.{not_defined}
-use Rattle.type_core.specs.Machine.{kind_after}
 use Rattle.type_core.specs.declared.events.KindEvent.TheVariants as kind_event
 use Rattle.type_core.specs.declared.replies.KindReply.TheVariants as kind_reply
 use Rattle.wsm_schema.specs.SchemaModel.{SchemaModel, plain}
 use Rattle.wsm_schema.specs.Tree.{act as activity, nothing, part}
-use Rattle.wsm_sound.specs.Faults.{fault_of}
-use Rattle.wsm_sound.specs.VersionModel.{VersionModel}
-use Rattle.wsm_sound.specs.Versions.{first_version}
-use Rattle.wsm_sound.specs.declared.versions.CaseId.{CaseId}
+use Rattle.wsm_sound.specs.{Faults.fault_of, Versions.first_version}
 
 -- In the first phase Ann creates the case, in the second Bob starts its node.
 abbrev schema : SchemaModel

@@ -1,51 +1,23 @@
 -- What a script line makes of a run in file order: calls that the line stands for.
-use Rattle.std.proofs.Common.{◌≡◌, ◌≢◌, ℕ, zero, suc, ◌+◌, ◌<◌, ◌≤◌, ◌==◌, eq-eqb, ne_eqb, Bool, true, false, cond, ◌&&◌, inl, inr, List, [], ◌∷◌, length, map, set, take, get_or, Some, None, slice_get, refl, sym, ap, ◌∙◌, subst, arith, if◌then◌else◌}
-use Rattle.std.proofs.Math.ListN.{length-set}
-use Rattle.std.proofs.lemmas.Bool.{and_from, and_parts, cases_Bool, eqb-true, ltb-false, ltb-true}
-use Rattle.std.proofs.lemmas.List.Quantifiers.{position-Some}
-use Rattle.std.proofs.lemmas.List.Sums.{sum_by-cons}
-use Rattle.std.proofs.lemmas.Option.{slice_get-get_or, slice_get-map, slice_get_cases}
-use Rattle.std.specs.Prelude.{nat_lt}
-use Rattle.std.specs.List.{list_any, position_from}
-use Rattle.std.specs.Option.{option_map}
+use Rattle.legal_run.proofs.Common.{[], ℕ, ◌&&◌, ◌+◌, ◌<◌, ◌==◌, ◌∙◌, ◌∷◌, ◌≡◌, ◌≢◌, ◌≤◌, AllRows, and_from, and_parts, ap, AreOf, ArePlaced, arith, asked, Bool, Call, call_of, calls_of_case, calls_of_kind, case_reply, CaseDecl, CaseEntry}
+use Rattle.legal_run.proofs.Common.{CaseId, cases_Bool, ClosedCase, ClosedKind, cond, declared-typed, entry, eq-eqb, eqb-true, Event, false, File, get_or, ids-distinct, if◌then◌else◌, inl, inr, is_case, IsDeclared, IsKnownAct, IsWorkable}
+use Rattle.legal_run.proofs.Common.{kind_after, kind_reply, length, List, list_any, ltb-false, ltb-true, map, nat_lt, ne_eqb, newest-told, None, of_kind, option_map, place_of, position_from, refl, Reply, roles_of, Run, set, slice_get}
+use Rattle.legal_run.proofs.{Common.{slice_get-get_or, slice_get-map, slice_get_cases, Some, subst, suc, sym, take, told, told_each, true, VersionModel, versions-kept, zero}, Made.{CaseMade, HasGone, KindMade, case_made-none, gone-then}}
+use Rattle.legal_run.proofs.{Made.{kind_made-none, takes-state}, OnMachines.caller_of, Places.{one-becomes, some_one, there-as}, Told.{each-all, each-kind, entry_if, some-at, some-other}}
+use Rattle.std.proofs.{Math.ListN.length-set, lemmas.List.Quantifiers.position-Some, lemmas.List.Sums.sum_by-cons}
 use mathlib.Core.Logic.{dite}
 use native.Mathlib.Decide.{ℕ_discrete}
-use Rattle.case_core.specs.Machine.{case_reply}
-use Rattle.case_core.specs.declared.events.Event.{Event}
 use Rattle.case_core.specs.declared.events.Event.TheVariants as event
-use Rattle.case_core.specs.declared.replies.Reply.{Reply}
-use Rattle.file_facts.proofs.Cases.{declared-typed, ids-distinct}
-use Rattle.file_facts.specs.Facts.{ArePlaced, IsDeclared, IsKnownAct, IsWorkable}
-use Rattle.legal_run.proofs.Made.{CaseMade, HasGone, KindMade, case_made-none, gone-then, kind_made-none, takes-state}
-use Rattle.legal_run.proofs.OnMachines.{caller_of}
-use Rattle.legal_run.proofs.Places.{one-becomes, some_one, there-as}
-use Rattle.legal_run.proofs.Told.{each-all, each-kind, entry_if, some-at, some-other}
-use Rattle.legal_run.specs.LineCalls.{AreOf, Call, asked, of_kind, calls_of_case, calls_of_kind, told, told_each}
-use Rattle.line_calls.proofs.Facts.{known-call}
-use Rattle.line_calls.specs.Calls.{call_of, is_case}
+use Rattle.line_calls.proofs.{Facts.known-call, Places.position-from_0}
 use Rattle.line_calls.specs.Known.{IsKnownCall}
 use Rattle.line_calls.specs.declared.calls.Call as line
 use Rattle.line_calls.specs.declared.calls.Call.TheVariants as call
 use Rattle.line_calls.specs.declared.calls.Told.TheVariants as tell
 use Rattle.file_model.specs.CaseCounts.{cases_of_type as counted, has_id, is_among}
 use Rattle.file_model.specs.declared.files.Act.{Act}
-use Rattle.file_model.specs.declared.files.CaseDecl.{CaseDecl}
-use Rattle.file_model.specs.declared.files.File.{File}
-use Rattle.line_calls.proofs.Places.{position-from_0}
 use Rattle.script_run.specs.Calls.{acted, call_case, call_kind, called, changed_where, created, each_of, if_among, migrated, newest, newest_in, on_case as case_called, on_each as each_called, on_kind as kind_called, put_back, answered_version}
-use Rattle.line_calls.specs.Files.{place_of, roles_of}
-use Rattle.script_run.specs.Entries.{CaseEntry}
-use Rattle.script_run.specs.declared.runs.ClosedCase.{ClosedCase}
-use Rattle.script_run.specs.declared.runs.ClosedKind.{ClosedKind}
-use Rattle.script_run.specs.declared.runs.Run.{Run}
-use Rattle.turn_cell.specs.History.{entry}
-use Rattle.type_core.proofs.Versions.{newest-told, versions-kept}
-use Rattle.type_core.specs.Machine.{kind_after, kind_reply}
 use Rattle.type_core.specs.declared.events.KindEvent.{KindEvent}
 use Rattle.type_core.specs.declared.events.KindEvent.TheVariants as kind_event
-use Rattle.wsm_lists.specs.Rows.{AllRows}
-use Rattle.wsm_sound.specs.VersionModel.{VersionModel}
-use Rattle.wsm_sound.specs.declared.versions.CaseId.{CaseId}
 
 -- between lines a run has the file's types and cases, and each type has a version
 pub record IsRunning (f : File) (r : Run) : Type 0 where

@@ -1,19 +1,6 @@
 -- What calls make of a run: a machine goes on by those that it is told, and its journal has them.
-use Rattle.std.proofs.Common.{◌≡◌, ℕ, List, [], ◌∷◌, ◌++◌, length, Some, slice_get, refl, sym, ap, ◌∙◌, subst, append_assoc}
-use Rattle.std.proofs.lemmas.List.{append-nil}
-use Rattle.case_core.specs.Machine.{case_after, case_reply}
-use Rattle.legal_run.proofs.OnMachines.{calls_of_case-append, calls_of_kind-append}
-use Rattle.legal_run.proofs.Places.{some_one, there-as}
-use Rattle.legal_run.specs.LineCalls.{Call, calls_of_case, calls_of_kind}
-use Rattle.file_model.specs.declared.files.CaseDecl.{CaseDecl}
-use Rattle.file_model.specs.declared.files.File.{File}
-use Rattle.script_run.specs.Entries.{CaseEntry, KindEntry}
-use Rattle.script_run.specs.declared.runs.ClosedCase.{ClosedCase}
-use Rattle.script_run.specs.declared.runs.ClosedKind.{ClosedKind}
-use Rattle.script_run.specs.declared.runs.Run.{Run}
-use Rattle.turn_cell.specs.History.{IsLegal, state_after}
-use Rattle.turn_cell.specs.declared.journal.Entry.{Entry}
-use Rattle.type_core.specs.Machine.{kind_after, kind_reply}
+use Rattle.legal_run.proofs.Common.{[], ℕ, ◌++◌, ◌∙◌, ◌∷◌, ◌≡◌, ap, append-nil, append_assoc, Call, calls_of_case, calls_of_kind, case_after, case_reply, CaseDecl, CaseEntry, ClosedCase, ClosedKind, Entry, File, IsLegal, kind_after}
+use Rattle.legal_run.proofs.{Common.{kind_reply, KindEntry, length, List, refl, Run, slice_get, Some, state_after, subst, sym}, OnMachines.{calls_of_case-append, calls_of_kind-append}, Places.{some_one, there-as}}
 
 module _ {M E R W S : Type 0} (after : S → E → S) (reply : S → E → R) where
   -- calls take a machine from one state to another, and each has the reply that the machine gives there

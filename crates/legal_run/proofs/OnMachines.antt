@@ -1,12 +1,6 @@
 -- The calls of one type, and of one case, among calls one after another.
-use Rattle.std.proofs.Common.{◌≡◌, ℕ, eqb, Bool, true, false, ◌==◌, List, [], ◌∷◌, ◌++◌, filter, All, refl, sym, ap, ◌∙◌, if◌then◌else◌}
-use Rattle.std.proofs.lemmas.List.Elements.{All-cons, All-nil, filter-append}
-use Rattle.legal_run.specs.LineCalls.{Call, of_kind, of_case, calls_of_kind, calls_of_case}
-use Rattle.line_calls.specs.Calls.{is_case}
-use Rattle.turn_cell.specs.History.{calls_of}
-use Rattle.turn_cell.specs.declared.journal.Entry.{Entry}
-use Rattle.wsm_lists.specs.Rows.{AllRows}
-use Rattle.wsm_sound.specs.declared.versions.CaseId.{CaseId}
+use Rattle.legal_run.proofs.Common.{[], ℕ, ◌++◌, ◌==◌, ◌∙◌, ◌∷◌, ◌≡◌, All, All-cons, All-nil, AllRows, ap, Bool, Call, calls_of, calls_of_case, calls_of_kind, CaseId, Entry, eqb, false, filter, filter-append, if◌then◌else◌, is_case, List}
+use Rattle.legal_run.proofs.Common.{of_case, of_kind, refl, sym, true}
 
 split_if : {A : Type 0} (b : Bool) (x : A) (xs ys zs : List A) → xs ≡ ys ++ zs → (if b then x ∷ xs else xs) ≡ (if b then x ∷ ys else ys) ++ zs
 split_if true x xs ys zs e = ap (λ ws. x ∷ ws) e

@@ -1,14 +1,9 @@
 -- A line makes at most one call of a type, and at most one of a case.
-use Rattle.std.proofs.Common.{◌≡◌, ℕ, ◌+◌, ◌≤◌, eqb, Bool, true, false, inl, inr, List, [], ◌∷◌, ◌++◌, length, refl, sym, ap, ◌∙◌, subst, arith, length-append, if◌then◌else◌}
-use Rattle.legal_run.proofs.OnMachines.{calls_of_kind-append, calls_of_case-append}
-use Rattle.legal_run.proofs.Told.{each-kind, each-once, some-kind, some-once}
-use Rattle.legal_run.specs.LineCalls.{Call, calls_of_kind, calls_of_case, AreOf, AreCallsOfLines, ArePart, AreBegun}
-use Rattle.line_calls.specs.Calls.{call_of, is_case}
+use Rattle.legal_run.proofs.Common.{[], ℕ, ◌++◌, ◌+◌, ◌∙◌, ◌∷◌, ◌≡◌, ◌≤◌, ap, AreBegun, AreCallsOfLines, AreOf, ArePart, arith, Bool, Call, call_of, calls_of_case, calls_of_kind, CaseId, eqb, false, if◌then◌else◌, inl, inr, is_case, length}
+use Rattle.legal_run.proofs.{Common.{length-append, Line, List, refl, subst, sym, true}, OnMachines.{calls_of_kind-append, calls_of_case-append}, Told.{each-kind, each-once, some-kind, some-once}}
 use Rattle.line_calls.specs.declared.calls.Call as line
 use Rattle.line_calls.specs.declared.calls.Call.TheVariants as call
 use Rattle.line_calls.specs.declared.calls.Told.TheVariants as tell
-use Rattle.file_model.specs.declared.files.Line.{Line}
-use Rattle.wsm_sound.specs.declared.versions.CaseId.{CaseId}
 
 -- at most one of two lists of at most one
 one_if : {A : Type 0} (b : Bool) (x : A) (xs : List A) → xs ≡ [] → length (if b then x ∷ xs else xs) ≤ 1

@@ -1,5 +1,5 @@
 -- Lists, place by place.
-use Rattle.std.proofs.Common.{◌≡◌, ◌≢◌, ℕ, zero, suc, ◌==◌, eq-eqb, ne_eqb, List, [], ◌∷◌, length, Option, Some, slice_get, set, get_or, drop, drop-cons, add-one, ◌+◌, ◌<◌, refl, sym, ap, ◌∙◌, subst, arith, if◌then◌else◌}
+use Rattle.legal_run.proofs.Common.{[], ℕ, ◌+◌, ◌<◌, ◌==◌, ◌∙◌, ◌∷◌, ◌≡◌, ◌≢◌, add-one, ap, arith, drop, drop-cons, eq-eqb, get_or, if◌then◌else◌, length, List, ne_eqb, Option, refl, set, slice_get, Some, subst, suc, sym, zero}
 use mathlib.Core.Logic.{dite}
 use native.Mathlib.Decide.{ℕ_discrete}
 

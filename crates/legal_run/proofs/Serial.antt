@@ -1,43 +1,19 @@
 -- The serial run of a file that can be worked is a legal run: its lines, one after another in file order, are one way in which the actors' turns can fall.
-use Rattle.std.proofs.Common.{◌≡◌, ◌≢◌, ℕ, zero, suc, ◌+◌, ◌<◌, eq-eqb, ne_eqb, Bool, List, [], ◌∷◌, ◌++◌, length, map, take, drop, Some, slice_get, refl, sym, ap, ◌∙◌, subst, arith, append_assoc, if◌then◌else◌}
-use Rattle.std.proofs.lemmas.List.{length-map, take-append-drop, take-map}
+use Rattle.legal_run.proofs.Common.{[], ℕ, ◌++◌, ◌+◌, ◌<◌, ◌∙◌, ◌∷◌, ◌≡◌, ◌≢◌, AllRows, ap, append_assoc, AreCallsOf, AreCallsOfLines, AreOfActors, AreTraces, arith, Bool, Call, calls_of, calls_of_case, calls_of_kind, case_after}
+use Rattle.legal_run.proofs.Common.{case_reply, CaseDecl, ClosedCase, ClosedKind, defined, done_by, drop, Entry, entry, eq-eqb, File, flat_map, fold, HasCalls, if◌then◌else◌, IsActor, IsByPhases, IsKnown, IsLegal, IsLegalCase, IsLegalKind}
+use Rattle.legal_run.proofs.Common.{IsSound, IsWorkable, kind_after, kind_reply, KindEntry, kinds_from, Legal, length, length-map, Line, lines_of, List, map, ne_eqb, not_created, not_defined, opening, option_map, phase_worked, program}
+use Rattle.legal_run.proofs.{Common.{refl, roles_of, row-at, Run, serial, slice_get, slice_get-map, Some, sound-defined, state_after, subst, suc, sym, take, take-append-drop, take-map, Trace, uncalled, zero}, LineByLine.HasActed}
+use Rattle.legal_run.proofs.{LineByLine.{IsRunning, has-acted, running-still}, Made.{HasGone, Takes, gone-none, gone-then, takes-legal, takes-state}, OnMachines.{caller_of, calls_by, calls_by-append, case_callers, case_calls-by}}
+use Rattle.legal_run.proofs.OnMachines.{kind_callers, kind_calls-by, calls_of_case-append, calls_of_kind-append}
 use Rattle.std.proofs.lemmas.List.Concat.{flat_map-append}
-use Rattle.std.proofs.lemmas.Option.{slice_get-map}
-use Rattle.std.specs.List.{flat_map}
-use Rattle.std.specs.Option.{option_map}
 use mathlib.Core.Logic.{dite}
 use native.Mathlib.Decide.{ℕ_discrete}
-use Rattle.case_core.specs.CaseModel.{not_created}
-use Rattle.case_core.specs.Machine.{case_after, case_reply}
-use Rattle.file_facts.proofs.Cases.{row-at}
-use Rattle.file_facts.specs.Facts.{IsKnown, IsSound, IsWorkable}
-use Rattle.legal_run.proofs.LineByLine.{HasActed, IsRunning, has-acted, running-still}
-use Rattle.legal_run.proofs.Made.{HasGone, Takes, gone-none, gone-then, takes-legal, takes-state}
-use Rattle.legal_run.proofs.OnMachines.{caller_of, calls_by, calls_by-append, case_callers, case_calls-by, kind_callers, kind_calls-by, calls_of_case-append, calls_of_kind-append}
-use Rattle.legal_run.specs.Legal.{AreOfActors, AreTraces, HasCalls, IsActor, IsByPhases, IsLegalCase, IsLegalKind, Legal, Trace, done_by}
-use Rattle.legal_run.specs.LineCalls.{AreCallsOf, AreCallsOfLines, Call, lines_of, calls_of_case, calls_of_kind}
-use Rattle.file_model.specs.declared.files.CaseDecl.{CaseDecl}
-use Rattle.file_model.specs.declared.files.File.{File}
-use Rattle.file_model.specs.declared.files.Line.{Line}
 use Rattle.file_model.specs.declared.files.TypeDecl.{TypeDecl}
 use Rattle.script_run.specs.Calls.{worked}
-use Rattle.line_calls.specs.Files.{roles_of}
-use Rattle.script_run.specs.Entries.{KindEntry}
-use Rattle.script_run.specs.Serial.{defined, kinds_from, opening, phase_worked, program, serial, uncalled}
-use Rattle.script_run.specs.declared.runs.ClosedCase.{ClosedCase}
-use Rattle.script_run.specs.declared.runs.ClosedKind.{ClosedKind}
-use Rattle.script_run.specs.declared.runs.Run.{Run}
-use Rattle.std.specs.Prelude.{fold}
 use Rattle.turn_cell.proofs.Histories.{calls_of-append}
-use Rattle.turn_cell.specs.History.{IsLegal, calls_of, entry, state_after}
-use Rattle.turn_cell.specs.declared.journal.Entry.{Entry}
-use Rattle.type_core.proofs.Versions.{sound-defined}
-use Rattle.type_core.specs.KindModel.{not_defined}
-use Rattle.type_core.specs.Machine.{kind_after, kind_reply}
 use Rattle.type_core.specs.declared.events.KindEvent.TheVariants as event
 use Rattle.type_core.specs.declared.replies.KindReply.TheVariants as reply
 use Rattle.wsm_lists.proofs.Lists.{all-rows-map, rows-append}
-use Rattle.wsm_lists.specs.Rows.{AllRows}
 
 -- ---- by callers
 -- calls of one caller are all of that caller, and none of another

@@ -1,14 +1,8 @@
 -- What the cases of a type are told one after another, as one machine sees it.
-use Rattle.std.proofs.Common.{◌≡◌, ◌≢◌, ℕ, zero, suc, ◌+◌, ◌-◌, ◌<◌, ◌≤◌, ◌==◌, eq-eqb, ne_eqb, Bool, true, false, ◌&&◌, ◌⊎◌, inl, inr, List, [], ◌∷◌, length, map, Option, Some, None, slice_get, refl, ap, ◌∙◌, subst, sym, arith, if◌then◌else◌}
-use Rattle.std.proofs.lemmas.Bool.{cases_lt}
+use Rattle.legal_run.proofs.Common.{[], ℕ, ◌&&◌, ◌+◌, ◌-◌, ◌<◌, ◌==◌, ◌∙◌, ◌∷◌, ◌≡◌, ◌≢◌, ◌≤◌, ◌⊎◌, ap, arith, Bool, calls_of_case, calls_of_kind, CaseEntry, CaseId, cases_lt, entry, eq-eqb, Event, false, if◌then◌else◌, inl, inr, length}
+use Rattle.legal_run.proofs.Common.{List, map, ne_eqb, None, Option, refl, Reply, slice_get, Some, subst, suc, sym, told, told_each, told_some, true, zero}
 use mathlib.Core.Logic.{dite}
 use native.Mathlib.Decide.{ℕ_discrete}
-use Rattle.case_core.specs.declared.events.Event.{Event}
-use Rattle.case_core.specs.declared.replies.Reply.{Reply}
-use Rattle.legal_run.specs.LineCalls.{calls_of_case, calls_of_kind, told, told_each, told_some}
-use Rattle.script_run.specs.Entries.{CaseEntry}
-use Rattle.turn_cell.specs.History.{entry}
-use Rattle.wsm_sound.specs.declared.versions.CaseId.{CaseId}
 
 -- the entry of a case that has answered
 abbrev pub entry_if : ℕ → Event → Option (Option Reply) → List CaseEntry

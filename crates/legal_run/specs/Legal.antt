@@ -1,23 +1,13 @@
 -- Which runs of a file are legal.
 use Rattle.std.specs.Prelude.{◌≡◌, ℕ, ◌≤◌, ◌==◌, List, [], ◌∷◌, length, take, flat_map, count_by, slice_get, Some, All}
 use mathlib.Core.List.{IsPrefix}
-use Rattle.case_core.specs.CaseModel.{not_created}
-use Rattle.case_core.specs.Machine.{case_after, case_reply}
+use Rattle.case_core.specs.{CaseModel.not_created, Machine.{case_after, case_reply}}
 use Rattle.legal_run.specs.LineCalls.{Call, calls_of_kind, calls_of_case, AreCallsOfLines, lines_of}
-use Rattle.file_model.specs.declared.files.CaseDecl.{CaseDecl}
-use Rattle.file_model.specs.declared.files.File.{File}
-use Rattle.file_model.specs.declared.files.Line.{Line}
-use Rattle.file_model.specs.declared.files.TypeDecl.{TypeDecl}
+use Rattle.file_model.specs.{declared.files.CaseDecl.CaseDecl, declared.files.File.File, declared.files.Line.Line, declared.files.TypeDecl.TypeDecl}
 use Rattle.line_calls.specs.Files.{roles_of}
-use Rattle.script_run.specs.Entries.{KindEntry}
-use Rattle.script_run.specs.Serial.{program}
-use Rattle.script_run.specs.declared.runs.ClosedCase.{ClosedCase}
-use Rattle.script_run.specs.declared.runs.ClosedKind.{ClosedKind}
-use Rattle.script_run.specs.declared.runs.Run.{Run}
-use Rattle.turn_cell.specs.History.{IsLegal, calls_of, entry, state_after}
-use Rattle.turn_cell.specs.declared.journal.Entry.{Entry}
-use Rattle.type_core.specs.KindModel.{not_defined}
-use Rattle.type_core.specs.Machine.{kind_after, kind_reply}
+use Rattle.script_run.specs.{Entries.KindEntry, Serial.program, declared.runs.ClosedCase.ClosedCase, declared.runs.ClosedKind.ClosedKind, declared.runs.Run.Run}
+use Rattle.turn_cell.specs.{History.{IsLegal, calls_of, entry, state_after}, declared.journal.Entry.Entry}
+use Rattle.type_core.specs.{KindModel.not_defined, Machine.{kind_after, kind_reply}}
 use Rattle.type_core.specs.declared.events.KindEvent.TheVariants as event
 use Rattle.type_core.specs.declared.replies.KindReply.TheVariants as reply
 

@@ -1,10 +1,8 @@
 -- The calls that script lines stand for.
 use Rattle.std.specs.Prelude.{◌≡◌, ℕ, ◌+◌, ◌≤◌, ◌==◌, ◌⊎◌, List, [], ◌∷◌, ◌++◌, length, filter, Option, Some, None, if◌then◌else◌}
-use Rattle.case_core.specs.declared.events.Event.{Event}
+use Rattle.case_core.specs.{declared.events.Event.Event, declared.replies.Reply.Reply}
 use Rattle.case_core.specs.declared.events.Event.TheVariants as event
-use Rattle.case_core.specs.declared.replies.Reply.{Reply}
-use Rattle.file_model.specs.declared.files.Act.{Act}
-use Rattle.file_model.specs.declared.files.Line.{Line}
+use Rattle.file_model.specs.{declared.files.Act.Act, declared.files.Line.Line}
 use Rattle.line_calls.specs.Calls.{call_of, is_case}
 use Rattle.line_calls.specs.declared.calls.Call as line
 use Rattle.line_calls.specs.declared.calls.Call.TheVariants as call
@@ -14,8 +12,7 @@ use Rattle.turn_cell.specs.History.{entry}
 use Rattle.type_core.specs.declared.events.KindEvent.TheVariants as kind_event
 use Rattle.type_core.specs.declared.replies.KindReply.{KindReply}
 use Rattle.type_core.specs.declared.replies.KindReply.TheVariants as kind_reply
-use Rattle.wsm_sound.specs.VersionModel.{VersionModel}
-use Rattle.wsm_sound.specs.declared.versions.CaseId.{CaseId}
+use Rattle.wsm_sound.specs.{VersionModel.VersionModel, declared.versions.CaseId.CaseId}
 
 -- a call with its reply: of the type with that number, or of that case
 pub data Call : Type 0 where

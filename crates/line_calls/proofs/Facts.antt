@@ -1,20 +1,14 @@
 -- What is known of an act is known of its call, whoever makes it.
 use Rattle.std.proofs.Common.{◌≡◌, ℕ, ◌<◌, ◌≤◌, List, [], Option, Some, None, refl, sym, ◌∙◌, subst, arith}
 use Rattle.std.specs.Prelude.{option_map}
-use Rattle.case_core.specs.Ages.{weight}
-use Rattle.case_core.specs.declared.events.Event.{Event}
+use Rattle.case_core.specs.{Ages.weight, declared.events.Event.Event}
 use Rattle.case_core.specs.declared.events.Event.TheVariants as event
 use Rattle.file_facts.proofs.Cases.{declared-typed}
 use Rattle.file_facts.specs.Facts.{IsDeclared, IsKnownAct, HasType}
-use Rattle.file_model.specs.Written.{act_writes}
-use Rattle.file_model.specs.declared.files.Act.{Act}
+use Rattle.file_model.specs.{Written.act_writes, declared.files.Act.Act, declared.files.CaseDecl.CaseDecl}
 use Rattle.file_model.specs.declared.files.Act.TheVariants as act
-use Rattle.file_model.specs.declared.files.CaseDecl.{CaseDecl}
-use Rattle.line_calls.specs.Calls.{asked_among, call_of, call_weight, case_event_in, cells_in, cells_of, kind_event_in, version_event}
-use Rattle.line_calls.specs.Known.{IsKnownCall, IsPlain, call_writes}
-use Rattle.line_calls.specs.declared.calls.Call.{Call}
+use Rattle.line_calls.specs.{Calls.{asked_among, call_of, call_weight, case_event_in, cells_in, cells_of, kind_event_in, version_event}, Known.{IsKnownCall, IsPlain, call_writes}, declared.calls.Call.Call, declared.calls.Told.Told}
 use Rattle.line_calls.specs.declared.calls.Call.TheVariants as call
-use Rattle.line_calls.specs.declared.calls.Told.{Told}
 use Rattle.line_calls.specs.declared.calls.Told.TheVariants as told
 use Rattle.type_core.specs.Machine.{weight as kind_weight}
 use Rattle.type_core.specs.declared.events.KindEvent.{KindEvent}

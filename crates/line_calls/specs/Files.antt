@@ -1,8 +1,6 @@
 -- What a file says of an actor and of a case.
 use Rattle.std.specs.Prelude.{ℕ, ◌-◌, List, [], slice_get, position, Option, Some, None}
-use Rattle.file_model.specs.CaseCounts.{has_id}
-use Rattle.file_model.specs.declared.files.ActorDecl.{ActorDecl}
-use Rattle.file_model.specs.declared.files.File.{File}
+use Rattle.file_model.specs.{CaseCounts.has_id, declared.files.ActorDecl.ActorDecl, declared.files.File.File}
 use Rattle.wsm_sound.specs.declared.versions.CaseId.{CaseId}
 
 -- where a case was declared

@@ -1,9 +1,7 @@
 -- An index of the places at which cases were declared.
-use Rattle.std.specs.Prelude.{◌≡◌, ℕ, Bool, ◌&&◌, ◌==◌, List, position}
-use Rattle.std.specs.Map.{lookup}
-use Rattle.file_model.specs.declared.files.CaseDecl.{CaseDecl}
+use Rattle.std.specs.{Prelude.{◌≡◌, ℕ, Bool, ◌&&◌, ◌==◌, List, position}, Map.lookup}
+use Rattle.file_model.specs.{declared.files.CaseDecl.CaseDecl, CaseCounts.has_id}
 use Rattle.wsm_sound.specs.declared.versions.CaseId.{CaseId}
-use Rattle.file_model.specs.CaseCounts.{has_id}
 
 -- a case is found by its type and its place among the cases of the type
 abbrev pub is_key : CaseId → ℕ × ℕ → Bool

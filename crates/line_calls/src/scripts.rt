@@ -1,7 +1,6 @@
 // A file with what its lines are worked by.
 ghost use Rattle.std.specs.Prelude.{◌≡◌, IfOk};
-ghost use Rattle.line_calls.specs.Files.{place_of, roles_of};
-ghost use Rattle.line_calls.specs.Places.{Indexes};
+ghost use Rattle.line_calls.specs.{Files.{place_of, roles_of}, Places.Indexes};
 
 use file_model::{CaseDecl, File};
 use std::alloc::Global;

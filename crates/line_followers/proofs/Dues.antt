@@ -1,18 +1,6 @@
 -- A reader of a journal does not see phases in which nothing is owed.
-use Rattle.std.proofs.Common.{◌≡◌, ℕ, zero, suc, ◌+◌, Bool, true, false, List, [], ◌∷◌, length, Option, Some, None, refl, sym, ap, ◌∙◌, subst, arith, if◌then◌else◌}
-use Rattle.std.specs.Option.{is_some}
-use Rattle.file_words.specs.Lines.{Bytes}
-use Rattle.line_readers.proofs.Owed.{Due, is-due, nothing, some}
-use Rattle.line_readers.proofs.Walks.{map_first, walk-mapped}
-use Rattle.line_readers.specs.FirstWrong.{ended}
-use Rattle.line_readers.specs.Journals.{behind, journal, one_more, shown, with_entry}
-use Rattle.line_readers.specs.Owed.{due, how_many}
-use Rattle.line_readers.specs.Readers.{Reader, done, mapped, taken, takes}
-use Rattle.line_readers.specs.Walks.{Goes, IsAtEnd, walk}
-use Rattle.text_follower.specs.Followed.{Followed}
-use Rattle.turn_cell.specs.declared.journal.Entry.{Entry}
-use Rattle.line_followers.specs.Filled.{filled}
-use Rattle.line_followers.specs.Follows.{Follows, left_of, passed}
+use Rattle.line_followers.proofs.Common.{[], ℕ, ◌+◌, ◌∙◌, ◌∷◌, ◌≡◌, ap, arith, behind, Bool, Bytes, done, Due, due, ended, Entry, false, filled, Followed, Follows, Goes, how_many, if◌then◌else◌, is-due, is_some, IsAtEnd, journal, left_of}
+use Rattle.line_followers.proofs.Common.{length, List, map_first, mapped, None, nothing, one_more, Option, passed, Reader, refl, shown, Some, some, subst, suc, sym, taken, takes, true, walk, walk-mapped, with_entry, zero}
 
 -- ---- two readers that do the same on all lines
 pub record AreSame {A : Type 0} (r q : Reader A) : Type 0 where

@@ -1,21 +1,9 @@
 -- A line of a journal, right or wrong, takes the reader of the journal on or stops it.
-use Rattle.std.proofs.Common.{◌≡◌, ℕ, zero, suc, ◌+◌, ◌==◌, eq-eqb, eqb-true, Bool, true, false, List, [], ◌∷◌, ◌++◌, length, take, drop, Option, Some, None, append_assoc, refl, sym, ap, ◌∙◌, subst, arith, if◌then◌else◌}
-use Rattle.std.proofs.lemmas.Slice.Eq.{bytes_eq-Decides}
-use Rattle.std.specs.Option.{is_some}
-use Rattle.std.specs.Prelude.{bytes_eq, option_map}
-use Rattle.file_words.specs.Lines.{Bytes, CutLines, lines_of, front_line}
+use Rattle.line_followers.proofs.Common.{[], ℕ, ◌++◌, ◌+◌, ◌==◌, ◌∙◌, ◌∷◌, ◌≡◌, ap, append_assoc, arith, behind, Bool, Bytes, bytes_eq, bytes_eq-Decides, CutLines, done, drop, due, ended, ending, Entry, entry, eq-eqb, eqb-true, expected}
+use Rattle.line_followers.proofs.Common.{false, feeds, first_by, Followed, followed, Follows, front_line, Goes, goes-ended, goes-line, goes-mapped, goes-wrong, if_shown, if◌then◌else◌, is_some, IsOneLine, IsWhole, journal, left_of, length}
+use Rattle.line_followers.proofs.Common.{lines_of, List, mapped, next_of, None, of_event, of_first, one_more, Option, option_map, passed, Reaches, Reader, refl, same_front, shown, Some, subst, suc, sym, take, taken, takes, true, with_entry}
+use Rattle.line_followers.proofs.{Common.zero, Pieces.{along, feeds-append, full-front, own-front, passed-on, whole-piece}}
 use Rattle.line_readers.proofs.Lines.{cut-line, cut-together}
-use Rattle.line_readers.proofs.Walks.{goes-ended, goes-line, goes-mapped, goes-wrong}
-use Rattle.line_readers.specs.FirstWrong.{ended}
-use Rattle.line_readers.specs.Journals.{behind, if_shown, journal, next_of, of_event, of_first, one_more, shown, with_entry}
-use Rattle.line_readers.specs.Owed.{due, first_by}
-use Rattle.line_readers.specs.Walks.{Goes}
-use Rattle.line_readers.specs.Readers.{IsOneLine, Reader, done, ending, expected, mapped, taken, takes}
-use Rattle.text_follower.specs.Followed.{Followed, feeds, followed, same_front}
-use Rattle.turn_cell.specs.History.{entry}
-use Rattle.turn_cell.specs.declared.journal.Entry.{Entry}
-use Rattle.line_followers.proofs.Pieces.{along, feeds-append, full-front, own-front, passed-on, whole-piece}
-use Rattle.line_followers.specs.Follows.{Follows, IsWhole, Reaches, left_of, passed}
 
 -- a line without a line feed counts as none
 no-feed : (line : Bytes) → IsOneLine line → feeds line ≡ 0

@@ -1,6 +1,5 @@
 -- Lines that are put at the end of what is owed, one after another, phase after phase.
-use Rattle.std.proofs.Common.{◌≡◌, ℕ, suc, ◌+◌, ◌<◌, ◌==◌, eq-eqb, ne_eqb, Bool, true, false, List, [], ◌∷◌, ◌++◌, length, map, append_assoc, append-nil, refl, sym, ap, ◌∙◌, subst, arith, if◌then◌else◌}
-use Rattle.line_followers.specs.Filled.{filled}
+use Rattle.line_followers.proofs.Common.{[], ℕ, ◌++◌, ◌+◌, ◌<◌, ◌==◌, ◌∙◌, ◌∷◌, ◌≡◌, ap, append-nil, append_assoc, arith, Bool, eq-eqb, false, filled, if◌then◌else◌, length, List, map, ne_eqb, refl, subst, suc, sym, true}
 use Rattle.line_followers.specs.Numbered.{in_last, numbered_from, with_line, with_lines}
 
 module _ {L : Type 0} where

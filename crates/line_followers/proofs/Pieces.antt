@@ -1,13 +1,7 @@
 -- A reader of the lines of a piece goes along a text as far as the text is the same.
-use Rattle.std.proofs.Common.{◌≡◌, ℕ, suc, ◌+◌, ◌≤◌, ◌==◌, eqb-true, eq-eqb, ne_eqb, Bool, true, false, List, [], ◌∷◌, ◌++◌, length, take, take-add, drop, Option, Some, None, drop-drop, refl, sym, ap, ◌∙◌, subst, arith, if◌then◌else◌}
-use Rattle.std.proofs.lemmas.Slice.Eq.{bytes_eq-Decides}
-use Rattle.std.specs.Prelude.{bytes_eq}
-use Rattle.file_words.specs.Lines.{Bytes, CutLines, lines_of, onto_lines, put_first}
-use Rattle.line_readers.specs.FirstWrong.{ended}
-use Rattle.line_readers.specs.Readers.{Reader, done, takes, expected, taken}
-use Rattle.line_readers.specs.Walks.{Goes, IsAtEnd, walk}
-use Rattle.text_follower.specs.Followed.{Followed, feeds, followed, same_front}
-use Rattle.line_followers.specs.Follows.{Follows, IsWhole, left_of, passed}
+use Rattle.line_followers.proofs.Common.{[], ℕ, ◌++◌, ◌+◌, ◌==◌, ◌∙◌, ◌∷◌, ◌≡◌, ◌≤◌, ap, arith, Bool, Bytes, bytes_eq, bytes_eq-Decides, CutLines, done, drop, drop-drop, ended, eq-eqb, eqb-true, expected, false, feeds, Followed, followed}
+use Rattle.line_followers.proofs.Common.{Follows, Goes, if◌then◌else◌, IsAtEnd, IsWhole, left_of, length, lines_of, List, ne_eqb, None, onto_lines, Option, passed, put_first, Reader, refl, same_front, Some, subst, suc, sym, take, take-add}
+use Rattle.line_followers.proofs.Common.{taken, takes, true, walk}
 
 -- ---- a line feed and another byte
 same-again : (b : ℕ) → (b == b) ≡ true

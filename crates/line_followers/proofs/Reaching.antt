@@ -1,10 +1,5 @@
 -- Readers that are brought on from place to place.
-use Rattle.std.proofs.Common.{◌≡◌, Option, Some, None, refl, sym, ap, ◌∙◌, subst}
-use Rattle.std.specs.Prelude.{option_map}
-use Rattle.line_readers.proofs.Walks.{goes-done, goes-mapped, goes-stopped, goes-then}
-use Rattle.line_readers.specs.Readers.{Reader, done, and_then, mapped}
-use Rattle.text_follower.specs.Followed.{Followed}
-use Rattle.line_followers.specs.Follows.{Follows, Reaches, left_of, passed}
+use Rattle.line_followers.proofs.Common.{◌∙◌, ◌≡◌, and_then, ap, done, Followed, Follows, goes-done, goes-mapped, goes-stopped, goes-then, left_of, mapped, None, Option, option_map, passed, Reaches, Reader, refl, Some, subst, sym}
 
 same-value : {A : Type 0} (o : Option A) → option_map (λ a. a) o ≡ o
 same-value None = refl

@@ -1,19 +1,7 @@
 -- A journal is gone along line by line and phase by phase.
-use Rattle.std.proofs.Common.{◌≡◌, ℕ, suc, ◌+◌, ◌<◌, ◌==◌, Bool, true, false, List, [], ◌∷◌, ◌++◌, append_assoc, append-nil, length, Option, Some, None, refl, sym, ap, ◌∙◌, subst, arith}
-use Rattle.std.specs.Prelude.{option_map}
-use Rattle.file_words.specs.Lines.{Bytes}
-use Rattle.line_readers.proofs.Owed.{first-is}
-use Rattle.line_readers.specs.FirstWrong.{ended}
-use Rattle.line_readers.specs.Journals.{journal, shown, with_entry}
-use Rattle.line_readers.specs.Owed.{first_by, how_many}
-use Rattle.line_readers.specs.Readers.{IsOneLine, Reader, done}
-use Rattle.text_follower.specs.Followed.{Followed, followed, same_front}
-use Rattle.turn_cell.specs.History.{entry}
-use Rattle.turn_cell.specs.declared.journal.Entry.{Entry}
-use Rattle.line_followers.proofs.Dues.{AreSame, same-follows, same-journal}
-use Rattle.line_followers.proofs.JournalLines.{line-differs, line-not-shown, line-right}
-use Rattle.line_followers.proofs.Reaching.{follows-done, reaches-on}
-use Rattle.line_followers.specs.Follows.{Follows, Reaches, left_of}
+use Rattle.line_followers.proofs.Common.{[], ℕ, ◌++◌, ◌+◌, ◌<◌, ◌==◌, ◌∙◌, ◌∷◌, ◌≡◌, ap, append-nil, append_assoc, arith, Bool, Bytes, done, ended, Entry, entry, false, first-is, first_by, Followed, followed, Follows, how_many, IsOneLine}
+use Rattle.line_followers.proofs.{Common.{journal, left_of, length, List, None, Option, option_map, Reaches, Reader, refl, same_front, shown, Some, subst, suc, sym, true, with_entry}, Dues.{AreSame, same-follows, same-journal}}
+use Rattle.line_followers.proofs.{JournalLines.{line-differs, line-not-shown, line-right}, Reaching.{follows-done, reaches-on}}
 use Rattle.line_followers.specs.Rests.{rest_journal, with_entries}
 
 -- the same value by another name

@@ -1,8 +1,6 @@
 -- The queues of actors tell whose next line it is.
-use Rattle.std.proofs.Common.{◌≡◌, ◌≢◌, ℕ, zero, suc, ◌+◌, ◌<◌, ◌≤◌, ◌==◌, Bool, true, false, eq-eqb, eqb-true, ne_eqb, List, [], ◌∷◌, ◌++◌, append-nil, length, Option, Some, None, refl, sym, ap, ◌∙◌, subst, arith, if◌then◌else◌}
-use Rattle.std.specs.Prelude.{slice_get, slice_set}
-use Rattle.line_readers.proofs.Owed.{IsFirst, by-append, first-is, other-first, own-first, some-first}
-use Rattle.line_readers.specs.Owed.{first_by, lines_by}
+use Rattle.line_followers.proofs.Common.{[], ℕ, ◌++◌, ◌+◌, ◌<◌, ◌==◌, ◌∙◌, ◌∷◌, ◌≡◌, ◌≢◌, ◌≤◌, ap, append-nil, arith, Bool, by-append, eq-eqb, eqb-true, false, first-is, first_by, if◌then◌else◌, IsFirst, length, lines_by, List, ne_eqb}
+use Rattle.line_followers.proofs.Common.{None, Option, other-first, own-first, refl, slice_get, slice_set, Some, some-first, subst, suc, sym, true, zero}
 use Rattle.line_followers.specs.Turns.{AreTurns, behind_front, one_added, one_taken, queue_in, queue_of}
 
 -- ---- a list with one item set

@@ -1,8 +1,7 @@
 -- How far a reader goes from one place of a text to another.
 use Rattle.std.specs.Prelude.{◌≡◌, ℕ, List, [], drop, take, Option, None, option_map}
 use Rattle.file_words.specs.Lines.{Bytes, lines_of}
-use Rattle.line_readers.specs.Readers.{Reader}
-use Rattle.line_readers.specs.Walks.{Goes}
+use Rattle.line_readers.specs.{Readers.Reader, Walks.Goes}
 use Rattle.text_follower.specs.Followed.{Followed, feeds}
 
 -- the bytes behind the place, and how many lines end before it

@@ -1,9 +1,7 @@
 -- A journal from one of its lines on.
 use Rattle.std.specs.Prelude.{ℕ, List, ◌++◌, Option}
 use Rattle.file_words.specs.Lines.{Bytes}
-use Rattle.line_readers.specs.Journals.{journal}
-use Rattle.line_readers.specs.Owed.{how_many}
-use Rattle.line_readers.specs.Readers.{Reader}
+use Rattle.line_readers.specs.{Journals.journal, Owed.how_many, Readers.Reader}
 use Rattle.turn_cell.specs.declared.journal.Entry.{Entry}
 
 module _ {M E R W S L : Type 0} (after : S → E → S) (reply : S → E → R) (actor_of : L → ℕ) (event_of : L → Option E)

@@ -1,13 +1,9 @@
 -- Journals that answer what is owed: phase by phase, with each actor's lines in order.
-use Rattle.std.proofs.Common.{◌≡◌, ◌≢◌, ℕ, zero, suc, ◌≤◌, ◌==◌, eq-eqb, ne_eqb, true, false, List, [], ◌∷◌, ◌++◌, length, take, append-nil, Option, Some, refl, sym, ap, subst, arith, if◌then◌else◌}
+use Rattle.line_readers.proofs.Common.{[], ℕ, ◌++◌, ◌==◌, ◌∷◌, ◌≡◌, ◌≢◌, ◌≤◌, all_owed, AllRows, ap, append-nil, arith, calls_of, due, Entry, eq-eqb, false, first_by, if◌then◌else◌, IsLegal, length, lines_by, List, ne_eqb, Option, refl}
+use Rattle.line_readers.proofs.{Common.{Some, state_after, subst, suc, sym, take, true, zero}, Owed.{due-hold, IsFirst, first-is, some-first, others-hold, first-holds, by-append, own-first}}
 use mathlib.Core.List.{IsPrefix}
 use mathlib.Core.Logic.{dite}
 use native.Mathlib.Decide.{ℕ_discrete}
-use Rattle.turn_cell.specs.History.{IsLegal, calls_of, state_after}
-use Rattle.turn_cell.specs.declared.journal.Entry.{Entry}
-use Rattle.wsm_lists.specs.Rows.{AllRows}
-use Rattle.line_readers.specs.Owed.{due, all_owed, lines_by, first_by}
-use Rattle.line_readers.proofs.Owed.{due-hold, IsFirst, first-is, some-first, others-hold, first-holds, by-append, own-first}
 
 prefix-behind : {X : Type 0} (x e : X) (xs es : List X) → IsPrefix (x ∷ xs) (e ∷ es) → (x ≡ e) × IsPrefix xs es
 prefix-behind x e xs es (zs, same) = (cc (same), (zs, cc (same)))

@@ -1,11 +1,5 @@
 -- First wrong lines, and a journal of two actors in two phases.
-use Rattle.std.proofs.Common.{◌≡◌, ℕ, ◌+◌, ◌==◌, List, [], ◌∷◌, Option, Some, None, refl, if◌then◌else◌}
-use Rattle.std.specs.Prelude.{codes}
-use Rattle.file_words.specs.Lines.{Bytes}
-use Rattle.turn_cell.specs.declared.journal.Entry.{Entry}
-use Rattle.line_readers.specs.FirstWrong.{first_wrong}
-use Rattle.line_readers.specs.Journals.{journal}
-use Rattle.line_readers.specs.Readers.{Reader, expected, and_then}
+use Rattle.line_readers.proofs.Common.{[], ℕ, ◌+◌, ◌==◌, ◌∷◌, ◌≡◌, and_then, Bytes, codes, Entry, expected, first_wrong, if◌then◌else◌, journal, List, None, Option, Reader, refl, Some}
 
 abbrev two_lines : Reader ℕ
 two_lines = and_then (expected (codes "a" ∷ []) 0) (λ (n : ℕ). expected ([] ∷ []) n)

@@ -1,10 +1,6 @@
 -- A reader that takes the right texts, and no others, finds the first wrong line.
-use Rattle.std.proofs.Common.{◌≡◌, ℕ, zero, suc, ◌+◌, ◌≤◌, List, [], ◌∷◌, ◌++◌, length, take, Option, Some, None, refl, sym, ap, ◌∙◌, subst, arith, append-nil}
-use Rattle.file_words.specs.Lines.{Bytes, CutLines, lines_of}
-use Rattle.line_readers.specs.Readers.{Reader, taken, read, IsLive, ending}
-use Rattle.line_readers.specs.FirstWrong.{ended, Begins, IsFirstWrong, wrong_in, first_wrong}
-use Rattle.line_readers.proofs.Lines.{cut-ending, cut-together}
-use Rattle.line_readers.proofs.Taking.{Takes, takes-read, read-takes, takes-lines, goes-on, takes-as_many, taken-few}
+use Rattle.line_readers.proofs.Common.{[], ℕ, ◌++◌, ◌+◌, ◌∙◌, ◌∷◌, ◌≡◌, ◌≤◌, ap, append-nil, arith, Begins, Bytes, CutLines, ended, ending, first_wrong, IsFirstWrong, IsLive, length, lines_of, List, None, Option, read, Reader, refl, Some}
+use Rattle.line_readers.proofs.{Common.{subst, suc, sym, take, taken, wrong_in, zero}, Lines.{cut-ending, cut-together}, Taking.{Takes, takes-read, read-takes, takes-lines, goes-on, takes-as_many, taken-few}}
 
 take-within : {X : Type 0} (n m : ℕ) (xs ys : List X) → n ≤ m → m ≤ length xs → take n (take m xs ++ ys) ≡ take n xs
 take-within zero m xs ys low few = refl

@@ -1,19 +1,8 @@
 -- The reader of a journal takes exactly the lines of entries that answer what is owed.
-use Rattle.std.proofs.Common.{◌≡◌, eq-eqb, ℕ, zero, suc, ◌+◌, ◌≤◌, Bool, true, false, List, [], ◌∷◌, length, Option, Some, None, refl, sym, ap, ◌∙◌, subst, arith, if◌then◌else◌}
-use Rattle.std.proofs.lemmas.Option.{same_Some}
-use Rattle.std.proofs.lemmas.Slice.Eq.{bytes_eq-Decides}
-use Rattle.std.specs.Prelude.{bytes_eq}
+use Rattle.line_readers.proofs.Common.{[], ℕ, ◌+◌, ◌∙◌, ◌∷◌, ◌≡◌, ◌≤◌, AllRows, ap, arith, behind, Bool, Bytes, bytes_eq, bytes_eq-Decides, done, due, Entry, entry, eq-eqb, false, first_by, how_many, if_shown, if◌then◌else◌, IsLive}
+use Rattle.line_readers.proofs.Common.{IsOneLine, journal, length, List, mapped, next_of, None, of_event, of_first, one_more, Option, Reader, refl, same_Some, shown, Some, subst, suc, sym, takes, true, with_entry, with_others, zero}
+use Rattle.line_readers.proofs.{Answers.Answers, Owed.{Due, nothing, some, is-due, due-many, due-hold, first-is, first-holds, others-hold}, Taking.Takes}
 use Rattle.std.specs.Option.{is_some}
-use Rattle.file_words.specs.Lines.{Bytes}
-use Rattle.turn_cell.specs.History.{entry}
-use Rattle.turn_cell.specs.declared.journal.Entry.{Entry}
-use Rattle.wsm_lists.specs.Rows.{AllRows}
-use Rattle.line_readers.specs.Journals.{if_shown, journal, next_of, of_event, of_first, one_more, shown, with_entry, behind}
-use Rattle.line_readers.specs.Owed.{due, first_by, how_many, with_others}
-use Rattle.line_readers.specs.Readers.{Reader, done, takes, mapped, IsLive, IsOneLine}
-use Rattle.line_readers.proofs.Answers.{Answers}
-use Rattle.line_readers.proofs.Owed.{Due, nothing, some, is-due, due-many, due-hold, first-is, first-holds, others-hold}
-use Rattle.line_readers.proofs.Taking.{Takes}
 
 -- ---- a reader whose value is made from another's
 pub mapped-takes : {A B : Type 0} (f : A → B) (r : Reader A) (ls : List Bytes) (a : A) → Takes r ls a → Takes (mapped f r) ls (f a)

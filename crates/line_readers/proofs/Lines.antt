@@ -1,9 +1,5 @@
 -- Lines that line feeds end, put together and cut.
-use Rattle.std.proofs.Common.{◌≡◌, ℕ, ◌==◌, Bool, true, false, List, [], ◌∷◌, ◌++◌, refl, sym, ap, ◌∙◌}
-use Rattle.std.proofs.lemmas.Bool.{eqb-true}
-use Rattle.file_words.specs.Lines.{Bytes, CutLines, lines_of, onto_lines, put_first, front_line}
-use Rattle.wsm_lists.specs.Rows.{AllRows}
-use Rattle.line_readers.specs.Readers.{IsOneLine, ending}
+use Rattle.line_readers.proofs.Common.{[], ℕ, ◌++◌, ◌==◌, ◌∙◌, ◌∷◌, ◌≡◌, AllRows, ap, Bool, Bytes, CutLines, ending, eqb-true, false, front_line, IsOneLine, lines_of, List, onto_lines, put_first, refl, sym, true}
 
 -- a line in front of others is cut off them
 pub cut-line : (l rest : Bytes) → IsOneLine l → lines_of (l ++ 10 ∷ rest) ≡ front_line l (lines_of rest)

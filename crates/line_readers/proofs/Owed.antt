@@ -1,10 +1,7 @@
 -- What is owed, as each actor sees it.
-use Rattle.std.proofs.Common.{◌≡◌, ◌≢◌, ℕ, suc, ◌==◌, ne_eqb, Bool, true, false, List, [], ◌∷◌, ◌++◌, length, Option, Some, None, refl, sym, ap, ◌∙◌, subst, arith, if◌then◌else◌}
-use Rattle.std.proofs.lemmas.Bool.{eqb-true}
+use Rattle.line_readers.proofs.Common.{[], ℕ, ◌++◌, ◌==◌, ◌∙◌, ◌∷◌, ◌≡◌, ◌≢◌, AllRows, ap, arith, Bool, due, eqb-true, false, first_by, how_many, if◌then◌else◌, length, lines_by, List, ne_eqb, None, Option, refl, same_Some, Some, subst}
+use Rattle.line_readers.proofs.Common.{suc, sym, true, with_others}
 use Rattle.std.proofs.lemmas.List.Elements.{filter-append}
-use Rattle.std.proofs.lemmas.Option.{same_Some}
-use Rattle.wsm_lists.specs.Rows.{AllRows}
-use Rattle.line_readers.specs.Owed.{due, how_many, lines_by, first_by, with_others}
 
 module _ {L : Type 0} where
   pub due-many : (owed : List (List L)) → how_many (due owed) ≡ how_many owed

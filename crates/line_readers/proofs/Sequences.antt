@@ -1,10 +1,5 @@
 -- Readers one behind another.
-use Rattle.std.proofs.Common.{◌≡◌, List, [], ◌∷◌, ◌++◌, refl, sym, ap, ◌∙◌, subst}
-use Rattle.std.proofs.lemmas.Slice.Eq.{bytes_eq-Decides}
-use Rattle.file_words.specs.Lines.{Bytes}
-use Rattle.wsm_lists.specs.Rows.{AllRows}
-use Rattle.line_readers.specs.Readers.{Reader, done, takes, expected, and_then, IsLive, IsOneLine}
-use Rattle.line_readers.proofs.Taking.{Takes}
+use Rattle.line_readers.proofs.{Common.{[], ◌++◌, ◌∙◌, ◌∷◌, ◌≡◌, AllRows, and_then, ap, Bytes, bytes_eq-Decides, done, expected, IsLive, IsOneLine, List, Reader, refl, subst, sym, takes}, Taking.Takes}
 
 -- ---- given lines
 pub expected-takes : {A : Type 0} (ls : List Bytes) (a : A) → Takes (expected ls a) ls a

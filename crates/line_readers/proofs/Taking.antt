@@ -1,8 +1,6 @@
 -- What readers take.
-use Rattle.std.proofs.Common.{◌≡◌, ℕ, zero, suc, ◌≤◌, Bool, true, false, List, [], ◌∷◌, ◌++◌, length, take, Some, None, refl, sym, ap, ◌∙◌, subst, arith, if◌then◌else◌}
-use Rattle.file_words.specs.Lines.{Bytes}
-use Rattle.wsm_lists.specs.Rows.{AllRows}
-use Rattle.line_readers.specs.Readers.{Reader, done, takes, taken, read, IsLive, IsOneLine}
+use Rattle.line_readers.proofs.Common.{[], ℕ, ◌++◌, ◌∙◌, ◌∷◌, ◌≡◌, ◌≤◌, AllRows, ap, arith, Bool, Bytes, done, false, if◌then◌else◌, IsLive, IsOneLine, length, List, None, read, Reader, refl, Some, subst, suc, sym, take, taken, takes, true}
+use Rattle.line_readers.proofs.Common.{zero}
 
 -- it takes exactly these lines, and then has this value
 abbrev pub Takes : {A : Type 0} → Reader A → List Bytes → A → Type 0

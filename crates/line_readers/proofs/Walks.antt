@@ -1,9 +1,6 @@
 -- Readers that are brought along the lines of a text, piece by piece.
-use Rattle.std.proofs.Common.{◌≡◌, ℕ, suc, ◌+◌, ◌==◌, Bool, true, false, List, [], ◌∷◌, Option, Some, None, refl, sym, ap, ◌∙◌, arith, if◌then◌else◌}
-use Rattle.std.specs.Prelude.{option_map}
-use Rattle.file_words.specs.Lines.{Bytes, CutLines, lines_of, put_first}
-use Rattle.line_readers.specs.FirstWrong.{ended, first_wrong, wrong_in}
-use Rattle.line_readers.specs.Readers.{Reader, done, takes, and_then, mapped, read, taken}
+use Rattle.line_readers.proofs.Common.{[], ℕ, ◌+◌, ◌==◌, ◌∙◌, ◌∷◌, ◌≡◌, and_then, ap, arith, Bool, Bytes, CutLines, done, ended, false, first_wrong, if◌then◌else◌, lines_of, List, mapped, None, Option, option_map, put_first, read, Reader}
+use Rattle.line_readers.proofs.Common.{refl, Some, suc, sym, taken, takes, true, wrong_in}
 use Rattle.line_readers.specs.Walks.{Goes, IsAtEnd, walk}
 
 -- ---- one reader behind another

@@ -1,11 +1,8 @@
 -- The lines of a journal: each is the next call that its caller owes.
-use Rattle.std.specs.Prelude.{ℕ, zero, suc, ◌+◌, List, [], ◌∷◌, Option, Some, None, bytes_eq, if◌then◌else◌}
-use Rattle.std.specs.Option.{is_some}
+use Rattle.std.specs.{Prelude.{ℕ, zero, suc, ◌+◌, List, [], ◌∷◌, Option, Some, None, bytes_eq, if◌then◌else◌}, Option.is_some}
 use Rattle.file_words.specs.Lines.{Bytes}
-use Rattle.turn_cell.specs.History.{entry}
-use Rattle.turn_cell.specs.declared.journal.Entry.{Entry}
-use Rattle.line_readers.specs.Owed.{due, first_by}
-use Rattle.line_readers.specs.Readers.{Reader, done, takes, mapped}
+use Rattle.turn_cell.specs.{History.entry, declared.journal.Entry.Entry}
+use Rattle.line_readers.specs.{Owed.{due, first_by}, Readers.{Reader, done, takes, mapped}}
 
 -- For a machine and what is owed to it: who owes a line, which event it is, whose call a line of the journal shows, and how an entry is shown.
 module _ {M E R W S L : Type 0} (after : S → E → S) (reply : S → E → R) (actor_of : L → ℕ) (event_of : L → Option E)

@@ -1,8 +1,7 @@
 -- How far a reader goes along the lines of a text.
 use Rattle.std.specs.Prelude.{◌≡◌, ℕ, ◌+◌, List, [], ◌∷◌, Option, Some, None, if◌then◌else◌}
 use Rattle.file_words.specs.Lines.{Bytes, lines_of}
-use Rattle.line_readers.specs.FirstWrong.{ended}
-use Rattle.line_readers.specs.Readers.{Reader, done, takes, taken}
+use Rattle.line_readers.specs.{FirstWrong.ended, Readers.{Reader, done, takes, taken}}
 
 -- its value and the lines behind those that it takes, where it comes to its end
 abbrev pub walk : {A : Type 0} → Reader A → List Bytes → Option (A × List Bytes)

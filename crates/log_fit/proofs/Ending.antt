@@ -1,21 +1,11 @@
 -- How a fit ends follows from how its input was read, and how that was answered.
-use Rattle.std.proofs.Common.{◌≡◌, ℕ, ◌+◌, ◌<◌, true, inl, inr, List, length, Option, Some, None, Result, Ok, Err, IfSome, IsOkAnd, sym, ap, refl, ◌∙◌, arith, nat_lt, subst}
-use Rattle.std.proofs.lemmas.Bool.{lt-ltb}
-use Rattle.std.proofs.lemmas.List.{length-append}
+use Rattle.log_fit.proofs.Common.{ℕ, ◌+◌, ◌<◌, ◌∙◌, ◌≡◌, ap, AppendsPrefix, arith, Bytes, Err, IfSome, inl, inr, IsOkAnd, length, length-append, List, lt-ltb, nat_lt, None, Ok, Option, Question, refl, Result, Some, subst, sym, true}
 use Rattle.std.specs.Io.KnownBytes.{Appends, IsAtEnd}
 use Rattle.adept_io.specs.Read.{ConsumesMany, ConsumesUpTo}
-use Rattle.adept_io.specs.Written.{AppendsPrefix}
 use Rattle.file_model.specs.Outcomes.{Tells as TellsFile}
-use Rattle.file_model.specs.declared.files.File.{File}
-use Rattle.file_model.specs.declared.refusals.FileRefusal.{FileRefusal}
+use Rattle.file_model.specs.{declared.files.File.File, declared.refusals.FileRefusal.FileRefusal, declared.refusals.Refused.Refused}
 use Rattle.file_model.specs.declared.refusals.FileRefusal.TheVariants as refusal
-use Rattle.file_model.specs.declared.refusals.Refused.{Refused}
-use Rattle.file_words.specs.Lines.{Bytes}
-use Rattle.log_fit.specs.Answer.{answer, is_too_long, most_input, with_file}
-use Rattle.log_fit.specs.Asked.{Question}
-use Rattle.log_fit.specs.Endings.{FitEnds, IsAnswered}
-use Rattle.log_fit.specs.Statuses.{of_file}
-use Rattle.log_fit.specs.declared.unfit.Unfit.{Unfit}
+use Rattle.log_fit.specs.{Answer.{answer, is_too_long, most_input, with_file}, Endings.{FitEnds, IsAnswered}, Statuses.of_file, declared.unfit.Unfit.Unfit}
 use Rattle.log_fit.specs.declared.unfit.Unfit.TheVariants as unfit
 
 -- an input that is too long

@@ -1,21 +1,12 @@
 -- How far the cases of logs go, computed from the definitions alone: from the bytes of a log.
-use Rattle.std.proofs.Common.{◌≡◌, ℕ, List, [], ◌∷◌, Some, None, refl}
-use Rattle.std.specs.Prelude.{Result, Ok, Err, codes}
-use Rattle.std.specs.Str.{is_utf8, chars}
-use Rattle.case_core.specs.declared.replies.Reply.{Reply}
+use Rattle.log_fit.proofs.Common.{[], ℕ, ◌∷◌, ◌≡◌, Bytes, CaseFit, codes, fits_told, List, None, refl, Reply, Some, told, VersionModel}
+use Rattle.std.specs.{Prelude.{Result, Ok, Err}, Str.{is_utf8, chars}}
 use Rattle.case_core.specs.declared.replies.Reply.TheVariants as reply
-use Rattle.csv.specs.Machine.{next_record}
-use Rattle.csv.specs.Reading.{records_from, strip_bom}
-use Rattle.file_words.specs.Lines.{Bytes}
-use Rattle.log_fit.specs.Fit.{fits_told}
-use Rattle.log_fit.specs.declared.fits.CaseFit.{CaseFit}
-use Rattle.log_records.specs.Told.{told}
+use Rattle.csv.specs.{Machine.next_record, Reading.{records_from, strip_bom}}
 use Rattle.log_records.specs.declared.faults.RecordFault.TheVariants as fault
 use Rattle.log_records.specs.declared.faults.WrongRecord.{WrongRecord}
-use Rattle.wsm_schema.specs.SchemaModel.{plain}
-use Rattle.wsm_schema.specs.Tree.{act, nothing, part}
+use Rattle.wsm_schema.specs.{SchemaModel.plain, Tree.{act, nothing, part}}
 use Rattle.wsm_schema.specs.declared.states.State.TheVariants as state
-use Rattle.wsm_sound.specs.VersionModel.{VersionModel}
 use Rattle.wsm_sound.specs.Versions.{first_version}
 
 -- two versions: A alone, and B behind it

@@ -1,15 +1,8 @@
 -- A case whose records are taken one after another goes as far as the answers to its events tell.
-use Rattle.std.proofs.Common.{◌≡◌, ℕ, suc, ◌+◌, Bool, true, false, List, [], ◌∷◌, length, fold, Option, Some, None, refl, ap, ◌∙◌, arith, if◌then◌else◌}
-use Rattle.std.specs.Prelude.{not}
+use Rattle.log_fit.proofs.Common.{[], ℕ, ◌+◌, ◌∙◌, ◌∷◌, ◌≡◌, accepted, answered, ap, arith, Bool, Bytes, case_fit, CaseFit, false, fit_of, fold, goes_on, if◌then◌else◌, length, List, None, not, opened, opened_row, Option, ProgressModel}
+use Rattle.log_fit.proofs.Common.{reach, refl, refusal, replies, Reply, Some, suc, true, VersionModel}
 use Rattle.case_core.specs.CaseModel.{CaseModel}
-use Rattle.case_core.specs.declared.replies.Reply.{Reply}
-use Rattle.file_words.specs.Lines.{Bytes}
-use Rattle.log_fit.specs.Fit.{accepted, answered, case_fit, goes_on, opened, refusal, replies}
-use Rattle.log_fit.specs.Progress.{fit_of, opened_row, reach}
-use Rattle.log_fit.specs.declared.fits.CaseFit.{CaseFit}
-use Rattle.log_fit.specs.ProgressModel.{ProgressModel}
 use Rattle.log_records.specs.declared.records.LogEvent.{LogEvent}
-use Rattle.wsm_sound.specs.VersionModel.{VersionModel}
 
 module _ (v : VersionModel) (name : Bytes) where
   -- a case that goes on, and one that stopped

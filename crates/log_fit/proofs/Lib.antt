@@ -1,3 +1,4 @@
+pub mod Common
 mod Going
 mod NamedRows
 mod Takings

@@ -1,12 +1,7 @@
 -- Rows that stand where their names stand in a list.
-use Rattle.std.proofs.Common.{◌≡◌, ℕ, zero, suc, ◌<◌, get_or, true, false, List, [], ◌∷◌, ◌++◌, length, map, Some, refl, sym, ap, ◌∙◌, arith, inl, inr}
-use Rattle.std.specs.Prelude.{slice_get, slice_set}
-use Rattle.std.specs.Str.{bytes_eq}
-use Rattle.std.proofs.lemmas.Bool.{cases_Bool}
+use Rattle.log_fit.proofs.Common.{[], ℕ, ◌++◌, ◌<◌, ◌∙◌, ◌∷◌, ◌≡◌, ap, AreApart, arith, Bytes, bytes_eq, cases_Bool, false, get_or, inl, inr, is_listed, length, List, map, noted, number_of, refl, slice_get, slice_set, Some, suc, sym, true}
+use Rattle.log_fit.proofs.Common.{zero}
 use Rattle.std.proofs.lemmas.Slice.Eq.{bytes_eq-Decides}
-use Rattle.file_names.specs.Names.{is_listed, noted, number_of}
-use Rattle.file_words.specs.Lines.{Bytes}
-use Rattle.log_fit.specs.Rows.{AreApart}
 
 pub equal : (a b : Bytes) → bytes_eq a b ≡ true → a ≡ b
 equal a b e = (bytes_eq-Decides a b).0 e

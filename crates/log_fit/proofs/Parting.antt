@@ -1,11 +1,7 @@
 -- An input and what stands behind the lines that were passed.
-use Rattle.std.proofs.Common.{◌≡◌, ℕ, ◌-◌, ◌≤◌, true, false, List, [], ◌∷◌, ◌++◌, length, take, Some, None, refl, sym, ap, ◌∙◌, arith, append_assoc, if◌then◌else◌, inl, inr}
-use Rattle.std.specs.Prelude.{codes, ◌==◌}
-use Rattle.std.proofs.lemmas.Bool.{cases_Bool, eqb-true}
-use Rattle.std.proofs.lemmas.List.{append-nil, length-append}
+use Rattle.log_fit.proofs.Common.{[], ℕ, ◌++◌, ◌-◌, ◌==◌, ◌∙◌, ◌∷◌, ◌≡◌, ◌≤◌, ap, append-nil, append_assoc, arith, Bytes, cases_Bool, codes, CutLines, eqb-true, false, front_line, if◌then◌else◌, inl, inr, is, length, length-append}
+use Rattle.log_fit.proofs.Common.{lines_of, List, None, one_left, put_first, refl, Some, sym, take, true, without_return}
 use Rattle.std.proofs.Math.Seq.{take-append_seam}
-use Rattle.file_words.specs.Lines.{Bytes, CutLines, front_line, lines_of, one_left, put_first, without_return}
-use Rattle.file_words.specs.Words.{is}
 use Rattle.log_fit.specs.Parts.{joined, onto_file, parts_from, parts_of}
 
 -- lines, joined again

@@ -1,10 +1,6 @@
 -- A type of a file that is read is small.
-use Rattle.std.proofs.Common.{◌≡◌, ℕ, zero, suc, ◌≤◌, true, false, List, [], ◌∷◌, length, Some, inl, inr, subst}
-use Rattle.std.specs.Prelude.{slice_get}
-use Rattle.std.specs.List.{list_all}
-use Rattle.std.proofs.lemmas.Bool.{cases_Bool, leb-true}
-use Rattle.file_model.specs.Sizes.{is_small}
-use Rattle.file_model.specs.declared.files.TypeDecl.{TypeDecl}
+use Rattle.log_fit.proofs.Common.{[], ℕ, ◌∷◌, ◌≡◌, ◌≤◌, cases_Bool, false, inl, inr, leb-true, length, List, list_all, slice_get, Some, subst, suc, true, zero}
+use Rattle.file_model.specs.{Sizes.is_small, declared.files.TypeDecl.TypeDecl}
 use Rattle.wsm_schema.specs.Flat.{cards_of}
 
 first_small : (t : TypeDecl) (ts : List TypeDecl) → list_all is_small (t ∷ ts) ≡ true → is_small t ≡ true

@@ -1,22 +1,8 @@
 -- A table of cases while records are taken.
-use Rattle.std.proofs.Common.{◌≡◌, ℕ, zero, suc, ◌<◌, ◌≤◌, subst, get_or, Bool, true, false, List, [], ◌∷◌, ◌++◌, length, map, filter, fold, Some, refl, sym, ap, ◌∙◌, arith, inl, inr, if◌then◌else◌, nat_lt, nat_lt}
-use Rattle.std.specs.Prelude.{slice_get, slice_set}
-use Rattle.std.specs.Str.{bytes_eq}
-use Rattle.std.proofs.lemmas.Bool.{cases_Bool, le-ltb, lt-ltb}
-use Rattle.std.proofs.lemmas.List.{length-append, length-map}
+use Rattle.log_fit.proofs.Common.{[], ℕ, ◌++◌, ◌<◌, ◌∙◌, ◌∷◌, ◌≡◌, ◌≤◌, AllRows, ap, arith, Bool, Bytes, bytes_eq, case_fit, CaseFit, cases_Bool, false, filter, fit_of, fits_of, fold, get_or, if◌then◌else◌, inl, inr, is_listed, IsTable}
+use Rattle.log_fit.proofs.Common.{le-ltb, length, length-append, length-map, List, LogRecord, lt-ltb, map, nat_lt, noted, number_of, of_case, opened_row, ProgressModel, reach, refl, row_of, rows_with, slice_get, slice_set, Some, subst, suc}
+use Rattle.log_fit.proofs.{Common.{sym, true, VersionModel, zero}, Going.as_told, NamedRows.{apart_noted, get_last, get_named, get_or_of, itself, map_last, number_last, one_changes, others_noted, others_stay, set_last, within}}
 use Rattle.std.proofs.lemmas.List.Sums.{fold_push}
-use Rattle.file_names.specs.Names.{is_listed, noted, number_of}
-use Rattle.file_words.specs.Lines.{Bytes}
-use Rattle.log_fit.specs.Fit.{case_fit, fits_of, of_case}
-use Rattle.log_fit.specs.Progress.{fit_of, opened_row, reach}
-use Rattle.log_fit.specs.Rows.{IsTable, row_of, rows_with}
-use Rattle.log_fit.specs.ProgressModel.{ProgressModel}
-use Rattle.log_fit.specs.declared.fits.CaseFit.{CaseFit}
-use Rattle.wsm_lists.specs.Rows.{AllRows}
-use Rattle.log_fit.proofs.Going.{as_told}
-use Rattle.log_fit.proofs.NamedRows.{apart_noted, get_last, get_named, get_or_of, itself, map_last, number_last, one_changes, others_noted, others_stay, set_last, within}
-use Rattle.log_records.specs.declared.records.LogRecord.{LogRecord}
-use Rattle.wsm_sound.specs.VersionModel.{VersionModel}
 
 -- a record more is an event of its own case, and of no other
 own : (n : Bytes) (records : List LogRecord) (r : LogRecord) → bytes_eq r.case n ≡ true → of_case n (records ++ r ∷ []) ≡ of_case n records ++ r.event ∷ []

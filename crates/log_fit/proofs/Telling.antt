@@ -1,23 +1,8 @@
 -- The records of a log that were told so far, and those behind them.
-use Rattle.std.proofs.Common.{◌≡◌, ◌<◌, ◌≤◌, ℕ, length, map, if◌then◌else◌, ◌+◌, Bool, true, false, List, [], ◌∷◌, ◌++◌, Some, None, Ok, Err, refl, sym, ap, ◌∙◌, arith}
-use Rattle.std.specs.Prelude.{not}
-use Rattle.std.proofs.Common.{append_assoc}
-use Rattle.std.proofs.lemmas.Bool.{ltb-false}
-use Rattle.std.proofs.lemmas.List.{append-nil, length-append, length-map}
-use Rattle.file_names.specs.Names.{noted}
-use Rattle.file_words.specs.Lines.{Bytes}
-use Rattle.log_fit.specs.Fit.{fits_of, fits_told}
-use Rattle.log_fit.specs.Progress.{fit_of}
-use Rattle.log_fit.specs.Rows.{IsTable, row_of}
+use Rattle.log_fit.proofs.Common.{[], ℕ, ◌++◌, ◌+◌, ◌<◌, ◌∙◌, ◌∷◌, ◌≡◌, ◌≤◌, AllRows, ap, append-nil, append_assoc, are_too_many, arith, Bool, Bytes, Err, false, Fields, fit_of, fits_of, fits_told, if◌then◌else◌, IsTable, length}
+use Rattle.log_fit.proofs.Common.{length-append, length-map, List, LogRecord, ltb-false, map, None, not, noted, Ok, ProgressModel, record_of, refl, row_of, Some, sym, Told, told_by, told_from, true, VersionModel, with_first}
 use Rattle.log_fit.proofs.Takings.{all_fits, empty, few_events}
-use Rattle.log_fit.specs.ProgressModel.{ProgressModel}
-use Rattle.log_records.specs.Forms.{record_of}
-use Rattle.log_records.specs.Records.{Fields}
-use Rattle.log_records.specs.Told.{Told, are_too_many, told_by, told_from, with_first}
 use Rattle.log_records.specs.declared.faults.RecordFault.TheVariants as fault
-use Rattle.log_records.specs.declared.records.LogRecord.{LogRecord}
-use Rattle.wsm_lists.specs.Rows.{AllRows}
-use Rattle.wsm_sound.specs.VersionModel.{VersionModel}
 
 -- records in front of what is told
 abbrev pub behind : List LogRecord → Told → Told

@@ -1,7 +1,5 @@
 -- One word asks nothing.
-use Rattle.std.proofs.Common.{◌≡◌, ◌<◌, List, [], ◌∷◌, length, map, None, refl, arith}
-use Rattle.file_words.specs.Lines.{Bytes}
-use Rattle.log_fit.specs.Asked.{asked}
+use Rattle.log_fit.proofs.Common.{[], ◌<◌, ◌∷◌, ◌≡◌, arith, asked, Bytes, length, List, map, None, refl}
 
 pub too_few : {W : Type 0} (f : W → Bytes) (words : List W) → length words < 2 → asked (map f words) ≡ None
 too_few f [] few = refl

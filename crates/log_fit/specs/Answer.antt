@@ -1,17 +1,9 @@
 -- What an input comes to: the bytes of a table, or why there is none.
 use Rattle.std.specs.Prelude.{ℕ, Bool, ◌||◌, nat_lt, List, length, Option, Some, None, Result, Ok, Err, if◌then◌else◌}
 use Rattle.file_limits.specs.declared.TheConstants.{MAX_FILE_BYTES}
-use Rattle.file_model.specs.Reading.{file}
-use Rattle.file_model.specs.declared.files.File.{File}
-use Rattle.file_model.specs.declared.refusals.Refused.{Refused}
+use Rattle.file_model.specs.{Reading.file, declared.files.File.File, declared.refusals.Refused.Refused}
 use Rattle.file_words.specs.Lines.{Bytes}
-use Rattle.log_fit.specs.Asked.{Question}
-use Rattle.log_fit.specs.Fit.{fit}
-use Rattle.log_fit.specs.Parts.{parts_of}
-use Rattle.log_fit.specs.Table.{table}
-use Rattle.log_fit.specs.Versions.{version_of}
-use Rattle.log_fit.specs.declared.fits.CaseFit.{CaseFit}
-use Rattle.log_fit.specs.declared.unfit.Unfit.{Unfit}
+use Rattle.log_fit.specs.{Asked.Question, Fit.fit, Parts.parts_of, Table.table, Versions.version_of, declared.fits.CaseFit.CaseFit, declared.unfit.Unfit.Unfit}
 use Rattle.log_fit.specs.declared.unfit.Unfit.TheVariants as unfit
 use Rattle.log_records.specs.declared.faults.WrongRecord.{WrongRecord}
 use Rattle.wsm_sound.specs.VersionModel.{VersionModel}

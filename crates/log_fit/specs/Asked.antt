@@ -1,8 +1,7 @@
 -- The words of the command line: the name of a type, and the number of a version.
 use Rattle.std.specs.Prelude.{ℕ, Bool, ◌&&◌, nat_lt, nat_le, List, [], ◌∷◌, Option, Some, None, if◌then◌else◌}
 use Rattle.file_names.specs.ShortNames.{is_short_name}
-use Rattle.file_words.specs.Lines.{Bytes}
-use Rattle.file_words.specs.Numbers.{are_digits, value_from}
+use Rattle.file_words.specs.{Lines.Bytes, Numbers.{are_digits, value_from}}
 
 pub record Question : Type 0 where
   pub name : Bytes

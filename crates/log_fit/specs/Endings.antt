@@ -1,13 +1,8 @@
 -- How a fit of an input ends, and what is left of its source and its sink.
-use Rattle.std.specs.Prelude.{ℕ, ◌≡◌, ◌⊎◌, ◌+◌, List, Option, IfSome, IsOkAnd, Result, Ok, Err}
-use Rattle.std.specs.Io.KnownBytes.{Appends, IsAtEnd}
-use Rattle.adept_io.specs.Counts.{Rose}
-use Rattle.adept_io.specs.Read.{ConsumesMany, ConsumesUpTo}
-use Rattle.adept_io.specs.Written.{AppendsPrefix}
+use Rattle.std.specs.{Prelude.{ℕ, ◌≡◌, ◌⊎◌, ◌+◌, List, Option, IfSome, IsOkAnd, Result, Ok, Err}, Io.KnownBytes.{Appends, IsAtEnd}}
+use Rattle.adept_io.specs.{Counts.Rose, Read.{ConsumesMany, ConsumesUpTo}, Written.AppendsPrefix}
 use Rattle.file_words.specs.Lines.{Bytes}
-use Rattle.log_fit.specs.Answer.{answer, most_input}
-use Rattle.log_fit.specs.Asked.{Question}
-use Rattle.log_fit.specs.declared.unfit.Unfit.{Unfit}
+use Rattle.log_fit.specs.{Answer.{answer, most_input}, Asked.Question, declared.unfit.Unfit.Unfit}
 use Rattle.log_fit.specs.declared.unfit.Unfit.TheVariants as unfit
 
 -- What an input comes to, of which this says what holds, is written, or a beginning of it where a write failed; or it comes to the reason

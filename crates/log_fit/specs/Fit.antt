@@ -1,20 +1,14 @@
 -- How far the cases of a log go on a version.
 use Rattle.std.specs.Prelude.{ℕ, suc, Bool, true, false, not, List, [], ◌∷◌, length, map, filter, find, fold, Option, Some, None, option_map, Result, Ok, Err, if◌then◌else◌, bytes_eq}
-use Rattle.case_core.specs.CaseModel.{CaseModel, not_created}
-use Rattle.case_core.specs.Machine.{next_case}
-use Rattle.case_core.specs.declared.events.Event.{Event}
+use Rattle.case_core.specs.{CaseModel.{CaseModel, not_created}, Machine.next_case, declared.events.Event.Event, declared.replies.Reply.Reply}
 use Rattle.case_core.specs.declared.events.Event.TheVariants as event
-use Rattle.case_core.specs.declared.replies.Reply.{Reply}
 use Rattle.case_core.specs.declared.replies.Reply.TheVariants as reply
 use Rattle.file_model.specs.declared.files.File.{File}
 use Rattle.file_names.specs.Names.{noted}
 use Rattle.file_words.specs.Lines.{Bytes}
 use Rattle.log_fit.specs.declared.fits.CaseFit.{CaseFit}
-use Rattle.log_records.specs.Told.{Told, told}
-use Rattle.log_records.specs.declared.faults.WrongRecord.{WrongRecord}
-use Rattle.log_records.specs.declared.records.LogEvent.{LogEvent}
+use Rattle.log_records.specs.{Told.{Told, told}, declared.faults.WrongRecord.WrongRecord, declared.records.LogEvent.LogEvent, declared.records.LogRecord.LogRecord}
 use Rattle.log_records.specs.declared.records.LogEvent.TheVariants as logged
-use Rattle.log_records.specs.declared.records.LogRecord.{LogRecord}
 use Rattle.wsm_lists.specs.Keys.{role_in}
 use Rattle.wsm_sound.specs.VersionModel.{VersionModel}
 

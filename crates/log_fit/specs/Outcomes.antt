@@ -1,7 +1,6 @@
 -- What a log comes to, as a call answers it.
 use Rattle.std.specs.Prelude.{◌≡◌, List, Result, Err}
-use Rattle.log_fit.specs.declared.fits.CaseFit.{CaseFit}
-use Rattle.log_fit.specs.declared.fits.FitRefusal.{FitRefusal}
+use Rattle.log_fit.specs.{declared.fits.CaseFit.CaseFit, declared.fits.FitRefusal.FitRefusal}
 use Rattle.log_fit.specs.declared.fits.FitRefusal.TheVariants.{Wrong, NoMemory}
 use Rattle.log_records.specs.declared.faults.WrongRecord.{WrongRecord}
 

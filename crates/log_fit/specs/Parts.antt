@@ -1,7 +1,6 @@
 -- An input: a process file, a line `log`, and a log.
 use Rattle.std.specs.Prelude.{List, [], ◌∷◌, ◌++◌, Option, Some, None, if◌then◌else◌, codes}
-use Rattle.file_words.specs.Lines.{Bytes, lines_of, without_return}
-use Rattle.file_words.specs.Words.{is}
+use Rattle.file_words.specs.{Lines.{Bytes, lines_of, without_return}, Words.is}
 
 -- the bytes of the file, and those of the log where there is one
 pub record Parts : Type 0 where

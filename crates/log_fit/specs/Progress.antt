@@ -1,11 +1,8 @@
 -- A case of a log while its records are taken.
 use Rattle.std.specs.Prelude.{◌+◌, Option, Some, None, if◌then◌else◌}
-use Rattle.case_core.specs.CaseModel.{CaseModel}
-use Rattle.case_core.specs.declared.replies.Reply.{Reply}
+use Rattle.case_core.specs.{CaseModel.CaseModel, declared.replies.Reply.Reply}
 use Rattle.file_words.specs.Lines.{Bytes}
-use Rattle.log_fit.specs.Fit.{answered, goes_on, opened}
-use Rattle.log_fit.specs.declared.fits.CaseFit.{CaseFit}
-use Rattle.log_fit.specs.ProgressModel.{ProgressModel}
+use Rattle.log_fit.specs.{Fit.{answered, goes_on, opened}, declared.fits.CaseFit.CaseFit, ProgressModel.ProgressModel}
 use Rattle.log_records.specs.declared.records.LogEvent.{LogEvent}
 use Rattle.wsm_sound.specs.VersionModel.{VersionModel}
 

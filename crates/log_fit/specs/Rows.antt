@@ -2,9 +2,7 @@
 use Rattle.std.specs.Prelude.{ℕ, ◌≡◌, false, List, [], ◌∷◌, ◌++◌, length, map, fold, nat_lt, if◌then◌else◌}
 use Rattle.file_names.specs.Names.{is_listed}
 use Rattle.file_words.specs.Lines.{Bytes}
-use Rattle.log_fit.specs.Fit.{names_in, of_case}
-use Rattle.log_fit.specs.Progress.{opened_row, reach}
-use Rattle.log_fit.specs.ProgressModel.{ProgressModel}
+use Rattle.log_fit.specs.{Fit.{names_in, of_case}, Progress.{opened_row, reach}, ProgressModel.ProgressModel}
 use Rattle.log_records.specs.declared.records.LogRecord.{LogRecord}
 use Rattle.wsm_sound.specs.VersionModel.{VersionModel}
 

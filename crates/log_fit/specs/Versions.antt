@@ -2,14 +2,10 @@
 use Rattle.std.specs.Prelude.{ℕ, ◌==◌, Bool, bytes_eq, List, map, fold, slice_get, Option, Some, None, if◌then◌else◌}
 use Rattle.file_names.specs.Names.{place_of}
 use Rattle.file_words.specs.Lines.{Bytes}
-use Rattle.file_model.specs.declared.files.Act.{Act}
-use Rattle.file_model.specs.declared.files.File.{File}
-use Rattle.file_model.specs.declared.files.Line.{Line}
-use Rattle.file_model.specs.declared.files.TypeDecl.{TypeDecl}
+use Rattle.file_model.specs.{declared.files.Act.Act, declared.files.File.File, declared.files.Line.Line, declared.files.TypeDecl.TypeDecl}
 use Rattle.line_calls.specs.Calls.{installed}
 use Rattle.script_run.specs.Verdicts.{defined_kind}
-use Rattle.type_core.specs.KindModel.{KindModel}
-use Rattle.type_core.specs.Machine.{next_kind, version_in}
+use Rattle.type_core.specs.{KindModel.KindModel, Machine.{next_kind, version_in}}
 use Rattle.type_core.specs.declared.events.KindEvent.TheVariants as kind_event
 use Rattle.wsm_ops.specs.declared.operations.Op.{Op}
 use Rattle.wsm_sound.specs.VersionModel.{VersionModel}

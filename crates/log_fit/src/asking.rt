@@ -1,9 +1,7 @@
 // The words of the command line.
-ghost use Rattle.std.specs.Prelude.{◌≡◌, map, string_bytes, Some, None, if◌then◌else◌};
-ghost use Rattle.std.specs.Option.{option_map};
+ghost use Rattle.std.specs.{Prelude.{◌≡◌, map, string_bytes, Some, None, if◌then◌else◌}, Option.option_map};
 ghost use Rattle.file_words.specs.Numbers.{value_from};
-ghost use Rattle.log_fit.specs.Asked.{asked, is_version_number, two_words};
-ghost use Rattle.log_fit.specs.Shown.{shown_question};
+ghost use Rattle.log_fit.specs.{Asked.{asked, is_version_number, two_words}, Shown.shown_question};
 
 use file_names::is_short_name;
 use file_words::code;

@@ -1,8 +1,7 @@
 // How far the cases of a log go.
 ghost use Rattle.std.specs.Prelude.{◌≡◌, ◌≤◌, [], Ok, length, IfOk, IfErr};
 ghost use Rattle.file_model.specs.Sizes.{HasNumbers};
-ghost use Rattle.log_fit.specs.Fit.{fit, fits_told};
-ghost use Rattle.log_fit.specs.Outcomes.{Tells};
+ghost use Rattle.log_fit.specs.{Fit.{fit, fits_told}, Outcomes.Tells};
 ghost use Rattle.log_fit.specs.declared.fits.FitRefusal.TheVariants as refusal;
 ghost use Rattle.log_records.specs.Told.{told_from};
 

@@ -1,12 +1,7 @@
 // A fit from the bytes of an input to those of a table.
 ghost use Rattle.std.specs.Prelude.{◌≡◌, ◌≤◌, length, map, string_bytes, Ok, Err, None, IfSome, option_map};
 ghost use Rattle.file_model.specs.Sizes.{HasNumbers, IsBounded};
-ghost use Rattle.log_fit.specs.Answer.{answer, most_input, with_file, with_log};
-ghost use Rattle.log_fit.specs.Asked.{asked};
-ghost use Rattle.log_fit.specs.Endings.{FitEnds, IsAnswered};
-ghost use Rattle.log_fit.specs.Shown.{shown_question};
-ghost use Rattle.log_fit.specs.Statuses.{of_file};
-ghost use Rattle.log_fit.specs.Table.{table};
+ghost use Rattle.log_fit.specs.{Answer.{answer, most_input, with_file, with_log}, Asked.asked, Endings.{FitEnds, IsAnswered}, Shown.shown_question, Statuses.of_file, Table.table};
 ghost use Rattle.log_fit.specs.declared.unfit.Unfit.TheVariants as unfit;
 
 use crate::asking::Asked;

@@ -2,8 +2,7 @@
 ghost use Rattle.std.specs.Prelude.{◌≡◌, ◌++◌, ◌∷◌, [], ◌<◌, ◌≤◌, true, not, nat_lt, length, map, slice_set, slice_get, if◌then◌else◌, IfOk, OnOk, ℕ};
 ghost use Rattle.file_names.specs.Names.{noted};
 ghost use Rattle.file_limits.specs.declared.TheConstants.{MAX_CASES};
-ghost use Rattle.log_fit.specs.Progress.{fit_of, opened_row, reach};
-ghost use Rattle.log_fit.specs.Rows.{TakesRecord, rows_with};
+ghost use Rattle.log_fit.specs.{Progress.{fit_of, opened_row, reach}, Rows.{TakesRecord, rows_with}};
 ghost use Rattle.log_records.specs.Told.{are_too_many};
 ghost use Rattle.wsm_lists.specs.Rows.{AllRows};
 

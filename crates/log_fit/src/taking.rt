@@ -1,7 +1,6 @@
 // Taking the records of a case.
 ghost use Rattle.std.specs.Prelude.{◌≡◌, ◌<◌, IfOk, OnOk};
-ghost use Rattle.log_fit.specs.Fit.{answered};
-ghost use Rattle.log_fit.specs.Progress.{fit_of, opened_row, reach, tried};
+ghost use Rattle.log_fit.specs.{Fit.answered, Progress.{fit_of, opened_row, reach, tried}};
 
 use crate::answers::{answer, goes_on};
 use crate::fits::CaseFit;

@@ -1,9 +1,6 @@
 // Writing how far cases go.
-ghost use Rattle.std.specs.Prelude.{◌≡◌, ◌++◌, codes, decimal, flat_map, OnErr, OnOk};
-ghost use Rattle.std.specs.Io.KnownBytes.{Appends};
-ghost use Rattle.std.specs.Option.{option_copied};
-ghost use Rattle.adept_io.specs.Counts.{Rose};
-ghost use Rattle.adept_io.specs.Written.{AppendsPrefix, Gives};
+ghost use Rattle.std.specs.{Prelude.{◌≡◌, ◌++◌, codes, decimal, flat_map, OnErr, OnOk}, Io.KnownBytes.Appends, Option.option_copied};
+ghost use Rattle.adept_io.specs.{Counts.Rose, Written.{AppendsPrefix, Gives}};
 ghost use Rattle.log_fit.specs.Table.{answer_text, fit_line, holder, next_text, table};
 
 use crate::fits::{CaseFit, Fits};

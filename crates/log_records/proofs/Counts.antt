@@ -1,9 +1,7 @@
 -- A log has no more records than bytes, and one.
 use Rattle.std.proofs.Common.{ℕ, zero, suc, ◌+◌, ◌≤◌, Bool, true, false, List, [], ◌∷◌, length, Option, Some, None, arith}
 use Rattle.std.specs.Prelude.{if◌then◌else◌}
-use Rattle.csv.specs.Machine.{Read, next_record}
-use Rattle.csv.specs.Reading.{default_config, is_bom, records_from, records_next, strip_bom}
-use Rattle.csv.specs.declared.parser.State.{State}
+use Rattle.csv.specs.{Machine.{Read, next_record}, Reading.{default_config, is_bom, records_from, records_next, strip_bom}, declared.parser.State.State}
 use Rattle.csv.specs.declared.parser.State.TheVariants as st
 use Rattle.log_records.specs.Records.{Fields, records_of}
 

@@ -1,11 +1,8 @@
 -- What logs tell, computed from the definitions alone.
-use Rattle.std.specs.Prelude.{◌≡◌, negsuc, List, [], ◌∷◌, Some, None, Ok, Err, refl, codes, ◌++◌}
-use Rattle.std.specs.Str.{is_utf8, chars}
-use Rattle.csv.specs.Machine.{next_record}
-use Rattle.csv.specs.Reading.{records_from, strip_bom}
+use Rattle.std.specs.{Prelude.{◌≡◌, negsuc, List, [], ◌∷◌, Some, None, Ok, Err, refl, codes, ◌++◌}, Str.{is_utf8, chars}}
+use Rattle.csv.specs.{Machine.next_record, Reading.{records_from, strip_bom}}
 use Rattle.file_words.specs.Lines.{Bytes}
-use Rattle.log_records.specs.Records.{records_of}
-use Rattle.log_records.specs.Told.{told}
+use Rattle.log_records.specs.{Records.records_of, Told.told}
 use Rattle.log_records.specs.declared.faults.RecordFault.TheVariants as fault
 use Rattle.log_records.specs.declared.records.LogEvent.TheVariants as event
 use Rattle.wsm_lists.specs.declared.values.Value.TheVariants as value

@@ -1,8 +1,7 @@
 -- Records of six fields.
 use Rattle.std.proofs.Common.{◌≡◌, ℕ, zero, suc, ◌<◌, List, [], ◌∷◌, length, Some, None, refl, arith}
 use Rattle.csv.specs.Records.{field_at}
-use Rattle.log_records.specs.Forms.{cells_of}
-use Rattle.log_records.specs.Records.{Fields}
+use Rattle.log_records.specs.{Forms.cells_of, Records.Fields}
 
 -- a record has a field at each place below its length
 pub present : (fs : Fields) (i : ℕ) → i < length fs → field_at fs i ≡ None → ⊥

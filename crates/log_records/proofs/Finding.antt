@@ -1,10 +1,6 @@
 -- Names and their places in a table that is filled from the last name to the first.
-use Rattle.std.proofs.Common.{◌≡◌, ℕ, ◌+◌, Bool, true, false, List, [], ◌∷◌, drop, Option, Some, option_map, cond, refl, sym, ap, ◌∙◌, arith, inl, inr}
-use Rattle.std.proofs.lemmas.Bool.{cases_Bool}
-use Rattle.std.proofs.lemmas.Slice.Eq.{bytes_eq-Decides}
-use Rattle.std.specs.Map.{lookup}
-use Rattle.std.specs.Str.{bytes_eq}
-use Rattle.std.specs.declared.vec.Vec.{Vec}
+use Rattle.std.proofs.{Common.{◌≡◌, ℕ, ◌+◌, Bool, true, false, List, [], ◌∷◌, drop, Option, Some, option_map, cond, refl, sym, ap, ◌∙◌, arith, inl, inr}, lemmas.Bool.cases_Bool, lemmas.Slice.Eq.bytes_eq-Decides}
+use Rattle.std.specs.{Map.lookup, Str.bytes_eq, declared.vec.Vec.Vec}
 use Rattle.indexmap.specs.IndexMap.{insert_entry}
 use Rattle.file_names.specs.Names.{is_listed, place_of}
 use Rattle.file_words.specs.Lines.{Bytes}

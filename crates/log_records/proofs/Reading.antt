@@ -1,14 +1,10 @@
 -- What a reader of a log has left, before and after a record.
-use Rattle.std.proofs.Common.{◌≡◌, ℕ, zero, suc, ◌+◌, ◌<◌, ◌≤◌, Bool, true, false, List, [], ◌∷◌, ◌++◌, length, Option, Some, None, refl, sym, ap, ◌∙◌, arith, add-one, Bor, if◌then◌else◌, inl, inr}
+use Rattle.std.proofs.{Common.{◌≡◌, ℕ, zero, suc, ◌+◌, ◌<◌, ◌≤◌, Bool, true, false, List, [], ◌∷◌, ◌++◌, length, Option, Some, None, refl, sym, ap, ◌∙◌, arith, add-one, Bor, if◌then◌else◌, inl, inr}, lemmas.Bool.cases_Bool}
 use Rattle.std.specs.Prelude.{not, ◌&&◌, ◌==◌}
-use Rattle.std.proofs.lemmas.Bool.{cases_Bool}
 use Rattle.csv.proofs.ReadFacts.{rows-end, rows-more}
-use Rattle.csv.specs.Machine.{Read, next_record, step, is_end, ends_at_end, fields_after, field_after}
-use Rattle.csv.specs.Reading.{Reached, ReadRecord, default_config, has_failed, records_from, records_next, source_of, unread_of}
-use Rattle.csv.specs.declared.parser.Config.{Config}
-use Rattle.csv.specs.declared.parser.State.{State}
+use Rattle.csv.specs.{Machine.{Read, next_record, step, is_end, ends_at_end, fields_after, field_after}, Reading.{Reached, ReadRecord, default_config, has_failed, records_from, records_next, source_of, unread_of}}
+use Rattle.csv.specs.{declared.parser.Config.Config, declared.parser.State.State, declared.reader.Reader.Reader}
 use Rattle.csv.specs.declared.parser.State.TheVariants as st
-use Rattle.csv.specs.declared.reader.Reader.{Reader}
 use Rattle.log_records.specs.Records.{Fields, IsGoing, all_bytes, known_records, left_of}
 
 -- a record takes no bytes that were not there

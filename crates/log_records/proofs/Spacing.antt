@@ -1,13 +1,7 @@
 -- Words between which single spaces stand.
-use Rattle.std.proofs.Common.{◌≡◌, ℕ, ◌+◌, ◌<◌, ◌≤◌, Bool, true, false, List, [], ◌∷◌, length, filter, sum_by, nat_eq, refl, sym, ap, ◌∙◌, arith, inl, inr, Bor, eq-eqb}
-use Rattle.std.proofs.lemmas.List.Sums.{sum_by-cons}
-use Rattle.std.specs.List.{list_all, list_any}
-use Rattle.std.proofs.lemmas.Bool.{cases_Bool, eqb-true}
-use Rattle.std.specs.Str.{is_utf8}
-use Rattle.file_words.specs.Lines.{Bytes}
-use Rattle.file_words.specs.Shown.{shown}
-use Rattle.file_words.specs.Words.{behind, cuts, fields, is_word, onto_fields, words_of}
-use Rattle.file_words.specs.declared.words.Quote.{Quote}
+use Rattle.std.proofs.{Common.{◌≡◌, ℕ, ◌+◌, ◌<◌, ◌≤◌, Bool, true, false, List, [], ◌∷◌, length, filter, sum_by, nat_eq, refl, sym, ap, ◌∙◌, arith, inl, inr, Bor, eq-eqb}, lemmas.List.Sums.sum_by-cons, lemmas.Bool.{cases_Bool, eqb-true}}
+use Rattle.std.specs.{List.{list_all, list_any}, Str.is_utf8}
+use Rattle.file_words.specs.{Lines.Bytes, Shown.shown, Words.{behind, cuts, fields, is_word, onto_fields, words_of}, declared.words.Quote.Quote}
 use Rattle.file_words.specs.declared.words.Quote.TheVariants.{Outside}
 use Rattle.log_records.specs.Forms.{is_spaced}
 

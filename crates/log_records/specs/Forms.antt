@@ -1,21 +1,12 @@
 -- What a record of a log says: a name of a case, what was done there, a node, a user, and for an end a choice and writes.
-use Rattle.std.specs.Prelude.{ℕ, Bool, true, ◌&&◌, not, ◌==◌, nat_le, List, [], ◌∷◌, length, Option, Some, None, option_map, if◌then◌else◌, codes}
-use Rattle.std.specs.List.{list_all, list_any}
-use Rattle.std.specs.Str.{is_utf8}
+use Rattle.std.specs.{Prelude.{ℕ, Bool, true, ◌&&◌, not, ◌==◌, nat_le, List, [], ◌∷◌, length, Option, Some, None, option_map, if◌then◌else◌, codes}, List.{list_all, list_any}, Str.is_utf8}
 use Rattle.file_limits.specs.declared.TheConstants.{MAX_TEXT}
-use Rattle.file_names.specs.Names.{place_of}
-use Rattle.file_names.specs.ShortNames.{is_short_name}
-use Rattle.file_words.specs.Lines.{Bytes}
-use Rattle.file_words.specs.Numbers.{code, role}
-use Rattle.file_words.specs.Pairs.{pair}
-use Rattle.file_words.specs.Words.{fields, is, is_word, words_of}
+use Rattle.file_names.specs.{Names.place_of, ShortNames.is_short_name}
+use Rattle.file_words.specs.{Lines.Bytes, Numbers.{code, role}, Pairs.pair, Words.{fields, is, is_word, words_of}}
 use Rattle.file_words.specs.declared.words.Quote.TheVariants.{Outside}
-use Rattle.log_records.specs.Records.{Fields}
-use Rattle.log_records.specs.declared.records.LogEvent.{LogEvent}
+use Rattle.log_records.specs.{Records.Fields, declared.records.LogEvent.LogEvent, declared.records.LogRecord.LogRecord}
 use Rattle.log_records.specs.declared.records.LogEvent.TheVariants as event
-use Rattle.log_records.specs.declared.records.LogRecord.{LogRecord}
-use Rattle.wsm_lists.specs.Values.{Written}
-use Rattle.wsm_lists.specs.declared.values.Value.{Value}
+use Rattle.wsm_lists.specs.{Values.Written, declared.values.Value.Value}
 use Rattle.wsm_lists.specs.declared.values.Value.TheVariants as value
 
 infixl 10 ◌>>=◌

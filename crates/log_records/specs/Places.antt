@@ -1,7 +1,5 @@
 -- The places of names in a list.
-use Rattle.std.specs.Prelude.{ℕ, ◌≡◌, ◌+◌, List, drop, option_map, bytes_eq}
-use Rattle.std.specs.Map.{lookup}
-use Rattle.std.specs.declared.vec.Vec.{Vec}
+use Rattle.std.specs.{Prelude.{ℕ, ◌≡◌, ◌+◌, List, drop, option_map, bytes_eq}, Map.lookup, declared.vec.Vec.Vec}
 use Rattle.file_names.specs.Names.{place_of}
 use Rattle.file_words.specs.Lines.{Bytes}
 

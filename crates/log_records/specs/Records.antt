@@ -1,9 +1,6 @@
 -- The records of a log, as `csv` reads them.
-use Rattle.std.specs.Prelude.{ℕ, ◌≡◌, ◌+◌, List, [], Option, Some, None, true, length}
-use Rattle.std.specs.Borrow.{Bor}
-use Rattle.csv.specs.Reading.{Ready, default_config, is_flexible, reader_config, reader_state, reader_trim, records, records_from, source_of, strip_bom}
-use Rattle.csv.specs.declared.parser.State.{State}
-use Rattle.csv.specs.declared.reader.Reader.{Reader}
+use Rattle.std.specs.{Prelude.{ℕ, ◌≡◌, ◌+◌, List, [], Option, Some, None, true, length}, Borrow.Bor}
+use Rattle.csv.specs.{Reading.{Ready, default_config, is_flexible, reader_config, reader_state, reader_trim, records, records_from, source_of, strip_bom}, declared.parser.State.State, declared.reader.Reader.Reader}
 use Rattle.csv.specs.declared.reader.Trim.TheVariants as trim
 
 -- a record is a list of fields

@@ -2,13 +2,9 @@
 use Rattle.std.specs.Prelude.{ℕ, ◌+◌, Bool, ◌&&◌, false, nat_lt, List, [], ◌∷◌, length, Option, Some, None, Result, Ok, Err, if◌then◌else◌, codes}
 use Rattle.file_limits.specs.declared.TheConstants.{MAX_CASES}
 use Rattle.file_names.specs.Names.{noted}
-use Rattle.file_words.specs.Lines.{Bytes}
-use Rattle.file_words.specs.Words.{is}
-use Rattle.log_records.specs.Forms.{Cells, cells_of, record_of}
-use Rattle.log_records.specs.Records.{Fields, records_of}
+use Rattle.file_words.specs.{Lines.Bytes, Words.is}
+use Rattle.log_records.specs.{Forms.{Cells, cells_of, record_of}, Records.{Fields, records_of}, declared.faults.WrongRecord.WrongRecord, declared.records.LogRecord.LogRecord}
 use Rattle.log_records.specs.declared.faults.RecordFault.TheVariants as fault
-use Rattle.log_records.specs.declared.faults.WrongRecord.{WrongRecord}
-use Rattle.log_records.specs.declared.records.LogRecord.{LogRecord}
 
 -- the first record names the fields
 abbrev pub are_titles : Option Cells → Bool

@@ -1,12 +1,8 @@
 // What the fields of a record say.
-ghost use Rattle.std.specs.Prelude.{◌≡◌, ◌==◌, ◌<◌, ◌+◌, ◌^◌, Some, IfOk, length, sum_by, map};
-ghost use Rattle.std.specs.Option.{option_map};
+ghost use Rattle.std.specs.{Prelude.{◌≡◌, ◌==◌, ◌<◌, ◌+◌, ◌^◌, Some, IfOk, length, sum_by, map}, Option.option_map};
 ghost use Rattle.csv.specs.Records.{fields_of};
-ghost use Rattle.file_words.specs.Shown.{shown, shown_literal};
-ghost use Rattle.file_words.specs.Words.{words_of};
-ghost use Rattle.log_records.specs.Forms.{cells_of, choice, end_of, event_of, is_short, is_spaced, none_unless, pairs, record_of, said, start_of, write_word, writes};
-ghost use Rattle.log_records.specs.Shown.{shown_cells};
-ghost use Rattle.log_records.specs.Told.{are_titles, is_head};
+ghost use Rattle.file_words.specs.{Shown.{shown, shown_literal}, Words.words_of};
+ghost use Rattle.log_records.specs.{Forms.{cells_of, choice, end_of, event_of, is_short, is_spaced, none_unless, pairs, record_of, said, start_of, write_word, writes}, Shown.shown_cells, Told.{are_titles, is_head}};
 
 use crate::places::NamePlaces;
 use crate::records::{LogEvent, LogRecord};

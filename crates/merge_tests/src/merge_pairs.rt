@@ -1,7 +1,6 @@
 // Pairs of operations: each kind beside each on activities of its own, and each kind with each that may touch what it changes.
 ghost use Rattle.std.specs.Prelude.{◌≡◌, [], IfOk, None};
-ghost use Rattle.wsm_schema.specs.Flat.{cards_of};
-ghost use Rattle.wsm_schema.specs.Sound.{nodes_of, twice};
+ghost use Rattle.wsm_schema.specs.{Flat.cards_of, Sound.{nodes_of, twice}};
 
 use std::alloc::Global;
 use std::test::Fail;

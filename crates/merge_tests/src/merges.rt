@@ -1,8 +1,7 @@
 // Drafts of one version that are merged.
 ghost use Rattle.std.specs.Prelude.{◌≡◌, ◌≤◌, ◌<◌, ◌^◌, [], length, IfOk, None};
 ghost use Rattle.wsm_lists.specs.Rows.{AllRows};
-ghost use Rattle.wsm_schema.specs.Flat.{cards_of};
-ghost use Rattle.wsm_schema.specs.Sound.{nodes_of, twice};
+ghost use Rattle.wsm_schema.specs.{Flat.cards_of, Sound.{nodes_of, twice}};
 
 use std::alloc::Global;
 use std::test::Fail;

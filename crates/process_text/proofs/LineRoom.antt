@@ -1,19 +1,11 @@
 -- How much of a file a line takes, and how many names it adds.
-use Rattle.std.proofs.Common.{◌≡◌, ◌≤◌, ℕ, ◌+◌, ◌-◌, ◌==◌, Bool, true, false, List, [], ◌∷◌, length, filter, take, Ok, IfOk, arith, subst, sym, ap, ◌∙◌}
-use Rattle.std.proofs.lemmas.List.{length-map, length-take}
-use Rattle.std.specs.Prelude.{if◌then◌else◌, slice_index}
-use Rattle.std.specs.Borrow.{Bor}
+use Rattle.process_text.proofs.Common.{[], ℕ, ◌+◌, ◌-◌, ◌==◌, ◌∙◌, ◌∷◌, ◌≡◌, ◌≤◌, ap, arith, at_place, behind, Bool, Bor, Bytes, count_of_names, CutLines, cuts, false, fields, filter, front_line, if◌then◌else◌, is_word, length, length-map}
+use Rattle.process_text.proofs.Common.{length-take, lines_of, List, Ok, onto_fields, onto_lines, put_first, shown, slice_index, Step, step_in, subst, sym, take, true, without_return, words_of}
+use Rattle.std.proofs.Common.{IfOk}
 use Rattle.std.specs.List.{onto_first}
-use Rattle.file_words.specs.Lines.{Bytes, CutLines, front_line, lines_of, onto_lines, put_first, without_return}
-use Rattle.file_words.specs.Shown.{shown}
-use Rattle.file_words.specs.Words.{behind, cuts, fields, is_word, onto_fields, words_of}
 use Rattle.file_words.specs.declared.words.Quote.{Quote}
 use Rattle.file_words.specs.declared.words.Quote.TheVariants.{Outside}
-use Rattle.file_model.specs.Reading.{step_in}
-use Rattle.file_model.specs.Room.{count_of_names}
-use Rattle.file_model.specs.Steps.{Step, at_place}
-use Rattle.file_model.specs.declared.states.Contents.{Contents}
-use Rattle.file_model.specs.declared.states.Section.{Section}
+use Rattle.file_model.specs.{declared.states.Contents.Contents, declared.states.Section.Section}
 use Rattle.file_model.proofs.Grown.{step_in-grown}
 
 -- ---- a line has no more words than bytes

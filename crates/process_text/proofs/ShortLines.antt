@@ -1,24 +1,10 @@
 -- A line without a long word has a form that is short.
-use Rattle.std.proofs.Common.{◌≡◌, ◌≤◌, ℕ, Bool, true, false, List, length, Option, Some, None, sym, subst, arith}
-use Rattle.std.proofs.lemmas.List.{length-map}
-use Rattle.std.specs.Prelude.{IfSome, if◌then◌else◌}
-use Rattle.std.specs.Borrow.{Bor}
+use Rattle.process_text.proofs.Common.{ℕ, ◌≡◌, ◌≤◌, arith, Bool, Bor, Bytes, false, fits_in, fitting, IfSome, if◌then◌else◌, length, length-map, List, None, Option, shown, Some, subst, sym, true}
 use Rattle.file_words.specs.Lengths.{first_long}
-use Rattle.file_words.specs.Lines.{Bytes}
-use Rattle.file_words.specs.Shown.{shown}
-use Rattle.file_forms.specs.DeclarationForms.{declaration_line}
-use Rattle.file_forms.specs.Forms.{Declaration, TypeLine, ScriptLine, OperationLine}
-use Rattle.file_forms.specs.NamesInForms.{roles_in, writes_in}
-use Rattle.file_forms.specs.OperationForms.{operation_line}
-use Rattle.file_forms.specs.ScriptForms.{script_line}
-use Rattle.file_forms.specs.TypeForms.{type_line}
-use Rattle.file_forms.proofs.FewWrites.{declaration-few, script_line-few}
-use Rattle.file_forms.proofs.NamesInForms.{declaration-has, operation-has, script_line-has, type_line-has}
-use Rattle.file_drafts.specs.Drafts.{around}
-use Rattle.file_drafts.specs.declared.drafts.Draft.{Draft}
-use Rattle.file_model.specs.Reading.{fitting}
+use Rattle.file_forms.specs.{DeclarationForms.declaration_line, Forms.{Declaration, TypeLine, ScriptLine, OperationLine}, NamesInForms.{roles_in, writes_in}, OperationForms.operation_line, ScriptForms.script_line, TypeForms.type_line}
+use Rattle.file_forms.proofs.{FewWrites.{declaration-few, script_line-few}, NamesInForms.{declaration-has, operation-has, script_line-has, type_line-has}}
+use Rattle.file_drafts.specs.{Drafts.around, declared.drafts.Draft.Draft}
 use Rattle.file_model.specs.ShortForms.{IsShort, IsShortDeclaration, IsShortOperation, IsShortScriptLine, IsShortTypeLine, IsShortWrite}
-use Rattle.file_model.specs.Typing.{fits_in}
 use Rattle.file_model.proofs.ShortWords.{words-short}
 
 given : {F : Type 0} (P : F → Type 0) (o : Option F) (f : F) → Some f ≡ o → IfSome o P → P f

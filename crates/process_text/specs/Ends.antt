@@ -1,11 +1,7 @@
 -- Where a file may end.
 use Rattle.std.specs.Prelude.{◌≡◌, Ok, Err}
 use Rattle.file_words.specs.Lines.{Bytes}
-use Rattle.file_model.specs.Steps.{at_place}
-use Rattle.file_model.specs.Reading.{file_of, finished}
-use Rattle.file_model.specs.declared.refusals.Why.{Why}
-use Rattle.file_model.specs.declared.states.Contents.{Contents}
-use Rattle.file_model.specs.declared.states.Section.{Section}
+use Rattle.file_model.specs.{Steps.at_place, Reading.{file_of, finished}, declared.refusals.Why.Why, declared.states.Contents.Contents, declared.states.Section.Section}
 
 -- a file may end there, whatever its contents are
 abbrev pub MayEnd : Section → Bytes → Type 0

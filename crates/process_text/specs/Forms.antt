@@ -1,16 +1,8 @@
 -- Whether a line has a form, whatever the line then means.
-use Rattle.std.specs.Prelude.{◌≡◌, ℕ, List, Option}
-use Rattle.std.specs.Str.{is_utf8}
+use Rattle.std.specs.{Prelude.{◌≡◌, ℕ, List, Option}, Str.is_utf8}
 use Rattle.file_words.specs.Lines.{Bytes}
-use Rattle.file_forms.specs.DeclarationForms.{declaration_line}
-use Rattle.file_forms.specs.ScriptForms.{script_line}
-use Rattle.file_model.specs.Outcomes.{Stops}
-use Rattle.file_model.specs.Declaring.{declared}
-use Rattle.file_model.specs.Scripting.{scripted}
-use Rattle.file_model.specs.Reading.{formed, unless_not_text}
-use Rattle.file_model.specs.Steps.{Step}
-use Rattle.file_model.specs.declared.states.Contents.{Contents}
-use Rattle.file_model.specs.declared.states.Stop.{Stop}
+use Rattle.file_forms.specs.{DeclarationForms.declaration_line, ScriptForms.script_line}
+use Rattle.file_model.specs.{Outcomes.Stops, Declaring.declared, Scripting.scripted, Reading.{formed, unless_not_text}, Steps.Step, declared.states.Contents.Contents, declared.states.Stop.Stop}
 
 -- nothing speaks against the line before its meaning
 abbrev pub HasForm : {F : Type 0} → Bytes → List Bytes → Option F → F → Type 0

@@ -1,7 +1,6 @@
 // The file, once all lines were read.
 ghost use Rattle.std.specs.Prelude.{◌≡◌, ◌<◌, ◌^◌, [], length, IfOk};
-ghost use Rattle.file_model.specs.Reading.{file_of};
-ghost use Rattle.file_model.specs.Sizes.{HasNumbers};
+ghost use Rattle.file_model.specs.{Reading.file_of, Sizes.HasNumbers};
 
 use file_model::{ActorDecl, CaseTable, Contents, File, Phases, TypeDecl};
 use file_names::{DeclaredList, NameTable, Names};

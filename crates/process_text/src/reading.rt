@@ -1,9 +1,6 @@
 // Reading a process file.
 ghost use Rattle.std.specs.Prelude.{◌≡◌, ◌≤◌, length, Ok, Err, IfOk, IfErr, OnOk};
-ghost use Rattle.file_model.specs.Outcomes.{Tells};
-ghost use Rattle.file_model.specs.Steps.{at_place, no_contents};
-ghost use Rattle.file_model.specs.Reading.{at_line, file_of, finished, file, file_up_to};
-ghost use Rattle.file_model.specs.Sizes.{HasNumbers, IsBounded};
+ghost use Rattle.file_model.specs.{Outcomes.Tells, Steps.{at_place, no_contents}, Reading.{at_line, file_of, finished, file, file_up_to}, Sizes.{HasNumbers, IsBounded}};
 ghost use Rattle.process_text.specs.Ends.{MayEnd, MayNotEnd};
 
 use crate::files::file_of;

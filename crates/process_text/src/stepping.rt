@@ -1,18 +1,9 @@
 // A line, by where it stands.
-ghost use Rattle.std.specs.Prelude.{◌≡◌, ◌≤◌, ◌+◌, length, Ok, IfOk, IfErr};
-ghost use Rattle.std.specs.Option.{option_map};
+ghost use Rattle.std.specs.{Prelude.{◌≡◌, ◌≤◌, ◌+◌, length, Ok, IfOk, IfErr}, Option.option_map};
 ghost use Rattle.file_words.specs.Shown.{shown};
-ghost use Rattle.file_forms.specs.Shown.{shown_declaration, shown_type_line, shown_script_line, shown_operation};
-ghost use Rattle.file_forms.specs.NamesInForms.{roles_in, writes_in};
-ghost use Rattle.file_forms.specs.DeclarationForms.{declaration_line};
-ghost use Rattle.file_forms.specs.TypeForms.{type_line};
-ghost use Rattle.file_forms.specs.ScriptForms.{script_line};
+ghost use Rattle.file_forms.specs.{Shown.{shown_declaration, shown_type_line, shown_script_line, shown_operation}, NamesInForms.{roles_in, writes_in}, DeclarationForms.declaration_line, TypeForms.type_line, ScriptForms.script_line};
 ghost use Rattle.file_forms.specs.OperationForms.{operation_line};
-ghost use Rattle.file_model.specs.Outcomes.{Stops};
-ghost use Rattle.file_model.specs.Room.{HasRoom};
-ghost use Rattle.file_model.specs.ShortForms.{IsShortDeclaration, IsShortOperation, IsShortScriptLine, IsShortTypeLine};
-ghost use Rattle.file_model.specs.Steps.{at_place};
-ghost use Rattle.file_model.specs.Reading.{why_long, fitting, declares, step_outside, step_in};
+ghost use Rattle.file_model.specs.{Outcomes.Stops, Room.HasRoom, ShortForms.{IsShortDeclaration, IsShortOperation, IsShortScriptLine, IsShortTypeLine}, Steps.at_place, Reading.{why_long, fitting, declares, step_outside, step_in}};
 ghost use Rattle.process_text.specs.Forms.{HasForm, IsFormed, IsNotFormed, LacksForm, declaration_step, script_step};
 
 use file_drafts::Draft;

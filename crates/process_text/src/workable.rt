@@ -1,9 +1,7 @@
 // Reading a process file that can be worked.
 ghost use Rattle.std.specs.Prelude.{◌≡◌, ◌≤◌, length, Ok, IfOk, IfErr};
 ghost use Rattle.file_facts.specs.Facts.{IsWorkable, MigratesAll};
-ghost use Rattle.file_model.specs.Outcomes.{Tells};
-ghost use Rattle.file_model.specs.Reading.{file, file_up_to};
-ghost use Rattle.file_model.specs.Sizes.{IsBounded};
+ghost use Rattle.file_model.specs.{Outcomes.Tells, Reading.{file, file_up_to}, Sizes.IsBounded};
 
 use crate::reading::read_file_up_to;
 use file_limits::{MAX_FILE_BYTES, NEWEST_FORMAT};

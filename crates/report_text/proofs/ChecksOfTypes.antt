@@ -1,12 +1,6 @@
 -- What is told of files that are checked alone, from the bytes of the file.
-use Rattle.std.specs.Prelude.{◌≡◌, [], Result, Ok, Err, refl, codes}
-use Rattle.std.specs.Fmt.{digits}
-use Rattle.std.specs.Str.{is_utf8, chars}
-use Rattle.file_words.specs.Lines.{Bytes}
-use Rattle.file_model.specs.Reading.{file}
-use Rattle.file_model.specs.declared.files.File.{File}
-use Rattle.file_model.specs.declared.refusals.Refused.{Refused}
-use Rattle.report_text.specs.Check.{check_text}
+use Rattle.report_text.proofs.Common.{Bytes, check_text, codes, Err, File, file, Ok, refl, Refused, Result}
+use Rattle.std.specs.{Prelude.{◌≡◌, []}, Fmt.digits, Str.{is_utf8, chars}}
 use Rattle.script_run.specs.Verdicts.{verdicts}
 use Rattle.wsm_sound.specs.Faults.{changed_by, fault_of}
 

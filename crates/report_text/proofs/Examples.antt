@@ -1,25 +1,12 @@
 -- Reports, computed from the definitions alone: from the bytes of a process file to the bytes of its report.
-use Rattle.std.specs.Prelude.{◌≡◌, pos, negsuc, List, [], ◌∷◌, ◌++◌, flat_map, Some, None, Result, Ok, Err, refl, codes}
-use Rattle.std.specs.Fmt.{digits}
-use Rattle.std.specs.Str.{is_utf8, chars}
+use Rattle.report_text.proofs.Common.{Bytes, case_line, case_totals, codes, Err, File, file, kind_line, migration_totals, negsuc, None, Ok, pos, refl, Refused, reply_text, Result, Some, state_line, text, value_text}
+use Rattle.std.specs.{Prelude.{◌≡◌, List, [], ◌∷◌, ◌++◌, flat_map}, Fmt.digits, Str.{is_utf8, chars}}
 use Rattle.case_core.specs.CaseModel.{CaseModel, LiveModel}
 use Rattle.case_core.specs.declared.events.Event.TheVariants as event
 use Rattle.case_core.specs.declared.replies.Reply.TheVariants as reply
-use Rattle.file_words.specs.Lines.{Bytes}
-use Rattle.file_model.specs.Reading.{file}
-use Rattle.file_model.specs.declared.files.File.{File}
-use Rattle.file_model.specs.declared.refusals.Refused.{Refused}
-use Rattle.report_text.specs.Ends.{state_line}
 use Rattle.fault_words.specs.FaultWords.{fault_text}
-use Rattle.report_text.specs.Journals.{case_line, kind_line, reply_text}
-use Rattle.report_words.specs.Migrations.{has_fate}
-use Rattle.report_words.specs.Names.{name_text}
-use Rattle.report_text.specs.Report.{text}
-use Rattle.report_words.specs.Totals.{case_totals, migration_totals}
-use Rattle.report_words.specs.Words.{value_text}
-use Rattle.script_run.specs.Serial.{serial}
-use Rattle.script_run.specs.Entries.{CaseEntry}
-use Rattle.script_run.specs.declared.runs.ClosedCase.{ClosedCase}
+use Rattle.report_words.specs.{Migrations.has_fate, Names.name_text}
+use Rattle.script_run.specs.{Serial.serial, Entries.CaseEntry, declared.runs.ClosedCase.ClosedCase}
 use Rattle.wsm_lists.specs.declared.values.Value.TheVariants as value
 use Rattle.type_core.specs.declared.events.KindEvent.TheVariants as kind_event
 use Rattle.type_core.specs.declared.replies.KindReply.TheVariants as kind_reply
@@ -28,16 +15,12 @@ use Rattle.wsm_foot.specs.declared.names.Name.TheVariants as name
 use Rattle.wsm_ops.specs.declared.faults.OpWhy.{OpWhy}
 use Rattle.wsm_ops.specs.declared.faults.OpWhy.TheVariants as why
 use Rattle.wsm_ops.specs.declared.operations.Op.TheVariants as op
-use Rattle.wsm_schema.specs.SchemaModel.{plain}
-use Rattle.wsm_schema.specs.Trail.{no_trail}
-use Rattle.wsm_schema.specs.Tree.{nothing}
+use Rattle.wsm_schema.specs.{SchemaModel.plain, Trail.no_trail, Tree.nothing}
 use Rattle.wsm_schema.specs.declared.entries.Entry.TheVariants as entry
 use Rattle.wsm_schema.specs.declared.faults.BlockFault.TheVariants as block
 use Rattle.wsm_schema.specs.declared.faults.DataFault.TheVariants as on_data
 use Rattle.wsm_schema.specs.declared.faults.LimitKind.TheVariants as limit
-use Rattle.wsm_sound.specs.Faults.{fault_of}
-use Rattle.wsm_sound.specs.VersionModel.{VersionModel}
-use Rattle.wsm_sound.specs.declared.faults.Fault.{Fault}
+use Rattle.wsm_sound.specs.{Faults.fault_of, VersionModel.VersionModel, declared.faults.Fault.Fault}
 use Rattle.wsm_sound.specs.declared.faults.Fault.TheVariants as fault
 
 -- the report of a file's serial run

@@ -1,9 +1,6 @@
 -- Numbered lines, and lists side by side, that are written one after another.
-use Rattle.std.proofs.Common.{◌≡◌, Bool, ℕ, zero, suc, ◌+◌, ◌<◌, List, [], ◌∷◌, ◌++◌, length, get_or, take, Option, refl, ap, sym, ◌∙◌, subst, append_assoc, append-nil, ◌⊎◌, inl, inr, arith}
-use Rattle.adept_io.proofs.Sent.{gives_then}
-use Rattle.adept_io.specs.Written.{Gives}
-use Rattle.report_text.specs.Journals.{numbered}
-use Rattle.report_text.specs.Report.{side_by_side}
+use Rattle.report_text.proofs.Common.{[], ℕ, ◌++◌, ◌+◌, ◌<◌, ◌∙◌, ◌∷◌, ◌≡◌, ◌⊎◌, ap, append-nil, append_assoc, arith, Bool, get_or, Gives, gives_then, inl, inr, length, List, numbered, Option, side_by_side, subst, suc, sym, take, zero}
+use Rattle.std.proofs.Common.{refl}
 
 -- the numbered lines up to an index, and the one there
 numbered-take_suc : {X : Type 0} (line : ℕ → X → List ℕ) (k : ℕ) (xs : List X) (i : ℕ) (d : X) → i < length xs →

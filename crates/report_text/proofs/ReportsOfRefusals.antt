@@ -1,10 +1,6 @@
 -- The report of one file with each reason for which operations are refused.
-use Rattle.std.specs.Prelude.{◌≡◌, ◌++◌, refl, codes}
-use Rattle.std.specs.Fmt.{digits}
-use Rattle.std.specs.Str.{is_utf8, chars}
-use Rattle.file_words.specs.Lines.{Bytes}
-use Rattle.file_model.specs.Reading.{file}
-use Rattle.report_text.proofs.Examples.{report}
+use Rattle.report_text.proofs.{Common.{Bytes, codes, file, refl}, Examples.report}
+use Rattle.std.specs.{Prelude.{◌≡◌, ◌++◌}, Fmt.digits, Str.{is_utf8, chars}}
 use Rattle.report_words.specs.Migrations.{has_fate}
 use Rattle.wsm_sound.specs.Faults.{changed_by, fault_of}
 

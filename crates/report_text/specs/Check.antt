@@ -1,8 +1,7 @@
 -- What is written of a file whose types are sound and of its installs.
 use Rattle.std.specs.Prelude.{List, ◌++◌, flat_map, codes, decimal}
 use Rattle.file_words.specs.Lines.{Bytes}
-use Rattle.file_model.specs.declared.files.File.{File}
-use Rattle.file_model.specs.declared.files.TypeDecl.{TypeDecl}
+use Rattle.file_model.specs.{declared.files.File.File, declared.files.TypeDecl.TypeDecl}
 use Rattle.report_text.specs.Journals.{kind_reply_text}
 use Rattle.report_words.specs.Words.{type_text}
 use Rattle.script_run.specs.declared.runs.Verdict.{Verdict}

@@ -1,16 +1,13 @@
 -- How a case ended.
 use Rattle.std.specs.Prelude.{ℕ, Bool, [], ◌++◌, flat_map, length, Option, Some, None, if◌then◌else◌, codes, decimal}
-use Rattle.case_core.specs.CaseModel.{LiveModel, state_of, value_now}
-use Rattle.case_core.specs.Shown.{is_finished, items_of}
+use Rattle.case_core.specs.{CaseModel.{LiveModel, state_of, value_now}, Shown.{is_finished, items_of}}
 use Rattle.wsm_items.specs.declared.work_items.Item.{Item}
 use Rattle.wsm_items.specs.declared.work_items.Item.TheVariants as item
 use Rattle.file_words.specs.Lines.{Bytes}
 use Rattle.file_model.specs.declared.files.File.{File}
 use Rattle.report_words.specs.Words.{node_then, caller_text, assigned, letter, role_text}
-use Rattle.wsm_lists.specs.declared.values.ElementKind.{ElementKind}
-use Rattle.wsm_lists.specs.declared.values.Value.{Value}
-use Rattle.wsm_schema.specs.Flat.{cards_of}
-use Rattle.wsm_schema.specs.declared.cards.Card.{Card}
+use Rattle.wsm_lists.specs.{declared.values.ElementKind.ElementKind, declared.values.Value.Value}
+use Rattle.wsm_schema.specs.{Flat.cards_of, declared.cards.Card.Card}
 
 abbrev pub progress : Bool → Bytes
 progress finished = if finished then codes " finished" else codes " running"

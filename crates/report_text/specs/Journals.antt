@@ -1,18 +1,15 @@
 -- The lines of the journals.
 use Rattle.std.specs.Prelude.{ℕ, ◌+◌, List, [], ◌∷◌, ◌++◌, flat_map, length, Option, Some, None, codes, decimal}
-use Rattle.case_core.specs.declared.events.Event.{Event}
+use Rattle.case_core.specs.{declared.events.Event.Event, declared.replies.Reply.Reply}
 use Rattle.case_core.specs.declared.events.Event.TheVariants as event
-use Rattle.case_core.specs.declared.replies.Reply.{Reply}
 use Rattle.case_core.specs.declared.replies.Reply.TheVariants as reply
 use Rattle.fault_words.specs.FaultWords.{fault_text}
 use Rattle.file_words.specs.Lines.{Bytes}
 use Rattle.file_model.specs.declared.files.File.{File}
-use Rattle.report_words.specs.Names.{name_text}
-use Rattle.report_words.specs.Words.{node_text, listed_element, caller_text, assigned, read_text, letter, role_text}
+use Rattle.report_words.specs.{Names.name_text, Words.{node_text, listed_element, caller_text, assigned, read_text, letter, role_text}}
 use Rattle.script_run.specs.Entries.{CaseEntry, KindEntry}
-use Rattle.type_core.specs.declared.events.KindEvent.{KindEvent}
+use Rattle.type_core.specs.{declared.events.KindEvent.KindEvent, declared.replies.KindReply.KindReply}
 use Rattle.type_core.specs.declared.events.KindEvent.TheVariants as kind_event
-use Rattle.type_core.specs.declared.replies.KindReply.{KindReply}
 use Rattle.type_core.specs.declared.replies.KindReply.TheVariants as kind_reply
 use Rattle.wsm_lists.specs.Values.{Written}
 use Rattle.wsm_schema.specs.declared.entries.Entry.{Entry}

@@ -1,16 +1,10 @@
 -- The text of a report.
 use Rattle.std.specs.Prelude.{List, [], ◌∷◌, ◌++◌, codes, decimal}
 use Rattle.file_words.specs.Lines.{Bytes}
-use Rattle.file_model.specs.declared.files.CaseDecl.{CaseDecl}
-use Rattle.file_model.specs.declared.files.File.{File}
-use Rattle.file_model.specs.declared.files.TypeDecl.{TypeDecl}
-use Rattle.report_text.specs.Ends.{end_text}
-use Rattle.report_text.specs.Journals.{kind_line, case_line, numbered}
-use Rattle.report_words.specs.Totals.{case_totals, migration_totals}
-use Rattle.report_words.specs.Words.{type_text}
-use Rattle.script_run.specs.declared.runs.ClosedCase.{ClosedCase}
-use Rattle.script_run.specs.declared.runs.ClosedKind.{ClosedKind}
-use Rattle.script_run.specs.declared.runs.Run.{Run}
+use Rattle.file_model.specs.{declared.files.CaseDecl.CaseDecl, declared.files.File.File, declared.files.TypeDecl.TypeDecl}
+use Rattle.report_text.specs.{Ends.end_text, Journals.{kind_line, case_line, numbered}}
+use Rattle.report_words.specs.{Totals.{case_totals, migration_totals}, Words.type_text}
+use Rattle.script_run.specs.{declared.runs.ClosedCase.ClosedCase, declared.runs.ClosedKind.ClosedKind, declared.runs.Run.Run}
 
 -- what is written of declarations and their ends, side by side, as long as there are both
 abbrev pub side_by_side : {D C : Type 0} → (D → C → Bytes) → List D → List C → Bytes

@@ -2,8 +2,7 @@
 ghost use Rattle.std.specs.Prelude.{◌≡◌, ◌++◌, flat_map, codes, decimal};
 ghost use Rattle.adept_io.specs.Written.{Gives};
 ghost use Rattle.report_text.specs.Journals.{blocked_text, case_line, choice_text, end_event_text, entry_text, event_text, numbered, position_text, reply_rest, reply_text, reply_word, wrong_choice};
-ghost use Rattle.report_words.specs.Names.{name_text};
-ghost use Rattle.report_words.specs.Words.{caller_text, letter, listed_element, role_text};
+ghost use Rattle.report_words.specs.{Names.name_text, Words.{caller_text, letter, listed_element, role_text}};
 
 use crate::kind_lines::put_line_start;
 use adept_io::{Sink, put, put_pieces};

@@ -1,8 +1,6 @@
 // What is told of a file that is checked alone.
-ghost use Rattle.std.specs.Prelude.{◌≡◌, ◌++◌, codes, flat_map, OnErr, OnOk};
-ghost use Rattle.std.specs.Io.KnownBytes.{Appends};
-ghost use Rattle.adept_io.specs.Counts.{Rose};
-ghost use Rattle.adept_io.specs.Written.{AppendsPrefix, Gives};
+ghost use Rattle.std.specs.{Prelude.{◌≡◌, ◌++◌, codes, flat_map, OnErr, OnOk}, Io.KnownBytes.Appends};
+ghost use Rattle.adept_io.specs.{Counts.Rose, Written.{AppendsPrefix, Gives}};
 ghost use Rattle.report_text.specs.Check.{check_text, sound_line, verdict_head, verdict_line};
 
 use crate::kind_lines::put_kind_reply;

@@ -1,8 +1,6 @@
 // The report.
-ghost use Rattle.std.specs.Prelude.{◌≡◌, ◌≤◌, ◌++◌, codes, OnErr, OnOk};
-ghost use Rattle.std.specs.Io.KnownBytes.{Appends};
-ghost use Rattle.adept_io.specs.Counts.{Rose};
-ghost use Rattle.adept_io.specs.Written.{AppendsPrefix, Gives};
+ghost use Rattle.std.specs.{Prelude.{◌≡◌, ◌≤◌, ◌++◌, codes, OnErr, OnOk}, Io.KnownBytes.Appends};
+ghost use Rattle.adept_io.specs.{Counts.Rose, Written.{AppendsPrefix, Gives}};
 ghost use Rattle.report_text.specs.Report.{case_head, case_text, cases_text, first_line, kind_text, kinds_text, summary, text, type_head};
 
 use crate::case_lines::put_case_journal;

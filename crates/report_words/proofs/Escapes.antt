@@ -1,11 +1,7 @@
 -- Texts in quotes, written in runs.
 use Rattle.std.proofs.Common.{◌≡◌, Bool, true, false, ℕ, zero, suc, ◌+◌, ◌<◌, ◌≤◌, List, [], ◌∷◌, ◌++◌, length, get_or, take, drop, take-append-drop, Some, None, not, refl, ap, sym, ◌∙◌, arith, take_all}
+use Rattle.std.proofs.{lemmas.List.Quantifiers.position-Some, lemmas.List.Sums.prefix_len_passes, lemmas.Bool.Decides.nat_tests, lemmas.Grind.flat_map-append, lemmas.List.take_more}
 use Rattle.std.specs.List.{flat_map, position, position_or_len}
-use Rattle.std.proofs.lemmas.List.Quantifiers.{position-Some}
-use Rattle.std.proofs.lemmas.List.Sums.{prefix_len_passes}
-use Rattle.std.proofs.lemmas.Bool.Decides.{nat_tests}
-use Rattle.std.proofs.lemmas.Grind.{flat_map-append}
-use Rattle.std.proofs.lemmas.List.{take_more}
 use Rattle.report_words.specs.Words.{EndsRun, escaped, is_escaped}
 
 -- bytes of which none is escaped stand as they are

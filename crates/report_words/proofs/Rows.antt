@@ -1,7 +1,6 @@
 -- Rows that are written one after another.
-use Rattle.std.proofs.Common.{◌≡◌, Bool, ℕ, ◌+◌, ◌<◌, List, [], ◌∷◌, ◌++◌, length, get_or, take, Option, refl, ap, ◌∙◌, subst}
+use Rattle.std.proofs.{Common.{◌≡◌, Bool, ℕ, ◌+◌, ◌<◌, List, [], ◌∷◌, ◌++◌, length, get_or, take, Option, refl, ap, ◌∙◌, subst}, lemmas.Grind.flat_map-append}
 use Rattle.std.specs.List.{flat_map}
-use Rattle.std.proofs.lemmas.Grind.{flat_map-append}
 use Rattle.adept_io.proofs.Sent.{gives_then, flat_map-take_more}
 use Rattle.adept_io.specs.Written.{Gives}
 

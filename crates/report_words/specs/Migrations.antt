@@ -1,12 +1,9 @@
 -- What became of the migrations in a journal.
-use Rattle.std.specs.Prelude.{ℕ, Bool, true, false, ◌&&◌}
-use Rattle.std.specs.List.{count_by}
-use Rattle.case_core.specs.declared.events.Event.{Event}
+use Rattle.std.specs.{Prelude.{ℕ, Bool, true, false, ◌&&◌}, List.count_by}
+use Rattle.case_core.specs.{declared.events.Event.Event, declared.replies.Reply.Reply}
 use Rattle.case_core.specs.declared.events.Event.TheVariants as event
-use Rattle.case_core.specs.declared.replies.Reply.{Reply}
 use Rattle.case_core.specs.declared.replies.Reply.TheVariants as reply
-use Rattle.script_run.specs.Entries.{CaseEntry}
-use Rattle.script_run.specs.declared.runs.ClosedCase.{ClosedCase}
+use Rattle.script_run.specs.{Entries.CaseEntry, declared.runs.ClosedCase.ClosedCase}
 use Rattle.report_words.specs.declared.totals.Fate.{Fate}
 use Rattle.report_words.specs.declared.totals.Fate.TheVariants as fate
 

@@ -1,8 +1,6 @@
 -- The totals of a report.
-use Rattle.std.specs.Prelude.{ℕ, Bool, false, List, ◌++◌, length, Option, Some, None, codes, decimal}
-use Rattle.std.specs.List.{count_by, sum_by}
-use Rattle.case_core.specs.CaseModel.{LiveModel}
-use Rattle.case_core.specs.Shown.{is_finished}
+use Rattle.std.specs.{Prelude.{ℕ, Bool, false, List, ◌++◌, length, Option, Some, None, codes, decimal}, List.{count_by, sum_by}}
+use Rattle.case_core.specs.{CaseModel.LiveModel, Shown.is_finished}
 use Rattle.file_words.specs.Lines.{Bytes}
 use Rattle.report_words.specs.Migrations.{with_fate}
 use Rattle.report_words.specs.declared.totals.Fate.TheVariants as fate

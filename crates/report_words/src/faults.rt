@@ -1,8 +1,7 @@
 // Why a schema, or a change of one, is refused.
 ghost use Rattle.std.specs.Prelude.{◌≡◌};
 ghost use Rattle.adept_io.specs.Written.{Gives};
-ghost use Rattle.fault_words.specs.FaultWords.{after_space, fault_text, word_text, words_text};
-ghost use Rattle.fault_words.specs.Shown.{shown_option, shown_word};
+ghost use Rattle.fault_words.specs.{FaultWords.{after_space, fault_text, word_text, words_text}, Shown.{shown_option, shown_word}};
 
 use crate::words::{put_element, put_of_node, put_spaced};
 use adept_io::{Sink, put_pieces};

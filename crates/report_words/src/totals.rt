@@ -1,9 +1,7 @@
 // The totals of a report.
-ghost use Rattle.std.specs.Prelude.{◌≡◌, if◌then◌else◌};
-ghost use Rattle.std.specs.List.{count_by, sum_by};
+ghost use Rattle.std.specs.{Prelude.{◌≡◌, if◌then◌else◌}, List.{count_by, sum_by}};
 ghost use Rattle.adept_io.specs.Written.{Gives};
-ghost use Rattle.report_words.specs.Migrations.{has_fate, is_migration, says, says_blocked, says_migrated, says_overlap, with_fate};
-ghost use Rattle.report_words.specs.Totals.{calls_of, case_totals, is_done, migration_totals};
+ghost use Rattle.report_words.specs.{Migrations.{has_fate, is_migration, says, says_blocked, says_migrated, says_overlap, with_fate}, Totals.{calls_of, case_totals, is_done, migration_totals}};
 ghost use Rattle.report_words.specs.declared.totals.Fate.TheVariants as fate;
 
 use adept_io::{Sink, put_pieces};

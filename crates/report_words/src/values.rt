@@ -1,6 +1,5 @@
 // Values of elements.
-ghost use Rattle.std.specs.Prelude.{◌≡◌, ◌+◌, flat_map, take};
-ghost use Rattle.std.specs.List.{position};
+ghost use Rattle.std.specs.{Prelude.{◌≡◌, ◌+◌, flat_map, take}, List.position};
 ghost use Rattle.adept_io.specs.Written.{Gives};
 ghost use Rattle.report_words.specs.Words.{EndsRun, escaped, is_escaped, text_in_quotes, value_text, value_or_none, assigned, read_text};
 

@@ -1,15 +1,9 @@
 -- How old the oldest case is at most after calls.
-use Rattle.std.proofs.Common.{◌≡◌, ℕ, zero, suc, ◌+◌, ◌≤◌, Bool, true, false, List, [], ◌∷◌, map, set, Option, Some, None, refl, arith}
-use Rattle.std.specs.Prelude.{slice_get, IfSome, if◌then◌else◌}
+use Rattle.script_run.proofs.Common.{[], ℕ, ◌+◌, ◌∷◌, ◌≡◌, ◌≤◌, age, arith, Bool, call_case, CaseDecl, changed_at, changed_where, ClosedCase, each_of, false, if_among, IfSome, if◌then◌else◌, is_among, List, map, None, Option, put_back}
+use Rattle.script_run.proofs.Common.{refl, set, slice_get, Some, suc, true, uncalled, weight, zero}
 use Rattle.case_core.proofs.AgesOfSteps.{age-next_case}
-use Rattle.case_core.specs.Ages.{age, weight}
 use Rattle.case_core.specs.declared.events.Event.{Event}
-use Rattle.file_model.specs.CaseCounts.{is_among}
-use Rattle.file_model.specs.declared.files.CaseDecl.{CaseDecl}
-use Rattle.script_run.specs.Calls.{call_case, put_back, changed_at, changed_where, if_among, each_of}
 use Rattle.script_run.specs.Oldest.{oldest}
-use Rattle.script_run.specs.Serial.{uncalled}
-use Rattle.script_run.specs.declared.runs.ClosedCase.{ClosedCase}
 
 -- no case is older than the oldest
 pub age-oldest : (cs : List ClosedCase) (i : ℕ) (c : ClosedCase) → slice_get cs i ≡ Some c → age c.machine ≤ oldest cs

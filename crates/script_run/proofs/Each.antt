@@ -1,10 +1,6 @@
 -- The cases of a type, called one after another in order of declaration.
-use Rattle.std.proofs.Common.{◌≡◌, ℕ, zero, suc, ◌+◌, ◌<◌, Bool, true, false, List, [], ◌∷◌, length, take, get_or, Option, Some, None, refl, ap, sym, ◌∙◌, arith, add-one}
-use Rattle.std.specs.Prelude.{slice_get, if◌then◌else◌}
-use Rattle.file_model.specs.CaseCounts.{is_among}
-use Rattle.file_model.specs.declared.files.CaseDecl.{CaseDecl}
-use Rattle.script_run.specs.Calls.{put_back, changed_at, if_among, each_of}
-use Rattle.script_run.specs.declared.runs.ClosedCase.{ClosedCase}
+use Rattle.script_run.proofs.Common.{[], ℕ, ◌+◌, ◌<◌, ◌∙◌, ◌∷◌, ◌≡◌, add-one, ap, arith, Bool, CaseDecl, changed_at, ClosedCase, each_of, false, get_or, if_among, if◌then◌else◌, is_among, length, List, None, Option, put_back, refl}
+use Rattle.script_run.proofs.Common.{slice_get, Some, suc, sym, take, true, zero}
 
 changed_at-suc : (f : ClosedCase → ClosedCase) (i : ℕ) (c : ClosedCase) (cs : List ClosedCase) → changed_at f (suc i) (c ∷ cs) ≡ c ∷ changed_at f i cs
 changed_at-suc f i c cs = go (slice_get cs i)

@@ -1,3 +1,4 @@
+pub mod Common
 pub mod Aging
 pub mod Each
 pub mod NoInstalls

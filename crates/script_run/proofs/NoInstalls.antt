@@ -1,11 +1,9 @@
 -- Lines that do not install leave what the types answered as it is.
-use Rattle.std.proofs.Common.{◌≡◌, ℕ, false, List, [], ◌∷◌, fold, Option, Some, None, refl, ap, ◌∙◌}
-use Rattle.std.specs.List.{list_any}
+use Rattle.script_run.proofs.Common.{[], ℕ, ◌∙◌, ◌∷◌, ◌≡◌, ap, Checking, false, fold, installs, judged_install, judged_phase, List, list_any, None, Option, refl, Some, some_install}
 use Rattle.std.specs.Option.{is_some}
 use Rattle.std.proofs.lemmas.Bool.{or_parts}
 use Rattle.file_model.specs.declared.files.Line.{Line}
 use Rattle.line_calls.specs.Calls.{installed}
-use Rattle.script_run.specs.Verdicts.{Checking, installs, judged_install, judged_phase, some_install}
 use Rattle.wsm_ops.specs.declared.operations.Op.{Op}
 
 idle : (at : ℕ) (o : Option (ℕ × List Op)) (s : Checking) → is_some o ≡ false → judged_install at o s ≡ s

@@ -1,29 +1,16 @@
 -- The calls of script lines.
 use Rattle.std.specs.Prelude.{ℕ, List, [], ◌∷◌, ◌++◌, slice_get, slice_set, Option, Some, None, if◌then◌else◌}
-use Rattle.case_core.specs.Machine.{next_case}
-use Rattle.case_core.specs.declared.events.Event.{Event}
+use Rattle.case_core.specs.{Machine.next_case, declared.events.Event.Event}
 use Rattle.case_core.specs.declared.events.Event.TheVariants as event
-use Rattle.file_model.specs.CaseCounts.{is_among}
-use Rattle.file_model.specs.declared.files.Act.{Act}
-use Rattle.file_model.specs.declared.files.CaseDecl.{CaseDecl}
-use Rattle.file_model.specs.declared.files.File.{File}
-use Rattle.file_model.specs.declared.files.Line.{Line}
-use Rattle.line_calls.specs.Calls.{call_of}
-use Rattle.line_calls.specs.Files.{place_of, roles_of}
-use Rattle.line_calls.specs.declared.calls.Call.{Call}
+use Rattle.file_model.specs.{CaseCounts.is_among, declared.files.Act.Act, declared.files.CaseDecl.CaseDecl, declared.files.File.File, declared.files.Line.Line}
+use Rattle.line_calls.specs.{Calls.call_of, Files.{place_of, roles_of}, declared.calls.Call.Call, declared.calls.Told.Told}
 use Rattle.line_calls.specs.declared.calls.Call.TheVariants as call
-use Rattle.line_calls.specs.declared.calls.Told.{Told}
 use Rattle.line_calls.specs.declared.calls.Told.TheVariants as told
-use Rattle.script_run.specs.declared.runs.ClosedCase.{ClosedCase}
-use Rattle.script_run.specs.declared.runs.ClosedKind.{ClosedKind}
-use Rattle.script_run.specs.declared.runs.Run.{Run}
-use Rattle.type_core.specs.Machine.{next_kind}
-use Rattle.type_core.specs.declared.events.KindEvent.{KindEvent}
+use Rattle.script_run.specs.{declared.runs.ClosedCase.ClosedCase, declared.runs.ClosedKind.ClosedKind, declared.runs.Run.Run}
+use Rattle.type_core.specs.{Machine.next_kind, declared.events.KindEvent.KindEvent, declared.replies.KindReply.KindReply}
 use Rattle.type_core.specs.declared.events.KindEvent.TheVariants as kind_event
-use Rattle.type_core.specs.declared.replies.KindReply.{KindReply}
 use Rattle.type_core.specs.declared.replies.KindReply.TheVariants as kind_reply
-use Rattle.wsm_sound.specs.VersionModel.{VersionModel}
-use Rattle.wsm_sound.specs.declared.versions.CaseId.{CaseId}
+use Rattle.wsm_sound.specs.{VersionModel.VersionModel, declared.versions.CaseId.CaseId}
 
 -- a call is a step of the machine and an entry of the journal
 abbrev pub call_kind : ℕ → KindEvent → ClosedKind → ClosedKind

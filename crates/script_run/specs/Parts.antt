@@ -1,8 +1,5 @@
 -- The run, and the check, that types and cases at work make up.
-use Rattle.script_run.specs.Verdicts.{Checking}
-use Rattle.script_run.specs.declared.calls.Working.{Working}
-use Rattle.script_run.specs.declared.checking.Judging.{Judging}
-use Rattle.script_run.specs.declared.runs.Run.{Run}
+use Rattle.script_run.specs.{Verdicts.Checking, declared.calls.Working.Working, declared.checking.Judging.Judging, declared.runs.Run.Run}
 
 abbrev pub run_of : Working → Run
 run_of w = record { kinds = w.kinds.items; cases = w.cases.items }

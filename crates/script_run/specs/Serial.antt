@@ -1,14 +1,8 @@
 -- The run that makes the calls of all lines in file order.
 use Rattle.std.specs.Prelude.{ℕ, ◌+◌, List, [], ◌∷◌, map, fold}
 use Rattle.case_core.specs.CaseModel.{not_created}
-use Rattle.file_model.specs.declared.files.CaseDecl.{CaseDecl}
-use Rattle.file_model.specs.declared.files.File.{File}
-use Rattle.file_model.specs.declared.files.Line.{Line}
-use Rattle.file_model.specs.declared.files.TypeDecl.{TypeDecl}
-use Rattle.script_run.specs.Calls.{call_kind, worked}
-use Rattle.script_run.specs.declared.runs.ClosedCase.{ClosedCase}
-use Rattle.script_run.specs.declared.runs.ClosedKind.{ClosedKind}
-use Rattle.script_run.specs.declared.runs.Run.{Run}
+use Rattle.file_model.specs.{declared.files.CaseDecl.CaseDecl, declared.files.File.File, declared.files.Line.Line, declared.files.TypeDecl.TypeDecl}
+use Rattle.script_run.specs.{Calls.{call_kind, worked}, declared.runs.ClosedCase.ClosedCase, declared.runs.ClosedKind.ClosedKind, declared.runs.Run.Run}
 use Rattle.type_core.specs.KindModel.{not_defined}
 use Rattle.type_core.specs.declared.events.KindEvent.TheVariants as kind_event
 

@@ -1,9 +1,7 @@
 // Calls of types and cases.
 ghost use Rattle.std.specs.Prelude.{◌≡◌, ◌+◌, ◌≤◌, slice_get, IfOk, IfSome, OnOk};
 ghost use Rattle.case_core.specs.Ages.{age, weight};
-ghost use Rattle.script_run.specs.Calls.{call_case, call_kind, changed_at, newest, on_case, on_each, on_kind, answered_version};
-ghost use Rattle.script_run.specs.Oldest.{oldest};
-ghost use Rattle.script_run.specs.Parts.{run_of};
+ghost use Rattle.script_run.specs.{Calls.{call_case, call_kind, changed_at, newest, on_case, on_each, on_kind, answered_version}, Oldest.oldest, Parts.run_of};
 ghost use Rattle.type_core.specs.Machine.{next_kind, weight as kind_weight};
 
 use crate::runs::{CaseEntry, ClosedCase, ClosedCases, ClosedKind, ClosedKinds, KindEntry, Run};

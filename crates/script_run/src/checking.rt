@@ -1,10 +1,8 @@
 // What the installs of a file come to.
-ghost use Rattle.std.specs.Prelude.{◌≡◌, ◌+◌, ◌*◌, ◌≤◌, true, length, slice_get, IfOk, OnOk};
-ghost use Rattle.std.specs.List.{list_all, list_any};
+ghost use Rattle.std.specs.{Prelude.{◌≡◌, ◌+◌, ◌*◌, ◌≤◌, true, length, slice_get, IfOk, OnOk}, List.{list_all, list_any}};
 ghost use Rattle.file_limits.specs.declared.TheConstants.{MAX_TYPES};
 ghost use Rattle.file_model.specs.Sizes.{IsBounded, is_small, line_effort, phase_effort};
-ghost use Rattle.script_run.specs.Parts.{checking_of};
-ghost use Rattle.script_run.specs.Verdicts.{defined_from, defined_kind, installs, judged, judged_line, judged_phase, some_install, verdicts};
+ghost use Rattle.script_run.specs.{Parts.checking_of, Verdicts.{defined_from, defined_kind, installs, judged, judged_line, judged_phase, some_install, verdicts}};
 ghost use Rattle.type_core.specs.Machine.{weight};
 ghost use Rattle.wsm_schema.specs.Flat.{cards_of};
 

@@ -1,13 +1,9 @@
 // The serial run.
-ghost use Rattle.std.specs.Prelude.{◌≡◌, ◌+◌, ◌≤◌, true, map, length, IfOk, OnOk, Some};
-ghost use Rattle.std.specs.List.{list_all};
+ghost use Rattle.std.specs.{Prelude.{◌≡◌, ◌+◌, ◌≤◌, true, map, length, IfOk, OnOk, Some}, List.list_all};
 ghost use Rattle.file_limits.specs.declared.TheConstants.{MAX_TYPES};
 ghost use Rattle.file_model.specs.Sizes.{IsBounded, is_small, line_effort, phase_effort};
 ghost use Rattle.line_calls.specs.Calls.{call_weight};
-ghost use Rattle.script_run.specs.Calls.{called, told_to, worked};
-ghost use Rattle.script_run.specs.Oldest.{oldest};
-ghost use Rattle.script_run.specs.Parts.{run_of};
-ghost use Rattle.script_run.specs.Serial.{defined, kinds_from, opening, phase_worked, serial, uncalled};
+ghost use Rattle.script_run.specs.{Calls.{called, told_to, worked}, Oldest.oldest, Parts.run_of, Serial.{defined, kinds_from, opening, phase_worked, serial, uncalled}};
 ghost use Rattle.wsm_schema.specs.Flat.{cards_of};
 
 use crate::call_counts::CallCounts;

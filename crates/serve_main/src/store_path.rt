@@ -1,7 +1,6 @@
 // The store that the program's word names.
 ghost use Rattle.std.specs.Prelude.{IfOk};
-ghost use Rattle.store_disk.specs.Disk.{Only};
-ghost use Rattle.store_disk.specs.History.{content, MayLeave};
+ghost use Rattle.store_disk.specs.{Disk.Only, History.{content, MayLeave}};
 
 use crate::ends::End;
 use command_words::{WordFault, word};

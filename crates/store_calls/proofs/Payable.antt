@@ -1,37 +1,24 @@
 -- The calls of a file that is read can be written as payloads: no block of a sound type stands too deep.
-use Rattle.std.proofs.Common.{◌≡◌, ℕ, ◌+◌, Bool, true, false, List, [], ◌∷◌, ◌++◌, fold, Option, Some, None, refl, arith}
-use Rattle.std.specs.Prelude.{nat_le, nat_lt, option_map, if◌then◌else◌}
-use Rattle.std.specs.List.{AllByRecursion}
-use Rattle.std.specs.Option.{option_or}
-use Rattle.std.proofs.lemmas.Bool.Decides.{nat_tests}
+use Rattle.std.proofs.{Common.{◌≡◌, ℕ, ◌+◌, Bool, true, false, List, [], ◌∷◌, ◌++◌, fold, Option, Some, None, refl, arith}, lemmas.Bool.Decides.nat_tests}
+use Rattle.std.specs.{Prelude.{nat_le, nat_lt, option_map, if◌then◌else◌}, List.AllByRecursion, Option.option_or}
 use Rattle.case_core.specs.declared.events.Event.{Event}
 use Rattle.case_core.specs.declared.events.Event.TheVariants as event
 use Rattle.file_facts.specs.Facts.{IsSound, IsWorkable}
-use Rattle.file_model.specs.CaseCounts.{is_among}
-use Rattle.file_model.specs.declared.files.CaseDecl.{CaseDecl}
-use Rattle.file_model.specs.declared.files.File.{File}
-use Rattle.file_model.specs.declared.files.Line.{Line}
-use Rattle.file_model.specs.declared.files.TypeDecl.{TypeDecl}
+use Rattle.file_model.specs.{CaseCounts.is_among, declared.files.CaseDecl.CaseDecl, declared.files.File.File, declared.files.Line.Line, declared.files.TypeDecl.TypeDecl}
 use Rattle.line_calls.proofs.Facts.{plain-call}
-use Rattle.line_calls.specs.Calls.{call_of}
-use Rattle.line_calls.specs.Files.{roles_of}
-use Rattle.line_calls.specs.Known.{IsPlain, brings_version, is_install}
-use Rattle.line_calls.specs.declared.calls.Call.{Call}
+use Rattle.line_calls.specs.{Calls.call_of, Files.roles_of, Known.{IsPlain, brings_version, is_install}, declared.calls.Call.Call}
 use Rattle.line_calls.specs.declared.calls.Call.TheVariants as call
 use Rattle.line_calls.specs.declared.calls.Told.TheVariants as told
 use Rattle.store_calls.specs.Calls.{Told, by, calls, create_calls, definitions, migrate_calls, migrations, newest_number, records, stored_kind, told_line, told_phase, told_types}
 use Rattle.store_form.specs.declared.stored.Recorded.{Recorded}
 use Rattle.store_form.specs.declared.stored.Stored.TheVariants as stored
 use Rattle.store_room.specs.Room.{IsPayable}
-use Rattle.type_core.specs.KindModel.{KindModel}
-use Rattle.type_core.specs.declared.events.KindEvent.{KindEvent}
+use Rattle.type_core.specs.{KindModel.KindModel, declared.events.KindEvent.KindEvent}
 use Rattle.type_core.specs.declared.events.KindEvent.TheVariants as kind_event
 use Rattle.wsm_lists.specs.Rows.{AllRows}
-use Rattle.wsm_schema.specs.SchemaModel.{SchemaModel}
-use Rattle.wsm_schema.specs.Sound.{block_fault, data_fault, over_limit, parts_depth, when}
-use Rattle.wsm_sound.specs.Faults.{fault_of}
+use Rattle.wsm_schema.specs.{SchemaModel.SchemaModel, Sound.{block_fault, data_fault, over_limit, parts_depth, when}}
+use Rattle.wsm_sound.specs.{Faults.fault_of, declared.versions.CaseId.CaseId}
 use Rattle.wsm_sound.specs.declared.faults.Fault.TheVariants as fault
-use Rattle.wsm_sound.specs.declared.versions.CaseId.{CaseId}
 
 abbrev All : List Recorded → Type 0
 All cs = AllByRecursion IsPayable cs

@@ -1,27 +1,15 @@
 -- The calls that the lines of a file make, one after another, as a store keeps them. Which versions the types have decides which
 -- calls they are, and no case does.
 use Rattle.std.specs.Prelude.{ℕ, ◌+◌, List, [], ◌∷◌, ◌++◌, fold, length, map, slice_get, Option, Some, None, option_map, if◌then◌else◌}
-use Rattle.file_model.specs.CaseCounts.{is_among}
-use Rattle.file_model.specs.declared.files.CaseDecl.{CaseDecl}
-use Rattle.file_model.specs.declared.files.File.{File}
-use Rattle.file_model.specs.declared.files.Line.{Line}
-use Rattle.file_model.specs.declared.files.TypeDecl.{TypeDecl}
-use Rattle.line_calls.specs.Calls.{call_of}
-use Rattle.line_calls.specs.Files.{roles_of}
-use Rattle.line_calls.specs.declared.calls.Call.{Call}
+use Rattle.file_model.specs.{CaseCounts.is_among, declared.files.CaseDecl.CaseDecl, declared.files.File.File, declared.files.Line.Line, declared.files.TypeDecl.TypeDecl}
+use Rattle.line_calls.specs.{Calls.call_of, Files.roles_of, declared.calls.Call.Call}
 use Rattle.line_calls.specs.declared.calls.Call.TheVariants as call
 use Rattle.line_calls.specs.declared.calls.Told.TheVariants as told
-use Rattle.script_run.specs.Calls.{changed_at}
-use Rattle.script_run.specs.Serial.{program}
-use Rattle.script_run.specs.Verdicts.{defined_from, stepped}
-use Rattle.store_form.specs.Payload.{Bytes}
-use Rattle.store_form.specs.declared.stored.Recorded.{Recorded}
-use Rattle.store_form.specs.declared.stored.Stored.{Stored}
+use Rattle.script_run.specs.{Calls.changed_at, Serial.program, Verdicts.{defined_from, stepped}}
+use Rattle.store_form.specs.{Payload.Bytes, declared.stored.Recorded.Recorded, declared.stored.Stored.Stored}
 use Rattle.store_form.specs.declared.stored.Stored.TheVariants as stored
 use Rattle.store_room.specs.Room.{payload_of}
-use Rattle.type_core.specs.KindModel.{KindModel}
-use Rattle.type_core.specs.Machine.{newest_of}
-use Rattle.type_core.specs.declared.events.KindEvent.{KindEvent}
+use Rattle.type_core.specs.{KindModel.KindModel, Machine.newest_of, declared.events.KindEvent.KindEvent}
 use Rattle.type_core.specs.declared.events.KindEvent.TheVariants as kind_event
 use Rattle.wsm_sound.specs.declared.versions.CaseId.{CaseId}
 

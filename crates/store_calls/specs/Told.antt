@@ -1,9 +1,7 @@
 -- The calls so far as the code keeps them.
 use Rattle.std.specs.Prelude.{ℕ, List, [], ◌∷◌, ◌++◌}
-use Rattle.store_calls.specs.Calls.{Told, by}
-use Rattle.store_calls.specs.declared.telling.Telling.{Telling}
-use Rattle.store_form.specs.declared.stored.Recorded.{Recorded}
-use Rattle.store_form.specs.declared.stored.Stored.{Stored}
+use Rattle.store_calls.specs.{Calls.{Told, by}, declared.telling.Telling.Telling}
+use Rattle.store_form.specs.{declared.stored.Recorded.Recorded, declared.stored.Stored.Stored}
 
 abbrev pub told_of : Telling → Told
 told_of t = record { kinds = t.kinds.items; calls = t.calls.items }

@@ -1,13 +1,10 @@
 // The calls of a file, line by line. What versions the types have decides which calls a line makes, and no case does.
-ghost use Rattle.std.specs.Prelude.{◌≡◌, ◌∷◌, ◌++◌, ◌≤◌, [], true, length, IfOk, OnOk};
-ghost use Rattle.std.specs.List.{AllByRecursion, list_all};
+ghost use Rattle.std.specs.{Prelude.{◌≡◌, ◌∷◌, ◌++◌, ◌≤◌, [], true, length, IfOk, OnOk}, List.{AllByRecursion, list_all}};
 ghost use Rattle.file_facts.specs.Facts.{IsWorkable};
 ghost use Rattle.file_model.specs.Sizes.{IsBounded, is_small, line_effort, phase_effort};
 ghost use Rattle.line_calls.specs.Calls.{call_weight};
-ghost use Rattle.script_run.specs.Serial.{program};
-ghost use Rattle.script_run.specs.Verdicts.{defined_kind};
-ghost use Rattle.store_calls.specs.Calls.{calls, create_calls, by, migrate_calls, migrations, newest_number, phase_ends, stored_kind, told_call, told_line, told_phase, told_types};
-ghost use Rattle.store_calls.specs.Told.{told_of, with_call, with_calls};
+ghost use Rattle.script_run.specs.{Serial.program, Verdicts.defined_kind};
+ghost use Rattle.store_calls.specs.{Calls.{calls, create_calls, by, migrate_calls, migrations, newest_number, phase_ends, stored_kind, told_call, told_line, told_phase, told_types}, Told.{told_of, with_call, with_calls}};
 ghost use Rattle.store_room.specs.Room.{IsPayable};
 ghost use Rattle.type_core.specs.Machine.{weight as kind_weight};
 ghost use Rattle.wsm_schema.specs.Flat.{cards_of};

@@ -1,8 +1,5 @@
 -- One entry more in the log of a disk over a file.
-use Rattle.std.proofs.Common.{◌≡◌, ℕ, List, [], ◌∷◌, ◌++◌, refl, ◌∙◌, ap}
-use Rattle.store_disk.specs.History.{Change, wrote, synced}
-use Rattle.store_disk.specs.Entries.{change_of, logged_onto, past_of}
-use Rattle.store_disk.specs.declared.history.Note.{Note}
+use Rattle.store_disk.proofs.Common.{[], ℕ, ◌++◌, ◌∙◌, ◌∷◌, ◌≡◌, ap, Change, change_of, List, logged_onto, Note, past_of, refl, synced, wrote}
 use Rattle.store_disk.specs.declared.history.Note.TheVariants as note
 
 module _ {V : Type 0} (items : V → List ℕ) where

@@ -1,3 +1,4 @@
+pub mod Common
 mod Entries
 mod ExamplesDisks
 mod ExamplesImages

@@ -1,14 +1,6 @@
 -- The two halves of a step, over any disk.
-use Rattle.std.proofs.Common.{◌≡◌, ℕ, ◌+◌, ◌<◌, ◌≤◌, ◌^◌, List, [], ◌∷◌, ◌++◌, length, get_or, take, drop, sym, ◌∙◌, ap, subst, arith, length-append}
-use Rattle.std.specs.Prelude.{max}
-use Rattle.std.specs.List.{AllByRecursion}
-use Rattle.std.proofs.lemmas.Grind.{flat_map-append}
-use Rattle.std.proofs.lemmas.List.{get_or_at, length-drop, length-take}
-use Rattle.store_disk.specs.Image.{frames, framed, all_framed, staged, HasList}
-use Rattle.store_disk.specs.Disk.{Torn, spliced, Follows, Only}
-use Rattle.store_disk.specs.Rest.{IsAtRest, IsStaged, HasNoneOrAll}
-use Rattle.store_disk.proofs.Framing.{frames_at, frames_gate, spelled, all_short_behind}
-use Rattle.store_disk.proofs.Groups.{staged-size}
+use Rattle.store_disk.proofs.Common.{[], ℕ, ◌++◌, ◌+◌, ◌<◌, ◌^◌, ◌∙◌, ◌∷◌, ◌≡◌, ◌≤◌, all_framed, AllByRecursion, ap, arith, drop, flat_map-append, Follows, framed, frames, get_or, get_or_at, HasList, HasNoneOrAll, IsAtRest, IsStaged}
+use Rattle.store_disk.proofs.{Common.{length, length-append, length-drop, length-take, List, max, Only, spliced, staged, subst, sym, take, Torn}, Framing.{frames_at, frames_gate, spelled, all_short_behind}, Groups.staged-size}
 use Rattle.store_disk.proofs.Stops.{torn_behind, written_behind, torn_gate, written_gate, size}
 
 -- payloads more are as long as their records

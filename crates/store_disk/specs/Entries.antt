@@ -1,8 +1,6 @@
 -- The history of a disk over a file, as its log tells it: the bytes of each write, and what each change was, the oldest first.
-use Rattle.std.specs.Prelude.{◌≡◌, ℕ, true, false, List, [], ◌∷◌, MatchOption}
-use Rattle.std.specs.declared.option.Option.{Option}
-use Rattle.store_disk.specs.History.{Change, wrote, synced, content, has_written}
-use Rattle.store_disk.specs.declared.history.Note.{Note}
+use Rattle.std.specs.{Prelude.{◌≡◌, ℕ, true, false, List, [], ◌∷◌, MatchOption}, declared.option.Option.Option}
+use Rattle.store_disk.specs.{History.{Change, wrote, synced, content, has_written}, declared.history.Note.Note}
 use Rattle.store_disk.specs.declared.history.Note.TheVariants as note
 
 -- the history of such a disk

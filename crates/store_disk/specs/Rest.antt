@@ -1,8 +1,6 @@
 -- A disk between two steps, and what a step leaves.
-use Rattle.std.specs.Prelude.{◌≡◌, ◌≢◌, ◌⊎◌, ℕ, ◌+◌, ◌<◌, ◌^◌, List, [], ◌∷◌, ◌++◌, length}
-use Rattle.std.specs.List.{AllByRecursion}
-use Rattle.store_disk.specs.Disk.{Only, spliced}
-use Rattle.store_disk.specs.Image.{all_framed, staged, HasList}
+use Rattle.std.specs.{Prelude.{◌≡◌, ◌≢◌, ◌⊎◌, ℕ, ◌+◌, ◌<◌, ◌^◌, List, [], ◌∷◌, ◌++◌, length}, List.AllByRecursion}
+use Rattle.store_disk.specs.{Disk.{Only, spliced}, Image.{all_framed, staged, HasList}}
 
 -- payloads, and behind them at a place a gate that is not open and whatever stands behind it
 pub record EndsAt (content : List ℕ) (ps : List (List ℕ)) (place : ℕ) : Type 0 where

@@ -1,7 +1,6 @@
 // The bytes of a file with their history, which is there for proofs alone: it takes no memory.
 ghost use Rattle.std.specs.Prelude.{◌≡◌, [], ◌∷◌, map};
-ghost use Rattle.store_disk.specs.History.{wrote, synced};
-ghost use Rattle.store_disk.specs.Entries.{IsHeld};
+ghost use Rattle.store_disk.specs.{History.{wrote, synced}, Entries.IsHeld};
 
 use crate::history::Note;
 use http_server::Log;

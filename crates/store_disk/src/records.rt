@@ -1,9 +1,7 @@
 // Records more: they are written behind a closed gate, and then the gate is opened.
 ghost use Rattle.std.specs.Prelude.{◌≡◌, ◌+◌, ◌<◌, ◌≤◌, ◌^◌, List, ℕ, [], ◌∷◌, ◌++◌, get_or, length, max, IfOk, OnOk, OnErr};
 ghost use Rattle.adept_io.specs.Counts.{Rose};
-ghost use Rattle.store_disk.specs.Disk.{LeavesOnly, spliced};
-ghost use Rattle.store_disk.specs.Image.{all_framed, HasList, staged};
-ghost use Rattle.store_disk.specs.Rest.{IsAtRest, IsStaged, HasNoneOrAll, IsBeforeOrAfter, appended, group_appended};
+ghost use Rattle.store_disk.specs.{Disk.{LeavesOnly, spliced}, Image.{all_framed, HasList, staged}, Rest.{IsAtRest, IsStaged, HasNoneOrAll, IsBeforeOrAfter, appended, group_appended}};
 
 use crate::{Disk, Framed, Group};
 use adept_io::Failed;

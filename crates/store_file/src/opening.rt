@@ -1,7 +1,6 @@
 // The store at a path.
 ghost use Rattle.std.specs.Prelude.{◌≡◌, [], IfOk};
-ghost use Rattle.store_disk.specs.Disk.{IsSettled};
-ghost use Rattle.store_disk.specs.History.{content, MayLeave};
+ghost use Rattle.store_disk.specs.{Disk.IsSettled, History.{content, MayLeave}};
 
 use crate::making::{make, there};
 use crate::paths::{end_of_links, folder_of};

@@ -1,19 +1,11 @@
 -- Calls are read as what was written: reading payloads is exact.
-use Rattle.std.proofs.Common.{◌≡◌, ℕ, ◌<◌, ◌≤◌, [], ◌∷◌, ◌++◌, length, Option, Some, None, refl, sym, ap, subst, ◌∙◌, append_assoc, append-nil, arith}
+use Rattle.store_form.proofs.Common.{[], ℕ, ◌++◌, ◌<◌, ◌>>=◌, ◌∙◌, ◌∷◌, ◌≡◌, ◌≤◌, ap, append-nil, append_assoc, arith, as_at, Bytes, case_of, Fails, Fits, FitsId, FitsValue, id_at, id_bytes, IsNumber, length, None, Option, payload, Reader}
+use Rattle.store_form.proofs.{Common.{ReadFault, Reads, recorded_of, refl, Some, subst, sym, u32, u32_at, value_bytes, whole_of, write_at}, Forms.{IsBytes, IsBytes-rest, Takes, IsForm, takes-then, bind_some, some_is, both_form, as_again}}
+use Rattle.store_form.proofs.{Forms.{as_takes, or_else, made_form, list_form, option_form, code_form, u32_form}, OperationForms.op_form, SchemaForms.schema_form, ValueForms.value_form}
 use Rattle.case_core.specs.declared.events.Event.TheVariants as event
-use Rattle.store_form.specs.Given.{Fails}
-use Rattle.store_form.specs.Payload.{Bytes, u32, id_bytes, value_bytes, payload, Reads}
-use Rattle.store_form.specs.Stored.{IsNumber, FitsId, FitsValue, Fits, case_of}
-use Rattle.store_form.specs.Reading.{Reader, ◌>>=◌, as_at, u32_at, id_at, write_at, stored_behind, recorded_at, whole_of, recorded_of}
-use Rattle.store_form.specs.declared.fields.ReadFault.{ReadFault}
+use Rattle.store_form.specs.{Reading.{stored_behind, recorded_at}, declared.stored.Recorded.Recorded, declared.stored.Stored.Stored}
 use Rattle.store_form.specs.declared.fields.ReadFault.TheVariants as fault
-use Rattle.store_form.specs.declared.stored.Recorded.{Recorded}
-use Rattle.store_form.specs.declared.stored.Stored.{Stored}
 use Rattle.store_form.specs.declared.stored.Stored.TheVariants as stored
-use Rattle.store_form.proofs.Forms.{IsBytes, IsBytes-rest, Takes, IsForm, takes-then, bind_some, some_is, both_form, as_again, as_takes, or_else, made_form, list_form, option_form, code_form, u32_form}
-use Rattle.store_form.proofs.OperationForms.{op_form}
-use Rattle.store_form.proofs.SchemaForms.{schema_form}
-use Rattle.store_form.proofs.ValueForms.{value_form}
 
 id_form : IsForm FitsId id_bytes id_at
 id_form = made_form (both_form u32_form u32_form) (λ x. case_of x.0 x.1) (λ c. (c.type_no, c.place)) FitsId id_bytes (λ c fit. ((fit.0, fit.1), refl, refl)) (λ x fit. ((fit.0, fit.1), refl))

@@ -1,16 +1,12 @@
 -- Payloads, records and images that compute.
-use Rattle.std.proofs.Common.{◌≡◌, ◌++◌, [], ◌∷◌, Some, None, refl}
-use Rattle.std.specs.Prelude.{negsuc, Bool}
+use Rattle.store_form.proofs.Common.{[], ◌++◌, ◌∷◌, ◌≡◌, act, body_at, case_of, gap_at, gate, lane, loop, negsuc, no_lane, None, nothing, op_bytes, part, part_at, parts_bytes, payload, plain, refl, SchemaModel, Some, u32, value_at}
+use Rattle.store_form.proofs.Common.{xor_gate}
+use Rattle.std.specs.Prelude.{Bool}
 use Rattle.case_core.specs.declared.events.Event.TheVariants as event
 use Rattle.wsm_lists.specs.declared.values.ElementKind.TheVariants as kind
 use Rattle.wsm_lists.specs.declared.values.Value.TheVariants as value
 use Rattle.wsm_ops.specs.declared.operations.Gap.TheVariants as gap
 use Rattle.wsm_ops.specs.declared.operations.Op.TheVariants as op
-use Rattle.wsm_schema.specs.SchemaModel.{SchemaModel, plain}
-use Rattle.wsm_schema.specs.Tree.{act, gate, loop, nothing, part, no_lane, lane, xor_gate}
-use Rattle.store_form.specs.Stored.{case_of}
-use Rattle.store_form.specs.Payload.{payload, op_bytes, parts_bytes, u32}
-use Rattle.store_form.specs.Reading.{gap_at, value_at, body_at, part_at}
 use Rattle.store_form.specs.declared.stored.Stored.TheVariants as stored
 
 -- an end with a text, a number below zero and a choice

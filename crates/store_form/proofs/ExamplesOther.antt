@@ -1,16 +1,11 @@
 -- Payloads as another implementation makes them.
-use Rattle.std.proofs.Common.{◌≡◌, List, [], ◌∷◌, Some, None, refl}
-use Rattle.std.specs.Prelude.{Bool, negsuc}
+use Rattle.store_form.proofs.Common.{[], ◌∷◌, ◌≡◌, act, and_gate, case_of, gate, lane, List, loop, negsuc, no_lane, None, nothing, Op, part, payload, plain, refl, SchemaModel, Some, xor_gate}
+use Rattle.std.specs.Prelude.{Bool}
 use Rattle.case_core.specs.declared.events.Event.TheVariants as event
 use Rattle.wsm_lists.specs.declared.values.ElementKind.TheVariants as kind
 use Rattle.wsm_lists.specs.declared.values.Value.TheVariants as value
 use Rattle.wsm_ops.specs.declared.operations.Gap.TheVariants as gap
-use Rattle.wsm_ops.specs.declared.operations.Op.{Op}
 use Rattle.wsm_ops.specs.declared.operations.Op.TheVariants as op
-use Rattle.wsm_schema.specs.SchemaModel.{SchemaModel, plain}
-use Rattle.wsm_schema.specs.Tree.{act, gate, loop, nothing, part, no_lane, lane, and_gate, xor_gate}
-use Rattle.store_form.specs.Stored.{case_of}
-use Rattle.store_form.specs.Payload.{payload}
 use Rattle.store_form.specs.declared.stored.Stored.TheVariants as stored
 
 abbrev schema : SchemaModel

@@ -1,14 +1,9 @@
 -- A form is read as what was written, and nothing else is read: the combinations of forms.
-use Rattle.std.proofs.Common.{◌≡◌, inl, inr, ℕ, zero, suc, ◌+◌, ◌^◌, ◌<◌, ◌≤◌, Bool, true, false, List, [], ◌∷◌, ◌++◌, length, get_or, take, drop, Option, Some, None, refl, sym, ap, subst, ◌∙◌, append_assoc, arith}
-use Rattle.std.specs.Prelude.{flat_map, if◌then◌else◌, nat_lt, ◌==◌}
-use Rattle.std.specs.List.{AllByRecursion}
-use Rattle.std.specs.Int.{Width, w16, w32, w64, byte_len, from_be_bytes, to_be_bytes}
-use Rattle.std.proofs.lemmas.Bool.{cases_lt, ltb-false, le-ltb, eqb-true}
-use Rattle.std.proofs.lemmas.List.{take_at, drop_at, take-append-drop, length-append, length-take, get_or-drop, get_or-take, get_or_past}
+use Rattle.store_form.proofs.Common.{[], ℕ, ◌++◌, ◌+◌, ◌<◌, ◌==◌, ◌>>=◌, ◌^◌, ◌∙◌, ◌∷◌, ◌≡◌, ◌≤◌, AllByRecursion, ap, append_assoc, arith, as_at, Bool, both_at, byte_len, Bytes, cases_lt, code_at, drop, drop_at, eqb-true, false, FitsEach}
+use Rattle.store_form.proofs.Common.{FitsOption, flag, flag_at, flat_map, from_be_bytes, get_or, get_or-drop, get_or-take, get_or_past, if◌then◌else◌, inl, inr, IsCode, IsNumber, le-ltb, length, length-append, length-take, List, list_at}
+use Rattle.store_form.proofs.Common.{listed, ltb-false, many_at, nat_lt, None, number_at, Option, option_at, optional, Reader, refl, Some, subst, suc, sym, take, take-append-drop, take_at, to_be_bytes, true, u16, u32, u32_at, w16, w32, w64}
+use Rattle.store_form.proofs.Common.{where_at, Width, zero}
 use Rattle.std.proofs.lemmas.Nat.{be_bytes_2, be_bytes_4, be_bytes_8, from_be_bytes-to_be_bytes_2, from_be_bytes-to_be_bytes_4, from_be_bytes-to_be_bytes_8}
-use Rattle.store_form.specs.Payload.{Bytes, u16, u32, flag, listed, optional}
-use Rattle.store_form.specs.Stored.{IsNumber, IsCode, FitsEach, FitsOption}
-use Rattle.store_form.specs.Reading.{Reader, ◌>>=◌, both_at, as_at, where_at, number_at, code_at, u32_at, flag_at, many_at, list_at, option_at}
 
 abbrev pub IsBytes : Bytes → Type 0
 IsBytes bytes = (i : ℕ) → get_or bytes i 0 < 256

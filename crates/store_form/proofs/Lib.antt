@@ -1,3 +1,4 @@
+pub mod Common
 pub mod Calls
 mod Examples
 mod ExamplesOther

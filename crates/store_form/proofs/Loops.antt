@@ -1,10 +1,6 @@
 -- What is read one after another, as a loop does.
-use Rattle.std.proofs.Common.{◌≡◌, ℕ, suc, ◌-◌, ◌+◌, ◌<◌, ◌≤◌, List, [], ◌∷◌, ◌++◌, map, Some, None, refl, sym, ap, ◌∙◌, append_assoc, arith}
-use Rattle.std.proofs.lemmas.List.{append-nil, map_push}
-use Rattle.store_form.specs.Given.{Fails}
-use Rattle.store_form.specs.Payload.{Bytes}
-use Rattle.store_form.specs.Reading.{Field, Reader, ◌>>=◌, many_at}
-use Rattle.store_form.specs.declared.fields.ReadFault.{ReadFault}
+use Rattle.store_form.proofs.Common.{[], ℕ, ◌++◌, ◌+◌, ◌-◌, ◌<◌, ◌>>=◌, ◌∙◌, ◌∷◌, ◌≡◌, ◌≤◌, ap, append_assoc, arith, Bytes, Fails, Field, List, many_at, map, map_push, None, Reader, ReadFault, refl, Some, suc, sym}
+use Rattle.std.proofs.lemmas.List.{append-nil}
 use Rattle.store_form.specs.declared.fields.ReadFault.TheVariants as fault
 
 -- what was read before, and what is still read

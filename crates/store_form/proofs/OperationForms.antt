@@ -1,12 +1,7 @@
 -- Operations are read as what was written.
-use Rattle.std.proofs.Common.{◌≡◌, [], ◌∷◌, ◌++◌, Some, refl}
-use Rattle.wsm_ops.specs.declared.operations.Op.{Op}
+use Rattle.store_form.proofs.{Common.{[], ◌++◌, ◌∷◌, ◌≡◌, Bytes, FitsOp, Op, op_bytes, refl, Some}, Forms.{IsBytes, IsBytes-rest, Takes, IsForm, both_form, as_again, arm_at, or_else, flag_form, u32_form}, ValueForms.{kind_form, gap_form}}
 use Rattle.wsm_ops.specs.declared.operations.Op.TheVariants as op
-use Rattle.store_form.specs.Payload.{Bytes, op_bytes}
-use Rattle.store_form.specs.Stored.{FitsOp}
 use Rattle.store_form.specs.Reading.{op_at}
-use Rattle.store_form.proofs.Forms.{IsBytes, IsBytes-rest, Takes, IsForm, both_form, as_again, arm_at, or_else, flag_form, u32_form}
-use Rattle.store_form.proofs.ValueForms.{kind_form, gap_form}
 
 op_again : (x : Op) (rest : Bytes) → FitsOp x → op_at (op_bytes x ++ rest) ≡ Some (x, rest)
 unfolding op_at

@@ -1,14 +1,7 @@
 -- What is put one after another, as a loop does; what holds of each item of a list, and of the tree of its items.
-use Rattle.std.proofs.Common.{◌≡◌, ℕ, suc, ◌+◌, ◌<◌, ◌≤◌, ◌^◌, Bool, true, false, List, [], ◌∷◌, ◌++◌, length, get_or, drop, refl, sym, ap, subst, ◌∙◌, append_assoc}
-use Rattle.std.specs.Prelude.{◌&&◌, nat_lt}
-use Rattle.std.proofs.lemmas.List.{drop_all, drop_more}
-use Rattle.wsm_schema.specs.Tree.{Lanes, Parts, lane, lanes}
-use Rattle.wsm_schema.specs.TreeOf.{lane_of, lanes_of, parts_of}
-use Rattle.wsm_schema.specs.declared.blocks.Block.{Block}
-use Rattle.wsm_schema.specs.declared.blocks.Block.TheFolds.{fold_out-Branch}
-use Rattle.wsm_schema.specs.declared.blocks.Branch.{Branch}
-use Rattle.store_form.specs.Payload.{Bytes, body_bytes, lanes_bytes, parts_bytes, u16, u32}
-use Rattle.store_form.specs.Stored.{FitsItems, FitsLanes, IsCode, few_branches, few_in_lanes, few_in_parts, few_items, lane_count, part_count}
+use Rattle.store_form.proofs.Common.{[], ℕ, ◌&&◌, ◌++◌, ◌+◌, ◌<◌, ◌^◌, ◌∙◌, ◌∷◌, ◌≡◌, ◌≤◌, ap, append_assoc, body_bytes, Bool, Branch, Bytes, drop, drop_all, drop_more, false, few_branches, few_in_lanes, few_in_parts, few_items, FitsItems}
+use Rattle.store_form.proofs.Common.{FitsLanes, get_or, IsCode, lane, lane_count, lane_of, Lanes, lanes, lanes_bytes, lanes_of, length, List, nat_lt, part_count, Parts, parts_bytes, parts_of, refl, subst, suc, sym, true, u16, u32}
+use Rattle.wsm_schema.specs.{declared.blocks.Block.Block, declared.blocks.Block.TheFolds.fold_out-Branch}
 
 -- as many parts as items
 pub count-parts : (bs : List Block) → part_count (parts_of bs) ≡ length bs

@@ -1,18 +1,7 @@
 -- Rows that are read and tested one by one are those that are read and then tested.
-use Rattle.std.proofs.Common.{◌≡◌, ℕ, zero, suc, ◌+◌, ◌<◌, Bool, true, false, List, [], ◌∷◌, ◌++◌, length, get_or, drop, Some, None, refl, sym, ap, ◌∙◌, arith}
-use Rattle.std.specs.Prelude.{◌&&◌, ◌==◌, if◌then◌else◌, nat_lt}
-use Rattle.std.specs.List.{list_all}
-use Rattle.std.proofs.lemmas.Bool.{ltb-true, ne_eqb}
-use Rattle.std.proofs.lemmas.List.{get_or_default}
-use Rattle.wsm_lists.specs.Keys.{first, put_role}
-use Rattle.wsm_lists.specs.Rows.{drop_row, put_row}
-use Rattle.wsm_ops.proofs.Rising.{filled-next}
-use Rattle.store_form.specs.Given.{Fails}
-use Rattle.store_form.specs.Payload.{Bytes}
-use Rattle.store_form.specs.Reading.{Field, Reader, ◌>>=◌, list_at, many_at, pair_at, rises, roles_at, u32_at, where_at}
-use Rattle.store_form.specs.declared.fields.ReadFault.{ReadFault}
+use Rattle.store_form.proofs.Common.{[], ℕ, ◌&&◌, ◌++◌, ◌+◌, ◌<◌, ◌==◌, ◌>>=◌, ◌∙◌, ◌∷◌, ◌≡◌, ap, arith, Bool, Bytes, drop, drop_row, Fails, false, Field, filled-next, first, get_or, get_or_default, if◌then◌else◌, length, List, list_all}
+use Rattle.store_form.proofs.{Common.{list_at, ltb-true, many_at, nat_lt, ne_eqb, None, pair_at, put_role, put_row, Reader, ReadFault, refl, rises, roles_at, Some, suc, sym, true, u32_at, where_at, zero}, SchemaForms.rises-ascends}
 use Rattle.store_form.specs.declared.fields.ReadFault.TheVariants as fault
-use Rattle.store_form.proofs.SchemaForms.{rises-ascends}
 
 abbrev kept_if : {A : Type 0} → Bool → A × Bytes → Field A
 kept_if keep x = if keep then Some x else None

@@ -1,18 +1,9 @@
 -- Schemas are read as what was written.
-use Rattle.std.proofs.Common.{◌≡◌, ℕ, ◌<◌, Bool, true, false, List, [], ◌∷◌, ◌++◌, refl, ap, ◌∙◌}
-use Rattle.std.specs.Prelude.{◌&&◌, nat_lt}
-use Rattle.std.specs.List.{AllByRecursion}
-use Rattle.std.proofs.lemmas.Bool.{ltb-true, lt-ltb}
-use Rattle.wsm_lists.specs.Keys.{both, first, first_two}
-use Rattle.wsm_lists.specs.Rows.{key_lt, AllRows, Ascends}
-use Rattle.wsm_lists.specs.declared.values.ElementKind.{ElementKind}
+use Rattle.store_form.proofs.Common.{[], ℕ, ◌&&◌, ◌++◌, ◌<◌, ◌∙◌, ◌∷◌, ◌≡◌, AllByRecursion, AllRows, ap, Ascends, Bool, both, Bytes, element_at, ElementKind, false, first, first_two, FitsEach, FitsPair, FitsSchema, flag, IsNumber, key_lt}
+use Rattle.store_form.proofs.{Common.{kind_bytes, List, listed, lt-ltb, ltb-true, nat_lt, pair_at, read_at, Reader, refl, rises, rises_from, schema_bytes, table_at, true, u32, u32_u32, where_at}, Forms.{IsForm, both_form, where_form}}
+use Rattle.store_form.proofs.{Forms.{list_form, made_form, flag_form, u32_form}, TreeForms.tree_form, ValueForms.kind_form}
 use Rattle.wsm_lists.proofs.Rows.{lt_trans}
-use Rattle.store_form.specs.Payload.{Bytes, u32, u32_u32, flag, listed, kind_bytes, schema_bytes}
-use Rattle.store_form.specs.Stored.{IsNumber, FitsEach, FitsPair, FitsSchema}
-use Rattle.store_form.specs.Reading.{Reader, where_at, rises_from, rises, table_at, pair_at, element_at, read_at, schema_at}
-use Rattle.store_form.proofs.Forms.{IsForm, both_form, where_form, list_form, made_form, flag_form, u32_form}
-use Rattle.store_form.proofs.TreeForms.{tree_form}
-use Rattle.store_form.proofs.ValueForms.{kind_form}
+use Rattle.store_form.specs.Reading.{schema_at}
 
 and_split : (a b : Bool) → a && b ≡ true → (a ≡ true) × (b ≡ true)
 and_split true b e = (refl, e)

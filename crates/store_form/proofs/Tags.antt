@@ -1,12 +1,5 @@
 -- What stands behind the tag of a block.
-use Rattle.std.proofs.Common.{◌≡◌, ◌≢◌, ℕ, zero, suc, ◌-◌, ◌∷◌, refl, sym, ap, subst, ◌∙◌, arith}
-use Rattle.std.specs.Prelude.{Result, if◌then◌else◌}
-use Rattle.std.proofs.lemmas.Bool.{ne_eqb}
-use Rattle.wsm_schema.specs.Tree.{Part, act}
-use Rattle.store_form.specs.Given.{Gives}
-use Rattle.store_form.specs.Payload.{Bytes}
-use Rattle.store_form.specs.Reading.{as_at, block_behind, part_at, u32_at}
-use Rattle.store_form.specs.declared.fields.ReadFault.{ReadFault}
+use Rattle.store_form.proofs.Common.{ℕ, ◌-◌, ◌∙◌, ◌∷◌, ◌≡◌, ◌≢◌, act, ap, arith, as_at, block_behind, Bytes, Gives, if◌then◌else◌, ne_eqb, Part, part_at, ReadFault, refl, Result, subst, suc, sym, u32_at, zero}
 
 act-at : (deep : ℕ) (bytes : Bytes) → part_at deep (0 ∷ bytes) ≡ as_at act u32_at bytes
 act-at zero bytes = refl

@@ -1,12 +1,7 @@
 -- Trees are read as what was written.
-use Rattle.std.proofs.Common.{◌≡◌, ℕ, zero, suc, ◌<◌, ◌≤◌, ◌^◌, List, [], ◌∷◌, ◌++◌, length, Some, None, refl, sym, ap, subst, ◌∙◌, append_assoc, arith}
-use Rattle.std.specs.Prelude.{flat_map}
-use Rattle.std.specs.List.{AllByRecursion}
-use Rattle.wsm_schema.specs.Sound.{part_depth, parts_depth, lanes_depth}
-use Rattle.wsm_schema.specs.Tree.{Part, Parts, Lanes, act, gate, loop, nothing, part, no_lane, lane, and_gate, xor_gate, parts, lanes}
-use Rattle.store_form.specs.Payload.{Bytes, u16, u32, part_bytes, parts_bytes, lanes_bytes}
-use Rattle.store_form.specs.Stored.{IsNumber, IsCode, FitsPart, FitsParts, FitsLanes, part_count, lane_count}
-use Rattle.store_form.specs.Reading.{Reader, as_at, u32_at, body_at, lane_at, lanes_at, block_behind, part_behind, part_at}
+use Rattle.store_form.proofs.Common.{[], ℕ, ◌++◌, ◌<◌, ◌^◌, ◌∙◌, ◌∷◌, ◌≡◌, ◌≤◌, act, AllByRecursion, and_gate, ap, append_assoc, arith, as_at, block_behind, body_at, Bytes, FitsLanes, FitsPart, FitsParts, flat_map, gate, IsCode, IsNumber}
+use Rattle.store_form.proofs.Common.{lane, lane_at, lane_count, Lanes, lanes, lanes_at, lanes_bytes, lanes_depth, length, List, loop, no_lane, None, nothing, Part, part, part_at, part_behind, part_bytes, part_count, part_depth, Parts}
+use Rattle.store_form.proofs.Common.{parts, parts_bytes, parts_depth, Reader, refl, Some, subst, suc, sym, u16, u32, u32_at, xor_gate, zero}
 use Rattle.store_form.proofs.Forms.{IsBytes, IsBytes-rest, Takes, IsForm, both_form, as_again, arm_at, or_else, list_form, made_form, code_form, u32_form}
 
 -- the items of a row of parts, and of lanes

@@ -1,21 +1,14 @@
 -- Kinds, values, gaps and operations are read as what was written.
-use Rattle.std.proofs.Common.{◌≡◌, ℕ, ◌≤◌, ℤ, Bool, true, false, [], ◌∷◌, ◌++◌, length, take, drop, Option, Some, None, refl, sym, ap, subst, ◌∙◌, append_assoc, arith}
-use Rattle.std.specs.Prelude.{if◌then◌else◌, nat_lt, nat_le, FitsSigned}
-use Rattle.std.specs.Int.{w64, to_be_bytes, cast_signed, cast_unsigned}
-use Rattle.std.proofs.lemmas.Bool.{ltb-false, le-ltb, leb-true, le-leb}
-use Rattle.std.proofs.lemmas.Int.{of_z-to_z, to_z-of_z}
-use Rattle.std.proofs.Math.Facts.{Fits-of_z, sfits_to_z}
-use Rattle.std.proofs.lemmas.List.{take_at, drop_at, take-append-drop, length-append, length-take}
-use Rattle.wsm_lists.specs.declared.values.ElementKind.{ElementKind}
+use Rattle.store_form.proofs.Common.{[], ℕ, ℤ, ◌++◌, ◌>>=◌, ◌∙◌, ◌∷◌, ◌≡◌, ◌≤◌, ap, append_assoc, arith, as_at, Bool, both_at, Bytes, cast_signed, cast_unsigned, code_at, drop, drop_at, ElementKind, false, FitsGap, FitsSigned, FitsValue}
+use Rattle.store_form.proofs.Common.{flag, flag_at, gap_at, gap_bytes, if◌then◌else◌, int_at, kind_at, kind_bytes, kind_of_flag, le-leb, le-ltb, leb-true, length, length-append, length-take, ltb-false, nat_le, nat_lt, None, Option, Reader}
+use Rattle.store_form.proofs.{Common.{refl, Some, subst, sym, take, take-append-drop, take_at, text_at, to_be_bytes, true, u32, u32_at, value_at, value_bytes, w64}, Forms.{IsBytes, all_bytes, IsBytes-drop, IsBytes-take, Takes, takes-then}}
+use Rattle.store_form.proofs.Forms.{IsForm, bind_some, some_is, both_form, made_form, arm_takes, as_again, flag_form, code_form, u32_form, u64_form}
+use Rattle.std.proofs.{lemmas.Int.{of_z-to_z, to_z-of_z}, Math.Facts.{Fits-of_z, sfits_to_z}}
 use Rattle.wsm_lists.specs.declared.values.ElementKind.TheVariants as kind
 use Rattle.wsm_lists.specs.declared.values.Value.{Value}
 use Rattle.wsm_lists.specs.declared.values.Value.TheVariants as value
 use Rattle.wsm_ops.specs.declared.operations.Gap.{Gap}
 use Rattle.wsm_ops.specs.declared.operations.Gap.TheVariants as gap
-use Rattle.store_form.specs.Payload.{Bytes, u32, flag, kind_bytes, value_bytes, gap_bytes}
-use Rattle.store_form.specs.Stored.{FitsValue, FitsGap}
-use Rattle.store_form.specs.Reading.{Reader, ◌>>=◌, both_at, as_at, code_at, u32_at, flag_at, kind_of_flag, kind_at, text_at, int_at, value_at, gap_at}
-use Rattle.store_form.proofs.Forms.{IsBytes, all_bytes, IsBytes-drop, IsBytes-take, Takes, takes-then, IsForm, bind_some, some_is, both_form, made_form, arm_takes, as_again, flag_form, code_form, u32_form, u64_form}
 
 abbrev is_text : ElementKind → Bool
 is_text kind.Int = false

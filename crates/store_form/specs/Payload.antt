@@ -1,22 +1,16 @@
 -- The bytes that a call is stored as. Numbers are big-endian; a list is its length and its items.
-use Rattle.std.specs.Prelude.{◌≡◌, ℕ, Bool, true, false, List, [], ◌∷◌, ◌++◌, length, flat_map, Option, Some, None}
-use Rattle.std.specs.Int.{w16, w32, w64, to_be_bytes, cast_unsigned}
-use Rattle.wsm_lists.specs.declared.values.ElementKind.{ElementKind}
+use Rattle.std.specs.{Prelude.{◌≡◌, ℕ, Bool, true, false, List, [], ◌∷◌, ◌++◌, length, flat_map, Option, Some, None}, Int.{w16, w32, w64, to_be_bytes, cast_unsigned}}
+use Rattle.wsm_lists.specs.{declared.values.ElementKind.ElementKind, declared.values.Value.Value}
 use Rattle.wsm_lists.specs.declared.values.ElementKind.TheVariants as kind
-use Rattle.wsm_lists.specs.declared.values.Value.{Value}
 use Rattle.wsm_lists.specs.declared.values.Value.TheVariants as value
-use Rattle.wsm_schema.specs.SchemaModel.{SchemaModel}
-use Rattle.wsm_schema.specs.Tree.{Gate, Part, Parts, Lanes, act, gate, loop, nothing, part, no_lane, lane, and_gate, xor_gate}
-use Rattle.wsm_ops.specs.declared.operations.Gap.{Gap}
+use Rattle.wsm_schema.specs.{SchemaModel.SchemaModel, Tree.{Gate, Part, Parts, Lanes, act, gate, loop, nothing, part, no_lane, lane, and_gate, xor_gate}}
+use Rattle.wsm_ops.specs.{declared.operations.Gap.Gap, declared.operations.Op.Op}
 use Rattle.wsm_ops.specs.declared.operations.Gap.TheVariants as gap
-use Rattle.wsm_ops.specs.declared.operations.Op.{Op}
 use Rattle.wsm_ops.specs.declared.operations.Op.TheVariants as op
 use Rattle.case_core.specs.declared.events.Event.{Event}
 use Rattle.case_core.specs.declared.events.Event.TheVariants as event
 use Rattle.wsm_sound.specs.declared.versions.CaseId.{CaseId}
-use Rattle.store_form.specs.Stored.{part_count, lane_count, Fits, IsNumber}
-use Rattle.store_form.specs.declared.stored.Recorded.{Recorded}
-use Rattle.store_form.specs.declared.stored.Stored.{Stored}
+use Rattle.store_form.specs.{Stored.{part_count, lane_count, Fits, IsNumber}, declared.stored.Recorded.Recorded, declared.stored.Stored.Stored}
 use Rattle.store_form.specs.declared.stored.Stored.TheVariants as stored
 
 abbrev pub Bytes : Type 0

@@ -1,24 +1,15 @@
 -- Reading payloads from left to right: what each small reader gives.
-use Rattle.std.specs.Prelude.{ℕ, zero, suc, Bool, true, false, ◌&&◌, List, [], ◌∷◌, length, take, drop, Option, Some, None, nat_lt, nat_le, ◌==◌, if◌then◌else◌}
-use Rattle.std.specs.Int.{Width, w16, w32, w64, byte_len, from_be_bytes, cast_signed}
-use Rattle.wsm_lists.specs.Keys.{both, first, first_two}
-use Rattle.wsm_lists.specs.Rows.{key_lt}
-use Rattle.wsm_lists.specs.declared.values.ElementKind.{ElementKind}
+use Rattle.std.specs.{Prelude.{ℕ, zero, suc, Bool, true, false, ◌&&◌, List, [], ◌∷◌, length, take, drop, Option, Some, None, nat_lt, nat_le, ◌==◌, if◌then◌else◌}, Int.{Width, w16, w32, w64, byte_len, from_be_bytes, cast_signed}}
+use Rattle.wsm_lists.specs.{Keys.{both, first, first_two}, Rows.key_lt, declared.values.ElementKind.ElementKind, declared.values.Value.Value}
 use Rattle.wsm_lists.specs.declared.values.ElementKind.TheVariants as kind
-use Rattle.wsm_lists.specs.declared.values.Value.{Value}
 use Rattle.wsm_lists.specs.declared.values.Value.TheVariants as value
-use Rattle.wsm_schema.specs.SchemaModel.{SchemaModel}
-use Rattle.wsm_schema.specs.Tree.{Part, Parts, Lanes, act, gate, loop, parts, lanes, and_gate, xor_gate}
-use Rattle.wsm_ops.specs.declared.operations.Gap.{Gap}
+use Rattle.wsm_schema.specs.{SchemaModel.SchemaModel, Tree.{Part, Parts, Lanes, act, gate, loop, parts, lanes, and_gate, xor_gate}}
+use Rattle.wsm_ops.specs.{declared.operations.Gap.Gap, declared.operations.Op.Op}
 use Rattle.wsm_ops.specs.declared.operations.Gap.TheVariants as gap
-use Rattle.wsm_ops.specs.declared.operations.Op.{Op}
 use Rattle.wsm_ops.specs.declared.operations.Op.TheVariants as op
 use Rattle.case_core.specs.declared.events.Event.TheVariants as event
 use Rattle.wsm_sound.specs.declared.versions.CaseId.{CaseId}
-use Rattle.store_form.specs.Payload.{Bytes}
-use Rattle.store_form.specs.Stored.{case_of}
-use Rattle.store_form.specs.declared.stored.Recorded.{Recorded}
-use Rattle.store_form.specs.declared.stored.Stored.{Stored}
+use Rattle.store_form.specs.{Payload.Bytes, Stored.case_of, declared.stored.Recorded.Recorded, declared.stored.Stored.Stored}
 use Rattle.store_form.specs.declared.stored.Stored.TheVariants as stored
 
 -- a field is a value and the bytes behind it

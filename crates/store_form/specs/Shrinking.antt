@@ -1,14 +1,12 @@
 -- Each reader takes at least one byte, so a list has no more items than there are bytes behind their number.
-use Rattle.std.specs.Prelude.{◌≡◌, ℕ, zero, suc, ◌<◌, ◌≤◌, Bool, true, false, List, [], ◌∷◌, length, take, drop, Option, Some, None, IfSome, nat_lt, nat_le, ◌==◌, if◌then◌else◌}
-use Rattle.std.proofs.Common.{refl, ap, ◌∙◌, arith, length-drop}
-use Rattle.std.proofs.lemmas.Bool.{ltb-false}
-use Rattle.std.specs.Int.{Width, w16, w32, w64, byte_len}
+use Rattle.std.specs.{Prelude.{◌≡◌, ℕ, zero, suc, ◌<◌, ◌≤◌, Bool, true, false, List, [], ◌∷◌, length, take, drop, Option, Some, None, IfSome, nat_lt, nat_le, ◌==◌, if◌then◌else◌}, Int.{Width, w16, w32, w64, byte_len}}
+use Rattle.std.proofs.{Common.{refl, ap, ◌∙◌, arith, length-drop}, lemmas.Bool.ltb-false}
 use Rattle.wsm_lists.specs.declared.values.Value.{Value}
 use Rattle.wsm_lists.specs.declared.values.Value.TheVariants as value
 use Rattle.wsm_ops.specs.declared.operations.Gap.TheVariants as gap
 use Rattle.wsm_schema.specs.Tree.{Part}
-use Rattle.store_form.specs.Payload.{Bytes}
-use Rattle.store_form.specs.Reading.{Reader, ◌>>=◌, as_at, block_behind, body_at, both_at, byte_at, code_at, flag_at, flag_of, gap_at, id_at, int_at, kind_at, lane_at, lanes_at, list_at, many_at, number_at, op_at, op_behind, option_at, part_at, part_behind, read_at, text_at, u32_at, value_at}
+use Rattle.store_form.specs.{Payload.Bytes, Reading.{Reader, ◌>>=◌, as_at, block_behind, body_at, both_at, byte_at, code_at, flag_at, flag_of, gap_at, id_at, int_at, kind_at, lane_at, lanes_at, list_at, many_at, number_at, op_at}}
+use Rattle.store_form.specs.Reading.{op_behind, option_at, part_at, part_behind, read_at, text_at, u32_at, value_at}
 
 abbrev pub Shrinks : {A : Type 0} → Reader A → Type 0
 Shrinks {A = A} item = (bytes : Bytes) (read : A × Bytes) → item bytes ≡ Some read → length read.1 < length bytes

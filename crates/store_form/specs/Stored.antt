@@ -1,17 +1,10 @@
 -- Which events have a payload.
-use Rattle.std.specs.Prelude.{ℕ, ◌<◌, ◌≤◌, ◌^◌, nat_lt, nat_le, Bool, true, ◌&&◌, List, length, Option, Some, None, FitsSigned}
-use Rattle.std.specs.Int.{w64}
-use Rattle.std.specs.List.{AllByRecursion}
-use Rattle.wsm_lists.specs.Rows.{Ascends}
-use Rattle.wsm_lists.specs.Keys.{both, first, first_two, HasRoles}
-use Rattle.wsm_lists.specs.declared.values.Value.{Value}
+use Rattle.std.specs.{Prelude.{ℕ, ◌<◌, ◌≤◌, ◌^◌, nat_lt, nat_le, Bool, true, ◌&&◌, List, length, Option, Some, None, FitsSigned}, Int.w64, List.AllByRecursion}
+use Rattle.wsm_lists.specs.{Rows.Ascends, Keys.{both, first, first_two, HasRoles}, declared.values.Value.Value}
 use Rattle.wsm_lists.specs.declared.values.Value.TheVariants as value
-use Rattle.wsm_schema.specs.SchemaModel.{SchemaModel}
-use Rattle.wsm_schema.specs.Sound.{parts_depth}
-use Rattle.wsm_schema.specs.Tree.{Part, Parts, Lanes, act, gate, loop, nothing, part, no_lane, lane}
-use Rattle.wsm_ops.specs.declared.operations.Gap.{Gap}
+use Rattle.wsm_schema.specs.{SchemaModel.SchemaModel, Sound.parts_depth, Tree.{Part, Parts, Lanes, act, gate, loop, nothing, part, no_lane, lane}}
+use Rattle.wsm_ops.specs.{declared.operations.Gap.Gap, declared.operations.Op.Op}
 use Rattle.wsm_ops.specs.declared.operations.Gap.TheVariants as gap
-use Rattle.wsm_ops.specs.declared.operations.Op.{Op}
 use Rattle.wsm_ops.specs.declared.operations.Op.TheVariants as op
 use Rattle.case_core.specs.declared.events.Event.{Event}
 use Rattle.case_core.specs.declared.events.Event.TheVariants as event

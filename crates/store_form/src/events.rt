@@ -1,10 +1,7 @@
 // Payloads of calls.
 ghost use Rattle.std.specs.Prelude.{◌≡◌, ◌++◌, true, OnOk, IfOk};
-ghost use Rattle.store_form.specs.Given.{Gives};
-ghost use Rattle.store_form.specs.Payload.{IsPayloadOf, Reads, case_bytes, id_bytes, payload};
-ghost use Rattle.store_form.specs.Reading.{id_at, recorded_at, recorded_of, stored_behind};
-ghost use Rattle.store_form.specs.Shrinking.{id_shrinks};
-ghost use Rattle.store_form.specs.Stored.{Fits, FitsEvent, FitsId, HasNoVersion, IsPlain, is_shallow};
+ghost use Rattle.store_form.specs.{Given.Gives, Payload.{IsPayloadOf, Reads, case_bytes, id_bytes, payload}, Reading.{id_at, recorded_at, recorded_of, stored_behind}, Shrinking.id_shrinks, Stored.{Fits, FitsEvent, FitsId, HasNoVersion}};
+ghost use Rattle.store_form.specs.Stored.{IsPlain, is_shallow};
 
 use crate::fields::{Part, ReadFault, put_tagged};
 use crate::lists::{put_list, read_list};

@@ -1,11 +1,7 @@
 // The fields of a payload: how each is written, and read.
-ghost use Rattle.std.specs.Prelude.{◌≡◌, ◌∷◌, ◌++◌, ℕ, List, Option, IsErrOf, OnOk};
-ghost use Rattle.std.specs.Int.{w64};
-ghost use Rattle.store_form.specs.Given.{Gives};
-ghost use Rattle.store_form.specs.Payload.{u16, u32, flag, kind_bytes, optional};
-ghost use Rattle.store_form.specs.Reading.{both_at, code_at, u32_at, flag_at, kind_at, option_at};
-ghost use Rattle.store_form.specs.Shrinking.{Shrinks, both_shrinks, code_shrinks, flag_shrinks, kind_shrinks, option_shrinks, u32_shrinks};
-ghost use Rattle.store_form.specs.Stored.{IsCode, IsNumber, FitsOption};
+ghost use Rattle.std.specs.{Prelude.{◌≡◌, ◌∷◌, ◌++◌, ℕ, List, Option, IsErrOf, OnOk}, Int.w64};
+ghost use Rattle.store_form.specs.{Given.Gives, Payload.{u16, u32, flag, kind_bytes, optional}, Reading.{both_at, code_at, u32_at, flag_at, kind_at, option_at}, Shrinking.{Shrinks, both_shrinks, code_shrinks, flag_shrinks, kind_shrinks}};
+ghost use Rattle.store_form.specs.{Shrinking.{option_shrinks, u32_shrinks}, Stored.{IsCode, IsNumber, FitsOption}};
 
 use adept_io::NoMemory;
 use std::alloc::{AllocFailed, Global};

@@ -1,8 +1,6 @@
 // Which calls have a payload.
 ghost use Rattle.std.specs.Prelude.{◌≡◌, ◌^◌, nat_lt};
-ghost use Rattle.wsm_schema.specs.Sound.{part_depth, parts_depth, lanes_depth};
-ghost use Rattle.wsm_schema.specs.Tree.{lanes};
-ghost use Rattle.wsm_schema.specs.TreeOf.{part_of, parts_of, lanes_of};
+ghost use Rattle.wsm_schema.specs.{Sound.{part_depth, parts_depth, lanes_depth}, Tree.lanes, TreeOf.{part_of, parts_of, lanes_of}};
 ghost use Rattle.store_form.specs.Stored.{few_branches, few_in_edges, few_in_event, few_in_part, few_in_schema, few_in_tables, few_items, has_short_lists, is_shallow};
 
 use crate::stored::Stored;

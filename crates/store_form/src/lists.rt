@@ -1,11 +1,6 @@
 // Lists in a payload: their number, and the items.
-ghost use Rattle.std.specs.Prelude.{◌≡◌, ◌++◌, ◌<◌, ◌≤◌, ◌^◌, flat_map, length, IsErrOf, OnOk};
-ghost use Rattle.std.specs.List.{AllByRecursion};
-ghost use Rattle.store_form.specs.Given.{Gives};
-ghost use Rattle.store_form.specs.Payload.{listed, u32};
-ghost use Rattle.store_form.specs.Reading.{many_at, list_at};
-ghost use Rattle.store_form.specs.Shrinking.{HasBytesForCount};
-ghost use Rattle.store_form.specs.Stored.{FitsEach};
+ghost use Rattle.std.specs.{Prelude.{◌≡◌, ◌++◌, ◌<◌, ◌≤◌, ◌^◌, flat_map, length, IsErrOf, OnOk}, List.AllByRecursion};
+ghost use Rattle.store_form.specs.{Given.Gives, Payload.{listed, u32}, Reading.{many_at, list_at}, Shrinking.HasBytesForCount, Stored.FitsEach};
 
 use crate::fields::{Part, ReadFault};
 use adept_io::NoMemory;

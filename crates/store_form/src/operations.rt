@@ -1,10 +1,6 @@
 // Operations in a payload.
 ghost use Rattle.std.specs.Prelude.{◌≡◌, ◌≢◌, ◌≤◌, ◌∷◌, ◌++◌, OnOk};
-ghost use Rattle.store_form.specs.Given.{Gives};
-ghost use Rattle.store_form.specs.Payload.{gap_bytes, op_bytes};
-ghost use Rattle.store_form.specs.Reading.{gap_at, op_at, op_behind};
-ghost use Rattle.store_form.specs.Shrinking.{gap_shrinks, op_shrinks};
-ghost use Rattle.store_form.specs.Stored.{FitsGap, FitsOp};
+ghost use Rattle.store_form.specs.{Given.Gives, Payload.{gap_bytes, op_bytes}, Reading.{gap_at, op_at, op_behind}, Shrinking.{gap_shrinks, op_shrinks}, Stored.{FitsGap, FitsOp}};
 
 use crate::fields::{Part, ReadFault, put_tagged};
 use adept_io::NoMemory;

@@ -1,14 +1,9 @@
 // Schemas in a payload.
-ghost use Rattle.std.specs.Prelude.{◌≡◌, ◌≤◌, ◌++◌, nat_lt, true, OnOk, IfOk};
-ghost use Rattle.std.specs.List.{list_all};
-ghost use Rattle.wsm_lists.specs.Keys.{first};
-ghost use Rattle.wsm_lists.specs.Rows.{Ascends, key_lt};
+ghost use Rattle.std.specs.{Prelude.{◌≡◌, ◌≤◌, ◌++◌, nat_lt, true, OnOk, IfOk}, List.list_all};
+ghost use Rattle.wsm_lists.specs.{Keys.first, Rows.{Ascends, key_lt}};
 ghost use Rattle.wsm_schema.specs.Sound.{parts_depth};
-ghost use Rattle.store_form.specs.Given.{Gives};
-ghost use Rattle.store_form.specs.Payload.{u32, flag, listed, schema_bytes, tables_bytes, edges_bytes};
-ghost use Rattle.store_form.specs.Reading.{read_at, rises, rises_from, roles_at, schema_at, table_at};
-ghost use Rattle.store_form.specs.Shrinking.{read_shrinks};
-ghost use Rattle.store_form.specs.Stored.{FitsEach, FitsEdges, FitsSchema, FitsTables, IsNumber};
+ghost use Rattle.store_form.specs.{Given.Gives, Payload.{u32, flag, listed, schema_bytes, tables_bytes, edges_bytes}, Reading.{read_at, rises, rises_from, roles_at, schema_at, table_at}, Shrinking.read_shrinks, Stored.{FitsEach, FitsEdges}};
+ghost use Rattle.store_form.specs.Stored.{FitsSchema, FitsTables, IsNumber};
 
 use crate::fields::{Part, ReadFault};
 use crate::limits::MAX_DEPTH;

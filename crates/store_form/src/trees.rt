@@ -1,11 +1,7 @@
 // The tree of a schema in a payload.
 ghost use Rattle.std.specs.Prelude.{◌≡◌, ◌≤◌, ◌∷◌, ◌++◌, length, map, IsErrOf, OnOk};
-ghost use Rattle.wsm_schema.specs.TreeOf.{part_of, parts_of, lane_of, lanes_of};
-ghost use Rattle.wsm_schema.specs.Tree.{act, lanes};
-ghost use Rattle.store_form.specs.Given.{Gives};
-ghost use Rattle.store_form.specs.Payload.{part_bytes, parts_bytes, lanes_bytes, body_bytes, branches_bytes};
-ghost use Rattle.store_form.specs.Reading.{as_at, part_at, body_at, lane_at, lanes_at, block_behind, many_at, u32_at};
-ghost use Rattle.store_form.specs.Shrinking.{HasBytesForCount};
+ghost use Rattle.wsm_schema.specs.{TreeOf.{part_of, parts_of, lane_of, lanes_of}, Tree.{act, lanes}};
+ghost use Rattle.store_form.specs.{Given.Gives, Payload.{part_bytes, parts_bytes, lanes_bytes, body_bytes, branches_bytes}, Reading.{as_at, part_at, body_at, lane_at, lanes_at, block_behind, many_at, u32_at}, Shrinking.HasBytesForCount};
 ghost use Rattle.store_form.specs.Stored.{FitsPart, FitsParts, FitsLanes, FitsItems, FitsBranches};
 
 use crate::fields::{Part, ReadFault, put_tagged};

@@ -1,11 +1,6 @@
 // Values in a payload.
-ghost use Rattle.std.specs.Prelude.{◌≡◌, ◌++◌, ◌<◌, ◌≤◌, length, OnOk};
-ghost use Rattle.std.specs.List.{AllByRecursion};
-ghost use Rattle.store_form.specs.Given.{Gives};
-ghost use Rattle.store_form.specs.Payload.{u32, value_bytes};
-ghost use Rattle.store_form.specs.Reading.{int_at, text_at, value_at};
-ghost use Rattle.store_form.specs.Shrinking.{value_shrinks};
-ghost use Rattle.store_form.specs.Stored.{FitsValue};
+ghost use Rattle.std.specs.{Prelude.{◌≡◌, ◌++◌, ◌<◌, ◌≤◌, length, OnOk}, List.AllByRecursion};
+ghost use Rattle.store_form.specs.{Given.Gives, Payload.{u32, value_bytes}, Reading.{int_at, text_at, value_at}, Shrinking.value_shrinks, Stored.FitsValue};
 
 use crate::fields::{Part, ReadFault};
 use adept_io::NoMemory;

@@ -1,16 +1,7 @@
 -- Calls that are stored group by group.
-use Rattle.std.proofs.Common.{◌≡◌, inl, inr, ℕ, ◌+◌, ◌≤◌, List, [], ◌++◌, length, map, take, drop, refl, sym, ap, subst, ◌∙◌, append_assoc, arith}
-use Rattle.std.proofs.lemmas.List.{append-nil, drop-drop, length-take, map-append, take-append-drop, take-take}
-use Rattle.store_disk.specs.Disk.{LeavesOnly}
-use Rattle.store_disk.specs.Rest.{HasNoneOrAll, IsAtRest}
-use Rattle.store_disk.proofs.Moments.{and_then, started}
-use Rattle.store_form.specs.Payload.{Bytes}
-use Rattle.store_form.specs.declared.stored.Recorded.{Recorded}
-use Rattle.store_keep.specs.Keeping.{Begins, held, HoldsBeginning, IsStored}
-use Rattle.store_keep.proofs.Held.{beginning, begins-more, begins-self, rest-held, rest-image}
-use Rattle.store_keep.specs.Refusals.{no_room}
+use Rattle.store_keep.proofs.Common.{[], ℕ, ◌++◌, ◌+◌, ◌∙◌, ◌≡◌, ◌≤◌, and_then, ap, append-nil, append_assoc, arith, Begins, Bytes, drop, drop-drop, HasNoneOrAll, held, HoldsBeginning, inl, inr, IsAtRest, IsStored, LeavesOnly, length}
+use Rattle.store_keep.proofs.{Common.{length-take, List, map, map-append, no_room, payload_of, Recorded, refl, started, subst, sym, take, take-append-drop, take-take}, Held.{beginning, begins-more, begins-self, rest-held, rest-image}}
 use Rattle.store_keep.specs.declared.faults.KeepFault.TheVariants as fault
-use Rattle.store_room.specs.Room.{payload_of}
 use Rattle.store_room.specs.declared.faults.RoomFault.{RoomFault}
 use Rattle.store_room.specs.declared.faults.RoomFault.TheVariants as room
 

@@ -1,13 +1,6 @@
 -- Which payloads images hold.
-use Rattle.std.proofs.Common.{◌≡◌, ℕ, List, [], ◌∷◌, ◌++◌, refl, sym, ap, subst, ◌∙◌, append_assoc}
-use Rattle.std.proofs.lemmas.List.{append-nil}
-use Rattle.store_disk.specs.Image.{frames, payloads_in, HasList}
-use Rattle.store_disk.specs.Opening.{with_gate}
-use Rattle.store_disk.specs.Rest.{IsAtRest}
-use Rattle.store_disk.proofs.Framing.{frames_at}
+use Rattle.store_keep.proofs.Common.{[], ℕ, ◌++◌, ◌∙◌, ◌∷◌, ◌≡◌, ap, append-nil, append_assoc, Begins, Bytes, frames, frames_at, HasList, held, HoldsBeginning, IsAtRest, IsBegun, List, payloads_in, refl, subst, sym, with_gate}
 use Rattle.store_disk.proofs.Groups.{in-frames}
-use Rattle.store_form.specs.Payload.{Bytes}
-use Rattle.store_keep.specs.Keeping.{Begins, held, HoldsBeginning, IsBegun}
 
 pub held-list : (ps : List Bytes) (image : List ℕ) → HasList ps image → held image ≡ ps
 held-list ps image list = ap payloads_in list ∙ in-frames 0 ps

@@ -1,3 +1,4 @@
+pub mod Common
 mod Additions
 pub mod Held
 mod Matching

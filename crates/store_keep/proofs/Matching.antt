@@ -1,18 +1,10 @@
 -- Records that are compared with calls one after another.
-use Rattle.std.proofs.Common.{◌≡◌, ℕ, zero, suc, ◌+◌, ◌<◌, ◌≤◌, ◌^◌, true, false, List, [], ◌∷◌, ◌++◌, length, map, take, drop, Option, Some, None, refl, sym, ap, subst, ◌∙◌, append_assoc, arith, length-append}
-use Rattle.std.specs.Prelude.{bytes_eq, if◌then◌else◌, slice_get}
+use Rattle.store_keep.proofs.Common.{[], ℕ, ◌++◌, ◌+◌, ◌<◌, ◌^◌, ◌∙◌, ◌∷◌, ◌≡◌, ◌≤◌, all_framed, all_short, ap, append_assoc, arith, Bytes, bytes_eq, closed, closes, drop, EndsAt, false, finds, frame, framed, framed-more, frames}
+use Rattle.store_keep.proofs.Common.{frames_from, if◌then◌else◌, is_call, IsFrame, length, length-append, length-drop, length-take-le, List, map, map_push, None, one_framed, Option, payload_of, Recorded, refl, slice_get, Some, subst, suc}
+use Rattle.store_keep.proofs.Common.{sym, take, true, with_gate, zero}
 use Rattle.std.specs.List.{AllByRecursion}
-use Rattle.std.proofs.lemmas.List.{length-drop, length-take-le, map_push}
 use Rattle.std.proofs.lemmas.Slice.Eq.{bytes_eq-Decides}
-use Rattle.store_room.specs.Room.{payload_of}
-use Rattle.store_disk.specs.Image.{all_framed, closed, frame, frames, frames_from, framed}
-use Rattle.store_disk.specs.Opening.{IsFrame, with_gate}
-use Rattle.store_disk.specs.Rest.{EndsAt}
 use Rattle.store_disk.specs.declared.frames.Frame.TheVariants as front
-use Rattle.store_disk.proofs.Framing.{all_short, closes, framed-more, one_framed}
-use Rattle.store_form.specs.Payload.{Bytes}
-use Rattle.store_form.specs.declared.stored.Recorded.{Recorded}
-use Rattle.store_keep.specs.Finding.{finds, is_call}
 use Rattle.store_keep.specs.declared.finding.Found.TheVariants as found
 
 -- an item of a list by its index

@@ -1,24 +1,11 @@
 -- A disk that was opened, and what it turns out to hold of calls.
-use Rattle.std.proofs.Common.{◌≡◌, inl, inr, ℕ, zero, suc, ◌≤◌, List, [], ◌∷◌, ◌++◌, length, map, take, drop, refl, sym, ap, subst, ◌∙◌}
-use Rattle.std.specs.Prelude.{IfErr, IsErrOf, Result, Ok, Err}
-use Rattle.std.proofs.lemmas.List.{length-map, length-take-le}
-use Rattle.store_room.specs.Room.{Overflows, payload_of}
-use Rattle.store_disk.specs.Disk.{IsSettled, LeavesOnly, Only}
-use Rattle.store_disk.specs.Image.{all_framed, frames, HasList, payloads_in}
-use Rattle.store_disk.specs.Opening.{HoldsAsBefore, with_gate}
-use Rattle.store_disk.specs.Rest.{EndsAt, IsAtRest}
-use Rattle.store_disk.proofs.Framing.{frames_at}
-use Rattle.store_disk.proofs.Moments.{and_then, weaker}
-use Rattle.store_form.specs.Payload.{Bytes}
-use Rattle.store_form.specs.declared.stored.Recorded.{Recorded}
-use Rattle.store_keep.specs.Finding.{finds}
-use Rattle.store_keep.specs.Keeping.{held, HoldsBeginning, IsBegun, IsLeft, IsStored}
-use Rattle.store_keep.specs.Refusals.{IsAddFault, Tells}
+use Rattle.store_keep.proofs.Common.{[], ℕ, ◌++◌, ◌∙◌, ◌∷◌, ◌≡◌, ◌≤◌, all_framed, and_then, ap, Bytes, drop, EndsAt, finds, frames, frames_at, HasList, held, HoldsAsBefore, HoldsBeginning, IfErr, inl, inr, IsAddFault, IsAtRest, IsBegun}
+use Rattle.store_keep.proofs.Common.{IsErrOf, IsLeft, IsSettled, IsStored, LeavesOnly, length, length-map, length-take-le, List, map, Ok, Only, Overflows, payload_of, payloads_in, Recorded, refl, Result, subst, suc, sym, take, Tells}
+use Rattle.store_keep.proofs.{Common.{weaker, with_gate, zero}, Held.{gate-frames, held-list, rest-again, same-frames, whole-list}, Matching.firsts}
+use Rattle.std.specs.Prelude.{Err}
 use Rattle.store_keep.specs.declared.faults.KeepFault.{KeepFault}
 use Rattle.store_keep.specs.declared.faults.KeepFault.TheVariants as fault
 use Rattle.store_keep.specs.declared.finding.Found.TheVariants as found
-use Rattle.store_keep.proofs.Held.{gate-frames, held-list, rest-again, same-frames, whole-list}
-use Rattle.store_keep.proofs.Matching.{firsts}
 
 -- calls up to one, and those behind it
 split-map : (calls : List Recorded) (n : ℕ) → firsts calls n ++ map payload_of (drop n calls) ≡ map payload_of calls

@@ -1,10 +1,8 @@
 -- What is found of calls in an image.
 use Rattle.std.specs.Prelude.{ℕ, ◌+◌, ◌≤◌, Bool, false, List, [], ◌∷◌, length, map, take, bytes_eq, Option, Some, None, if◌then◌else◌}
 use Rattle.store_room.specs.Room.{payload_of}
-use Rattle.store_disk.specs.Image.{Frames, closed, damaged, frame}
-use Rattle.store_disk.specs.Rest.{EndsAt}
-use Rattle.store_form.specs.Payload.{Bytes}
-use Rattle.store_form.specs.declared.stored.Recorded.{Recorded}
+use Rattle.store_disk.specs.{Image.{Frames, closed, damaged, frame}, Rest.EndsAt}
+use Rattle.store_form.specs.{Payload.Bytes, declared.stored.Recorded.Recorded}
 use Rattle.store_keep.specs.declared.finding.Found.{Found}
 use Rattle.store_keep.specs.declared.finding.Found.TheVariants as found
 

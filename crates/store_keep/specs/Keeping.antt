@@ -1,8 +1,6 @@
 -- Which payloads an image holds, and how they stand to those of all calls.
 use Rattle.std.specs.Prelude.{◌≡◌, ℕ, List, ◌++◌}
-use Rattle.store_disk.specs.Disk.{LeavesOnly}
-use Rattle.store_disk.specs.Image.{frames, payloads_in, HasList}
-use Rattle.store_disk.specs.Rest.{IsAtRest}
+use Rattle.store_disk.specs.{Disk.LeavesOnly, Image.{frames, payloads_in, HasList}, Rest.IsAtRest}
 use Rattle.store_form.specs.Payload.{Bytes}
 
 -- the payloads of the records of an image

@@ -4,13 +4,10 @@ use Rattle.adept_io.specs.declared.reading.ReadRefusal.{ReadRefusal}
 use Rattle.adept_io.specs.declared.reading.ReadRefusal.TheVariants as read
 use Rattle.store_disk.specs.Image.{all_framed, frames}
 use Rattle.store_form.specs.declared.stored.Recorded.{Recorded}
-use Rattle.store_keep.specs.Finding.{finds}
-use Rattle.store_keep.specs.Keeping.{held}
-use Rattle.store_keep.specs.declared.faults.KeepFault.{KeepFault}
+use Rattle.store_keep.specs.{Finding.finds, Keeping.held, declared.faults.KeepFault.KeepFault}
 use Rattle.store_keep.specs.declared.faults.KeepFault.TheVariants as fault
 use Rattle.store_keep.specs.declared.finding.Found.TheVariants as found
-use Rattle.store_room.specs.Room.{Overflows, payload_of}
-use Rattle.store_room.specs.declared.faults.RoomFault.{RoomFault}
+use Rattle.store_room.specs.{Room.{Overflows, payload_of}, declared.faults.RoomFault.RoomFault}
 use Rattle.store_room.specs.declared.faults.RoomFault.TheVariants as room
 
 abbrev pub unopened : ReadRefusal → KeepFault

@@ -1,10 +1,8 @@
 // Calls that are stored behind others, in groups.
-ghost use Rattle.std.specs.Prelude.{◌≡◌, ◌≢◌, ◌<◌, ◌≤◌, ◌^◌, ◌++◌, length, map, drop, IfErr, OnOk, IsErrOf};
-ghost use Rattle.std.specs.List.{AllByRecursion};
+ghost use Rattle.std.specs.{Prelude.{◌≡◌, ◌≢◌, ◌<◌, ◌≤◌, ◌^◌, ◌++◌, length, map, drop, IfErr, OnOk, IsErrOf}, List.AllByRecursion};
 ghost use Rattle.adept_io.specs.Counts.{Rose};
 ghost use Rattle.store_disk.specs.Rest.{IsAtRest};
-ghost use Rattle.store_keep.specs.Keeping.{AddsOnly, IsStored, held};
-ghost use Rattle.store_keep.specs.Refusals.{IsAddFault};
+ghost use Rattle.store_keep.specs.{Keeping.{AddsOnly, IsStored, held}, Refusals.IsAddFault};
 ghost use Rattle.store_room.specs.Room.{IsPayable, Overflows, payload_of};
 
 use crate::faults::KeepFault;

@@ -1,9 +1,7 @@
 // What an image holds of calls. No record is decoded: equal payloads are of equal calls.
-ghost use Rattle.std.specs.Prelude.{◌≡◌, ◌≤◌, ◌^◌, length, map, slice_get, IfOk};
-ghost use Rattle.std.specs.List.{AllByRecursion};
+ghost use Rattle.std.specs.{Prelude.{◌≡◌, ◌≤◌, ◌^◌, length, map, slice_get, IfOk}, List.AllByRecursion};
 ghost use Rattle.store_room.specs.Room.{IsPayable, payload_of};
-ghost use Rattle.store_disk.specs.Image.{frames};
-ghost use Rattle.store_disk.specs.Opening.{with_gate};
+ghost use Rattle.store_disk.specs.{Image.frames, Opening.with_gate};
 ghost use Rattle.store_keep.specs.Finding.{HoldsFound, finds, is_call};
 
 use adept_io::NoMemory;

@@ -1,12 +1,9 @@
 // The work of a file over a disk.
-ghost use Rattle.std.specs.Prelude.{◌≡◌, ◌≢◌, ◌≤◌, ◌^◌, length, map, IfErr, OnOk, IsErrOf};
-ghost use Rattle.std.specs.List.{AllByRecursion};
+ghost use Rattle.std.specs.{Prelude.{◌≡◌, ◌≢◌, ◌≤◌, ◌^◌, length, map, IfErr, OnOk, IsErrOf}, List.AllByRecursion};
 ghost use Rattle.adept_io.specs.Counts.{Rose};
 ghost use Rattle.store_room.specs.Room.{IsPayable, payload_of};
-ghost use Rattle.store_disk.specs.Disk.{LeavesOnly, Only};
-ghost use Rattle.store_disk.specs.Opening.{HoldsAsBefore};
-ghost use Rattle.store_keep.specs.Keeping.{IsBegun, IsLeft, IsStored, KeepsBeginning};
-ghost use Rattle.store_keep.specs.Refusals.{IsJudgement, IsKeepFault, IsRefusal, Tells};
+ghost use Rattle.store_disk.specs.{Disk.{LeavesOnly, Only}, Opening.HoldsAsBefore};
+ghost use Rattle.store_keep.specs.{Keeping.{IsBegun, IsLeft, IsStored, KeepsBeginning}, Refusals.{IsJudgement, IsKeepFault, IsRefusal, Tells}};
 
 use crate::adding::add_all;
 use crate::faults::KeepFault;

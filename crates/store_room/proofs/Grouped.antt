@@ -1,13 +1,9 @@
 -- Calls of which one after another finds room, and the group of the first of them.
-use Rattle.std.proofs.Common.{◌≡◌, inl, inr, ℕ, ◌+◌, ◌<◌, ◌≤◌, true, List, [], ◌∷◌, ◌++◌, get_or, length, map, take, drop, refl, sym, ap, subst, ◌∙◌, length-append, arith}
+use Rattle.std.proofs.{Common.{◌≡◌, inl, inr, ℕ, ◌+◌, ◌<◌, ◌≤◌, true, List, [], ◌∷◌, ◌++◌, get_or, length, map, take, drop, refl, sym, ap, subst, ◌∙◌, length-append, arith}, lemmas.Grind.flat_map-append, lemmas.List.{drop_more, map_push}}
+use Rattle.std.proofs.lemmas.List.{take-append-drop, take_more}
 use Rattle.std.specs.List.{AllByRecursion}
-use Rattle.std.proofs.lemmas.Grind.{flat_map-append}
-use Rattle.std.proofs.lemmas.List.{drop_more, map_push, take-append-drop, take_more}
 use Rattle.store_disk.specs.Image.{all_framed, framed}
-use Rattle.store_form.specs.Payload.{Bytes, IsPayloadOf, payload}
-use Rattle.store_form.specs.Stored.{has_short_lists}
-use Rattle.store_form.specs.declared.stored.Recorded.{Recorded}
-use Rattle.store_form.specs.declared.stored.Stored.{Stored}
+use Rattle.store_form.specs.{Payload.{Bytes, IsPayloadOf, payload}, Stored.has_short_lists, declared.stored.Recorded.Recorded, declared.stored.Stored.Stored}
 use Rattle.store_room.specs.Room.{HasPayload, IsPayable, Overflows, Passes, payload_of}
 
 -- a call that finds room does not pass the limit

@@ -1,10 +1,7 @@
 -- Groups in which many calls are stored.
-use Rattle.std.specs.Prelude.{◌≡◌, ◌⊎◌, ℕ, ◌+◌, ◌<◌, ◌≤◌, ◌^◌, min, nat_lt, List, [], ◌∷◌, length, map, take, if◌then◌else◌}
-use Rattle.std.specs.List.{AllByRecursion}
-use Rattle.store_disk.specs.Image.{all_framed}
-use Rattle.store_disk.specs.declared.group.TheConstants.{MAX_GROUP}
-use Rattle.store_form.specs.Payload.{Bytes}
-use Rattle.store_form.specs.declared.stored.Recorded.{Recorded}
+use Rattle.std.specs.{Prelude.{◌≡◌, ◌⊎◌, ℕ, ◌+◌, ◌<◌, ◌≤◌, ◌^◌, min, nat_lt, List, [], ◌∷◌, length, map, take, if◌then◌else◌}, List.AllByRecursion}
+use Rattle.store_disk.specs.{Image.all_framed, declared.group.TheConstants.MAX_GROUP}
+use Rattle.store_form.specs.{Payload.Bytes, declared.stored.Recorded.Recorded}
 use Rattle.store_room.specs.Room.{HasPayload, Overflows, payload_of}
 
 -- the payloads of the first so many calls, which find room: no more than a group may have, but one in any case, and no fewer

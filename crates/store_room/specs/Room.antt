@@ -1,9 +1,6 @@
 -- Calls as payloads, and which of them find room in an image, one record behind another.
 use Rattle.std.specs.Prelude.{◌≡◌, ◌⊎◌, ℕ, ◌+◌, ◌<◌, false, true, List, [], ◌∷◌, length}
-use Rattle.store_form.specs.Payload.{Bytes, IsPayloadOf, payload}
-use Rattle.store_form.specs.Stored.{HasNoVersion, has_short_lists, is_shallow}
-use Rattle.store_form.specs.declared.stored.Recorded.{Recorded}
-use Rattle.store_form.specs.declared.stored.Stored.{Stored}
+use Rattle.store_form.specs.{Payload.{Bytes, IsPayloadOf, payload}, Stored.{HasNoVersion, has_short_lists, is_shallow}, declared.stored.Recorded.Recorded, declared.stored.Stored.Stored}
 
 -- as it is stored
 abbrev pub payload_of : Recorded → Bytes

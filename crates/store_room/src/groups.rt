@@ -1,8 +1,6 @@
 // Groups in which many calls are stored.
-ghost use Rattle.std.specs.Prelude.{◌≡◌, ◌<◌, ◌≤◌, ◌^◌, length, IfOk, IsErrOf};
-ghost use Rattle.std.specs.List.{AllByRecursion};
-ghost use Rattle.store_room.specs.Groups.{IsFirstGroup, end_behind};
-ghost use Rattle.store_room.specs.Room.{IsPayable, Overflows};
+ghost use Rattle.std.specs.{Prelude.{◌≡◌, ◌<◌, ◌≤◌, ◌^◌, length, IfOk, IsErrOf}, List.AllByRecursion};
+ghost use Rattle.store_room.specs.{Groups.{IsFirstGroup, end_behind}, Room.{IsPayable, Overflows}};
 
 use crate::faults::RoomFault;
 use crate::payloads::payload_within;

@@ -1,9 +1,7 @@
 // The payloads of calls that find room in an image.
-ghost use Rattle.std.specs.Prelude.{◌≡◌, ◌+◌, ◌<◌, ◌≤◌, ◌^◌, true, length, map, IfOk, OnOk, IsErrOf};
-ghost use Rattle.std.specs.List.{AllByRecursion};
+ghost use Rattle.std.specs.{Prelude.{◌≡◌, ◌+◌, ◌<◌, ◌≤◌, ◌^◌, true, length, map, IfOk, OnOk, IsErrOf}, List.AllByRecursion};
 ghost use Rattle.store_disk.specs.Image.{all_framed};
-ghost use Rattle.store_form.specs.Payload.{IsPayloadOf};
-ghost use Rattle.store_form.specs.Stored.{HasNoVersion, is_shallow};
+ghost use Rattle.store_form.specs.{Payload.IsPayloadOf, Stored.{HasNoVersion, is_shallow}};
 ghost use Rattle.store_room.specs.Room.{HasPayload, IsPayable, Overflows, Passes, payload_of};
 
 use crate::faults::RoomFault;

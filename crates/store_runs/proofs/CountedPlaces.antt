@@ -1,21 +1,8 @@
 -- Where the cases of a file stand by type and place: no two at one place.
-use Rattle.std.proofs.Common.{◌≡◌, inl, inr, ℕ, zero, suc, ◌+◌, ◌<◌, ◌≤◌, true, List, [], ◌∷◌, length, Option, Some, None, refl, ap, sym, ◌∙◌, arith}
-use Rattle.std.specs.Prelude.{nat_lt, slice_get, if◌then◌else◌}
-use Rattle.std.proofs.lemmas.Bool.{cases_order}
-use Rattle.std.proofs.lemmas.Bool.Decides.{nat_tests}
-use Rattle.std.proofs.lemmas.Option.{same_Some}
+use Rattle.store_runs.proofs.Common.{[], ℕ, ◌+◌, ◌<◌, ◌∙◌, ◌∷◌, ◌≡◌, ◌≤◌, ap, arith, case_counts, CaseDecl, CaseId, cases_of_type, cases_order, ClosedCase, counts_from, declared-placed, declared-typed, File, fresh_cases, get-behind}
+use Rattle.store_runs.proofs.Common.{get-replica, if◌then◌else◌, inl, inr, IsDeclared, IsWorkable, length, List, nat_lt, nat_tests, None, Option, place_between, place_of, refl, same_Some, slice_get, Some, starts_from, starts_of, suc, sym}
+use Rattle.store_runs.proofs.Common.{true, TypeDecl, zero}
 use Rattle.case_core.specs.CaseModel.{not_created}
-use Rattle.case_store.specs.Folding.{fresh_cases, place_between, place_of, starts_from, starts_of}
-use Rattle.file_facts.proofs.Cases.{declared-placed, declared-typed}
-use Rattle.file_facts.specs.Facts.{IsDeclared, IsWorkable}
-use Rattle.file_model.specs.CaseCounts.{cases_of_type}
-use Rattle.file_model.specs.declared.files.CaseDecl.{CaseDecl}
-use Rattle.file_model.specs.declared.files.File.{File}
-use Rattle.file_model.specs.declared.files.TypeDecl.{TypeDecl}
-use Rattle.script_run.specs.declared.runs.ClosedCase.{ClosedCase}
-use Rattle.case_store.proofs.Changes.{get-behind, get-replica}
-use Rattle.store_runs.specs.Stored.{case_counts, counts_from}
-use Rattle.wsm_sound.specs.declared.versions.CaseId.{CaseId}
 
 -- the counts of the types before one
 abbrev pub sum-upto : ℕ → List ℕ → ℕ

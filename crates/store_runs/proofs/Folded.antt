@@ -1,51 +1,22 @@
 -- What a store makes of a file's calls is the serial run.
-use Rattle.std.proofs.Common.{◌≡◌, inl, inr, ℕ, zero, suc, ◌+◌, Bool, true, false, cond, List, [], ◌∷◌, ◌++◌, drop, fold, get_or, length, take, Option, Some, None, refl, ap, sym, subst, ◌∙◌, arith, append_assoc, length-append}
-use Rattle.std.specs.Prelude.{option_map, position, slice_get, if◌then◌else◌}
-use Rattle.std.specs.List.{list_any, position_from}
-use Rattle.std.proofs.lemmas.Bool.{and_parts, cases_order, eq-eqb, eqb-true, or_cases}
-use Rattle.std.proofs.lemmas.List.Sums.{fold-append}
-use Rattle.std.proofs.lemmas.Map.Keys.{any_passes_from_place}
-use Rattle.std.proofs.lemmas.Option.{get_or_from_slice_get, same_Some, slice_get-map, slice_get_within}
+use Rattle.store_runs.proofs.Common.{[], ℕ, ◌++◌, ◌+◌, ◌∙◌, ◌∷◌, ◌≡◌, AllRows, and_parts, ap, append_assoc, arith, Bool, by, Call, call_of, called, case_at, case_counts, CaseDecl, CaseId, cases_order, changed-seam, ClosedCase, ClosedKind}
+use Rattle.store_runs.proofs.Common.{cond, create_calls, defined, defined_from, defined_kind, definitions, drop, eq-eqb, eqb-true, false, File, fold, folded, fresh, fresh_cases, fresh_kinds, get-changed, get-other, get_or}
+use Rattle.store_runs.proofs.Common.{get_or_from_slice_get, has_id, ids-distinct, if◌then◌else◌, inl, inr, is_among, IsDeclared, IsKnown, IsKnownCall, IsSameRun, IsWorkable, KindEvent, kinds_behind, kinds_from, known-call, length}
+use Rattle.store_runs.proofs.Common.{length-append, Line, List, list_any, migrate_calls, migrations, None, not_defined, on_version, opening, Option, option_map, or_cases, phase_worked, place_of, position, position_from, program, Recorded}
+use Rattle.store_runs.proofs.Common.{records, refl, roles_of, Run, same_Some, serial, slice_get, slice_get-map, slice_get_within, Some, starts_of, stored_kind, stored_run, subst, suc, sym, take, Told, told_line, told_phase, told_types}
+use Rattle.store_runs.proofs.{Common.{true, TypeDecl, uncalled, version_of, version_of_kind, VersionModel, zero}, CountedPlaces.{counts-size, declared-place, fresh-at, place-number, same-place}, Machines.{kinds-changed, kinds-same}}
+use Rattle.store_runs.proofs.{Machines.{machines, newest-is, number}, Numbers.{AllCounted, counted-call, counted-changed, found-by-number, found-when-asked, none-counted}}
+use Rattle.std.proofs.{lemmas.List.Sums.fold-append, lemmas.Map.Keys.any_passes_from_place}
 use Rattle.case_core.specs.declared.events.Event.{Event}
 use Rattle.case_core.specs.declared.events.Event.TheVariants as event
-use Rattle.case_store.specs.Folding.{called, case_at, folded, fresh, fresh_cases, fresh_kinds, on_version, place_of, starts_of, version_of, version_of_kind}
 use Rattle.case_store.specs.Folding.{on_case as on_stored}
-use Rattle.file_facts.proofs.Cases.{ids-distinct}
-use Rattle.file_facts.specs.Facts.{IsDeclared, IsKnown, IsWorkable}
-use Rattle.file_model.specs.CaseCounts.{has_id, is_among}
-use Rattle.file_model.specs.declared.files.CaseDecl.{CaseDecl}
-use Rattle.file_model.specs.declared.files.File.{File}
-use Rattle.file_model.specs.declared.files.Line.{Line}
-use Rattle.file_model.specs.declared.files.TypeDecl.{TypeDecl}
 use Rattle.script_run.proofs.Each.{each-called, each-passed}
-use Rattle.line_calls.proofs.Facts.{known-call}
 use Rattle.line_calls.proofs.Places.{position-from_0}
-use Rattle.line_calls.specs.Calls.{call_of}
-use Rattle.line_calls.specs.Files.{roles_of}
-use Rattle.line_calls.specs.Known.{IsKnownCall}
-use Rattle.line_calls.specs.declared.calls.Call.{Call}
 use Rattle.line_calls.specs.declared.calls.Call.TheVariants as call
 use Rattle.line_calls.specs.declared.calls.Told.TheVariants as told
 use Rattle.script_run.specs.Calls.{call_case, call_kind, called as run_called, changed_at, changed_where, created, each_of, migrated, newest, on_case, on_kind, worked}
-use Rattle.script_run.specs.Serial.{defined, kinds_from, opening, phase_worked, program, serial, uncalled}
-use Rattle.script_run.specs.declared.runs.ClosedCase.{ClosedCase}
-use Rattle.script_run.specs.declared.runs.ClosedKind.{ClosedKind}
-use Rattle.script_run.specs.declared.runs.Run.{Run}
-use Rattle.store_calls.specs.Calls.{Told, by, create_calls, definitions, kinds_behind, migrate_calls, migrations, records, stored_kind, told_line, told_phase, told_types}
-use Rattle.store_form.specs.declared.stored.Recorded.{Recorded}
 use Rattle.store_form.specs.declared.stored.Stored.TheVariants as stored
-use Rattle.case_store.proofs.Changes.{changed-seam, get-changed, get-other}
-use Rattle.store_runs.proofs.CountedPlaces.{counts-size, declared-place, fresh-at, place-number, same-place}
-use Rattle.script_run.specs.Verdicts.{defined_from, defined_kind}
-use Rattle.store_runs.proofs.Machines.{kinds-changed, kinds-same, machines, newest-is, number}
-use Rattle.store_runs.proofs.Numbers.{AllCounted, counted-call, counted-changed, found-by-number, found-when-asked, none-counted}
-use Rattle.store_runs.specs.Stored.{case_counts, IsSameRun, stored_run}
-use Rattle.type_core.specs.KindModel.{not_defined}
-use Rattle.type_core.specs.declared.events.KindEvent.{KindEvent}
 use Rattle.type_core.specs.declared.events.KindEvent.TheVariants as kind_event
-use Rattle.wsm_lists.specs.Rows.{AllRows}
-use Rattle.wsm_sound.specs.VersionModel.{VersionModel}
-use Rattle.wsm_sound.specs.declared.versions.CaseId.{CaseId}
 
 -- ---- what is left of a list
 dropped : {X : Type 0} (xs : List X) (i : ℕ) (y : X) (ys : List X) → drop i xs ≡ y ∷ ys → (slice_get xs i ≡ Some y) × (drop (suc i) xs ≡ ys)

@@ -1,46 +1,19 @@
 -- The calls of a file are calls of a store of its types and cases: each names what is there when it comes.
-use Rattle.std.proofs.Common.{◌≡◌, ℕ, suc, ◌+◌, ◌<◌, ◌≤◌, Bool, true, false, List, [], ◌∷◌, length, Option, Some, None, refl, ap, sym, subst, ◌∙◌, arith}
-use Rattle.std.specs.Prelude.{fold, nat_lt, slice_get, if◌then◌else◌}
-use Rattle.std.specs.List.{AllByRecursion}
-use Rattle.std.specs.Option.{is_some}
-use Rattle.std.proofs.lemmas.Bool.{and_from, and_parts, eqb-true}
-use Rattle.std.proofs.lemmas.Bool.Decides.{nat_tests}
+use Rattle.store_runs.proofs.Common.{[], ℕ, ◌+◌, ◌<◌, ◌∙◌, ◌∷◌, ◌≡◌, ◌≤◌, AllByRecursion, AllRows, and_from, and_parts, ap, arith, Bool, by, Call, call_of, called, calls, case_counts, CaseDecl, CaseId, create_calls, declared-typed}
+use Rattle.store_runs.proofs.Common.{definitions, eqb-true, false, File, folded, fresh, fresh_kinds, has_case, has_names, if◌then◌else◌, is_among, IsDeclared, IsKnownCall, IsPlain, IsWorkable, KindEvent, known-call, length, Line, List}
+use Rattle.store_runs.proofs.Common.{migrate_calls, migrations, nat_lt, nat_tests, newest, newest_number, None, on_kind, Option, phase_worked, plain-call, program, Recorded, records, refl, roles_of, Run, slice_get, Some, starts_of}
+use Rattle.store_runs.proofs.{Common.{stored_kind, subst, suc, sym, Told, told_line, told_phase, told_types, true, TypeDecl, version_of, VersionModel, worked}, CountedPlaces.{counts-size, declared-place}, Folded.{IsMade, Known, Same}}
+use Rattle.store_runs.proofs.{Folded.{declared-at, has-version, line-made, on-kind, opens}, Machines.{machines, newest-is, number}, Numbers.{AllCounted, found-by-number, found-when-asked}}
+use Rattle.std.specs.{Prelude.fold, Option.is_some}
 use Rattle.case_store.proofs.Staying.{AreThere, all-types-stay, known-append, known-there}
-use Rattle.case_store.specs.Folding.{called, folded, fresh, fresh_kinds, has_case, has_names, starts_of, version_of}
 use Rattle.case_store.specs.Standing.{AreKnown}
-use Rattle.file_facts.proofs.Cases.{declared-typed}
-use Rattle.file_facts.specs.Facts.{IsDeclared, IsWorkable}
-use Rattle.file_model.specs.CaseCounts.{is_among}
-use Rattle.file_model.specs.declared.files.CaseDecl.{CaseDecl}
-use Rattle.file_model.specs.declared.files.File.{File}
-use Rattle.file_model.specs.declared.files.Line.{Line}
-use Rattle.file_model.specs.declared.files.TypeDecl.{TypeDecl}
-use Rattle.line_calls.proofs.Facts.{known-call, plain-call}
-use Rattle.line_calls.specs.Calls.{call_of}
-use Rattle.line_calls.specs.Files.{roles_of}
-use Rattle.line_calls.specs.Known.{IsKnownCall, IsPlain}
-use Rattle.line_calls.specs.declared.calls.Call.{Call}
 use Rattle.line_calls.specs.declared.calls.Call.TheVariants as call
 use Rattle.line_calls.specs.declared.calls.Told.TheVariants as told
-use Rattle.script_run.specs.Calls.{newest, on_kind, worked}
-use Rattle.script_run.specs.Serial.{phase_worked, program}
-use Rattle.script_run.specs.declared.runs.Run.{Run}
 use Rattle.store_calls.proofs.Payable.{call-payable, definitions-payable}
-use Rattle.store_calls.specs.Calls.{Told, by, calls, create_calls, definitions, migrate_calls, migrations, newest_number, records, stored_kind, told_line, told_phase, told_types}
 use Rattle.store_form.specs.Stored.{is_shallow}
-use Rattle.store_form.specs.declared.stored.Recorded.{Recorded}
 use Rattle.store_form.specs.declared.stored.Stored.TheVariants as stored
 use Rattle.store_room.specs.Room.{IsPayable}
-use Rattle.store_runs.proofs.CountedPlaces.{counts-size, declared-place}
-use Rattle.store_runs.proofs.Folded.{IsMade, Known, Same, declared-at, has-version, line-made, on-kind, opens}
-use Rattle.store_runs.proofs.Machines.{machines, newest-is, number}
-use Rattle.store_runs.proofs.Numbers.{AllCounted, found-by-number, found-when-asked}
-use Rattle.store_runs.specs.Stored.{case_counts}
-use Rattle.type_core.specs.declared.events.KindEvent.{KindEvent}
 use Rattle.type_core.specs.declared.events.KindEvent.TheVariants as kind_event
-use Rattle.wsm_lists.specs.Rows.{AllRows}
-use Rattle.wsm_sound.specs.VersionModel.{VersionModel}
-use Rattle.wsm_sound.specs.declared.versions.CaseId.{CaseId}
 
 each-item : {X : Type 0} (P : X → Type 0) (xs : List X) → ((k : ℕ) (x : X) → slice_get xs k ≡ Some x → P x) → AllByRecursion P xs
 each-item P [] all = tt

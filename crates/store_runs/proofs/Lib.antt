@@ -1,3 +1,4 @@
+pub mod Common
 pub mod CountedPlaces
 pub mod Folded
 pub mod Known

@@ -1,18 +1,7 @@
 -- The types of a run without their journals.
-use Rattle.std.proofs.Common.{◌≡◌, ℕ, zero, suc, List, [], ◌∷◌, Option, Some, None, refl, sym, ap, ◌∙◌}
-use Rattle.std.specs.Prelude.{option_map, slice_get}
-use Rattle.script_run.specs.Calls.{answered_version, call_kind, changed_at, newest, newest_in, on_kind}
-use Rattle.script_run.specs.Verdicts.{stepped}
-use Rattle.script_run.specs.declared.runs.ClosedKind.{ClosedKind}
-use Rattle.script_run.specs.declared.runs.Run.{Run}
-use Rattle.store_calls.specs.Calls.{newest_number, number_in}
-use Rattle.case_store.proofs.Changes.{changed-later}
-use Rattle.store_runs.proofs.Numbers.{asked}
-use Rattle.type_core.specs.KindModel.{KindModel}
-use Rattle.type_core.specs.Machine.{event_on, newest_of}
-use Rattle.type_core.specs.declared.events.KindEvent.{KindEvent}
+use Rattle.store_runs.proofs.Common.{[], ℕ, ◌∙◌, ◌∷◌, ◌≡◌, answered_version, ap, call_kind, changed-later, changed_at, ClosedKind, event_on, KindEvent, KindModel, List, newest, newest_in, newest_number, newest_of, None, number_in, on_kind}
+use Rattle.store_runs.proofs.{Common.{Option, option_map, refl, Run, slice_get, Some, stepped, suc, sym, VersionModel, zero}, Numbers.asked}
 use Rattle.type_core.specs.declared.events.KindEvent.TheVariants as kind_event
-use Rattle.wsm_sound.specs.VersionModel.{VersionModel}
 
 abbrev pub machines : List ClosedKind → List KindModel
 machines [] = []

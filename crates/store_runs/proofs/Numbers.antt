@@ -1,25 +1,13 @@
 -- The newest version of a type has the number of how many there are, so it is found by its number.
-use Rattle.std.proofs.Common.{◌≡◌, ℕ, zero, suc, ◌+◌, ◌-◌, ◌==◌, Bool, true, false, List, [], ◌∷◌, ◌++◌, length, Option, Some, None, Result, Ok, Err, refl, ap, sym, subst, ◌∙◌, arith, length-append}
-use Rattle.std.specs.Prelude.{nat_lt, option_map, slice_get, if◌then◌else◌}
-use Rattle.std.proofs.lemmas.Bool.{ne_eqb}
-use Rattle.std.proofs.lemmas.Option.{same_Some}
-use Rattle.case_store.specs.Folding.{version_of, version_of_kind}
-use Rattle.script_run.specs.Calls.{answered_version, call_kind, changed_at, newest, newest_in, on_kind}
-use Rattle.script_run.specs.declared.runs.ClosedKind.{ClosedKind}
-use Rattle.script_run.specs.declared.runs.Run.{Run}
-use Rattle.case_store.proofs.Changes.{changed-later, get-changed}
+use Rattle.store_runs.proofs.Common.{[], ℕ, ◌++◌, ◌+◌, ◌-◌, ◌==◌, ◌∙◌, ◌∷◌, ◌≡◌, answered_version, ap, arith, Bool, call_kind, changed-later, changed_at, ClosedKind, defined_by, Err, event_on, false, get-changed, if◌then◌else◌}
+use Rattle.store_runs.proofs.Common.{installed_by, KindEvent, KindModel, length, length-append, List, nat_lt, ne_eqb, newest, newest_in, newest_of, next_kind, None, Ok, on_kind, Option, option_map, refl, Result, Run, same_Some, slice_get}
+use Rattle.store_runs.proofs.Common.{Some, subst, suc, sym, true, version_in, version_of, version_of_kind, VersionModel, with_version, zero}
 use Rattle.type_core.proofs.Numbering.{none_newest}
-use Rattle.type_core.specs.KindModel.{KindModel}
-use Rattle.type_core.specs.Machine.{defined_by, event_on, installed_by, newest_of, next_kind, version_in, with_version}
-use Rattle.type_core.specs.declared.events.KindEvent.{KindEvent}
 use Rattle.type_core.specs.declared.events.KindEvent.TheVariants as kind_event
 use Rattle.type_core.specs.declared.replies.KindReply.TheVariants as reply
 use Rattle.wsm_ops.specs.declared.operations.Op.{Op}
 use Rattle.wsm_schema.specs.SchemaModel.{SchemaModel}
-use Rattle.wsm_sound.specs.Faults.{changed_by, fault_of, unless_fault}
-use Rattle.wsm_sound.specs.VersionModel.{VersionModel}
-use Rattle.wsm_sound.specs.Versions.{first_version, next_version, with_schema}
-use Rattle.wsm_sound.specs.declared.faults.Fault.{Fault}
+use Rattle.wsm_sound.specs.{Faults.{changed_by, fault_of, unless_fault}, Versions.{first_version, next_version, with_schema}, declared.faults.Fault.Fault}
 
 abbrev pub IsCounted : KindModel → Type 0
 IsCounted k = (w : VersionModel) → newest_of k.versions ≡ Some w → w.number ≡ length k.versions

@@ -1,10 +1,7 @@
 -- The run that a store makes of a file's calls, and how it stands to the serial run.
 use Rattle.std.specs.Prelude.{◌≡◌, ℕ, ◌+◌, List, [], ◌∷◌, slice_get, Some}
 use Rattle.case_store.specs.Folding.{case_at, folded, place_of}
-use Rattle.file_model.specs.CaseCounts.{cases_of_type}
-use Rattle.file_model.specs.declared.files.CaseDecl.{CaseDecl}
-use Rattle.file_model.specs.declared.files.File.{File}
-use Rattle.file_model.specs.declared.files.TypeDecl.{TypeDecl}
+use Rattle.file_model.specs.{CaseCounts.cases_of_type, declared.files.CaseDecl.CaseDecl, declared.files.File.File, declared.files.TypeDecl.TypeDecl}
 use Rattle.script_run.specs.declared.runs.Run.{Run}
 use Rattle.store_calls.specs.Calls.{calls}
 

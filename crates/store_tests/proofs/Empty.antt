@@ -1,10 +1,8 @@
 -- What a store holds that was opened on a disk without bytes.
 use Rattle.std.proofs.Common.{ℕ, List, [], ◌∷◌, ◌∙◌, Option, Result, Ok, Err, ap, refl, sym, subst, ◌≡◌}
-use Rattle.std.specs.Prelude.{IfOk, IfSome}
-use Rattle.std.specs.Result.{result_ok}
+use Rattle.std.specs.{Prelude.{IfOk, IfSome}, Result.result_ok}
 use Rattle.case_store.proofs.Empty.{empty-store}
-use Rattle.case_store.specs.Folding.{fresh, starts_of}
-use Rattle.case_store.specs.Standing.{AreKnown, IsStore, Opens, StoreState}
+use Rattle.case_store.specs.{Folding.{fresh, starts_of}, Standing.{AreKnown, IsStore, Opens, StoreState}}
 use Rattle.store_form.specs.declared.stored.Recorded.{Recorded}
 use Rattle.store_form.specs.declared.stored.Stored.TheVariants as stored
 

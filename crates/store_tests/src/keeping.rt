@@ -1,7 +1,6 @@
 // A process file that is kept over a store with little room.
 ghost use Rattle.std.specs.Prelude.{◌≤◌, ◌^◌, IfOk};
-ghost use Rattle.store_disk.specs.Disk.{Only};
-ghost use Rattle.store_disk.specs.History.{MayLeave, content};
+ghost use Rattle.store_disk.specs.{Disk.Only, History.{MayLeave, content}};
 
 use adept_io::{Bytes, Calls, MemorySink, MemorySource};
 use case_keep::{Unkept, keep_file_within, read_process};

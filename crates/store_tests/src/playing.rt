@@ -1,7 +1,6 @@
 // A process file over a store in memory, with devices that fail at each call in turn, and with little room.
 ghost use Rattle.std.specs.Prelude.{[], ◌<◌, ◌≤◌, ◌^◌, IfOk};
-ghost use Rattle.store_disk.specs.Disk.{IsSettled};
-ghost use Rattle.store_disk.specs.History.{MayLeave, content};
+ghost use Rattle.store_disk.specs.{Disk.IsSettled, History.{MayLeave, content}};
 
 use adept_io::{Bytes, Calls, MemorySink, MemorySource, NoMemory};
 use case_keep::{store_play, store_play_within};

@@ -1,9 +1,5 @@
 -- Lines that are numbered from 0 and written one after another.
-use Rattle.std.proofs.Common.{◌≡◌, Bool, ℕ, ◌+◌, ◌<◌, List, length, get_or, take, Option, subst, arith}
-use Rattle.adept_io.proofs.Sent.{gives_then}
-use Rattle.adept_io.specs.Written.{Gives}
-use Rattle.report_text.proofs.NumberedRows.{numbered-take_more}
-use Rattle.report_text.specs.Journals.{numbered}
+use Rattle.talk_answers.proofs.Common.{ℕ, ◌+◌, ◌<◌, ◌≡◌, arith, Bool, get_or, Gives, gives_then, length, List, numbered, numbered-take_more, Option, subst, take}
 
 pub gives_counted : {S X : Type 0} (written : S → Option (List ℕ)) (faults : S → ℕ) (p q r : Bool) (a b c : S) (line : ℕ → X → List ℕ) (xs : List X) (i : ℕ) (x : X) → x ≡ get_or xs i x → i < length xs →
     Gives written faults p q a b (numbered line 0 (take i xs)) → Gives written faults q r b c (line i x) → Gives written faults p r a c (numbered line 0 (take (i + 1) xs))

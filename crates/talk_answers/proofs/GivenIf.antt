@@ -1,8 +1,5 @@
 -- What a sink was given by a call that may want memory.
-use Rattle.std.proofs.Common.{◌≡◌, ℕ, Bool, List, ◌++◌, Option, Result, Ok, Err, IfOk}
-use Rattle.adept_io.proofs.Sent.{gives_then}
-use Rattle.adept_io.specs.Written.{Gives}
-use Rattle.report_words.proofs.Rows.{gives_as}
+use Rattle.talk_answers.proofs.Common.{ℕ, ◌++◌, ◌≡◌, Bool, Err, Gives, gives_as, gives_then, IfOk, List, Ok, Option, Result}
 
 -- the same bytes, told in another way
 pub if_given-as : {S E : Type 0} (written : S → Option (List ℕ)) (faults : S → ℕ) (p : Bool) (a b : S) (t u : List ℕ) (r : Result Bool E) → t ≡ u

@@ -1,9 +1,7 @@
 -- The last entry of a journal.
-use Rattle.std.proofs.Common.{◌≡◌, ℕ, ◌+◌, ◌-◌, List, [], ◌∷◌, ◌++◌, length, refl, ap, arith, sym, ◌∙◌, Some}
+use Rattle.talk_answers.proofs.Common.{[], ℕ, ◌++◌, ◌+◌, ◌-◌, ◌∙◌, ◌∷◌, ◌≡◌, ap, arith, Bytes, if_there, last_entry, length, List, refl, Some, sym}
 use Rattle.std.proofs.lemmas.List.{length-append}
 use Rattle.std.specs.Prelude.{slice_get}
-use Rattle.file_words.specs.Lines.{Bytes}
-use Rattle.talk_answers.specs.Entries.{if_there, last_entry}
 
 pub last-there : {X : Type 0} (line : ℕ → X → Bytes) (journal items : List X) (n : ℕ) (e : X) → items ≡ journal → n ≡ length items → slice_get items (length items - 1) ≡ Some e → line n e ≡ last_entry line journal
 last-there line journal items n e same long last =

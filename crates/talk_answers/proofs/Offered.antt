@@ -1,51 +1,26 @@
 -- What is offered may be started, and what is held may be ended.
-use Rattle.std.proofs.Common.{◌≡◌, ℕ, Bool, true, false, eqb, List, [], ◌∷◌, flat_map, refl, ap, sym, ◌∙◌, subst, inl, inr, Option, Some, None, is_some, ◌⊎◌}
-use Rattle.std.specs.Prelude.{◌==◌, ◌&&◌, ◌||◌, not, if◌then◌else◌}
-use Rattle.std.specs.List.{list_any}
-use Rattle.std.specs.Option.{option_or}
-use Rattle.std.proofs.lemmas.Bool.{and_parts, both_ways, cases_Bool, eqb-false, eqb-true, eq-eqb}
-use Rattle.std.proofs.lemmas.List.Folds.{list_any-append}
-use Rattle.case_core.specs.CaseModel.{CaseModel, LiveModel, replay_of_case, shown_after, shown_spots, state_of}
-use Rattle.case_core.specs.Kept.{Kept, KeptIn, marks_in}
-use Rattle.case_core.specs.Machine.{end_on, ended_reply, ended_trail, event_on, holder_of, may_work, or_reply, reads_now, repeats, start_entry, start_on, when_reply, with_trail, wrong_reply}
-use Rattle.case_core.specs.Promises.{IsFairCase, goes_on}
-use Rattle.case_core.specs.Shown.{item_in, item_of, items_at, items_of, shown_live}
+use Rattle.talk_answers.proofs.Common.{[], ℕ, ◌&&◌, ◌||◌, ◌∙◌, ◌∷◌, ◌≡◌, ◌⊎◌, and_parts, ap, Bool, both_ways, cases_Bool, eq-eqb, eqb, eqb-false, eqb-true, false, File, inl, inr, is_some, Item, item_node, List, list_any, None, not, Option}
+use Rattle.talk_answers.proofs.Common.{option_or, refl, roles_of, Some, subst, sym, true}
+use Rattle.std.proofs.{Common.flat_map, lemmas.List.Folds.list_any-append}
+use Rattle.std.specs.Prelude.{◌==◌, if◌then◌else◌}
+use Rattle.case_core.specs.{CaseModel.{CaseModel, LiveModel, replay_of_case, shown_after, shown_spots, state_of}, Kept.{Kept, KeptIn, marks_in}, Machine.{end_on, ended_reply, ended_trail, event_on, holder_of, may_work, or_reply, reads_now}}
+use Rattle.case_core.specs.{Machine.{repeats, start_entry, start_on, when_reply, with_trail, wrong_reply}, Promises.{IsFairCase, goes_on}, Shown.{item_in, item_of, items_at, items_of, shown_live}}
 use Rattle.case_core.specs.declared.events.Event.TheVariants as event
 use Rattle.case_core.specs.declared.replies.Reply.TheVariants as reply
 use Rattle.case_writes.specs.Writes.{by_element, wrong_elements}
-use Rattle.case_core.proofs.Fairness.{fair, never-stuck}
-use Rattle.case_core.proofs.Keeping.{state-is, table-of}
-use Rattle.case_core.proofs.Marked.{spot-marked}
-use Rattle.file_model.specs.declared.files.File.{File}
-use Rattle.line_calls.specs.Files.{roles_of}
+use Rattle.case_core.proofs.{Fairness.{fair, never-stuck}, Keeping.{state-is, table-of}, Marked.spot-marked}
 use Rattle.talk_answers.specs.Offers.{HoldsEnds, IsPromised, OffersStarts, has_not, holds, is_started, items_shown, offers}
-use Rattle.wsm_items.specs.WorkItems.{item_node}
-use Rattle.wsm_items.specs.declared.work_items.Item.{Item}
 use Rattle.wsm_items.specs.declared.work_items.Item.TheVariants as item
-use Rattle.wsm_lists.specs.ByNumber.{item_at}
-use Rattle.wsm_lists.specs.Rows.{AllRows}
-use Rattle.wsm_lists.specs.Values.{Written}
-use Rattle.wsm_lists.specs.declared.values.Value.{Value}
+use Rattle.wsm_lists.specs.{ByNumber.item_at, Rows.AllRows, Values.Written, declared.values.Value.Value}
 use Rattle.wsm_marks.proofs.LastMarking.{WholeTrail, running-held, whole-trail}
 use Rattle.wsm_schema.proofs.Rounds.{card_at-node, node_of-spot_in}
-use Rattle.wsm_schema.specs.Flat.{card_at, cards_of}
-use Rattle.wsm_schema.specs.Kinds.{worked_on}
-use Rattle.wsm_schema.specs.Replay.{fits_choice, is_in_state, whole}
-use Rattle.wsm_schema.specs.Rules.{Spots, marking_of, spot, spot_in, state_by}
-use Rattle.wsm_schema.specs.Trail.{pushed}
-use Rattle.wsm_schema.specs.declared.cards.Card.{Card}
-use Rattle.wsm_schema.specs.declared.cards.NodeKind.{NodeKind}
-use Rattle.wsm_schema.specs.declared.marks.Mark.{Mark}
-use Rattle.wsm_schema.specs.declared.states.Spot.{Spot}
-use Rattle.wsm_schema.specs.declared.states.State.{State}
+use Rattle.wsm_schema.specs.{Flat.{card_at, cards_of}, Kinds.worked_on, Replay.{fits_choice, is_in_state, whole}, Rules.{Spots, marking_of, spot, spot_in, state_by}, Trail.pushed, declared.cards.Card.Card, declared.cards.NodeKind.NodeKind}
+use Rattle.wsm_schema.specs.{declared.marks.Mark.Mark, declared.states.Spot.Spot, declared.states.State.State, declared.states.Verdict.Verdict}
 use Rattle.wsm_schema.specs.declared.states.State.TheVariants as state
-use Rattle.wsm_schema.specs.declared.states.Verdict.{Verdict}
 use Rattle.wsm_schema.specs.declared.states.Verdict.TheVariants as verdict
 use Rattle.wsm_marks.specs.Timed.{flow, verdict_of}
-use Rattle.wsm_steps.proofs.Markings.{IsSpotOf, marking-rows, spot-among}
-use Rattle.wsm_steps.proofs.Positions.{rises-after}
-use Rattle.wsm_walk.specs.Kept.{mark_or, timed_of}
-use Rattle.wsm_walk.specs.MarkStates.{mark_spot}
+use Rattle.wsm_steps.proofs.{Markings.{IsSpotOf, marking-rows, spot-among}, Positions.rises-after}
+use Rattle.wsm_walk.specs.{Kept.{mark_or, timed_of}, MarkStates.mark_spot}
 
 -- a test that only items of a node pass
 abbrev OfNode : ℕ → (Item → Bool) → Type 0

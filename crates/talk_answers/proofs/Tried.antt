@@ -1,40 +1,19 @@
 -- What is tried is what would be told behind the call.
-use Rattle.std.proofs.Common.{◌≡◌, ◌≤◌, ◌<◌, ℕ, zero, suc, ◌+◌, ◌-◌, ◌==◌, Bool, true, false, List, [], ◌∷◌, ◌++◌, take, refl, ap, sym, ◌∙◌, arith, append_assoc, append-nil, if◌then◌else◌, Option, Some, None}
-use Rattle.std.proofs.lemmas.Bool.{and_parts, eqb-true, ltb-false}
-use Rattle.std.specs.Prelude.{◌&&◌, flat_map, nat_lt, option_map, slice_get}
-use Rattle.std.specs.List.{position_from}
-use Rattle.case_core.specs.declared.events.Event.{Event}
+use Rattle.talk_answers.proofs.Common.{[], ℕ, ◌&&◌, ◌++◌, ◌+◌, ◌-◌, ◌<◌, ◌==◌, ◌∙◌, ◌∷◌, ◌≡◌, ◌≤◌, and_parts, ap, append-nil, append_assoc, arith, Bool, Bytes, call_case, call_kind, call_of, call_tried, case_entry, case_numbered}
+use Rattle.talk_answers.proofs.Common.{case_tried, CaseId, cells_in, cells_of, cells_told, changed_at, changed_where, each_of, each_tried, entries, entries_of_each, entry_at, entry_of_case, entry_of_kind, eqb-true, Event, false, File}
+use Rattle.talk_answers.proofs.Common.{if_both, if_there, if◌then◌else◌, IsOf, kind_entry, kind_numbered, kind_tried, List, ltb-false, nat_lt, next_case_entry, next_kind_entry, None, on_case, on_each, on_kind, Option, place_of, places_of}
+use Rattle.talk_answers.proofs.{Common.{Placing, position_from, refl, roles_of, Some, suc, sym, take, told_to, told_tried, tried, tried_at, true, VersionModel, worked, zero}, Last.last-of}
+use Rattle.std.specs.Prelude.{flat_map, option_map, slice_get}
 use Rattle.case_core.specs.declared.events.Event.TheVariants as event
-use Rattle.case_places.specs.Places.{places_of}
-use Rattle.file_model.specs.CaseCounts.{has_id, is_among}
-use Rattle.file_model.specs.declared.files.Act.{Act}
+use Rattle.file_model.specs.{CaseCounts.{has_id, is_among}, declared.files.Act.Act, declared.files.CaseDecl.CaseDecl, declared.files.Line.Line}
 use Rattle.file_model.specs.declared.files.Act.TheVariants as act
-use Rattle.file_model.specs.declared.files.CaseDecl.{CaseDecl}
-use Rattle.file_model.specs.declared.files.File.{File}
-use Rattle.file_model.specs.declared.files.Line.{Line}
-use Rattle.file_words.specs.Lines.{Bytes}
 use Rattle.line_calls.proofs.Places.{position-from_0}
-use Rattle.line_calls.specs.Calls.{call_of, cells_in, cells_of, cells_told}
-use Rattle.line_calls.specs.Files.{place_of, roles_of}
-use Rattle.line_calls.specs.declared.calls.Call.{Call}
-use Rattle.line_calls.specs.declared.calls.Told.{Told}
+use Rattle.line_calls.specs.{declared.calls.Call.Call, declared.calls.Told.Told}
 use Rattle.line_calls.specs.declared.calls.Told.TheVariants as told
-use Rattle.script_run.specs.Calls.{call_case, call_kind, changed_at, changed_where, each_of, on_case, on_each, on_kind, told_to, worked}
-use Rattle.script_run.specs.Entries.{CaseEntry, KindEntry}
-use Rattle.script_run.specs.declared.runs.ClosedCase.{ClosedCase}
-use Rattle.script_run.specs.declared.runs.ClosedKind.{ClosedKind}
-use Rattle.talk_answers.proofs.Last.{last-of}
-use Rattle.talk_answers.specs.Entries.{case_entry, case_numbered, entries, entries_of_each, entry_at, entry_of_case, entry_of_kind, if_both, if_there, kind_entry, kind_numbered}
-use Rattle.talk_answers.specs.Tried.{call_tried, case_tried, each_tried, kind_tried, told_tried, tried, tried_at}
+use Rattle.script_run.specs.{Entries.{CaseEntry, KindEntry}, declared.runs.ClosedCase.ClosedCase, declared.runs.ClosedKind.ClosedKind}
 use Rattle.type_core.specs.declared.events.KindEvent.{KindEvent}
 use Rattle.type_core.specs.declared.events.KindEvent.TheVariants as kind_event
-use Rattle.unit_run.proofs.Each.{at-position}
-use Rattle.unit_run.proofs.Placed.{place-found}
-use Rattle.unit_run.proofs.PutBack.{changed_at-none, changed_at-suc, got-none}
-use Rattle.unit_run.specs.Runs.{IsOf, Placing}
-use Rattle.unit_run.specs.Tries.{next_case_entry, next_kind_entry}
-use Rattle.wsm_sound.specs.VersionModel.{VersionModel}
-use Rattle.wsm_sound.specs.declared.versions.CaseId.{CaseId}
+use Rattle.unit_run.proofs.{Each.at-position, Placed.place-found, PutBack.{changed_at-none, changed_at-suc, got-none}}
 
 -- ---- lists
 one-got : {X : Type 0} (g : X → X) (i : ℕ) (xs : List X) → slice_get (changed_at g i xs) i ≡ option_map g (slice_get xs i)

@@ -2,15 +2,12 @@
 use Rattle.std.specs.Prelude.{ℕ, ◌-◌, List, [], ◌++◌, length, take, flat_map, slice_get, Option, Some, None, codes}
 use Rattle.case_places.specs.Places.{places_of}
 use Rattle.file_words.specs.Lines.{Bytes}
-use Rattle.file_model.specs.declared.files.CaseDecl.{CaseDecl}
-use Rattle.file_model.specs.declared.files.File.{File}
+use Rattle.file_model.specs.{declared.files.CaseDecl.CaseDecl, declared.files.File.File}
 use Rattle.line_calls.specs.declared.calls.Cells.{Cells}
 use Rattle.line_calls.specs.declared.calls.Cells.TheVariants as cells
 use Rattle.report_text.specs.Journals.{case_line, kind_line}
 use Rattle.report_words.specs.Words.{type_text}
-use Rattle.script_run.specs.Entries.{CaseEntry, KindEntry}
-use Rattle.script_run.specs.declared.runs.ClosedCase.{ClosedCase}
-use Rattle.script_run.specs.declared.runs.ClosedKind.{ClosedKind}
+use Rattle.script_run.specs.{Entries.{CaseEntry, KindEntry}, declared.runs.ClosedCase.ClosedCase, declared.runs.ClosedKind.ClosedKind}
 use Rattle.unit_run.specs.Runs.{Placing}
 use Rattle.wsm_sound.specs.declared.versions.CaseId.{CaseId}
 

@@ -1,12 +1,7 @@
 -- What the items of a case mean to an actor: it may start what is offered to it, and end what it holds.
-use Rattle.std.specs.Prelude.{◌≡◌, ℕ, ◌==◌, ◌&&◌, Bool, true, false, not, List, [], Option, Some, None}
-use Rattle.std.specs.List.{list_any}
-use Rattle.case_core.specs.CaseModel.{CaseModel, LiveModel}
-use Rattle.case_core.specs.Machine.{case_reply}
-use Rattle.case_core.specs.Promises.{IsFairView, goes_on}
-use Rattle.case_core.specs.Shown.{items_of, shown}
+use Rattle.std.specs.{Prelude.{◌≡◌, ℕ, ◌==◌, ◌&&◌, Bool, true, false, not, List, [], Option, Some, None}, List.list_any}
+use Rattle.case_core.specs.{CaseModel.{CaseModel, LiveModel}, Machine.case_reply, Promises.{IsFairView, goes_on}, Shown.{items_of, shown}, declared.replies.Reply.Reply}
 use Rattle.case_core.specs.declared.events.Event.TheVariants as event
-use Rattle.case_core.specs.declared.replies.Reply.{Reply}
 use Rattle.case_core.specs.declared.replies.Reply.TheVariants as reply
 use Rattle.file_model.specs.declared.files.File.{File}
 use Rattle.line_calls.specs.Files.{roles_of}

@@ -1,20 +1,13 @@
 -- What is held, as questions ask for it.
-use Rattle.std.specs.Prelude.{ℕ, ◌==◌, ◌||◌, Bool, true, List, [], ◌∷◌, ◌++◌, length, flat_map, slice_get, Option, Some, None, if◌then◌else◌, codes, decimal}
-use Rattle.std.specs.List.{list_any}
-use Rattle.case_core.specs.CaseModel.{LiveModel}
-use Rattle.case_core.specs.Shown.{is_finished, items_of}
+use Rattle.std.specs.{Prelude.{ℕ, ◌==◌, ◌||◌, Bool, true, List, [], ◌∷◌, ◌++◌, length, flat_map, slice_get, Option, Some, None, if◌then◌else◌, codes, decimal}, List.list_any}
+use Rattle.case_core.specs.{CaseModel.LiveModel, Shown.{is_finished, items_of}}
 use Rattle.case_places.specs.Places.{Placed, places_of}
 use Rattle.file_words.specs.Lines.{Bytes}
-use Rattle.file_model.specs.declared.files.ActorDecl.{ActorDecl}
-use Rattle.file_model.specs.declared.files.CaseDecl.{CaseDecl}
-use Rattle.file_model.specs.declared.files.File.{File}
+use Rattle.file_model.specs.{declared.files.ActorDecl.ActorDecl, declared.files.CaseDecl.CaseDecl, declared.files.File.File}
 use Rattle.line_calls.specs.Files.{roles_of}
-use Rattle.report_text.specs.Ends.{item_text, progress}
-use Rattle.report_text.specs.Journals.{numbered}
-use Rattle.report_text.specs.Report.{side_by_side}
+use Rattle.report_text.specs.{Ends.{item_text, progress}, Journals.numbered, Report.side_by_side}
 use Rattle.report_words.specs.Words.{role_text, type_text}
-use Rattle.script_run.specs.declared.runs.ClosedCase.{ClosedCase}
-use Rattle.script_run.specs.declared.runs.ClosedKind.{ClosedKind}
+use Rattle.script_run.specs.{declared.runs.ClosedCase.ClosedCase, declared.runs.ClosedKind.ClosedKind}
 use Rattle.talk_answers.specs.Entries.{if_both}
 use Rattle.type_core.specs.Machine.{newest_of}
 use Rattle.unit_run.specs.Runs.{Placing}

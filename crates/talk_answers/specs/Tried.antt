@@ -3,19 +3,15 @@ use Rattle.std.specs.Prelude.{ℕ, take, flat_map, slice_get, Option, Some, None
 use Rattle.case_core.specs.declared.events.Event.{Event}
 use Rattle.case_core.specs.declared.events.Event.TheVariants as event
 use Rattle.case_places.specs.Places.{places_of}
-use Rattle.file_model.specs.declared.files.File.{File}
-use Rattle.file_model.specs.declared.files.Line.{Line}
+use Rattle.file_model.specs.{declared.files.File.File, declared.files.Line.Line}
 use Rattle.file_words.specs.Lines.{Bytes}
-use Rattle.line_calls.specs.Calls.{cells_in, cells_of}
-use Rattle.line_calls.specs.declared.calls.Call.{Call}
-use Rattle.line_calls.specs.declared.calls.Told.{Told}
+use Rattle.line_calls.specs.{Calls.{cells_in, cells_of}, declared.calls.Call.Call, declared.calls.Told.Told}
 use Rattle.line_calls.specs.declared.calls.Told.TheVariants as told
 use Rattle.script_run.specs.Calls.{call_case, call_kind, called, worked}
 use Rattle.talk_answers.specs.Entries.{case_entry, entries, entries_of_each, entry_of_case, if_both, if_there, kind_entry}
 use Rattle.type_core.specs.declared.events.KindEvent.{KindEvent}
 use Rattle.unit_run.specs.Runs.{Placing}
-use Rattle.wsm_sound.specs.VersionModel.{VersionModel}
-use Rattle.wsm_sound.specs.declared.versions.CaseId.{CaseId}
+use Rattle.wsm_sound.specs.{VersionModel.VersionModel, declared.versions.CaseId.CaseId}
 
 -- what would be told of a line, and of a call: what is told of it where it was made
 abbrev pub tried : File → Placing → Line → Bytes

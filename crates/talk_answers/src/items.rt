@@ -1,11 +1,9 @@
 // The items of cases.
 ghost use Rattle.std.specs.Prelude.{◌≡◌, flat_map, None, Some};
 ghost use Rattle.adept_io.specs.Written.{Gives};
-ghost use Rattle.case_core.specs.CaseModel.{CaseModel};
-ghost use Rattle.case_core.specs.Kept.{KeptIn};
+ghost use Rattle.case_core.specs.{CaseModel.CaseModel, Kept.KeptIn};
 ghost use Rattle.report_text.specs.Report.{side_by_side};
-ghost use Rattle.talk_answers.specs.Offers.{HoldsEnds, IsPromised, OffersStarts};
-ghost use Rattle.talk_answers.specs.Standings.{case_items, concerns, has_role, item_line, item_lines, items, line_if_concerned};
+ghost use Rattle.talk_answers.specs.{Offers.{HoldsEnds, IsPromised, OffersStarts}, Standings.{case_items, concerns, has_role, item_line, item_lines, items, line_if_concerned}};
 
 use adept_io::{Sink, put};
 use case_core::{Item, LiveCase};

@@ -1,8 +1,7 @@
 // How cases stand.
 ghost use Rattle.std.specs.Prelude.{◌≡◌, Some};
 ghost use Rattle.adept_io.specs.Written.{Gives};
-ghost use Rattle.report_text.specs.Ends.{progress};
-ghost use Rattle.report_text.specs.Report.{side_by_side};
+ghost use Rattle.report_text.specs.{Ends.progress, Report.side_by_side};
 ghost use Rattle.talk_answers.specs.Standings.{all_standings, standing, standing_at, standing_of, standings_of};
 
 use adept_io::{Sink, put, put_pieces};

@@ -1,7 +1,6 @@
 -- Where an item ends, as a talk is cut there.
-use Rattle.std.proofs.Common.{◌≡◌, ◌≤◌, ◌<◌, ℕ, zero, ◌+◌, suc, Bool, true, false, List, [], ◌∷◌, ◌++◌, length, take, refl, ap, sym, ◌∙◌, arith, append_assoc, if◌then◌else◌, Option, Some, None}
+use Rattle.std.proofs.{Common.{◌≡◌, ◌≤◌, ◌<◌, ℕ, zero, ◌+◌, suc, Bool, true, false, List, [], ◌∷◌, ◌++◌, length, take, refl, ap, sym, ◌∙◌, arith, append_assoc, if◌then◌else◌, Option, Some, None}, lemmas.List.append-nil}
 use Rattle.std.specs.Prelude.{IfSome, option_map}
-use Rattle.std.proofs.lemmas.List.{append-nil}
 use Rattle.talk_items.specs.Items.{ends, item_end, taken}
 use Rattle.turn_loop.specs.Talk.{Bytes, Takes, behind, split_from, taken_of}
 

@@ -1,9 +1,6 @@
 -- The words that open a group behind an actor's name.
-use Rattle.std.proofs.Common.{◌≡◌, ◌||◌, Bool, true, false, codes, refl, subst, sym}
+use Rattle.talk_items.proofs.Common.{◌||◌, ◌≡◌, Bool, Bytes, codes, false, is, keyword, refl, subst, sym, true}
 use Rattle.std.proofs.lemmas.Slice.Eq.{bytes_eq-Decides}
-use Rattle.file_words.specs.Lines.{Bytes}
-use Rattle.file_words.specs.Words.{is}
-use Rattle.talk_items.specs.Keywords.{keyword}
 use Rattle.talk_items.specs.declared.keywords.Keyword.TheVariants as keywords
 
 pub change_is : (word : Bytes) → (is (codes "change") word || is (codes "install") word) ≡ true → keywords.Change ≡ keyword word

@@ -1,12 +1,8 @@
 -- A line that is cut byte by byte has its words.
-use Rattle.std.proofs.Common.{◌≡◌, ℕ, Bool, true, false, if◌then◌else◌, List, [], ◌∷◌, ◌++◌, refl, sym, ap, ◌∙◌, append_assoc}
-use Rattle.std.specs.List.{filter, onto_first}
-use Rattle.std.proofs.lemmas.List.{append-nil}
-use Rattle.file_words.specs.Lines.{Bytes}
-use Rattle.file_words.specs.Words.{behind, cuts, fields, is_word, onto_fields, words_of}
+use Rattle.talk_items.proofs.Common.{[], ℕ, ◌++◌, ◌∙◌, ◌∷◌, ◌≡◌, ap, append-nil, append_assoc, behind, Bool, Bytes, Cut, cut, cut_from, cut_more, cuts, false, fields, filter, if◌then◌else◌, is_word, List, onto_fields, onto_first, refl, sym}
+use Rattle.talk_items.proofs.Common.{true, with_last, words_of}
 use Rattle.file_words.specs.declared.words.Quote.{Quote}
 use Rattle.file_words.specs.declared.words.Quote.TheVariants as quotes
-use Rattle.talk_items.specs.Cuts.{Cut, cut, cut_from, cut_more, with_last}
 
 pub cut-more : (c : Cut) (bs : Bytes) (b : ℕ) → cut_from c (bs ++ b ∷ []) ≡ cut_more (cut_from c bs) b
 cut-more c [] b = refl

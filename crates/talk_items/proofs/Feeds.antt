@@ -1,12 +1,7 @@
 -- Line feeds in bytes.
-use Rattle.std.proofs.Common.{◌≡◌, ◌==◌, ℕ, zero, suc, ◌<◌, ◌≤◌, Bool, true, false, not, [], ◌∷◌, ◌++◌, length, get_or, take, drop, take_all, Some, None, refl, ap, arith}
-use Rattle.std.specs.List.{position, position_or_len}
-use Rattle.std.proofs.lemmas.Bool.{eqb-true}
-use Rattle.std.proofs.lemmas.Bool.Decides.{nat_tests}
-use Rattle.std.proofs.lemmas.List.Quantifiers.{position-Some}
-use Rattle.std.proofs.lemmas.List.Sums.{prefix_len_passes}
-use Rattle.file_words.specs.Lines.{Bytes}
-use Rattle.talk_items.specs.Scans.{HasNoFeed}
+use Rattle.talk_items.proofs.Common.{[], ℕ, ◌++◌, ◌<◌, ◌==◌, ◌∷◌, ◌≡◌, ◌≤◌, ap, arith, Bool, Bytes, drop, eqb-true, false, get_or, HasNoFeed, length, None, not, position, position_or_len, prefix_len_passes, refl, Some, suc, take, take_all}
+use Rattle.talk_items.proofs.Common.{true, zero}
+use Rattle.std.proofs.{lemmas.Bool.Decides.nat_tests, lemmas.List.Quantifiers.position-Some}
 
 -- the first line feed of bytes stands there
 pub record IsFirstFeed (n : ℕ) (bytes : Bytes) : Type 0 where

@@ -1,23 +1,12 @@
 -- The first words of a line tell all, and the first bytes of a word.
-use Rattle.std.proofs.Common.{◌≡◌, ◌==◌, ℕ, suc, ◌<◌, ◌≤◌, Bool, true, false, if◌then◌else◌, List, [], ◌∷◌, ◌++◌, length, take, refl, subst, sym, ap, ◌∙◌, arith, length-append}
+use Rattle.talk_items.proofs.Common.{[], ℕ, ◌++◌, ◌<◌, ◌==◌, ◌↔◌, ◌∙◌, ◌∷◌, ◌≡◌, ◌≤◌, ap, append-nil, arith, begins_with_change, behind, Bool, Bytes, counted_with, Cut, cut_more, cuts, ends_line, eqb-true, Err, false, filter, first_with}
+use Rattle.talk_items.proofs.Common.{if◌then◌else◌, is_end, is_skipped, is_word, IsOk, ItemKind, Keyword, keyword, kind_of, length, length-append, length-take, List, map, map-append, Ok, OnErr, OnOk, opens, Place, place_behind}
+use Rattle.talk_items.proofs.{Common.{question_opens, refl, Result, subst, suc, sym, take, take-append-le, tell_enough, TellAll, true, unit_opens, what_if_opens, with_last}, PlainWords.not-full}
 use Rattle.arrayvec.specs.ArrayVec.{ArrayVec}
-use Rattle.std.specs.Prelude.{◌↔◌, map, Result, Ok, Err, IsOk, OnErr, OnOk, Option, Some, None}
-use Rattle.std.specs.List.{filter}
-use Rattle.std.proofs.lemmas.Bool.{eqb-true}
-use Rattle.std.proofs.lemmas.List.{append-nil, length-take, take-append-le, take_all, map-append}
-use Rattle.file_words.specs.Lines.{Bytes}
-use Rattle.file_words.specs.Words.{behind, cuts, is_word}
-use Rattle.talk_items.specs.Cuts.{Cut, cut_more, with_last}
-use Rattle.talk_items.specs.Fronts.{TellAll, tell_enough}
-use Rattle.talk_items.specs.Items.{begins_with_change, ends_line, is_end, is_skipped, kind_of, opens, place_behind, question_opens, unit_opens, what_if_opens}
-use Rattle.talk_items.specs.Keywords.{keyword}
-use Rattle.talk_items.specs.Scans.{counted_with, first_with}
-use Rattle.talk_items.specs.declared.items.ItemKind.{ItemKind}
-use Rattle.talk_items.specs.declared.items.Place.{Place}
+use Rattle.std.specs.Prelude.{Option, Some, None}
+use Rattle.std.proofs.lemmas.List.{take_all}
 use Rattle.talk_items.specs.declared.items.Place.TheVariants as places
-use Rattle.talk_items.specs.declared.keywords.Keyword.{Keyword}
 use Rattle.talk_items.specs.declared.keywords.Keyword.TheVariants as keywords
-use Rattle.talk_items.proofs.PlainWords.{not-full}
 
 begins-any : (w : Keyword) (xs ys : List Keyword) → begins_with_change (w ∷ xs) ≡ begins_with_change (w ∷ ys)
 begins-any keywords.Change xs ys = refl

@@ -1,8 +1,5 @@
 -- Lines of more bytes.
-use Rattle.std.proofs.Common.{◌≡◌, ◌==◌, ℕ, ◌≤◌, Bool, true, false, if◌then◌else◌, List, [], ◌∷◌, ◌++◌, length, refl, sym, ap, ◌∙◌, append_assoc, arith}
-use Rattle.std.proofs.lemmas.List.{append-nil}
-use Rattle.file_words.specs.Lines.{Bytes, CutLines, lines_of, onto_lines, put_first}
-use Rattle.talk_items.specs.Scans.{HasNoFeed}
+use Rattle.talk_items.proofs.Common.{[], ℕ, ◌++◌, ◌==◌, ◌∙◌, ◌∷◌, ◌≡◌, ◌≤◌, ap, append-nil, append_assoc, arith, Bool, Bytes, CutLines, false, HasNoFeed, if◌then◌else◌, length, lines_of, List, onto_lines, put_first, refl, sym, true}
 
 onto-feed : (x : ℕ) (is : Bool) (lines : List Bytes) (left : Bytes)
     → (if is then record { ended = [] ∷ (lines ++ left ∷ []); left = [] } else put_first x (lines ++ left ∷ []) [])

@@ -1,14 +1,7 @@
 -- The first words of a line that has no quoted texts in front.
-use Rattle.std.proofs.Common.{◌≡◌, ◌==◌, inl, inr, ℕ, ◌<◌, ◌≤◌, Bool, true, false, IsTrue, List, [], ◌∷◌, ◌++◌, length, take, drop, drop-cons, get_or, sym, ap, ◌∙◌, append_assoc, arith}
-use Rattle.std.specs.Prelude.{map}
-use Rattle.std.proofs.lemmas.Bool.{cases_lt, eq-eqb}
-use Rattle.std.proofs.lemmas.List.{append-nil}
-use Rattle.file_words.specs.Lines.{Bytes}
-use Rattle.file_words.specs.Words.{bare_end, begins_word, words_of}
+use Rattle.talk_items.proofs.Common.{[], ℕ, ◌++◌, ◌<◌, ◌==◌, ◌∙◌, ◌∷◌, ◌≡◌, ◌≤◌, ap, append-nil, append_assoc, arith, bare_end, begins_quoted, begins_word, Bool, Bytes, cases_lt, drop, drop-cons, eq-eqb, false, get_or, inl, inr, IsTrue}
+use Rattle.talk_items.proofs.Common.{Keyword, keyword, length, List, map, sym, take, true, words_of}
 use Rattle.file_words.proofs.WordSplits.{bare_whole, first_word_split}
-use Rattle.talk_items.specs.Cuts.{begins_quoted}
-use Rattle.talk_items.specs.Keywords.{keyword}
-use Rattle.talk_items.specs.declared.keywords.Keyword.{Keyword}
 
 -- where no quotation mark stands behind them, the bare bytes are the first word
 pub bare-word : (line : Bytes) → IsTrue (begins_word line) → 0 < length line → (bare_end line < length line → get_or line (bare_end line) 0 ≡ 34 → ⊥)

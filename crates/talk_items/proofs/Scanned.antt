@@ -1,20 +1,11 @@
 -- What is known of the bytes of an item, with more of them.
-use Rattle.std.proofs.Common.{◌≡◌, ◌==◌, inl, inr, ℕ, suc, ◌+◌, ◌≤◌, Bool, true, false, not, if◌then◌else◌, List, [], ◌∷◌, ◌++◌, length, take, drop, Option, Some, None, drop-drop, take-add, take-append-drop, zero-add, refl, sym, ap, ◌∙◌, append_assoc, arith, length-append}
-use Rattle.std.specs.Prelude.{◌&&◌, ◌||◌, min, nat_lt, option_map}
-use Rattle.std.specs.List.{filter}
-use Rattle.std.proofs.lemmas.Bool.{cases_lt, le-ltb, lt-ltb}
-use Rattle.std.proofs.lemmas.List.{append-nil, length-take, take-append-le, take_all}
-use Rattle.std.proofs.lemmas.List.Elements.{filter-append}
-use Rattle.std.proofs.lemmas.List.Sums.{count_by-le-length, length-filter}
-use Rattle.file_words.specs.Lines.{Bytes, lines_of}
-use Rattle.talk_items.specs.Items.{counted, ends, ends_line, first_kind, is_skipped, item_end, kind_of, place_behind, place_of, words}
-use Rattle.talk_items.specs.Scans.{HasNoFeed, IsScan, counted_with, first_with}
-use Rattle.talk_items.specs.declared.items.ItemKind.{ItemKind}
-use Rattle.talk_items.specs.declared.items.Place.{Place}
-use Rattle.talk_items.specs.declared.items.Place.TheVariants as places
-use Rattle.talk_items.specs.declared.limits.TheConstants.{MAX_ITEM}
-use Rattle.talk_items.proofs.Feeds.{IsFirstFeed}
+use Rattle.talk_items.proofs.Common.{[], ℕ, ◌&&◌, ◌++◌, ◌+◌, ◌==◌, ◌∙◌, ◌∷◌, ◌≡◌, ◌≤◌, ap, append-nil, append_assoc, arith, Bool, Bytes, cases_lt, count_by-le-length, counted, counted_with, drop, drop-drop, ends, ends_line, false, filter}
+use Rattle.talk_items.proofs.Common.{first_kind, first_with, HasNoFeed, if◌then◌else◌, inl, inr, is_skipped, IsScan, item_end, ItemKind, kind_of, le-ltb, length, length-append, length-filter, length-take, lines_of, List, lt-ltb, MAX_ITEM}
+use Rattle.talk_items.proofs.{Common.{nat_lt, None, not, Option, option_map, Place, place_behind, place_of, refl, Some, suc, sym, take, take-add, take-append-drop, take-append-le, true, words, zero-add}, Feeds.IsFirstFeed}
 use Rattle.talk_items.proofs.LinesMore.{lines-byte, lines-feed, lines-few, lines-part}
+use Rattle.std.specs.Prelude.{◌||◌, min}
+use Rattle.std.proofs.{lemmas.List.take_all, lemmas.List.Elements.filter-append}
+use Rattle.talk_items.specs.declared.items.Place.TheVariants as places
 
 place-more : (place : Place) (lines : List Bytes) (line : Bytes) → place_of place (lines ++ line ∷ []) ≡ place_behind (place_of place lines) (words line)
 place-more place [] line = refl

@@ -1,12 +1,8 @@
 -- A line as it is cut into words, byte by byte.
 use Rattle.std.specs.Prelude.{◌≡◌, ◌==◌, ℕ, Bool, false, List, [], ◌∷◌, ◌++◌, filter, map, take, if◌then◌else◌}
-use Rattle.file_words.specs.Lines.{Bytes}
-use Rattle.file_words.specs.Words.{behind, cuts, is_word}
-use Rattle.file_words.specs.declared.words.Quote.{Quote}
+use Rattle.file_words.specs.{Lines.Bytes, Words.{behind, cuts, is_word}, declared.words.Quote.Quote}
 use Rattle.file_words.specs.declared.words.Quote.TheVariants as quotes
-use Rattle.talk_items.specs.Keywords.{keyword}
-use Rattle.talk_items.specs.declared.keywords.Keyword.{Keyword}
-use Rattle.talk_items.specs.declared.words.Stand.{Stand}
+use Rattle.talk_items.specs.{Keywords.keyword, declared.keywords.Keyword.Keyword, declared.words.Stand.Stand}
 use Rattle.talk_items.specs.declared.words.Stand.TheVariants as stands
 
 abbrev pub quoted : Stand → Quote

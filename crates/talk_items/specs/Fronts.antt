@@ -1,7 +1,6 @@
 -- Words at the front of a line, which tell what it is.
 use Rattle.std.specs.Prelude.{◌≡◌, ◌==◌, Bool, true, false, List, ◌∷◌, length}
-use Rattle.talk_items.specs.Items.{is_end, is_skipped, kind_of, opens}
-use Rattle.talk_items.specs.declared.keywords.Keyword.{Keyword}
+use Rattle.talk_items.specs.{Items.{is_end, is_skipped, kind_of, opens}, declared.keywords.Keyword.Keyword}
 use Rattle.talk_items.specs.declared.keywords.Keyword.TheVariants as keywords
 
 -- some words tell of a line what all of its words do

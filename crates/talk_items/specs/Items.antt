@@ -1,17 +1,10 @@
 -- Where the items of a conversation end, and what they are.
-use Rattle.std.specs.Prelude.{◌==◌, ◌&&◌, ℕ, suc, Bool, true, false, not, List, [], ◌∷◌, ◌++◌, length, take, map, Option, Some, None, option_map, if◌then◌else◌}
-use Rattle.std.specs.List.{filter}
-use Rattle.std.specs.Option.{is_none}
-use Rattle.file_words.specs.Lines.{Bytes, lines_of, without_return}
-use Rattle.file_words.specs.Words.{words_of}
-use Rattle.talk_items.specs.Keywords.{keyword}
-use Rattle.talk_items.specs.declared.items.ItemKind.{ItemKind}
+use Rattle.std.specs.{Prelude.{◌==◌, ◌&&◌, ℕ, suc, Bool, true, false, not, List, [], ◌∷◌, ◌++◌, length, take, map, Option, Some, None, option_map, if◌then◌else◌}, List.filter, Option.is_none}
+use Rattle.file_words.specs.{Lines.{Bytes, lines_of, without_return}, Words.words_of}
+use Rattle.talk_items.specs.{Keywords.keyword, declared.items.ItemKind.ItemKind, declared.items.Place.Place, declared.keywords.Keyword.Keyword, declared.limits.TheConstants.MAX_ITEM}
 use Rattle.talk_items.specs.declared.items.ItemKind.TheVariants as kinds
-use Rattle.talk_items.specs.declared.items.Place.{Place}
 use Rattle.talk_items.specs.declared.items.Place.TheVariants as places
-use Rattle.talk_items.specs.declared.keywords.Keyword.{Keyword}
 use Rattle.talk_items.specs.declared.keywords.Keyword.TheVariants as keywords
-use Rattle.talk_items.specs.declared.limits.TheConstants.{MAX_ITEM}
 
 -- ---- lines
 

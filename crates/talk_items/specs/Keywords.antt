@@ -1,7 +1,6 @@
 -- Words that tell what a line is.
 use Rattle.std.specs.Prelude.{◌||◌, codes, if◌then◌else◌}
-use Rattle.file_words.specs.Lines.{Bytes}
-use Rattle.file_words.specs.Words.{is, is_comment}
+use Rattle.file_words.specs.{Lines.Bytes, Words.{is, is_comment}}
 use Rattle.talk_items.specs.declared.keywords.Keyword.{Keyword}
 use Rattle.talk_items.specs.declared.keywords.Keyword.TheVariants as keywords
 

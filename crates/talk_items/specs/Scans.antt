@@ -1,13 +1,8 @@
 -- What is known of the bytes with which an item has begun.
-use Rattle.std.specs.Prelude.{◌≡◌, ◌==◌, ◌||◌, ℕ, ◌+◌, List, length, min, nat_lt, false, Option, Some, None, if◌then◌else◌}
-use Rattle.std.specs.List.{AllByRecursion}
+use Rattle.std.specs.{Prelude.{◌≡◌, ◌==◌, ◌||◌, ℕ, ◌+◌, List, length, min, nat_lt, false, Option, Some, None, if◌then◌else◌}, List.AllByRecursion}
 use Rattle.file_words.specs.Lines.{Bytes, lines_of}
-use Rattle.talk_items.specs.Items.{counted, first_kind, is_skipped, kind_of, place_of}
-use Rattle.talk_items.specs.declared.items.ItemKind.{ItemKind}
-use Rattle.talk_items.specs.declared.items.Place.{Place}
+use Rattle.talk_items.specs.{Items.{counted, first_kind, is_skipped, kind_of, place_of}, declared.items.ItemKind.ItemKind, declared.items.Place.Place, declared.keywords.Keyword.Keyword, declared.limits.TheConstants.MAX_ITEM}
 use Rattle.talk_items.specs.declared.items.Place.TheVariants as places
-use Rattle.talk_items.specs.declared.keywords.Keyword.{Keyword}
-use Rattle.talk_items.specs.declared.limits.TheConstants.{MAX_ITEM}
 
 -- with one line more
 abbrev pub first_with : Option ItemKind → List Keyword → Option ItemKind

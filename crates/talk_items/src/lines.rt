@@ -1,7 +1,6 @@
 // A line that is read byte by byte.
 ghost use Rattle.std.specs.Prelude.{◌≡◌, ◌==◌, ◌∷◌, ◌++◌, [], length};
-ghost use Rattle.talk_items.specs.Fronts.{TellAll};
-ghost use Rattle.talk_items.specs.Items.{words};
+ghost use Rattle.talk_items.specs.{Fronts.TellAll, Items.words};
 
 use crate::keywords::Keyword;
 use crate::limits::WORDS;

@@ -1,9 +1,7 @@
 // A whole line whose first words have no quoted texts.
 ghost use Rattle.std.specs.Prelude.{◌≡◌, ◌≤◌, length, map, IsTrue, IfSome};
 ghost use Rattle.file_words.specs.Words.{bare_end, begins_word, is_bare, words_of};
-ghost use Rattle.talk_items.specs.Cuts.{begins_quoted};
-ghost use Rattle.talk_items.specs.Fronts.{TellAll, tell_enough};
-ghost use Rattle.talk_items.specs.Keywords.{keyword};
+ghost use Rattle.talk_items.specs.{Cuts.begins_quoted, Fronts.{TellAll, tell_enough}, Keywords.keyword};
 
 use crate::keywords::{Keyword, keyword_of};
 use crate::limits::WORDS;

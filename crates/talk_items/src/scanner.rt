@@ -1,7 +1,6 @@
 // Where an item ends that is read byte by byte.
 ghost use Rattle.std.specs.Prelude.{◌≡◌, ◌==◌, ◌+◌, ◌<◌, ◌≤◌, ◌∷◌, ◌++◌, ◌↔◌, [], length, map, min, take, position, IsTrue};
-ghost use Rattle.talk_items.specs.Items.{counted, ends, is_blank, item_end, kind, taken};
-ghost use Rattle.talk_items.specs.Scans.{HasNoFeed, counted_with, first_with};
+ghost use Rattle.talk_items.specs.{Items.{counted, ends, is_blank, item_end, kind, taken}, Scans.{HasNoFeed, counted_with, first_with}};
 
 use crate::items::{ItemKind, Place, ends_line, is_skipped, kind_of, place_behind};
 use crate::keywords::Keyword;

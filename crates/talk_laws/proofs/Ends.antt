@@ -1,7 +1,6 @@
 -- The items into which bytes are split end where they are told to end.
 use Rattle.std.proofs.Common.{◌≡◌, ℕ, suc, Bool, true, false, if◌then◌else◌, List, [], ◌∷◌, ◌++◌, length, Some, refl, sym, ap, ◌∙◌, append_assoc, arith, length-append}
-use Rattle.std.specs.List.{AllByRecursion}
-use Rattle.std.specs.Prelude.{option_map}
+use Rattle.std.specs.{List.AllByRecursion, Prelude.option_map}
 use Rattle.file_words.specs.Lines.{Bytes}
 use Rattle.talk_items.specs.Items.{ends, item_end}
 use Rattle.turn_loop.specs.Talk.{IsItem, IsRest, Split, behind, split, split_from}

@@ -2,15 +2,12 @@
 use Rattle.std.proofs.Common.{◌≡◌, ℕ, Bool, true, false, if◌then◌else◌, List, [], ◌∷◌, ◌++◌, Some, codes, refl, ap, ◌∙◌, append_assoc}
 use Rattle.file_words.specs.Lines.{Bytes}
 use Rattle.store_disk.specs.Image.{HasList}
-use Rattle.talk_items.specs.Items.{ends, kind}
-use Rattle.talk_items.specs.declared.items.ItemKind.{ItemKind}
+use Rattle.talk_items.specs.{Items.{ends, kind}, declared.items.ItemKind.ItemKind}
 use Rattle.talk_items.specs.declared.items.ItemKind.TheVariants as kinds
 use Rattle.talk_laws.specs.Payloads.{begins_with_header, is_header}
-use Rattle.talk_laws.proofs.Ends.{items-of}
-use Rattle.talk_laws.proofs.Opened.{opened-served, served-again, worked-served}
+use Rattle.talk_laws.proofs.{Ends.items-of, Opened.{opened-served, served-again, worked-served}}
 use Rattle.talk_rules.specs.Units.{UnitRules}
-use Rattle.talk_server.specs.Opening.{opened, payloads_of}
-use Rattle.talk_server.specs.Talks.{answer_by, is_too_long, next_refused, server_rules, units_in}
+use Rattle.talk_server.specs.{Opening.{opened, payloads_of}, Talks.{answer_by, is_too_long, next_refused, server_rules, units_in}}
 use Rattle.turn_loop.specs.Talk.{Rules, answers, behind, held_at_last, held_behind, said, split, split_from, still_first, worked}
 use Rattle.turn_loop.proofs.Splits.{answers-append, split-append, worked-append}
 

@@ -1,18 +1,14 @@
 -- What a store is opened with was taken, unit by unit; so is what a server adds to it, and an image of it is opened again.
-use Rattle.std.proofs.Common.{◌≡◌, ℕ, ◌+◌, Bool, true, false, if◌then◌else◌, List, [], ◌∷◌, ◌++◌, length, Some, None, refl, sym, ap, subst, ◌∙◌, append_assoc, nat_le, bytes_eq}
-use Rattle.std.proofs.lemmas.Bool.{and_from, and_parts, eq-eqb}
-use Rattle.std.proofs.lemmas.List.{append-nil}
-use Rattle.std.proofs.lemmas.Slice.Eq.{bytes_eq-Decides}
-use Rattle.std.specs.List.{AllByRecursion}
-use Rattle.std.specs.Prelude.{Option}
+use Rattle.std.proofs.{Common.{◌≡◌, ℕ, ◌+◌, Bool, true, false, if◌then◌else◌, List, [], ◌∷◌, ◌++◌, length, Some, None, refl, sym, ap, subst, ◌∙◌, append_assoc, nat_le, bytes_eq}, lemmas.Bool.{and_from, and_parts, eq-eqb}}
+use Rattle.std.proofs.{lemmas.List.append-nil, lemmas.Slice.Eq.bytes_eq-Decides}
+use Rattle.std.specs.{List.AllByRecursion, Prelude.Option}
 use Rattle.file_words.specs.Lines.{Bytes}
 use Rattle.store_disk.specs.Image.{Frames, closed, damaged, frame, frames, frames_of, HasList}
 use Rattle.talk_items.specs.Items.{ends, item_end}
 use Rattle.talk_laws.specs.Payloads.{IsServed, are_next}
 use Rattle.talk_laws.proofs.Ends.{item-ends}
 use Rattle.talk_rules.specs.Units.{UnitRules, header}
-use Rattle.talk_server.specs.Opening.{damaged_at, is_at_end, is_next, opened, opened_by, opened_from, payloads_of, unbegun}
-use Rattle.talk_server.specs.Talks.{accepts, server_rules, units_in}
+use Rattle.talk_server.specs.{Opening.{damaged_at, is_at_end, is_next, opened, opened_by, opened_from, payloads_of, unbegun}, Talks.{accepts, server_rules, units_in}}
 use Rattle.turn_loop.specs.Talk.{IsItem, held_behind, worked}
 
 module _ (rules : UnitRules) where

@@ -1,12 +1,10 @@
 -- Payloads as a server has them: the header line, and units of which each was taken behind those before it.
 use Rattle.std.specs.Prelude.{◌≡◌, ◌&&◌, Bool, true, false, List, [], ◌∷◌, ◌++◌}
 use Rattle.file_words.specs.Lines.{Bytes}
-use Rattle.talk_items.specs.Items.{kind}
-use Rattle.talk_items.specs.declared.items.ItemKind.{ItemKind}
+use Rattle.talk_items.specs.{Items.kind, declared.items.ItemKind.ItemKind}
 use Rattle.talk_items.specs.declared.items.ItemKind.TheVariants as kinds
 use Rattle.talk_rules.specs.Units.{UnitRules, header}
-use Rattle.talk_server.specs.Opening.{is_next}
-use Rattle.talk_server.specs.Talks.{units_in}
+use Rattle.talk_server.specs.{Opening.is_next, Talks.units_in}
 
 -- units, each of which is the next behind those before it
 abbrev pub are_next : UnitRules → List Bytes → List Bytes → Bool

@@ -1,7 +1,6 @@
 -- The line that asks, where an item is read line by line.
 use Rattle.std.proofs.Common.{◌≡◌, ◌+◌, ◌≤◌, Bool, true, false, List, [], ◌∷◌, length, drop, refl, ap, sym, ◌∙◌, if◌then◌else◌, Option, Some}
-use Rattle.file_words.specs.Lines.{Bytes, CutLines, front_line, lines_of, without_return}
-use Rattle.file_words.specs.Words.{is_skipped, words_of}
+use Rattle.file_words.specs.{Lines.{Bytes, CutLines, front_line, lines_of, without_return}, Words.{is_skipped, words_of}}
 use Rattle.talk_questions.proofs.LineBytes.{behind-line}
 use Rattle.talk_questions.specs.Trials.{Asking, asking_from}
 

@@ -1,7 +1,6 @@
 -- Questions, computed from the definitions alone.
 use Rattle.std.specs.Prelude.{◌≡◌, Option, Some, None, refl, codes}
-use Rattle.file_words.specs.Lines.{Bytes, without_return}
-use Rattle.file_words.specs.Words.{words_of}
+use Rattle.file_words.specs.{Lines.{Bytes, without_return}, Words.words_of}
 use Rattle.talk_questions.specs.Questions.{Asked, cases, cases_of, items_of, question}
 
 -- what a line that is UTF-8 asks for

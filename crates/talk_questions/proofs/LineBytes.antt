@@ -1,7 +1,5 @@
 -- The bytes of a line, its line feed, and what stands behind it.
-use Rattle.std.proofs.Common.{◌≡◌, ◌==◌, ◌≤◌, ◌+◌, ℕ, Bool, true, false, List, [], ◌∷◌, ◌++◌, length, drop, refl, ap, sym, ◌∙◌, arith, if◌then◌else◌}
-use Rattle.std.proofs.lemmas.List.{length-append}
-use Rattle.std.proofs.Math.Seq.{drop-append-add}
+use Rattle.std.proofs.{Common.{◌≡◌, ◌==◌, ◌≤◌, ◌+◌, ℕ, Bool, true, false, List, [], ◌∷◌, ◌++◌, length, drop, refl, ap, sym, ◌∙◌, arith, if◌then◌else◌}, lemmas.List.length-append, Math.Seq.drop-append-add}
 use Rattle.file_words.specs.Lines.{Bytes, CutLines, front_line, lines_of, onto_lines, put_first}
 
 -- lines with their line feeds, and what is left

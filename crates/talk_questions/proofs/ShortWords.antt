@@ -1,11 +1,7 @@
 -- No word of a line is longer than the line.
-use Rattle.std.proofs.Common.{◌≡◌, ◌==◌, ◌≤◌, ◌-◌, ℕ, suc, Bool, true, false, List, [], ◌∷◌, length, filter, take, arith, ap, sym, if◌then◌else◌}
-use Rattle.std.proofs.lemmas.List.{length-take}
-use Rattle.std.specs.Prelude.{slice_index}
-use Rattle.std.specs.List.{onto_first}
-use Rattle.file_words.specs.Lines.{Bytes, without_return}
-use Rattle.file_words.specs.Words.{behind, cuts, fields, is_word, onto_fields, words_of}
-use Rattle.file_words.specs.declared.words.Quote.{Quote}
+use Rattle.std.proofs.{Common.{◌≡◌, ◌==◌, ◌≤◌, ◌-◌, ℕ, suc, Bool, true, false, List, [], ◌∷◌, length, filter, take, arith, ap, sym, if◌then◌else◌}, lemmas.List.length-take}
+use Rattle.std.specs.{Prelude.slice_index, List.onto_first}
+use Rattle.file_words.specs.{Lines.{Bytes, without_return}, Words.{behind, cuts, fields, is_word, onto_fields, words_of}, declared.words.Quote.Quote}
 use Rattle.file_words.specs.declared.words.Quote.TheVariants.{Outside}
 use Rattle.talk_questions.specs.Trials.{AreShort}
 

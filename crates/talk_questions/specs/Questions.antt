@@ -1,10 +1,7 @@
 -- What the words of a line ask for.
-use Rattle.std.specs.Prelude.{nat_le, List, [], ◌∷◌, length, Option, Some, None, option_map, if◌then◌else◌, codes}
-use Rattle.std.specs.Str.{is_utf8}
+use Rattle.std.specs.{Prelude.{nat_le, List, [], ◌∷◌, length, Option, Some, None, option_map, if◌then◌else◌, codes}, Str.is_utf8}
 use Rattle.file_limits.specs.declared.TheConstants.{MAX_NAME}
-use Rattle.file_words.specs.Lines.{Bytes, without_return}
-use Rattle.file_words.specs.Names.{name}
-use Rattle.file_words.specs.Words.{is, words_of}
+use Rattle.file_words.specs.{Lines.{Bytes, without_return}, Names.name, Words.{is, words_of}}
 
 pub data Asked : Type 0 where
   report : Asked

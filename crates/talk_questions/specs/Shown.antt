@@ -1,10 +1,8 @@
 -- Questions as contracts see them: without where their words lie in memory.
 use Rattle.talk_questions.specs.Questions as asked
-use Rattle.talk_questions.specs.declared.questions.Question.{Question}
+use Rattle.talk_questions.specs.{declared.questions.Question.Question, declared.asking.Asking.Asking, declared.trials.Trial.Trial}
 use Rattle.talk_questions.specs.declared.questions.Question.TheVariants as question
 use Rattle.talk_questions.specs.Trials as trials
-use Rattle.talk_questions.specs.declared.asking.Asking.{Asking}
-use Rattle.talk_questions.specs.declared.trials.Trial.{Trial}
 use Rattle.talk_questions.specs.declared.trials.Trial.TheVariants as trial
 
 abbrev pub shown_question : Question → asked.Asked

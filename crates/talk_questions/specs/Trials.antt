@@ -1,8 +1,6 @@
 -- What a question tries: a unit, or an install with a migrate behind it.
-use Rattle.std.specs.Prelude.{◌≤◌, ◌+◌, ◌||◌, ℕ, not, Bool, true, false, List, [], ◌∷◌, ◌++◌, length, drop, Option, Some, None, if◌then◌else◌, codes}
-use Rattle.std.specs.Str.{is_utf8}
-use Rattle.file_words.specs.Lines.{Bytes, lines_of, without_return}
-use Rattle.file_words.specs.Words.{is, is_blank, is_comment, is_skipped, words_of}
+use Rattle.std.specs.{Prelude.{◌≤◌, ◌+◌, ◌||◌, ℕ, not, Bool, true, false, List, [], ◌∷◌, ◌++◌, length, drop, Option, Some, None, if◌then◌else◌, codes}, Str.is_utf8}
+use Rattle.file_words.specs.{Lines.{Bytes, lines_of, without_return}, Words.{is, is_blank, is_comment, is_skipped, words_of}}
 
 -- ---- the bytes of a question
 

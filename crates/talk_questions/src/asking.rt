@@ -1,7 +1,6 @@
 // The bytes of a question.
 ghost use Rattle.std.specs.Prelude.{◌≡◌, ◌≤◌, length, drop, option_map, IfOk, IfSome};
-ghost use Rattle.talk_questions.specs.Shown.{shown_asking};
-ghost use Rattle.talk_questions.specs.Trials.{IsWithin, asking, from_word};
+ghost use Rattle.talk_questions.specs.{Shown.shown_asking, Trials.{IsWithin, asking, from_word}};
 
 use file_words::{NoMemory, first_line, is_skipped, read_words, without_return};
 use std::alloc::Global;

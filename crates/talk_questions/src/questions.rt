@@ -1,8 +1,7 @@
 // What a line asks for.
 ghost use Rattle.std.specs.Prelude.{◌≡◌, option_map, IfOk};
 ghost use Rattle.file_words.specs.Shown.{shown, shown_name};
-ghost use Rattle.talk_questions.specs.Questions.{asked, asked_of, plain, question, question_in, short_name};
-ghost use Rattle.talk_questions.specs.Shown.{shown_question};
+ghost use Rattle.talk_questions.specs.{Questions.{asked, asked_of, plain, question, question_in, short_name}, Shown.shown_question};
 
 use file_limits::MAX_NAME;
 use file_words::{NameWord, NoMemory, is_text, without_return, words_of};

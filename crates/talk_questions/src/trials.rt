@@ -1,8 +1,7 @@
 // What a question tries.
 ghost use Rattle.std.specs.Prelude.{◌≡◌, ◌≤◌, ℕ, length, option_map, IfOk, IfSome};
 ghost use Rattle.file_words.specs.Shown.{shown};
-ghost use Rattle.talk_questions.specs.Shown.{shown_asking, shown_trial};
-ghost use Rattle.talk_questions.specs.Trials.{AreShort, IsShort, IsWithin, begins_other, begins_unit, behind_if, install_unit, migrate_unit, move_tried, moved, trial, trial_by, trial_of, unit_tried};
+ghost use Rattle.talk_questions.specs.{Shown.{shown_asking, shown_trial}, Trials.{AreShort, IsShort, IsWithin, begins_other, begins_unit, behind_if, install_unit, migrate_unit, move_tried, moved, trial, trial_by, trial_of, unit_tried}};
 
 use crate::asking::{Asking, behind_word};
 use file_words::{NoMemory, is_skipped, is_text, without_return, words_of};

@@ -1,17 +1,9 @@
 -- What a server answers, by what is held.
-use Rattle.std.proofs.Common.{◌≡◌, ◌↔◌, inl, inr, ◌<◌, ◌≤◌, true, false, Bool, if◌then◌else◌, List, [], ◌∷◌, ◌++◌, length, refl, sym, ap, subst, ◌∙◌}
-use Rattle.std.specs.Prelude.{IsTrue, nat_lt, codes}
+use Rattle.talk_server.proofs.Common.{[], ◌++◌, ◌<◌, ◌↔◌, ◌∙◌, ◌∷◌, ◌≡◌, ◌≤◌, accepts, answer_by, ap, append-nil, Bool, Bytes, codes, false, header, held_behind, if◌then◌else◌, inl, inr, is_blank, IsTrue, item_answer, kind, length, List}
+use Rattle.talk_server.proofs.Common.{MAX_ITEM, nat_lt, next_refused, payload_of, refl, rest_answer, server_rules, Serves, subst, sym, true, UnitRules, units_behind, units_in}
 use Rattle.std.proofs.lemmas.Bool.{cases_lt, le-ltb, lt-ltb}
-use Rattle.std.proofs.lemmas.List.{append-nil}
-use Rattle.file_words.specs.Lines.{Bytes}
-use Rattle.talk_items.specs.Items.{is_blank, kind}
 use Rattle.talk_items.specs.declared.items.ItemKind.{ItemKind}
 use Rattle.talk_items.specs.declared.items.ItemKind.TheVariants as kinds
-use Rattle.talk_items.specs.declared.limits.TheConstants.{MAX_ITEM}
-use Rattle.talk_rules.specs.Units.{UnitRules, header, units_behind}
-use Rattle.talk_server.specs.Serving.{Serves}
-use Rattle.talk_server.specs.Talks.{accepts, answer_by, item_answer, next_refused, rest_answer, server_rules, units_in}
-use Rattle.turn_loop.specs.Talk.{held_behind, payload_of}
 
 -- payloads that begin with the header, and more of them
 more-headed : (ps qs : List Bytes) → ps ≡ header ∷ units_in ps → ps ++ qs ≡ header ∷ units_in (ps ++ qs)

@@ -1,12 +1,7 @@
 -- What an image begins with, by its first frame.
-use Rattle.std.proofs.Common.{◌≡◌, ℕ, List, [], ◌∷◌, ◌++◌, length, refl, sym, ap, subst, ◌∙◌, arith}
-use Rattle.store_disk.specs.Image.{Frames, closed, damaged, frame, frames, frames_from, framed}
-use Rattle.store_disk.specs.Opening.{IsFrame, with_gate}
+use Rattle.talk_server.proofs.Common.{[], ℕ, ◌++◌, ◌∙◌, ◌∷◌, ◌≡◌, ap, arith, closed, damaged, frame, framed, Frames, frames, frames_from, header, IsFrame, IsFront, length, List, one_framed, opened, opened_by, opened_from, refl, subst, sym}
+use Rattle.talk_server.proofs.Common.{UnitRules, with_gate}
 use Rattle.store_disk.specs.declared.frames.Frame.TheVariants as front_frame
-use Rattle.store_disk.proofs.Framing.{one_framed}
-use Rattle.talk_rules.specs.Units.{UnitRules, header}
-use Rattle.talk_server.specs.Fronts.{IsFront}
-use Rattle.talk_server.specs.Opening.{opened, opened_by, opened_from}
 use Rattle.talk_server.specs.declared.fronts.Front.TheVariants as front
 
 -- bytes of an image with a gate are framed from their front

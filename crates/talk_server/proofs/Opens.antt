@@ -1,26 +1,12 @@
 -- A disk that was opened, and what it turns out to hold.
-use Rattle.std.proofs.Common.{◌≡◌, ◌⊎◌, inl, inr, ℕ, ◌+◌, ◌≤◌, ◌^◌, List, [], ◌∷◌, ◌++◌, length, refl, sym, ap, subst, ◌∙◌, arith, length-append}
-use Rattle.std.specs.Prelude.{IfErr, IfOk, Result, Ok, Err}
+use Rattle.talk_server.proofs.Common.{[], ℕ, ◌++◌, ◌+◌, ◌^◌, ◌∙◌, ◌∷◌, ◌≡◌, ◌≤◌, ◌⊎◌, all_framed, and_then, ap, arith, Bytes, damaged_at, EndsAt, Err, framed, frames, frames_at, HasList, HasNoneOrAll, header, HoldsAsBefore, IfErr, IfOk}
+use Rattle.talk_server.proofs.Common.{inl, inr, IsAtRest, IsDiskFault, IsFront, IsHeld, IsLeft, IsOpened, IsOpening, IsOpeningFault, IsSettled, LeavesOnly, length, length-append, List, Ok, Only, Opened, opened, opening, payloads_of, refl}
+use Rattle.talk_server.proofs.{Common.{Result, ServeFault, subst, sym, TellsDamage, unbegun, UnitRules, unopened, weaker, with_gate}, Fronting.header-opened}
 use Rattle.std.specs.Result.{IsErrAnd}
 use Rattle.adept_io.specs.declared.reading.ReadRefusal.{ReadRefusal}
 use Rattle.adept_io.specs.declared.reading.ReadRefusal.TheVariants as read
-use Rattle.file_words.specs.Lines.{Bytes}
-use Rattle.store_disk.specs.Disk.{IsSettled, LeavesOnly, Only}
-use Rattle.store_disk.specs.Image.{all_framed, frames, framed, HasList}
-use Rattle.store_disk.specs.Opening.{HoldsAsBefore, with_gate}
-use Rattle.store_disk.specs.Rest.{EndsAt, HasNoneOrAll, IsAtRest}
-use Rattle.store_disk.proofs.Framing.{frames_at}
-use Rattle.store_disk.proofs.Moments.{and_then, weaker}
-use Rattle.talk_rules.specs.Units.{UnitRules, header}
-use Rattle.talk_server.specs.Fronts.{IsFront}
-use Rattle.talk_server.specs.Opening.{Opened, damaged_at, opened, opening, payloads_of, unbegun}
-use Rattle.talk_server.specs.Served.{IsDiskFault, IsLeft, IsOpened, IsOpening, IsOpeningFault}
-use Rattle.talk_server.specs.Taking.{IsHeld, TellsDamage}
-use Rattle.talk_server.specs.Unopened.{unopened}
-use Rattle.talk_server.specs.declared.faults.ServeFault.{ServeFault}
 use Rattle.talk_server.specs.declared.faults.ServeFault.TheVariants as fault
 use Rattle.talk_server.specs.declared.fronts.Front.TheVariants as front
-use Rattle.talk_server.proofs.Fronting.{header-opened}
 use Rattle.turn_loop.specs.declared.faults.TalkFault.TheVariants as cut
 
 -- what holds of each error holds of the one that is there

@@ -1,25 +1,11 @@
 -- A talk behind the opening of its disk.
-use Rattle.std.proofs.Common.{◌≡◌, inl, inr, ℕ, true, Bool, List, [], ◌∷◌, Option, Some, None, refl, sym, ap, subst, ◌∙◌}
-use Rattle.std.specs.Prelude.{IfSome, IsSomeAnd, Ok, Err}
+use Rattle.talk_server.proofs.Common.{[], ℕ, ◌∙◌, ◌∷◌, ◌≡◌, and_then, ap, Bool, Bytes, Ends, Err, HasAnswered, HasAnyAnswered, header, held, IfSome, inl, inr, IsAtRest, IsDiskFault, IsOfServer, IsOpened, IsOpening, IsOpeningFault}
+use Rattle.talk_server.proofs.Common.{IsSomeAnd, LeavesOnly, List, None, Ok, opening, Option, payloads_of, refl, rest-held, said, SaysAll, SaysSome, ServeFault, server_rules, Serves, Some, subst, sym, true, UnitRules, units_in, weaker}
 use Rattle.std.specs.Io.KnownBytes.{Appends}
 use Rattle.adept_io.specs.Written.{AppendsPrefix}
-use Rattle.file_words.specs.Lines.{Bytes}
-use Rattle.store_disk.specs.Disk.{LeavesOnly}
-use Rattle.store_disk.specs.Rest.{IsAtRest}
-use Rattle.store_disk.proofs.Moments.{and_then, weaker}
-use Rattle.talk_rules.specs.Units.{UnitRules, header}
-use Rattle.talk_server.specs.Opening.{opening, payloads_of}
-use Rattle.talk_server.specs.Served.{Ends, HasAnswered, HasAnyAnswered, IsDiskFault, IsOfServer, IsOpened, IsOpening, IsOpeningFault, SaysAll, SaysSome}
-use Rattle.talk_server.specs.Serving.{Serves}
-use Rattle.talk_server.specs.Talks.{server_rules, units_in}
-use Rattle.talk_server.specs.declared.faults.ServeFault.{ServeFault}
 use Rattle.talk_server.specs.declared.faults.ServeFault.TheVariants as fault
-use Rattle.turn_loop.specs.Groups.{held}
-use Rattle.turn_loop.specs.Serving.{Acknowledged, Ended, HoldsBeginningOf}
-use Rattle.turn_loop.specs.Talk.{said}
-use Rattle.turn_loop.specs.declared.faults.TalkFault.{TalkFault}
+use Rattle.turn_loop.specs.{Serving.{Acknowledged, Ended, HoldsBeginningOf}, declared.faults.TalkFault.TalkFault}
 use Rattle.turn_loop.specs.declared.faults.TalkFault.TheVariants as cut
-use Rattle.turn_loop.proofs.Stored.{rest-held}
 
 pub some-and : {A : Type 0} (o : Option A) (x : A) (P : A → Type 0) → o ≡ Some x → P x → IsSomeAnd o P
 some-and o x P is p = subst (λ q. IsSomeAnd q P) (sym is) p

@@ -1,15 +1,8 @@
 -- The records behind the header's, taken one after another.
-use Rattle.std.proofs.Common.{◌≡◌, ℕ, ◌+◌, ◌<◌, ◌^◌, true, false, Bool, if◌then◌else◌, List, [], ◌∷◌, ◌++◌, length, take, drop, refl, sym, ap, subst, ◌∙◌, append_assoc, arith, length-append}
+use Rattle.talk_server.proofs.Common.{[], ℕ, ◌++◌, ◌+◌, ◌<◌, ◌^◌, ◌∙◌, ◌∷◌, ◌≡◌, all_framed, all_short, ap, append_assoc, arith, Bool, Bytes, closes, damaged_at, drop, false, frame, framed, framed-more, frames_from, header, if◌then◌else◌}
+use Rattle.talk_server.proofs.Common.{is_next, IsFrame, IsHeld, length, length-append, length-drop, length-take-le, List, one_framed, opened_from, refl, subst, sym, take, true, u32, UnitRules}
 use Rattle.std.specs.List.{AllByRecursion}
-use Rattle.std.proofs.lemmas.List.{length-drop, length-take-le}
-use Rattle.file_words.specs.Lines.{Bytes}
-use Rattle.store_disk.specs.Image.{all_framed, frame, frames_from, framed, u32}
-use Rattle.store_disk.specs.Opening.{IsFrame}
 use Rattle.store_disk.specs.declared.frames.Frame.TheVariants as front
-use Rattle.store_disk.proofs.Framing.{all_short, closes, framed-more, one_framed}
-use Rattle.talk_rules.specs.Units.{UnitRules, header}
-use Rattle.talk_server.specs.Opening.{damaged_at, is_next, opened_from}
-use Rattle.talk_server.specs.Taking.{IsHeld}
 
 -- how far the records have been taken
 pub record Taken {H : Type 0} (rules : UnitRules) (keeps : H → List Bytes → Type 0) (records rest : List ℕ) (place : ℕ) (state : H) : Type 0 where

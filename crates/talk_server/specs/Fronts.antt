@@ -1,10 +1,8 @@
 -- What an image begins with.
 use Rattle.std.specs.Prelude.{◌≡◌, ℕ, List, [], ◌++◌, drop}
-use Rattle.store_disk.specs.Image.{framed}
-use Rattle.store_disk.specs.Rest.{EndsAt}
+use Rattle.store_disk.specs.{Image.framed, Rest.EndsAt}
 use Rattle.talk_rules.specs.Units.{UnitRules, header}
-use Rattle.talk_server.specs.Opening.{damaged_at, opened, unbegun}
-use Rattle.talk_server.specs.declared.fronts.Front.{Front}
+use Rattle.talk_server.specs.{Opening.{damaged_at, opened, unbegun}, declared.fronts.Front.Front}
 use Rattle.talk_server.specs.declared.fronts.Front.TheVariants as front
 
 -- whatever is said of units

@@ -1,8 +1,7 @@
 -- What an image is taken for when a server is opened over it.
 use Rattle.std.specs.Prelude.{ℕ, ◌&&◌, Bool, false, nat_le, nat_eq, List, [], ◌∷◌, ◌++◌, length, bytes_eq, Option, Some, None, if◌then◌else◌}
 use Rattle.file_words.specs.Lines.{Bytes}
-use Rattle.store_disk.specs.Image.{Frames, closed, damaged, frame, frames}
-use Rattle.store_disk.specs.Opening.{with_gate}
+use Rattle.store_disk.specs.{Image.{Frames, closed, damaged, frame, frames}, Opening.with_gate}
 use Rattle.talk_items.specs.Items.{item_end}
 use Rattle.talk_rules.specs.Units.{UnitRules, header}
 use Rattle.talk_server.specs.Talks.{accepts}

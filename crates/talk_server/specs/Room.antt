@@ -1,8 +1,6 @@
 -- What is accepted finds room on the disk.
 use Rattle.std.specs.Prelude.{◌≡◌, ℕ, ◌+◌, ◌<◌, ◌^◌, ◌&&◌, not, Bool, true, false, List, [], ◌∷◌, ◌++◌, length}
-use Rattle.std.proofs.Common.{ap, arith}
-use Rattle.std.proofs.lemmas.Bool.{ltb-true}
-use Rattle.std.proofs.lemmas.List.{length-append}
+use Rattle.std.proofs.{Common.{ap, arith}, lemmas.Bool.ltb-true, lemmas.List.length-append}
 use Rattle.file_words.specs.Lines.{Bytes}
 use Rattle.store_disk.specs.Image.{all_framed, framed, u32}
 use Rattle.store_disk.proofs.Framing.{framed-more}

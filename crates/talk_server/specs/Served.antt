@@ -1,20 +1,12 @@
 -- A server from its opening to its end.
-use Rattle.std.specs.Prelude.{◌≡◌, ◌⊎◌, ℕ, ◌<◌, ◌^◌, List, [], ◌∷◌, Option, Some, IsSomeAnd, Result, Ok, Err}
-use Rattle.std.specs.Io.KnownBytes.{Appends}
+use Rattle.std.specs.{Prelude.{◌≡◌, ◌⊎◌, ℕ, ◌<◌, ◌^◌, List, [], ◌∷◌, Option, Some, IsSomeAnd, Result, Ok, Err}, Io.KnownBytes.Appends}
 use Rattle.adept_io.specs.Written.{AppendsPrefix}
 use Rattle.file_words.specs.Lines.{Bytes}
-use Rattle.store_disk.specs.Disk.{LeavesOnly, Only}
-use Rattle.store_disk.specs.Image.{HasList}
-use Rattle.store_disk.specs.Opening.{HoldsAsBefore}
-use Rattle.store_disk.specs.Rest.{IsAtRest}
+use Rattle.store_disk.specs.{Disk.{LeavesOnly, Only}, Image.HasList, Opening.HoldsAsBefore, Rest.IsAtRest}
 use Rattle.talk_rules.specs.Units.{UnitRules, header}
-use Rattle.talk_server.specs.Opening.{Opened, opening, payloads_of, unbegun}
-use Rattle.talk_server.specs.Talks.{server_rules}
-use Rattle.talk_server.specs.declared.faults.ServeFault.{ServeFault}
+use Rattle.talk_server.specs.{Opening.{Opened, opening, payloads_of, unbegun}, Talks.server_rules, declared.faults.ServeFault.ServeFault}
 use Rattle.talk_server.specs.declared.faults.ServeFault.TheVariants as fault
-use Rattle.turn_loop.specs.Serving.{Acknowledged, Ended, HoldsBeginningOf}
-use Rattle.turn_loop.specs.Talk.{said}
-use Rattle.turn_loop.specs.declared.faults.TalkFault.{TalkFault}
+use Rattle.turn_loop.specs.{Serving.{Acknowledged, Ended, HoldsBeginningOf}, Talk.said, declared.faults.TalkFault.TalkFault}
 use Rattle.turn_loop.specs.declared.faults.TalkFault.TheVariants as cut
 
 -- ---- the opening

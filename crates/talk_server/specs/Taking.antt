@@ -1,11 +1,9 @@
 -- The records behind the header's, worked one after another.
 use Rattle.std.specs.Prelude.{◌≡◌, ℕ, List, [], ◌∷◌, ◌++◌}
 use Rattle.file_words.specs.Lines.{Bytes}
-use Rattle.store_disk.specs.Image.{framed, frames_from}
-use Rattle.store_disk.specs.Rest.{EndsAt}
+use Rattle.store_disk.specs.{Image.{framed, frames_from}, Rest.EndsAt}
 use Rattle.talk_rules.specs.Units.{UnitRules, header}
-use Rattle.talk_server.specs.Opening.{damaged_at, holds, opened_from}
-use Rattle.talk_server.specs.declared.faults.ServeFault.{ServeFault}
+use Rattle.talk_server.specs.{Opening.{damaged_at, holds, opened_from}, declared.faults.ServeFault.ServeFault}
 use Rattle.talk_server.specs.declared.faults.ServeFault.TheVariants as fault
 use Rattle.turn_loop.specs.declared.faults.TalkFault.TheVariants as cut
 

@@ -1,10 +1,8 @@
 -- What a server says to the items of a talk, over the payloads that are held: the header line, and units.
 use Rattle.std.specs.Prelude.{◌+◌, ◌&&◌, not, Bool, true, false, nat_lt, List, [], ◌∷◌, length, drop, if◌then◌else◌, codes}
 use Rattle.file_words.specs.Lines.{Bytes}
-use Rattle.talk_items.specs.Items.{counted, ends, is_blank, kind}
-use Rattle.talk_items.specs.declared.items.ItemKind.{ItemKind}
+use Rattle.talk_items.specs.{Items.{counted, ends, is_blank, kind}, declared.items.ItemKind.ItemKind, declared.limits.TheConstants.MAX_ITEM}
 use Rattle.talk_items.specs.declared.items.ItemKind.TheVariants as kinds
-use Rattle.talk_items.specs.declared.limits.TheConstants.{MAX_ITEM}
 use Rattle.talk_rules.specs.Units.{UnitRules, fits}
 use Rattle.turn_loop.specs.Talk.{Rules}
 

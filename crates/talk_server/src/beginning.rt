@@ -1,8 +1,7 @@
 // A disk without records, begun.
 ghost use Rattle.std.specs.Prelude.{◌≡◌, ◌≤◌, ◌⊎◌, [], ◌∷◌, IfOk, IfErr, OnOk, IsErrOf};
 ghost use Rattle.adept_io.specs.Counts.{Rose};
-ghost use Rattle.store_disk.specs.Disk.{LeavesOnly};
-ghost use Rattle.store_disk.specs.Rest.{HasNoneOrAll, IsAtRest};
+ghost use Rattle.store_disk.specs.{Disk.LeavesOnly, Rest.{HasNoneOrAll, IsAtRest}};
 ghost use Rattle.talk_rules.specs.Units.{header};
 
 use crate::faults::ServeFault;

@@ -2,8 +2,7 @@
 ghost use Rattle.std.specs.Prelude.{◌≡◌, ◌≤◌, ◌<◌, ◌^◌, ℕ, length, IfOk, IfErr, OnOk, IsErrOf};
 ghost use Rattle.adept_io.specs.Counts.{Rose};
 ghost use Rattle.store_disk.specs.Disk.{LeavesOnly, Only};
-ghost use Rattle.talk_server.specs.Opening.{damaged_at, opening};
-ghost use Rattle.talk_server.specs.Served.{IsDiskFault, IsLeft, IsOpened, IsOpening, IsOpeningFault};
+ghost use Rattle.talk_server.specs.{Opening.{damaged_at, opening}, Served.{IsDiskFault, IsLeft, IsOpened, IsOpening, IsOpeningFault}};
 
 use crate::beginning::begin;
 use crate::faults::ServeFault;

@@ -1,10 +1,8 @@
 // What answers the items of a talk.
 ghost use Rattle.std.specs.Prelude.{◌≡◌, ◌≤◌, ◌++◌, ◌∷◌, [], true, length, IfOk, OnOk, if◌then◌else◌};
-ghost use Rattle.talk_items.specs.Items.{kind};
-ghost use Rattle.talk_items.specs.declared.limits.TheConstants.{MAX_ITEM};
+ghost use Rattle.talk_items.specs.{Items.kind, declared.limits.TheConstants.MAX_ITEM};
 ghost use Rattle.talk_rules.specs.Units.{units_behind};
-ghost use Rattle.talk_server.specs.Serving.{WhereServed};
-ghost use Rattle.talk_server.specs.Talks.{accepts, answer_by, item_answer, next_refused, units_in};
+ghost use Rattle.talk_server.specs.{Serving.WhereServed, Talks.{accepts, answer_by, item_answer, next_refused, units_in}};
 
 use adept_io::NoMemory;
 use std::alloc::Global;

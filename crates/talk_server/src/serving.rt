@@ -1,10 +1,8 @@
 // A server, from its opening to the end of its talk.
-ghost use Rattle.std.specs.Prelude.{◌≡◌, ◌≤◌, ◌<◌, ◌^◌, ℕ, length, IfSome, IfErr, OnOk, OnErr, IsErrOf};
-ghost use Rattle.std.specs.Io.KnownBytes.{IsAtEnd};
+ghost use Rattle.std.specs.{Prelude.{◌≡◌, ◌≤◌, ◌<◌, ◌^◌, ℕ, length, IfSome, IfErr, OnOk, OnErr, IsErrOf}, Io.KnownBytes.IsAtEnd};
 ghost use Rattle.adept_io.specs.Counts.{Rose};
 ghost use Rattle.store_disk.specs.Disk.{LeavesOnly, Only};
-ghost use Rattle.talk_server.specs.Opening.{damaged_at, opening};
-ghost use Rattle.talk_server.specs.Served.{Ends, HasAnswered, HasAnyAnswered, IsDiskFault, IsLeft, IsOfServer, IsStoreFault, SaysAll, SaysSome};
+ghost use Rattle.talk_server.specs.{Opening.{damaged_at, opening}, Served.{Ends, HasAnswered, HasAnyAnswered, IsDiskFault, IsLeft, IsOfServer, IsStoreFault, SaysAll, SaysSome}};
 
 use crate::faults::ServeFault;
 use crate::opening::open;

@@ -2,9 +2,7 @@
 ghost use Rattle.std.specs.Prelude.{◌≡◌, ◌+◌, ◌≤◌, ◌^◌, ◌<◌, ◌&&◌, not, List, ℕ, [], length, IfOk, IfErr};
 ghost use Rattle.talk_items.specs.Items.{item_end, kind};
 ghost use Rattle.talk_rules.specs.Units.{units_behind};
-ghost use Rattle.talk_server.specs.Opening.{is_at_end, is_next};
-ghost use Rattle.talk_server.specs.Taking.{IsHeld, TellsDamage};
-ghost use Rattle.talk_server.specs.Talks.{is_too_long, is_unit};
+ghost use Rattle.talk_server.specs.{Opening.{is_at_end, is_next}, Taking.{IsHeld, TellsDamage}, Talks.{is_too_long, is_unit}};
 
 use crate::faults::ServeFault;
 use adept_io::NoMemory;

@@ -1,10 +1,7 @@
 -- A case that nobody has called is not older than others.
-use Rattle.std.proofs.Common.{◌≤◌, ◌+◌, List, [], ◌∷◌, ◌++◌, arith}
-use Rattle.file_model.specs.declared.files.CaseDecl.{CaseDecl}
+use Rattle.talk_state.proofs.Common.{[], ◌++◌, ◌+◌, ◌∷◌, ◌≤◌, arith, CaseDecl, ClosedCase, List, uncalled}
 use Rattle.script_run.proofs.Aging.{oldest-uncalled}
 use Rattle.script_run.specs.Oldest.{oldest}
-use Rattle.script_run.specs.Serial.{uncalled}
-use Rattle.script_run.specs.declared.runs.ClosedCase.{ClosedCase}
 
 oldest-behind : (cs : List ClosedCase) (c : ClosedCase) → oldest (cs ++ c ∷ []) ≤ oldest cs + oldest (c ∷ [])
 unfolding oldest

@@ -1,20 +1,7 @@
 -- What is answered to a unit.
-use Rattle.std.proofs.Common.{◌≡◌, ◌+◌, Bool, true, false, List, [], ◌∷◌, ◌++◌, length, refl, ap, sym, ◌∙◌, Result, Ok, Err}
-use Rattle.std.proofs.lemmas.Bool.{and_parts}
-use Rattle.std.specs.Prelude.{◌&&◌, codes}
+use Rattle.talk_state.proofs.Common.{[], ◌&&◌, ◌++◌, ◌+◌, ◌∙◌, ◌∷◌, ◌≡◌, and_parts, answer_read, ap, Bool, Bytes, called_text, codes, Contents, entries_of, Err, false, file_of, fits, header, Held, held_by, held_rules, Holds, length, List}
+use Rattle.talk_state.proofs.{Common.{no_line, Ok, ok_line, placing_of, refl, Refused, Result, State, sym, takes, true, unit_answer, unit_read}, Behind.length-more, Taken.held-next}
 use Rattle.std.specs.Result.{is_ok}
-use Rattle.file_model.specs.Reading.{file_of}
-use Rattle.file_model.specs.declared.refusals.Refused.{Refused}
-use Rattle.file_model.specs.declared.states.Contents.{Contents}
-use Rattle.file_units.specs.Units.{unit_read}
-use Rattle.file_words.specs.Lines.{Bytes}
-use Rattle.talk_answers.specs.Lines.{no_line, ok_line}
-use Rattle.talk_rules.specs.Units.{fits, header, takes}
-use Rattle.talk_state.proofs.Behind.{length-more}
-use Rattle.talk_state.proofs.Taken.{held-next}
-use Rattle.talk_state.specs.Answers.{answer_read, called_text, entries_of, held_rules, unit_answer}
-use Rattle.talk_state.specs.Held.{Held, held_by, placing_of}
-use Rattle.talk_state.specs.States.{Holds, State}
 
 -- what is told of a state behind its units
 abbrev pub taken_text : State → Bytes

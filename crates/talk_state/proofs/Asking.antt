@@ -1,25 +1,13 @@
 -- What is told of a state is what its units tell.
-use Rattle.std.proofs.Common.{◌≡◌, ◌+◌, ◌-◌, List, [], ◌∷◌, ◌++◌, length, take, drop, refl, ap, sym, ◌∙◌, arith, append-nil, OnOk, Option, Some, None, Result, Ok, Err}
-use Rattle.std.proofs.Math.Seq.{drop-append-add}
-use Rattle.std.proofs.lemmas.List.{length-append}
-use Rattle.std.specs.Prelude.{flat_map, option_map, slice_get}
-use Rattle.file_model.specs.Reading.{file_of}
+use Rattle.talk_state.proofs.Common.{[], ◌++◌, ◌+◌, ◌-◌, ◌∙◌, ◌∷◌, ◌≡◌, answer_asked, answer_known, ap, append-nil, arith, asked_text, Bytes, case_part, Contents, drop, drop-append-add, entries_of, Err, file_of, flat_map, held_by, Holds}
+use Rattle.talk_state.proofs.Common.{if_there, known_in, length, length-append, line_answer, List, None, Ok, ok_line, OnOk, Option, option_map, Placing, placing_of, quoted, refl, Result, slice_get, Some, State, sym, take, text, told}
+use Rattle.talk_state.proofs.Common.{type_part, within}
 use Rattle.file_model.specs.Scripting.{actor_in}
-use Rattle.file_model.specs.declared.states.Contents.{Contents}
 use Rattle.file_names.specs.Names.{place_of}
-use Rattle.file_words.specs.Lines.{Bytes}
-use Rattle.report_text.specs.Report.{text}
-use Rattle.talk_answers.specs.Entries.{if_there}
-use Rattle.talk_answers.specs.Lines.{ok_line, quoted}
 use Rattle.talk_answers.specs.Standings.{actors_text, all_standings, items, standings_of, types_text}
 use Rattle.talk_questions.specs.Questions as question
-use Rattle.talk_state.specs.Answers.{answer_asked, answer_known, asked_text, case_part, entries_of, line_answer, type_part, within}
-use Rattle.talk_state.specs.Held.{held_by, placing_of}
-use Rattle.talk_state.specs.States.{Holds, State}
-use Rattle.talk_state.specs.Telling.{known_in, told}
 use Rattle.talk_state.specs.declared.questions.Asked.{Asked}
 use Rattle.talk_state.specs.declared.questions.Asked.TheVariants as ask
-use Rattle.unit_run.specs.Runs.{Placing}
 
 then_map : {A B C : Type 0} (f : B → C) (g : A → B) (o : Option A) → option_map f (option_map g o) ≡ option_map (λ x. f (g x)) o
 then_map f g None = refl

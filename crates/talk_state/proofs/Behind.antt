@@ -1,26 +1,9 @@
 -- What a unit says, worked, is the run behind it.
-use Rattle.std.proofs.Common.{◌≡◌, ℕ, ◌+◌, ◌-◌, ◌<◌, Bool, List, [], ◌∷◌, ◌++◌, length, drop, refl, ap, sym, ◌∙◌, arith, if◌then◌else◌, Option, Some, None}
-use Rattle.std.proofs.Math.Seq.{drop-append_seam, drop-length}
-use Rattle.std.proofs.lemmas.Bool.{le-ltb, lt-ltb}
-use Rattle.std.proofs.lemmas.List.{length-append, map-append}
-use Rattle.std.specs.Prelude.{fold, nat_lt, option_map, slice_get}
-use Rattle.file_model.specs.Reading.{file_of}
-use Rattle.file_model.specs.declared.files.CaseDecl.{CaseDecl}
-use Rattle.file_model.specs.declared.files.File.{File}
-use Rattle.file_model.specs.declared.files.Line.{Line}
-use Rattle.file_model.specs.declared.files.TypeDecl.{TypeDecl}
-use Rattle.file_model.specs.declared.states.Contents.{Contents}
-use Rattle.file_units.specs.Taking.{SaysBehind, SaysCase, SaysLine, SaysType}
-use Rattle.file_units.specs.Units.{said_line, settled}
-use Rattle.file_units.specs.declared.held.Said.{Said}
+use Rattle.talk_state.proofs.Common.{[], ℕ, ◌++◌, ◌+◌, ◌-◌, ◌<◌, ◌∙◌, ◌∷◌, ◌≡◌, ap, arith, Bool, called_by, case_placed, CaseDecl, Contents, declared_behind, defined, drop, drop-append_seam, drop-length, File, file_of, fold, if◌then◌else◌}
+use Rattle.talk_state.proofs.Common.{kind_placed, last_of, le-ltb, length, length-append, Line, line_worked, List, lt-ltb, map-append, nat_lt, None, Option, option_map, placed_in, Placing, refl, Run, run_behind, Said, said_called}
+use Rattle.talk_state.proofs.{Common.{said_line, said_worked, SaysBehind, SaysCase, SaysLine, SaysType, settled, slice_get, Some, sym, TypeDecl, types_of, with_case, with_kind, with_last}, Lengths.kinds-worked}
 use Rattle.file_units.specs.declared.held.Said.TheVariants as say
 use Rattle.line_calls.specs.declared.calls.Cells.TheVariants as cells
-use Rattle.script_run.specs.Serial.{defined}
-use Rattle.script_run.specs.declared.runs.Run.{Run}
-use Rattle.talk_state.proofs.Lengths.{kinds-worked}
-use Rattle.talk_state.specs.Held.{called_by, declared_behind, line_worked, placed_in, run_behind}
-use Rattle.talk_state.specs.Working.{case_placed, kind_placed, last_of, said_called, said_worked, with_last}
-use Rattle.unit_run.specs.Runs.{Placing, types_of, with_case, with_kind}
 
 -- ---- lists
 more : {A : Type 0} (xs ys : List A) (x : A) → ys ≡ xs ++ x ∷ [] → drop (length xs) ys ≡ x ∷ []

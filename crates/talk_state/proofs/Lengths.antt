@@ -1,20 +1,10 @@
 -- Calls leave as many types and cases as there were.
-use Rattle.std.proofs.Common.{◌≡◌, ℕ, suc, List, [], ◌∷◌, length, refl, ap, ◌∙◌, Option, Some, None}
-use Rattle.std.proofs.lemmas.List.{length-set}
-use Rattle.std.specs.Prelude.{slice_get}
+use Rattle.talk_state.proofs.Common.{[], ℕ, ◌∙◌, ◌∷◌, ◌≡◌, ap, call_case, call_kind, call_of, called, CaseDecl, changed_at, changed_where, ClosedCase, each_of, File, length, length-set, Line, List, newest, None, on_kind, Option, put_back}
+use Rattle.talk_state.proofs.Common.{refl, Run, slice_get, Some, suc, told_to, worked}
 use Rattle.case_core.specs.declared.events.Event.TheVariants as event
-use Rattle.file_model.specs.declared.files.CaseDecl.{CaseDecl}
-use Rattle.file_model.specs.declared.files.File.{File}
-use Rattle.file_model.specs.declared.files.Line.{Line}
-use Rattle.line_calls.specs.Calls.{call_of}
-use Rattle.line_calls.specs.Files.{place_of, roles_of}
-use Rattle.line_calls.specs.declared.calls.Call.{Call}
+use Rattle.line_calls.specs.{Files.{place_of, roles_of}, declared.calls.Call.Call, declared.calls.Told.Told}
 use Rattle.line_calls.specs.declared.calls.Call.TheVariants as call
-use Rattle.line_calls.specs.declared.calls.Told.{Told}
 use Rattle.line_calls.specs.declared.calls.Told.TheVariants as told
-use Rattle.script_run.specs.Calls.{call_case, call_kind, called, changed_at, changed_where, each_of, newest, on_kind, put_back, told_to, worked}
-use Rattle.script_run.specs.declared.runs.ClosedCase.{ClosedCase}
-use Rattle.script_run.specs.declared.runs.Run.{Run}
 use Rattle.type_core.specs.declared.events.KindEvent.TheVariants as kind_event
 use Rattle.wsm_sound.specs.VersionModel.{VersionModel}
 

@@ -1,3 +1,4 @@
+pub mod Common
 pub mod Ages
 pub mod Lengths
 pub mod Behind

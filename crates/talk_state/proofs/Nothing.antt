@@ -1,14 +1,6 @@
 -- Before the first unit.
-use Rattle.std.proofs.Common.{◌≡◌, true, [], ◌∷◌, length, refl, ap, sym, ◌∙◌, arith, None}
-use Rattle.file_model.specs.Room.{count_of_names}
-use Rattle.file_model.specs.declared.states.Contents.{Contents}
-use Rattle.file_units.specs.Units.{no_units}
+use Rattle.talk_state.proofs.Common.{[], ◌∙◌, ◌∷◌, ◌≡◌, all_framed, ap, arith, Contents, count_of_names, header, Holds, IsSound, length, no_run, no_units, None, placed_in, Placing, refl, State, sym, true}
 use Rattle.script_run.specs.Oldest.{oldest}
-use Rattle.talk_rules.specs.Units.{header}
-use Rattle.store_disk.specs.Image.{all_framed}
-use Rattle.talk_state.specs.Held.{placed_in}
-use Rattle.talk_state.specs.States.{Holds, IsSound, State}
-use Rattle.unit_run.specs.Runs.{Placing, no_run}
 
 pub record IsNothing (s : State) : Type 0 where
   pub contents : s.contents ≡ no_units

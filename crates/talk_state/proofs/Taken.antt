@@ -1,31 +1,11 @@
 -- A state behind a unit that was taken.
-use Rattle.std.proofs.Common.{◌≡◌, ℕ, ◌+◌, ◌-◌, ◌*◌, ◌<◌, ◌≤◌, ◌^◌, true, List, [], ◌∷◌, ◌++◌, length, take, ap, sym, subst, ◌∙◌, arith, append-nil, Result, Ok}
-use Rattle.std.proofs.Math.Seq.{take-append_seam}
-use Rattle.std.proofs.lemmas.Grind.{flat_map-append}
-use Rattle.std.proofs.lemmas.List.{length-append, length-map}
-use Rattle.std.proofs.lemmas.List.Sums.{fold-append}
-use Rattle.std.specs.Prelude.{flat_map}
-use Rattle.file_model.specs.Reading.{file_of}
-use Rattle.file_model.specs.Room.{count_of_names}
-use Rattle.file_model.specs.declared.files.CaseDecl.{CaseDecl}
-use Rattle.file_model.specs.declared.refusals.Refused.{Refused}
-use Rattle.file_model.specs.declared.states.Contents.{Contents}
-use Rattle.file_units.specs.Facts.{IsReady}
-use Rattle.file_units.specs.Taking.{Says, SaysBehind, said_effort}
-use Rattle.file_units.specs.Units.{settled, unit_read}
-use Rattle.file_units.specs.declared.held.Said.{Said}
+use Rattle.talk_state.proofs.Common.{[], ℕ, ◌*◌, ◌++◌, ◌+◌, ◌-◌, ◌<◌, ◌^◌, ◌∙◌, ◌∷◌, ◌≡◌, ◌≤◌, all_framed, ap, append-nil, arith, Bytes, CanTry, CanWork, case_placed, CaseDecl, Contents, count_of_names, file_of, flat_map, framed, header}
+use Rattle.talk_state.proofs.Common.{Held, held_after, held_behind, held_by, Holds, IsReady, IsSound, kind_placed, length, length-append, length-map, List, nothing_held, Ok, oldest, placed_in, Placing, placing_of, Refused, Result}
+use Rattle.talk_state.proofs.{Common.{run_behind, Said, said_called, said_effort, said_worked, Says, SaysBehind, settled, State, subst, sym, take, take-append_seam, true, types_of, unit_read, with_last, with_unit}, Behind.called-behind}
+use Rattle.talk_state.proofs.{Behind.{last-more, length-more, worked-behind}, Lengths.{cases-worked, kinds-worked}}
+use Rattle.std.proofs.{lemmas.Grind.flat_map-append, lemmas.List.Sums.fold-append}
 use Rattle.file_units.specs.declared.held.Said.TheVariants as say
-use Rattle.file_words.specs.Lines.{Bytes}
-use Rattle.script_run.specs.Oldest.{oldest}
 use Rattle.store_disk.proofs.Framing.{framed-more}
-use Rattle.store_disk.specs.Image.{all_framed, framed}
-use Rattle.talk_rules.specs.Units.{header}
-use Rattle.talk_state.proofs.Behind.{called-behind, last-more, length-more, worked-behind}
-use Rattle.talk_state.proofs.Lengths.{cases-worked, kinds-worked}
-use Rattle.talk_state.specs.Held.{Held, held_after, held_behind, held_by, nothing_held, placed_in, placing_of, run_behind, with_unit}
-use Rattle.talk_state.specs.States.{Holds, IsSound, State}
-use Rattle.talk_state.specs.Working.{CanTry, CanWork, case_placed, kind_placed, said_called, said_worked, with_last}
-use Rattle.unit_run.specs.Runs.{Placing, types_of}
 
 -- one state is that behind another and a unit, which was read and says this
 pub record Taken (s t : State) (d : Contents) (said : Said) (unit : Bytes) : Type 0 where

@@ -1,21 +1,7 @@
 -- What is known once a unit was taken and worked.
-use Rattle.std.proofs.Common.{◌≡◌, ℕ, ◌+◌, ◌*◌, ◌≤◌, ◌^◌, Bool, true, false, ◌++◌, length, refl, ap, sym, ◌∙◌, Option}
-use Rattle.std.proofs.lemmas.Bool.{ltb-true}
-use Rattle.std.specs.Prelude.{nat_lt, not}
-use Rattle.file_model.specs.Reading.{file_of}
-use Rattle.file_model.specs.Room.{count_of_names}
-use Rattle.file_model.specs.declared.files.File.{File}
-use Rattle.file_model.specs.declared.states.Contents.{Contents}
-use Rattle.file_units.specs.Taking.{Says, said_effort}
-use Rattle.file_units.specs.Units.{settled, unit_read}
-use Rattle.file_units.specs.declared.held.Said.{Said}
-use Rattle.file_words.specs.Lines.{Bytes}
+use Rattle.talk_state.proofs.Common.{ℕ, ◌*◌, ◌++◌, ◌+◌, ◌^◌, ◌∙◌, ◌≡◌, ◌≤◌, ap, Bool, Bytes, Contents, count_of_names, false, File, file_of, length, ltb-true, nat_lt, not, oldest, Option, Placing, refl, Said, said_called, said_effort}
+use Rattle.talk_state.proofs.{Common.{said_worked, Says, settled, State, sym, true, unit_read}, Taken.Taken}
 use Rattle.line_calls.specs.declared.calls.Cells.{Cells}
-use Rattle.script_run.specs.Oldest.{oldest}
-use Rattle.talk_state.proofs.Taken.{Taken}
-use Rattle.talk_state.specs.States.{State}
-use Rattle.talk_state.specs.Working.{said_called, said_worked}
-use Rattle.unit_run.specs.Runs.{Placing}
 
 pub not_false : (b : Bool) → not b ≡ false → b ≡ true
 not_false true e = refl

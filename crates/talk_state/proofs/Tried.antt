@@ -1,20 +1,9 @@
 -- What is told of a state, where a unit or a move is tried on it, is what its units tell.
-use Rattle.std.proofs.Common.{◌≡◌, ℕ, ◌+◌, ◌≤◌, ◌^◌, OnOk, arith, Bool, true, false, List, [], ◌∷◌, ◌++◌, length, refl, ap, ◌∙◌, Some, None, Result, Ok, Err}
-use Rattle.std.specs.Prelude.{codes, nat_lt}
+use Rattle.talk_state.proofs.Common.{[], ℕ, ◌++◌, ◌+◌, ◌^◌, ◌∙◌, ◌∷◌, ◌≡◌, ◌≤◌, answer_asking, answer_by, answer_moved, answer_read, answer_tried, ap, arith, Bool, Bytes, codes, Contents, Err, false, fits, header, held_by, held_in, Holds}
+use Rattle.talk_state.proofs.{Common.{length, line_answer, List, move_answer, nat_lt, no_line, None, Ok, OnOk, Placing, question_answer, refl, Result, Run, Some, State, true, unit_read, what_if, within}, WhatIf.{answer-same, moved-same}}
 use Rattle.adept_io.specs.Written.{Gives}
-use Rattle.file_model.specs.declared.states.Contents.{Contents}
-use Rattle.file_units.specs.Units.{unit_read}
-use Rattle.file_words.specs.Lines.{Bytes}
-use Rattle.script_run.specs.declared.runs.Run.{Run}
-use Rattle.talk_answers.specs.Lines.{no_line}
 use Rattle.talk_questions.specs.Trials as trials
-use Rattle.talk_rules.specs.Units.{fits, header}
-use Rattle.talk_state.proofs.WhatIf.{answer-same, moved-same}
 use Rattle.talk_state.specs.Answering.{Answering}
-use Rattle.talk_state.specs.Answers.{answer_asking, answer_by, answer_moved, answer_read, answer_tried, line_answer, move_answer, question_answer, what_if, within}
-use Rattle.talk_state.specs.Held.{held_by, held_in}
-use Rattle.talk_state.specs.States.{Holds, State}
-use Rattle.unit_run.specs.Runs.{Placing}
 
 module _ (units : List Bytes) (s : State) (h : Holds units s) where
   run-is : s.placing.run ≡ (held_by units).run

@@ -1,44 +1,20 @@
 -- What is put of a unit that is tried is what it would be answered.
-use Rattle.std.proofs.Common.{◌≡◌, ◌≢◌, ℕ, ◌+◌, ◌*◌, ◌≤◌, Bool, true, false, List, [], ◌∷◌, ◌++◌, length, refl, ap, sym, subst, ◌∙◌, arith, append-nil, append_assoc, if◌then◌else◌, Some, None, Result, Ok, Err}
-use Rattle.std.specs.Prelude.{◌-◌, option_map, slice_get}
-use Rattle.file_model.specs.Reading.{file_of}
-use Rattle.file_model.specs.Room.{count_of_names}
-use Rattle.file_model.specs.Sizes.{line_effort}
-use Rattle.file_model.specs.declared.files.Act.{Act}
+use Rattle.talk_state.proofs.Common.{[], ℕ, ◌*◌, ◌++◌, ◌+◌, ◌∙◌, ◌∷◌, ◌≡◌, ◌≢◌, ◌≤◌, acted, answer_moved, answer_read, ap, append-nil, append_assoc, arith, Bool, Bytes, called_text, CanDefine, CanTry, cells_of, Contents, count_of_names}
+use Rattle.talk_state.proofs.Common.{defined, entries, entries_of, entries_read, Err, false, File, file_of, Held, held_behind, held_in, if_there, if◌then◌else◌, IsReady, kind_before, kind_entry, kind_installed, kind_placed, last_of, length}
+use Rattle.talk_state.proofs.Common.{Line, List, moved_text, None, Ok, ok_line, oldest, option_map, placed_in, Placing, placing_of, put_back_kind, refl, Refused, Refuses, Result, Run, Said, said_called, said_effort, said_line, said_worked}
+use Rattle.talk_state.proofs.{Common.{Says, SaysBehind, settled, slice_get, Some, subst, sym, true, TypeDecl, types_of, unit_read, was_installed, with_last, worked}, Behind.{at-end, called-behind, worked-behind}, Lengths.cases-worked}
+use Rattle.talk_state.proofs.{Lengths.kinds-worked, Taken.{can-say, can-try}}
+use Rattle.std.specs.Prelude.{◌-◌}
+use Rattle.file_model.specs.{Sizes.line_effort, declared.files.Act.Act}
 use Rattle.file_model.specs.declared.files.Act.TheVariants as act
-use Rattle.file_model.specs.declared.files.File.{File}
-use Rattle.file_model.specs.declared.files.Line.{Line}
-use Rattle.file_model.specs.declared.files.TypeDecl.{TypeDecl}
-use Rattle.file_model.specs.declared.refusals.Refused.{Refused}
-use Rattle.file_model.specs.declared.states.Contents.{Contents}
-use Rattle.file_units.specs.Facts.{IsReady}
-use Rattle.file_units.specs.Taking.{Refuses, Says, SaysBehind, said_effort}
-use Rattle.file_units.specs.Units.{said_line, settled, unit_read}
-use Rattle.file_units.specs.declared.held.Said.{Said}
 use Rattle.file_units.specs.declared.held.Said.TheVariants as say
 use Rattle.file_units.specs.declared.held.UnitRefusal.{UnitRefusal}
 use Rattle.file_units.specs.declared.held.UnitRefusal.TheVariants as refusal
-use Rattle.file_words.specs.Lines.{Bytes}
-use Rattle.line_calls.specs.Calls.{cells_of}
 use Rattle.line_calls.specs.declared.calls.Cells.TheVariants as cells
-use Rattle.script_run.specs.Calls.{acted, worked}
-use Rattle.script_run.specs.Oldest.{oldest}
-use Rattle.script_run.specs.Serial.{defined}
 use Rattle.script_run.specs.declared.runs.ClosedKind.{ClosedKind}
-use Rattle.script_run.specs.declared.runs.Run.{Run}
-use Rattle.talk_answers.specs.Entries.{entries, if_there, kind_entry}
-use Rattle.talk_answers.specs.Lines.{ok_line}
-use Rattle.talk_state.proofs.Behind.{at-end, called-behind, worked-behind}
-use Rattle.talk_state.proofs.Lengths.{cases-worked, kinds-worked}
-use Rattle.talk_state.proofs.Taken.{can-say, can-try}
-use Rattle.talk_state.specs.Answers.{answer_moved, answer_read, called_text, entries_of, entries_read, kind_installed, moved_text}
-use Rattle.talk_state.specs.Held.{Held, held_behind, held_in, placed_in, placing_of}
 use Rattle.talk_state.specs.Trying.{CanInstall, CanMove, behind_text, line_behind, made_text, moved_said, refusal_text, said_text}
-use Rattle.talk_state.specs.Working.{CanDefine, CanTry, kind_placed, last_of, said_called, said_worked, with_last}
 use Rattle.type_core.specs.declared.events.KindEvent.TheVariants as kind_event
 use Rattle.unit_run.proofs.PutBack.{kind-back}
-use Rattle.unit_run.specs.Runs.{Placing, types_of}
-use Rattle.unit_run.specs.Tries.{kind_before, put_back_kind, was_installed}
 
 -- ---- refusals
 pub refused-told : (fit : Bool) (n : ℕ) (h : Held) (read : Result Contents Refused) (r : UnitRefusal) → Refuses fit read r → r ≢ refusal.NoMemory → refusal_text r ≡ answer_read fit n h read

@@ -1,32 +1,19 @@
 -- What is answered to units and to questions.
-use Rattle.std.specs.Prelude.{ℕ, ◌+◌, ◌-◌, Bool, true, false, nat_le, List, [], ◌∷◌, ◌++◌, length, flat_map, slice_get, Option, Some, None, option_map, Result, Ok, Err, if◌then◌else◌, codes}
-use Rattle.std.specs.Result.{is_ok}
+use Rattle.std.specs.{Prelude.{ℕ, ◌+◌, ◌-◌, Bool, true, false, nat_le, List, [], ◌∷◌, ◌++◌, length, flat_map, slice_get, Option, Some, None, option_map, Result, Ok, Err, if◌then◌else◌, codes}, Result.is_ok}
 use Rattle.file_words.specs.Lines.{Bytes}
 use Rattle.file_names.specs.Names.{place_of}
-use Rattle.file_model.specs.Reading.{file_of}
-use Rattle.file_model.specs.Scripting.{actor_in}
-use Rattle.file_model.specs.declared.files.File.{File}
-use Rattle.file_model.specs.declared.files.Line.{Line}
-use Rattle.file_model.specs.declared.refusals.Refused.{Refused}
-use Rattle.file_model.specs.declared.states.Contents.{Contents}
-use Rattle.file_units.specs.Taking.{Refuses}
-use Rattle.file_units.specs.Units.{said_line, unit_read}
-use Rattle.file_units.specs.declared.held.UnitRefusal.{UnitRefusal}
-use Rattle.line_calls.specs.Calls.{cells_of}
-use Rattle.line_calls.specs.declared.calls.Cells.{Cells}
+use Rattle.file_model.specs.{Reading.file_of, Scripting.actor_in, declared.files.File.File, declared.files.Line.Line, declared.refusals.Refused.Refused, declared.states.Contents.Contents}
+use Rattle.file_units.specs.{Taking.Refuses, Units.{said_line, unit_read}, declared.held.UnitRefusal.UnitRefusal}
+use Rattle.line_calls.specs.{Calls.cells_of, declared.calls.Cells.Cells}
 use Rattle.line_calls.specs.declared.calls.Cells.TheVariants as cells
 use Rattle.report_text.specs.Report.{case_text, kind_text, text}
 use Rattle.script_run.specs.declared.runs.Run.{Run}
-use Rattle.talk_answers.specs.Entries.{entries, if_both, if_there}
-use Rattle.talk_answers.specs.Lines.{no_line, ok_line, quoted}
-use Rattle.talk_answers.specs.Standings.{actors_text, all_standings, items, standings_of, types_text}
+use Rattle.talk_answers.specs.{Entries.{entries, if_both, if_there}, Lines.{no_line, ok_line, quoted}, Standings.{actors_text, all_standings, items, standings_of, types_text}}
 use Rattle.talk_questions.specs.Questions as asked
 use Rattle.talk_questions.specs.Trials as trials
 use Rattle.talk_rules.specs.Units.{UnitRules, fits, header}
-use Rattle.talk_state.specs.Held.{Held, held_behind, held_by, placing_of}
-use Rattle.talk_state.specs.declared.limits.TheConstants.{MAX_ANSWER}
-use Rattle.unit_run.specs.Runs.{Placing}
-use Rattle.unit_run.specs.Tries.{was_installed}
+use Rattle.talk_state.specs.{Held.{Held, held_behind, held_by, placing_of}, declared.limits.TheConstants.MAX_ANSWER}
+use Rattle.unit_run.specs.{Runs.Placing, Tries.was_installed}
 
 -- ---- units
 

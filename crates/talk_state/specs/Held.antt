@@ -1,17 +1,11 @@
 -- What is held behind units: what was read of them, the run of their lines, and whom the last of them has called.
 use Rattle.std.specs.Prelude.{List, length, drop, fold, nat_lt, Option, Some, None, Result, Ok, Err, if◌then◌else◌}
 use Rattle.file_words.specs.Lines.{Bytes}
-use Rattle.file_model.specs.Reading.{file_of}
-use Rattle.file_model.specs.declared.files.File.{File}
-use Rattle.file_model.specs.declared.files.Line.{Line}
-use Rattle.file_model.specs.declared.refusals.Refused.{Refused}
-use Rattle.file_model.specs.declared.states.Contents.{Contents}
+use Rattle.file_model.specs.{Reading.file_of, declared.files.File.File, declared.files.Line.Line, declared.refusals.Refused.Refused, declared.states.Contents.Contents}
 use Rattle.file_units.specs.Units.{no_units, said_line, settled, unit_read}
-use Rattle.line_calls.specs.Calls.{cells_of}
-use Rattle.line_calls.specs.declared.calls.Cells.{Cells}
+use Rattle.line_calls.specs.{Calls.cells_of, declared.calls.Cells.Cells}
 use Rattle.line_calls.specs.declared.calls.Cells.TheVariants as cells
-use Rattle.script_run.specs.Calls.{worked}
-use Rattle.script_run.specs.declared.runs.Run.{Run}
+use Rattle.script_run.specs.{Calls.worked, declared.runs.Run.Run}
 use Rattle.unit_run.specs.Runs.{Placing, no_run, types_of, with_case, with_kind}
 
 pub record Held : Type 0 where

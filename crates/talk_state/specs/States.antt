@@ -1,8 +1,7 @@
 -- The state of a talk, and of which units it is.
 use Rattle.std.specs.Prelude.{◌≡◌, ℕ, ◌-◌, ◌*◌, ◌≤◌, ◌<◌, ◌^◌, Bool, true, List, ◌∷◌, length, take, flat_map, Option}
 use Rattle.file_words.specs.Lines.{Bytes}
-use Rattle.file_model.specs.Room.{count_of_names}
-use Rattle.file_model.specs.declared.states.Contents.{Contents}
+use Rattle.file_model.specs.{Room.count_of_names, declared.states.Contents.Contents}
 use Rattle.line_calls.specs.declared.calls.Cells.{Cells}
 use Rattle.script_run.specs.Oldest.{oldest}
 use Rattle.store_disk.specs.Image.{all_framed}

@@ -2,16 +2,11 @@
 use Rattle.std.specs.Prelude.{[], ◌++◌, drop, Option, Some, None, option_map}
 use Rattle.file_words.specs.Lines.{Bytes}
 use Rattle.file_names.specs.Names.{place_of}
-use Rattle.file_model.specs.Reading.{file_of}
-use Rattle.file_model.specs.Scripting.{actor_in}
-use Rattle.file_model.specs.declared.states.Contents.{Contents}
+use Rattle.file_model.specs.{Reading.file_of, Scripting.actor_in, declared.states.Contents.Contents}
 use Rattle.report_text.specs.Report.{text}
-use Rattle.talk_answers.specs.Lines.{quoted}
-use Rattle.talk_answers.specs.Standings.{actors_text, all_standings, items, standings_of, types_text}
+use Rattle.talk_answers.specs.{Lines.quoted, Standings.{actors_text, all_standings, items, standings_of, types_text}}
 use Rattle.talk_questions.specs.Questions as question
-use Rattle.talk_state.specs.Answers.{case_part, entries_of, type_part}
-use Rattle.talk_state.specs.States.{State}
-use Rattle.talk_state.specs.declared.questions.Asked.{Asked}
+use Rattle.talk_state.specs.{Answers.{case_part, entries_of, type_part}, States.State, declared.questions.Asked.Asked}
 use Rattle.talk_state.specs.declared.questions.Asked.TheVariants as ask
 
 -- what is asked for, where the names are known

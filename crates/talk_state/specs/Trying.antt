@@ -1,27 +1,16 @@
 -- What is put of a unit that is tried.
 use Rattle.std.specs.Prelude.{◌≡◌, ℕ, ◌+◌, ◌*◌, ◌≤◌, ◌++◌, [], length, codes, if◌then◌else◌}
-use Rattle.file_model.specs.Reading.{file_of}
-use Rattle.file_model.specs.Room.{HasRoom}
-use Rattle.file_model.specs.Sizes.{line_effort}
-use Rattle.file_model.specs.declared.files.Line.{Line}
-use Rattle.file_model.specs.declared.states.Contents.{Contents}
-use Rattle.file_units.specs.Units.{unit_read}
-use Rattle.file_units.specs.declared.held.Said.{Said}
+use Rattle.file_model.specs.{Reading.file_of, Room.HasRoom, Sizes.line_effort, declared.files.Line.Line, declared.states.Contents.Contents}
+use Rattle.file_units.specs.{Units.unit_read, declared.held.Said.Said, declared.held.UnitRefusal.UnitRefusal}
 use Rattle.file_units.specs.declared.held.Said.TheVariants as say
-use Rattle.file_units.specs.declared.held.UnitRefusal.{UnitRefusal}
 use Rattle.file_units.specs.declared.held.UnitRefusal.TheVariants as refusal
 use Rattle.file_words.specs.Lines.{Bytes}
 use Rattle.line_calls.specs.Calls.{cells_of}
 use Rattle.line_calls.specs.declared.calls.Cells.TheVariants as cells
-use Rattle.script_run.specs.Calls.{worked}
-use Rattle.script_run.specs.Oldest.{oldest}
-use Rattle.talk_answers.specs.Entries.{entries}
-use Rattle.talk_answers.specs.Lines.{no_line}
-use Rattle.talk_state.specs.Answers.{entries_of, entries_read, kind_installed}
-use Rattle.talk_state.specs.Held.{held_in, placed_in}
-use Rattle.talk_state.specs.Working.{CanCall, CanWork, said_called, said_worked}
-use Rattle.unit_run.specs.Runs.{Placing}
-use Rattle.unit_run.specs.Tries.{was_installed}
+use Rattle.script_run.specs.{Calls.worked, Oldest.oldest}
+use Rattle.talk_answers.specs.{Entries.entries, Lines.no_line}
+use Rattle.talk_state.specs.{Answers.{entries_of, entries_read, kind_installed}, Held.{held_in, placed_in}, Working.{CanCall, CanWork, said_called, said_worked}}
+use Rattle.unit_run.specs.{Runs.Placing, Tries.was_installed}
 
 -- why a unit is not taken; of want of memory nothing is said
 abbrev pub refusal_text : UnitRefusal → Bytes

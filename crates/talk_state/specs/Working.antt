@@ -1,20 +1,11 @@
 -- What a unit says, worked.
 use Rattle.std.specs.Prelude.{◌≡◌, ℕ, ◌+◌, ◌-◌, ◌*◌, ◌<◌, ◌≤◌, ◌^◌, List, [], ◌∷◌, ◌++◌, length, slice_get, Option, Some, None, option_map}
-use Rattle.file_model.specs.Room.{HasRoom}
-use Rattle.file_model.specs.Sizes.{line_effort}
-use Rattle.file_model.specs.declared.files.CaseDecl.{CaseDecl}
-use Rattle.file_model.specs.declared.files.File.{File}
-use Rattle.file_model.specs.declared.files.Line.{Line}
-use Rattle.file_model.specs.declared.files.TypeDecl.{TypeDecl}
-use Rattle.file_model.specs.declared.states.Contents.{Contents}
-use Rattle.file_units.specs.Facts.{IsSmall}
-use Rattle.file_units.specs.declared.held.Said.{Said}
+use Rattle.file_model.specs.{Room.HasRoom, Sizes.line_effort, declared.files.CaseDecl.CaseDecl, declared.files.File.File, declared.files.Line.Line, declared.files.TypeDecl.TypeDecl, declared.states.Contents.Contents}
+use Rattle.file_units.specs.{Facts.IsSmall, declared.held.Said.Said}
 use Rattle.file_units.specs.declared.held.Said.TheVariants as say
-use Rattle.line_calls.specs.Calls.{cells_of}
-use Rattle.line_calls.specs.declared.calls.Cells.{Cells}
+use Rattle.line_calls.specs.{Calls.cells_of, declared.calls.Cells.Cells}
 use Rattle.line_calls.specs.declared.calls.Cells.TheVariants as cells
-use Rattle.script_run.specs.Calls.{worked}
-use Rattle.script_run.specs.Oldest.{oldest}
+use Rattle.script_run.specs.{Calls.worked, Oldest.oldest}
 use Rattle.talk_state.specs.Held.{placed_in}
 use Rattle.unit_run.specs.Runs.{IsOf, Placing, with_case, with_kind}
 

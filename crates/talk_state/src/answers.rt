@@ -1,7 +1,6 @@
 // The answer to a question while it is written.
 ghost use Rattle.std.specs.Prelude.{◌≡◌, ◌++◌, [], true, map, option_map, OnOk};
-ghost use Rattle.talk_state.specs.Answering.{if_fits};
-ghost use Rattle.talk_state.specs.Answers.{within};
+ghost use Rattle.talk_state.specs.{Answering.if_fits, Answers.within};
 
 use crate::limits::MAX_ANSWER;
 use crate::telling::tell_refused;

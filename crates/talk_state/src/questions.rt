@@ -4,9 +4,7 @@ ghost use Rattle.adept_io.specs.Written.{Gives};
 ghost use Rattle.file_model.specs.Reading.{file_of};
 ghost use Rattle.talk_answers.specs.Lines.{ok_line};
 ghost use Rattle.talk_questions.specs.Shown.{shown_question};
-ghost use Rattle.talk_state.specs.Answers.{case_part, entries_of, line_answer, question_answer, type_part, within};
-ghost use Rattle.talk_state.specs.States.{Holds};
-ghost use Rattle.talk_state.specs.Telling.{known_in, told};
+ghost use Rattle.talk_state.specs.{Answers.{case_part, entries_of, line_answer, question_answer, type_part, within}, States.Holds, Telling.{known_in, told}};
 
 use crate::answers::{Answer, add_answer};
 use crate::states::TalkState;

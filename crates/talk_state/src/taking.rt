@@ -1,8 +1,7 @@
 // A unit, behind those that are held.
 ghost use Rattle.std.specs.Prelude.{◌≡◌, ◌≢◌, ◌≤◌, ◌<◌, ◌+◌, ◌^◌, ◌++◌, ◌∷◌, [], List, ℕ, OnOk, IfErr, true, nat_lt, length};
 ghost use Rattle.talk_rules.specs.Units.{takes};
-ghost use Rattle.talk_state.specs.Answers.{RefusesUnit, held_rules};
-ghost use Rattle.talk_state.specs.States.{Holds};
+ghost use Rattle.talk_state.specs.{Answers.{RefusesUnit, held_rules}, States.Holds};
 
 use crate::states::{FRAME, TalkState};
 use crate::working::work;

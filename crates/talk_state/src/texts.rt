@@ -1,7 +1,5 @@
 // A text, as a sink.
-ghost use Rattle.std.specs.Prelude.{◌≡◌, ◌≤◌, length, OnErr, IfOk, Some};
-ghost use Rattle.std.specs.Io.{WritesAtMost};
-ghost use Rattle.std.specs.Io.KnownBytes.{WriteAppends};
+ghost use Rattle.std.specs.{Prelude.{◌≡◌, ◌≤◌, length, OnErr, IfOk, Some}, Io.WritesAtMost, Io.KnownBytes.WriteAppends};
 ghost use Rattle.adept_io.specs.Counts.{Rose};
 ghost use Rattle.text_follower.specs.Grown.{Grown};
 

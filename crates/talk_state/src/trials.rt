@@ -1,9 +1,7 @@
 // What a question tries: what is held is as before.
 ghost use Rattle.std.specs.Prelude.{◌≡◌, ◌+◌, ◌≤◌, ◌^◌, ◌++◌, List, ℕ, length, OnOk};
-ghost use Rattle.talk_questions.specs.Shown.{shown_trial};
-ghost use Rattle.talk_questions.specs.Trials.{IsShort, install_unit, migrate_unit};
-ghost use Rattle.talk_state.specs.Answers.{answer_tried, move_answer, what_if};
-ghost use Rattle.talk_state.specs.States.{Holds};
+ghost use Rattle.talk_questions.specs.{Shown.shown_trial, Trials.{IsShort, install_unit, migrate_unit}};
+ghost use Rattle.talk_state.specs.{Answers.{answer_tried, move_answer, what_if}, States.Holds};
 
 use crate::answers::{Answer, add_answer};
 use crate::states::TalkState;

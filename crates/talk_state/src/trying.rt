@@ -3,10 +3,7 @@ ghost use Rattle.std.specs.Prelude.{◌≡◌, ◌≢◌, ◌+◌, length, true,
 ghost use Rattle.adept_io.specs.Written.{Gives};
 ghost use Rattle.file_units.specs.Units.{unit_read};
 ghost use Rattle.line_calls.specs.Calls.{cells_of};
-ghost use Rattle.talk_state.specs.Answers.{answer_moved, answer_read, entries_of, entries_read};
-ghost use Rattle.talk_state.specs.Held.{held_in};
-ghost use Rattle.talk_state.specs.Trying.{CanInstall, CanMove, made_text, moved_said, refusal_text};
-ghost use Rattle.talk_state.specs.Working.{CanTry, CanWork, said_called, said_worked};
+ghost use Rattle.talk_state.specs.{Answers.{answer_moved, answer_read, entries_of, entries_read}, Held.held_in, Trying.{CanInstall, CanMove, made_text, moved_said, refusal_text}, Working.{CanTry, CanWork, said_called, said_worked}};
 
 use adept_io::{NoMemory, Sink, put};
 use file_model::{File, Line};

@@ -1,7 +1,6 @@
 // What a unit says, worked.
 ghost use Rattle.std.specs.Prelude.{◌≡◌, ◌<◌, ◌≤◌, ◌+◌, ◌-◌, ◌^◌, length, IfOk, OnOk, Some};
-ghost use Rattle.file_units.specs.Facts.{IsSmall};
-ghost use Rattle.file_units.specs.Taking.{said_effort};
+ghost use Rattle.file_units.specs.{Facts.IsSmall, Taking.said_effort};
 ghost use Rattle.script_run.specs.Oldest.{oldest};
 ghost use Rattle.talk_state.specs.Working.{CanWork, kind_placed, said_called, said_worked};
 

@@ -1,19 +1,7 @@
 -- What the journals have more where a type or a case was declared.
-use Rattle.std.proofs.Common.{◌≡◌, ℕ, ◌+◌, List, [], ◌∷◌, ◌++◌, length, refl, ap, sym, ◌∙◌, arith, append-nil}
-use Rattle.file_model.specs.declared.files.CaseDecl.{CaseDecl}
-use Rattle.file_model.specs.declared.files.File.{File}
-use Rattle.file_model.specs.declared.files.TypeDecl.{TypeDecl}
-use Rattle.script_run.specs.Serial.{defined, program, uncalled}
-use Rattle.script_run.specs.declared.runs.ClosedCase.{ClosedCase}
-use Rattle.script_run.specs.declared.runs.ClosedKind.{ClosedKind}
-use Rattle.script_run.specs.declared.runs.Run.{Run}
-use Rattle.talk_answers.specs.Entries.{kind_entry}
-use Rattle.talk_told.specs.Told.{cases_more, kinds_more, run_more}
-use Rattle.talk_told.proofs.Changed.{cases-left, kinds-left}
-use Rattle.talk_told.proofs.Entries.{case-left, kind-called, kind-left}
-use Rattle.type_core.specs.KindModel.{not_defined}
+use Rattle.talk_told.proofs.Common.{[], ℕ, ◌++◌, ◌+◌, ◌∙◌, ◌∷◌, ◌≡◌, ap, append-nil, arith, CaseDecl, cases_more, ClosedCase, ClosedKind, defined, File, kind_entry, kinds_more, length, List, not_defined, program, refl, Run, run_more, sym}
+use Rattle.talk_told.proofs.{Common.{TypeDecl, uncalled, with_case, with_kind}, Changed.{cases-left, kinds-left}, Entries.{case-left, kind-called, kind-left}}
 use Rattle.type_core.specs.declared.events.KindEvent.TheVariants as kind_event
-use Rattle.unit_run.specs.Runs.{with_case, with_kind}
 
 -- a type that is defined behind others
 kinds-added : (f : File) (t n : ℕ) (d : TypeDecl) (ks : List ClosedKind) → kinds_more f t ks (ks ++ defined n d ∷ []) ≡ kind_entry f (t + length ks) (defined n d)

@@ -1,24 +1,9 @@
 -- What journals have more where one machine was called, or each of the first so many of a type.
-use Rattle.std.proofs.Common.{◌≡◌, ◌≤◌, ◌<◌, ℕ, zero, suc, ◌+◌, ◌-◌, ◌==◌, Bool, true, false, List, [], ◌∷◌, ◌++◌, length, take, refl, ap, sym, subst, ◌∙◌, arith, append_assoc, append-nil, if◌then◌else◌, Option, Some, None}
-use Rattle.std.proofs.lemmas.Bool.{eqb-true, ltb-true, ltb-false}
-use Rattle.std.proofs.lemmas.List.{length-append}
-use Rattle.std.specs.Prelude.{◌&&◌, cond, flat_map, nat_lt, slice_get}
-use Rattle.case_core.specs.declared.events.Event.{Event}
-use Rattle.case_places.specs.Places.{places_from, places_of}
-use Rattle.file_facts.specs.Facts.{ArePlaced}
-use Rattle.file_model.specs.declared.files.CaseDecl.{CaseDecl}
-use Rattle.file_model.specs.declared.files.File.{File}
-use Rattle.file_words.specs.Lines.{Bytes}
-use Rattle.script_run.specs.Calls.{call_case, call_kind, changed_at, each_of}
-use Rattle.script_run.specs.declared.runs.ClosedCase.{ClosedCase}
-use Rattle.script_run.specs.declared.runs.ClosedKind.{ClosedKind}
-use Rattle.talk_answers.specs.Entries.{case_entry, if_both, if_there, kind_entry}
-use Rattle.talk_told.specs.Told.{case_more, cases_more, kind_more, kinds_more}
+use Rattle.talk_told.proofs.Common.{[], ℕ, ◌++◌, ◌+◌, ◌-◌, ◌<◌, ◌==◌, ◌∙◌, ◌∷◌, ◌≡◌, ◌≤◌, ap, append-nil, append_assoc, ArePlaced, arith, Bool, Bytes, call_case, call_kind, case_entry, case_more, CaseDecl, cases_more, changed_at}
+use Rattle.talk_told.proofs.Common.{changed_at-none, changed_at-suc, ClosedCase, ClosedKind, cond, each_of, eqb-true, Event, false, File, got-none, if_both, if_there, if◌then◌else◌, kind_entry, kind_more, KindEvent, kinds_more, length}
+use Rattle.talk_told.proofs.Common.{length-append, List, ltb-false, ltb-true, nat_lt, None, Option, placed-from, PlacedFrom, places_from, places_of, refl, slice_get, Some, subst, suc, sym, take, true, types_of, with_one, zero}
+use Rattle.std.specs.Prelude.{◌&&◌, flat_map}
 use Rattle.talk_told.proofs.Entries.{case-called, case-left, kind-called, kind-left}
-use Rattle.type_core.specs.declared.events.KindEvent.{KindEvent}
-use Rattle.unit_run.proofs.Placed.{PlacedFrom, placed-from, with_one}
-use Rattle.unit_run.proofs.PutBack.{changed_at-none, changed_at-suc, got-none}
-use Rattle.unit_run.specs.Runs.{types_of}
 
 -- ---- lists
 none-there : {X : Type 0} (text : X → Bytes) (o : Option X) → o ≡ None → if_there text o ≡ []

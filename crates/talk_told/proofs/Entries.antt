@@ -1,23 +1,11 @@
 -- One entry more of a journal is its last one.
-use Rattle.std.proofs.Common.{◌≡◌, ℕ, ◌+◌, List, [], ◌∷◌, ◌++◌, length, ap, sym, ◌∙◌, append_assoc, append-nil}
-use Rattle.std.proofs.Math.Seq.{drop-append_seam, drop-length}
-use Rattle.std.specs.Prelude.{codes}
+use Rattle.talk_told.proofs.Common.{[], ℕ, ◌++◌, ◌+◌, ◌∙◌, ◌∷◌, ◌≡◌, ap, append-nil, append_assoc, Bytes, call_case, call_kind, case_entry, case_more, case_name, case_numbered, CaseDecl, ClosedCase, ClosedKind, codes, drop-append_seam}
+use Rattle.talk_told.proofs.Common.{drop-length, entries_more, Event, File, kind_entry, kind_more, kind_name, kind_numbered, KindEvent, length, List, next_kind, sym}
 use Rattle.case_core.specs.Machine.{next_case}
-use Rattle.case_core.specs.declared.events.Event.{Event}
-use Rattle.file_words.specs.Lines.{Bytes}
-use Rattle.file_model.specs.declared.files.CaseDecl.{CaseDecl}
-use Rattle.file_model.specs.declared.files.File.{File}
 use Rattle.report_text.specs.Journals.{case_line, kind_line, numbered}
 use Rattle.report_words.specs.Words.{type_text}
-use Rattle.script_run.specs.Calls.{call_case, call_kind}
 use Rattle.script_run.specs.Entries.{CaseEntry, KindEntry}
-use Rattle.script_run.specs.declared.runs.ClosedCase.{ClosedCase}
-use Rattle.script_run.specs.declared.runs.ClosedKind.{ClosedKind}
 use Rattle.talk_answers.proofs.Last.{last-of}
-use Rattle.talk_answers.specs.Entries.{case_entry, case_numbered, kind_entry, kind_numbered}
-use Rattle.talk_told.specs.Told.{case_more, case_name, entries_more, kind_more, kind_name}
-use Rattle.type_core.specs.Machine.{next_kind}
-use Rattle.type_core.specs.declared.events.KindEvent.{KindEvent}
 
 pub one-more : {X : Type 0} (name : Bytes) (line : ℕ → X → Bytes) (journal : List X) (e : X) → entries_more name line journal (journal ++ e ∷ []) ≡ name ++ line (length journal + 1) e
 one-more name line journal e =

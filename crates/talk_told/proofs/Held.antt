@@ -1,34 +1,11 @@
 -- The answer to a unit that is accepted tells what the run of the longer file has more than that of the shorter.
-use Rattle.std.proofs.Common.{◌≡◌, ◌<◌, Bool, List, [], ◌∷◌, ◌++◌, length, drop, refl, ap, sym, subst, ◌∙◌, arith, if◌then◌else◌, Option, Some, None}
-use Rattle.std.proofs.Math.Seq.{drop-append_seam, drop-length}
-use Rattle.std.proofs.lemmas.Bool.{le-ltb, lt-ltb}
-use Rattle.std.proofs.lemmas.List.{length-append}
-use Rattle.std.specs.Prelude.{fold, slice_get}
-use Rattle.file_facts.specs.Facts.{ArePlaced, HasType}
-use Rattle.file_model.specs.Reading.{file_of}
-use Rattle.file_model.specs.declared.files.CaseDecl.{CaseDecl}
-use Rattle.file_model.specs.declared.files.Line.{Line}
-use Rattle.file_model.specs.declared.files.TypeDecl.{TypeDecl}
-use Rattle.file_model.specs.declared.states.Contents.{Contents}
-use Rattle.file_units.specs.Taking.{SaysBehind, SaysCase, SaysLine, SaysType}
-use Rattle.file_units.specs.Units.{said_line, settled}
-use Rattle.file_units.specs.declared.held.Said.{Said}
+use Rattle.talk_told.proofs.Common.{[], ◌++◌, ◌<◌, ◌∙◌, ◌∷◌, ◌≡◌, AllRows, ap, ArePlaced, arith, Bool, Bytes, called_by, called_text, CaseDecl, cells_of, Contents, declared_behind, defined, drop, drop-append_seam, drop-length, entries_of}
+use Rattle.talk_told.proofs.Common.{file_of, fold, HasType, HasVersion, Held, held_behind, if_there, if◌then◌else◌, IsAtWork, kind_entry, le-ltb, length, length-append, Line, line_worked, List, lt-ltb, None, Option, placed_in, refl, Run}
+use Rattle.talk_told.proofs.{Common.{run_behind, run_more, Said, said_line, SaysBehind, SaysCase, SaysLine, SaysType, settled, slice_get, Some, subst, sym, TypeDecl, with_case, with_kind, worked}, Added.{case-told, type-told}}
+use Rattle.talk_told.proofs.Worked.{nothing-told, worked-told}
 use Rattle.file_units.specs.declared.held.Said.TheVariants as say
-use Rattle.file_words.specs.Lines.{Bytes}
-use Rattle.line_calls.specs.Calls.{cells_of}
 use Rattle.line_calls.specs.declared.calls.Cells.{Cells}
 use Rattle.line_calls.specs.declared.calls.Cells.TheVariants as cells
-use Rattle.script_run.specs.Calls.{worked}
-use Rattle.script_run.specs.Serial.{defined}
-use Rattle.script_run.specs.declared.runs.Run.{Run}
-use Rattle.talk_answers.specs.Entries.{if_there, kind_entry}
-use Rattle.talk_state.specs.Answers.{called_text, entries_of}
-use Rattle.talk_state.specs.Held.{Held, called_by, declared_behind, held_behind, line_worked, placed_in, run_behind}
-use Rattle.talk_told.specs.Told.{HasVersion, IsAtWork, run_more}
-use Rattle.talk_told.proofs.Added.{case-told, type-told}
-use Rattle.talk_told.proofs.Worked.{nothing-told, worked-told}
-use Rattle.unit_run.specs.Runs.{with_case, with_kind}
-use Rattle.wsm_lists.specs.Rows.{AllRows}
 
 -- the run is one of what was declared, whose types are all defined
 pub record IsRunOf (c : Contents) (r : Run) : Type 0 where

@@ -1,38 +1,12 @@
 -- Behind a unit the run is one of what is declared then, and all its types are defined.
-use Rattle.std.proofs.Common.{◌≡◌, ℕ, zero, suc, List, [], ◌∷◌, ◌++◌, length, ap, sym, subst, ◌∙◌, arith, Option, Some, None}
-use Rattle.std.proofs.lemmas.List.{length-append}
-use Rattle.file_facts.specs.Facts.{IsSound}
-use Rattle.file_model.specs.Reading.{file_of}
-use Rattle.file_model.specs.declared.files.Act.{Act}
+use Rattle.talk_told.proofs.Common.{[], ℕ, ◌++◌, ◌∙◌, ◌∷◌, ◌≡◌, Act, acted, AllRows, ap, arith, by-event, call_kind, CaseId, changed_at, changed_at-none, changed_at-suc, ClosedKind, Contents, created, defined, File, file_of, HasVersion}
+use Rattle.talk_told.proofs.Common.{IsReady, IsSound, KindEvent, KindModel, length, length-append, Line, line_worked, List, migrated, newest, newest_of, None, on_kind, Option, Run, run_behind, Said, SaysBehind, SaysCase, SaysLine, SaysType}
+use Rattle.talk_told.proofs.{Common.{settled, Some, sound-defined, subst, suc, sym, TypeDecl, uncalled, VersionModel, with_case, with_kind, zero}, Held.{IsRunOf, run-case, run-line, run-type}}
 use Rattle.file_model.specs.declared.files.Act.TheVariants as act
-use Rattle.file_model.specs.declared.files.File.{File}
-use Rattle.file_model.specs.declared.files.Line.{Line}
-use Rattle.file_model.specs.declared.files.TypeDecl.{TypeDecl}
-use Rattle.file_model.specs.declared.states.Contents.{Contents}
-use Rattle.file_units.specs.Facts.{IsReady}
-use Rattle.file_units.specs.Taking.{SaysBehind, SaysCase, SaysLine, SaysType}
-use Rattle.file_units.specs.Units.{settled}
-use Rattle.file_units.specs.declared.held.Said.{Said}
 use Rattle.file_units.specs.declared.held.Said.TheVariants as say
-use Rattle.script_run.specs.Calls.{acted, call_kind, changed_at, created, migrated, newest, on_kind}
-use Rattle.script_run.specs.Serial.{defined, uncalled}
-use Rattle.script_run.specs.declared.runs.ClosedKind.{ClosedKind}
-use Rattle.script_run.specs.declared.runs.Run.{Run}
 use Rattle.talk_state.proofs.Lengths.{cases-worked, kinds-worked}
-use Rattle.talk_state.specs.Held.{line_worked, run_behind}
-use Rattle.talk_told.specs.Told.{HasVersion}
-use Rattle.unit_run.proofs.PutBack.{changed_at-none, changed_at-suc}
-use Rattle.talk_told.proofs.Held.{IsRunOf, run-case, run-line, run-type}
-use Rattle.type_core.proofs.Versions.{by-event, sound-defined}
-use Rattle.type_core.specs.KindModel.{KindModel}
-use Rattle.type_core.specs.Machine.{newest_of}
-use Rattle.type_core.specs.declared.events.KindEvent.{KindEvent}
 use Rattle.type_core.specs.declared.events.KindEvent.TheVariants as kind_event
 use Rattle.type_core.specs.declared.replies.KindReply.{KindReply}
-use Rattle.unit_run.specs.Runs.{with_case, with_kind}
-use Rattle.wsm_lists.specs.Rows.{AllRows}
-use Rattle.wsm_sound.specs.VersionModel.{VersionModel}
-use Rattle.wsm_sound.specs.declared.versions.CaseId.{CaseId}
 
 -- ---- lists
 all-changed : {X : Type 0} (P : X → Type 0) (g : X → X) → ((x : X) → P x → P (g x)) → (i : ℕ) (xs : List X) → AllRows P xs → AllRows P (changed_at g i xs)

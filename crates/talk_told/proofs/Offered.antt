@@ -1,14 +1,8 @@
 -- What an actor is told of the items of a case.
-use Rattle.std.proofs.Common.{◌≡◌, ℕ, ◌==◌, ◌&&◌, ◌||◌, Bool, true, false, if◌then◌else◌, List, [], ◌∷◌, ◌++◌, Some, None, refl, sym, ap, ◌∙◌, filter, flat_map}
-use Rattle.std.specs.List.{list_any}
-use Rattle.std.specs.Prelude.{Option}
-use Rattle.case_core.specs.CaseModel.{CaseModel, LiveModel}
-use Rattle.case_core.specs.Kept.{KeptIn}
-use Rattle.case_core.specs.Shown.{items_of}
-use Rattle.file_model.specs.declared.files.CaseDecl.{CaseDecl}
-use Rattle.file_model.specs.declared.files.File.{File}
-use Rattle.talk_answers.specs.Offers.{holds, items_shown, offers}
-use Rattle.talk_answers.specs.Standings.{concerns, item_line, item_lines, line_if_concerned}
+use Rattle.talk_told.proofs.Common.{[], ℕ, ◌&&◌, ◌++◌, ◌==◌, ◌||◌, ◌∙◌, ◌∷◌, ◌≡◌, ap, Bool, CaseDecl, false, File, filter, flat_map, if◌then◌else◌, List, None, refl, Some, sym, true}
+use Rattle.std.specs.{List.list_any, Prelude.Option}
+use Rattle.case_core.specs.{CaseModel.{CaseModel, LiveModel}, Kept.KeptIn, Shown.items_of}
+use Rattle.talk_answers.specs.{Offers.{holds, items_shown, offers}, Standings.{concerns, item_line, item_lines, line_if_concerned}}
 use Rattle.talk_answers.proofs.Offered.{holds-ends, offers-starts}
 use Rattle.talk_told.specs.Offered.{AreTold, told_items}
 use Rattle.wsm_items.specs.declared.work_items.Item.{Item}

@@ -1,23 +1,10 @@
 -- The answers to units that are accepted one behind another.
-use Rattle.std.proofs.Common.{◌≡◌, ℕ, ◌+◌, ◌*◌, List, [], ◌∷◌, refl, sym, subst, arith, Result, Ok, Err}
-use Rattle.std.specs.Prelude.{fold}
-use Rattle.file_words.specs.Lines.{Bytes}
+use Rattle.talk_told.proofs.Common.{[], ℕ, ◌*◌, ◌+◌, ◌∷◌, ◌≡◌, arith, at_line, Bytes, called_text, Contents, Err, file_of, fold, Held, held_after, held_behind, held_by, IsHeld, lines_read, List, nothing_held, Ok, refl, Result, run_behind}
+use Rattle.talk_told.proofs.{Common.{run_more, said, settled, subst, sym, unit_end, unit_read, unit_step, with_unit}, Held.{IsRunOf, unit-told}, Kept.run-kept}
 use Rattle.file_words.specs.Words.{words_of}
-use Rattle.file_model.specs.Reading.{at_line, file_of}
-use Rattle.file_model.specs.Steps.{State, Step, outside}
-use Rattle.file_model.specs.declared.refusals.Refused.{Refused}
-use Rattle.file_model.specs.declared.states.Contents.{Contents}
-use Rattle.file_model.specs.declared.states.Section.{Section}
+use Rattle.file_model.specs.{Steps.{State, Step, outside}, declared.refusals.Refused.Refused, declared.states.Section.Section}
 use Rattle.file_model.specs.declared.states.Section.TheVariants as section
-use Rattle.file_units.specs.Facts.{IsHeld}
-use Rattle.file_units.specs.Units.{lines_read, said, settled, unit_end, unit_read, unit_step}
-use Rattle.file_units.proofs.Inside.{Inside, end-says, inside-end, inside-first, step-inside}
-use Rattle.file_units.proofs.Refusing.{no_units-held}
-use Rattle.talk_state.specs.Answers.{called_text}
-use Rattle.talk_state.specs.Held.{Held, held_after, held_behind, held_by, nothing_held, run_behind, with_unit}
-use Rattle.talk_told.specs.Told.{run_more}
-use Rattle.talk_told.proofs.Held.{IsRunOf, unit-told}
-use Rattle.talk_told.proofs.Kept.{run-kept}
+use Rattle.file_units.proofs.{Inside.{Inside, end-says, inside-end, inside-first, step-inside}, Refusing.no_units-held}
 
 -- ---- a unit that is read
 -- behind all its lines, which are some

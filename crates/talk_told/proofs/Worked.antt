@@ -1,35 +1,13 @@
 -- What the journals have more behind a line, behind a type and behind a case.
-use Rattle.std.proofs.Common.{◌≡◌, ◌≤◌, ℕ, zero, suc, ◌+◌, ◌==◌, Bool, true, false, List, [], ◌∷◌, ◌++◌, length, take, refl, ap, sym, ◌∙◌, arith, append-nil, if◌then◌else◌, Option, Some, None}
-use Rattle.std.proofs.lemmas.Bool.{eqb-true}
-use Rattle.std.specs.Prelude.{slice_get}
-use Rattle.case_core.specs.declared.events.Event.{Event}
+use Rattle.talk_told.proofs.Common.{[], ℕ, ◌++◌, ◌+◌, ◌==◌, ◌∙◌, ◌∷◌, ◌≡◌, ◌≤◌, Act, acted, AllRows, answered_version, ap, append-nil, arith, Bool, Bytes, call_case, call_kind, case_entry, CaseDecl, CaseId, cases_more, cells_of, changed_at}
+use Rattle.talk_told.proofs.Common.{changed_where, ClosedCase, ClosedKind, created, entries, entry_of_case, eqb-true, Event, false, File, HasType, HasVersion, if_both, if_there, if◌then◌else◌, IsAtWork, kind_entry, KindEvent, kinds_more}
+use Rattle.talk_told.proofs.Common.{length, Line, List, migrated, newest, newest-told, newest_in, None, on_case, on_each, on_kind, Option, place-found, places_from, places_of, Placing, refl, Run, run_more, slice_get, Some, suc, sym, take}
+use Rattle.talk_told.proofs.{Common.{true, types_of, VersionModel, worked, zero}, Changed.{cases-changed, cases-left, each-changed, entries_at, kinds-changed, kinds-left}}
 use Rattle.case_core.specs.declared.events.Event.TheVariants as event
-use Rattle.case_places.specs.Places.{places_from, places_of}
-use Rattle.file_facts.specs.Facts.{HasType}
-use Rattle.file_model.specs.declared.files.Act.{Act}
 use Rattle.file_model.specs.declared.files.Act.TheVariants as act
-use Rattle.file_model.specs.declared.files.CaseDecl.{CaseDecl}
-use Rattle.file_model.specs.declared.files.File.{File}
-use Rattle.file_model.specs.declared.files.Line.{Line}
-use Rattle.file_words.specs.Lines.{Bytes}
-use Rattle.line_calls.specs.Calls.{cells_of}
 use Rattle.line_calls.specs.Files.{place_of, roles_of}
 use Rattle.line_calls.specs.declared.calls.Cells.TheVariants as cells
-use Rattle.script_run.specs.Calls.{acted, answered_version, call_case, call_kind, changed_at, changed_where, created, migrated, newest, newest_in, on_case, on_each, on_kind, worked}
-use Rattle.script_run.specs.declared.runs.ClosedCase.{ClosedCase}
-use Rattle.script_run.specs.declared.runs.ClosedKind.{ClosedKind}
-use Rattle.script_run.specs.declared.runs.Run.{Run}
-use Rattle.talk_answers.specs.Entries.{case_entry, entries, entry_of_case, if_both, if_there, kind_entry}
-use Rattle.talk_told.specs.Told.{HasVersion, IsAtWork, cases_more, kinds_more, run_more}
-use Rattle.talk_told.proofs.Changed.{cases-changed, cases-left, each-changed, entries_at, kinds-changed, kinds-left}
-use Rattle.type_core.proofs.Versions.{newest-told}
-use Rattle.type_core.specs.declared.events.KindEvent.{KindEvent}
 use Rattle.type_core.specs.declared.events.KindEvent.TheVariants as kind_event
-use Rattle.unit_run.proofs.Placed.{place-found}
-use Rattle.unit_run.specs.Runs.{Placing, types_of}
-use Rattle.wsm_lists.specs.Rows.{AllRows}
-use Rattle.wsm_sound.specs.VersionModel.{VersionModel}
-use Rattle.wsm_sound.specs.declared.versions.CaseId.{CaseId}
 
 both : {a b c d : Bytes} → a ≡ b → c ≡ d → a ++ c ≡ b ++ d
 both {a} {b} {c} {d} e h = ap (λ l. l ++ c) e ∙ ap (λ l. b ++ l) h

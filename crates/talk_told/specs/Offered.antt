@@ -1,14 +1,10 @@
 -- What an actor is told of the items of a case.
-use Rattle.std.specs.Prelude.{◌≡◌, ℕ, List, not, Option, Some, filter, flat_map}
-use Rattle.std.specs.List.{list_any}
-use Rattle.case_core.specs.CaseModel.{CaseModel, LiveModel}
-use Rattle.case_core.specs.Machine.{case_reply}
+use Rattle.std.specs.{Prelude.{◌≡◌, ℕ, List, not, Option, Some, filter, flat_map}, List.list_any}
+use Rattle.case_core.specs.{CaseModel.{CaseModel, LiveModel}, Machine.case_reply}
 use Rattle.case_core.specs.declared.events.Event.TheVariants as event
-use Rattle.file_model.specs.declared.files.CaseDecl.{CaseDecl}
-use Rattle.file_model.specs.declared.files.File.{File}
+use Rattle.file_model.specs.{declared.files.CaseDecl.CaseDecl, declared.files.File.File}
 use Rattle.line_calls.specs.Files.{roles_of}
-use Rattle.talk_answers.specs.Offers.{has_not, holds, is_started, items_shown, offers}
-use Rattle.talk_answers.specs.Standings.{concerns, item_line, item_lines}
+use Rattle.talk_answers.specs.{Offers.{has_not, holds, is_started, items_shown, offers}, Standings.{concerns, item_line, item_lines}}
 use Rattle.wsm_items.specs.declared.work_items.Item.{Item}
 use Rattle.wsm_lists.specs.Values.{Written}
 

@@ -3,13 +3,10 @@ use Rattle.std.specs.Prelude.{ℕ, ◌+◌, ◌<◌, List, [], ◌∷◌, ◌++�
 use Rattle.wsm_lists.specs.Rows.{AllRows}
 use Rattle.file_words.specs.Lines.{Bytes}
 use Rattle.file_facts.specs.Facts.{HasType}
-use Rattle.file_model.specs.declared.files.CaseDecl.{CaseDecl}
-use Rattle.file_model.specs.declared.files.File.{File}
+use Rattle.file_model.specs.{declared.files.CaseDecl.CaseDecl, declared.files.File.File}
 use Rattle.report_text.specs.Journals.{case_line, kind_line, numbered}
 use Rattle.report_words.specs.Words.{type_text}
-use Rattle.script_run.specs.declared.runs.ClosedCase.{ClosedCase}
-use Rattle.script_run.specs.declared.runs.ClosedKind.{ClosedKind}
-use Rattle.script_run.specs.declared.runs.Run.{Run}
+use Rattle.script_run.specs.{declared.runs.ClosedCase.ClosedCase, declared.runs.ClosedKind.ClosedKind, declared.runs.Run.Run}
 use Rattle.unit_run.specs.Runs.{IsOf, Placing}
 
 -- of a journal: each behind the name of its type or case, and with its place

@@ -1,6 +1,5 @@
 -- Where a text ends, and where no line is wanted.
-use Rattle.std.proofs.Common.{◌≡◌, ℕ, ◌+◌, ◌≤◌, List, [], ◌∷◌, length, drop, refl, ap, ◌∙◌, arith}
-use Rattle.std.proofs.lemmas.List.{drop_all}
+use Rattle.std.proofs.{Common.{◌≡◌, ℕ, ◌+◌, ◌≤◌, List, [], ◌∷◌, length, drop, refl, ap, ◌∙◌, arith}, lemmas.List.drop_all}
 use Rattle.text_follower.specs.Followed.{behind_lines, same_front}
 
 -- nothing is the same as what is not there

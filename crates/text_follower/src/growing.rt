@@ -1,7 +1,5 @@
 // A sink in memory that grows.
-ghost use Rattle.std.specs.Prelude.{◌≡◌, ◌≤◌, List, ℕ, [], ◌++◌, length, OnErr, OnOk, IfOk, Ok, Some};
-ghost use Rattle.std.specs.Io.{WritesAtMost};
-ghost use Rattle.std.specs.Io.KnownBytes.{WriteAppends};
+ghost use Rattle.std.specs.{Prelude.{◌≡◌, ◌≤◌, List, ℕ, [], ◌++◌, length, OnErr, OnOk, IfOk, Ok, Some}, Io.WritesAtMost, Io.KnownBytes.WriteAppends};
 ghost use Rattle.adept_io.specs.Counts.{Rose};
 ghost use Rattle.text_follower.specs.Grown.{Grown};
 

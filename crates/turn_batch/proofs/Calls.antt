@@ -1,9 +1,6 @@
 -- What both rounds leave of the passes.
 use Rattle.std.proofs.Common.{◌≡◌, ℕ, zero, suc, ◌+◌, ◌<◌, List, [], ◌∷◌, length, Option, Some, None, Result, Ok, Err, IsSome, MatchResult, MatchOption, slice_get, slice_index_or, refl, sym, ap, ◌∙◌, subst, arith}
-use Rattle.turn_cell.specs.declared.faults.CallFault.{CallFault}
-use Rattle.turn_cell.specs.declared.pass.Pass.{Pass}
-use Rattle.turn_cell.specs.declared.cell.Cell.{Cell}
-use Rattle.turn_cell.specs.Passes.{PassView, view_of, IsPassOf, Sees, Calls}
+use Rattle.turn_cell.specs.{declared.faults.CallFault.CallFault, declared.pass.Pass.Pass, declared.cell.Cell.Cell, Passes.{PassView, view_of, IsPassOf, Sees, Calls}}
 use Rattle.turn_batch.specs.Batch.{AreOf, AreAnswered, AreTaken, IsCalled, IsTried, IsServed, AreCalled}
 
 module _ {M E R W S : Type 0} {g : _} where

@@ -1,6 +1,5 @@
 -- Lists of which the first places are done.
-use Rattle.std.proofs.Common.{◌≡◌, ℕ, ◌+◌, List, [], ◌∷◌, ◌++◌, drop, get_or, set, sym, ap, ◌∙◌, append_assoc, arith}
-use Rattle.std.proofs.lemmas.List.{get_or-drop, drop-drop, drop-set-lt}
+use Rattle.std.proofs.{Common.{◌≡◌, ℕ, ◌+◌, List, [], ◌∷◌, ◌++◌, drop, get_or, set, sym, ap, ◌∙◌, append_assoc, arith}, lemmas.List.{get_or-drop, drop-drop, drop-set-lt}}
 
 module _ {A : Type 0} where
   -- from place n on, ys is as xs

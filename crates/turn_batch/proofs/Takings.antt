@@ -1,9 +1,6 @@
 -- Passes of which the first ones gave their answers.
-use Rattle.std.proofs.Common.{◌≡◌, ℕ, zero, suc, ◌+◌, ◌<◌, ◌≤◌, List, [], ◌∷◌, ◌++◌, length, take, get_or, set, IsSome, Result, Some, None, refl, sym, subst, arith}
-use Rattle.std.proofs.lemmas.List.{take_more, take_more_set, take_all}
-use Rattle.turn_cell.specs.declared.faults.CallFault.{CallFault}
-use Rattle.turn_cell.specs.declared.pass.Pass.{Pass}
-use Rattle.turn_cell.specs.Passes.{view_of}
+use Rattle.std.proofs.{Common.{◌≡◌, ℕ, zero, suc, ◌+◌, ◌<◌, ◌≤◌, List, [], ◌∷◌, ◌++◌, length, take, get_or, set, IsSome, Result, Some, None, refl, sym, subst, arith}, lemmas.List.{take_more, take_more_set, take_all}}
+use Rattle.turn_cell.specs.{declared.faults.CallFault.CallFault, declared.pass.Pass.Pass, Passes.view_of}
 use Rattle.turn_batch.specs.Batch.{AreAnswered, AreTaken}
 use Rattle.turn_batch.proofs.Lists.{IsSameFrom, same_at, same_from_next}
 

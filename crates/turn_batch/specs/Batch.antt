@@ -1,11 +1,7 @@
 -- One call on each of many cells.
 use Rattle.std.specs.Prelude.{◌≡◌, ◌+◌, ◌<◌, ◌≤◌, List, [], ◌∷◌, length, Some, None, Result, Err, IsSome, MatchResult, MatchOption}
-use Rattle.turn_cell.specs.declared.faults.CallFault.{CallFault}
+use Rattle.turn_cell.specs.{declared.faults.CallFault.CallFault, declared.limits.TheConstants.MAX_ENTRIES, declared.pass.Pass.Pass, declared.cell.Cell.Cell, Passes.{PassView, view_of, IsPassOf, Sees, Calls}}
 use Rattle.turn_cell.specs.declared.faults.CallFault.TheVariants.{Full, NoMemory}
-use Rattle.turn_cell.specs.declared.limits.TheConstants.{MAX_ENTRIES}
-use Rattle.turn_cell.specs.declared.pass.Pass.{Pass}
-use Rattle.turn_cell.specs.declared.cell.Cell.{Cell}
-use Rattle.turn_cell.specs.Passes.{PassView, view_of, IsPassOf, Sees, Calls}
 
 module _ {M E R W S : Type 0} {g : _} where
   -- there are as many passes as cells, and each is of the cell at its place

@@ -1,6 +1,5 @@
 //! Rounds over all cells: first without waiting, then with.
-ghost use Rattle.std.specs.Prelude.{◌≡◌, ◌≤◌, ◌<◌, length, slice_index_or, Some, slice_get};
-ghost use Rattle.std.specs.Thread.{IsSync};
+ghost use Rattle.std.specs.{Prelude.{◌≡◌, ◌≤◌, ◌<◌, length, slice_index_or, Some, slice_get}, Thread.IsSync};
 ghost use Rattle.turn_batch.specs.Batch.{IsTried, IsServed};
 ghost use Rattle.turn_cell.specs.Passes.{view_of, IsPassOf};
 

@@ -1,25 +1,14 @@
 -- The table as it is made, and what is known where the last pass closes it.
-use Rattle.std.proofs.Common.{◌≡◌, ◌≢◌, ℕ, zero, suc, ◌+◌, ◌≤◌, ◌<◌, eqb, eq-eqb, ne_eqb, Bool, true, false, List, [], ◌∷◌, ◌++◌, refl, sym, ap, ◌∙◌, subst, arith, Option, Some, Result, if◌then◌else◌, inl, inr, All, Any, ◌⊎◌}
-use Rattle.std.proofs.lemmas.List.{append-nil, append_cancel_left}
+use Rattle.turn_cell.proofs.Common.{[], ℕ, ◌++◌, ◌+◌, ◌<◌, ◌∙◌, ◌∷◌, ◌≡◌, ◌≢◌, ◌≤◌, ◌⊎◌, All, Any, ap, append-nil, append_cancel_left, AreCalls, arith, Bool, calls_of, Entry, eq-eqb, eqb, false, Final, first, Fits, FitsPass, Guarded}
+use Rattle.turn_cell.proofs.Common.{has_slot, if◌then◌else◌, inl, inr, is_live, is_pass, IsClosed, IsHeld, IsKept, IsLegal, IsLegalFrom, IsStateAfter, List, ne_eqb, one_if, opening, Option, owns, passes, Phase, refl, Result, SeatView, Seen}
+use Rattle.turn_cell.proofs.{Common.{slots, Some, State, state_after, subst, suc, sym, times, total, true, view_at, zero}, Sums.{total_two, total_gap}, Prefixes.prefix_self, Histories.calls_of-append, Turns.{pass_lives, owns_if}}
 use mathlib.Core.Logic.{dite}
 use mathlib.Core.Option.{some, some-injective, some-ne-none}
 use native.Mathlib.Decide.{ℕ_discrete}
 use lib.ListN.{get_elem?}
-use Rattle.atomic_table.specs.Table.{State, opening, Final, Seen}
-use Rattle.turn_cell.specs.declared.journal.Entry.{Entry}
-use Rattle.turn_cell.specs.declared.guarded.Guarded.{Guarded}
-use Rattle.turn_cell.specs.declared.seat_view.SeatView.{SeatView}
-use Rattle.turn_cell.specs.declared.seat_view.Phase.{Phase}
 use Rattle.turn_cell.specs.declared.seat_view.Phase.TheVariants.{Spent, Note, Idle, Entered, Inside}
-use Rattle.turn_cell.specs.History.{IsLegal, IsLegalFrom, IsStateAfter, state_after, calls_of}
-use Rattle.turn_cell.specs.Rule.{is_live, is_pass, has_slot, one_if, total, times, slots, passes, owns, AreCalls, Fits, FitsPass, IsHeld, IsKept, first}
 use Rattle.atomic_table.specs.Seated.{TableId}
 use Rattle.turn_cell.specs.declared.faults.CallFault.{CallFault}
-use Rattle.turn_cell.specs.Passes.{IsClosed, view_at}
-use Rattle.turn_cell.proofs.Sums.{total_two, total_gap}
-use Rattle.turn_cell.proofs.Prefixes.{prefix_self}
-use Rattle.turn_cell.proofs.Histories.{calls_of-append}
-use Rattle.turn_cell.proofs.Turns.{pass_lives, owns_if}
 
 slot_below_pass : (st : Phase) → one_if (has_slot st) ≤ one_if (is_pass st)
 slot_below_pass Spent = omega arith

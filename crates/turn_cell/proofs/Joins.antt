@@ -1,24 +1,15 @@
 -- Passes and notes that are made, and that are taken in.
-use Rattle.std.proofs.Common.{◌≡◌, ◌≢◌, ℕ, ◌+◌, ◌≤◌, eqb, eq-eqb, ne_eqb, ltb, Bool, true, false, List, [], ◌∷◌, ◌++◌, length, set, refl, sym, ap, ◌∙◌, subst, ⊎_elim, arith, Option, if◌then◌else◌, le_refl}
+use Rattle.turn_cell.proofs.Common.{[], ℕ, ⊎_elim, ◌++◌, ◌+◌, ◌∙◌, ◌∷◌, ◌≡◌, ◌≢◌, ◌≤◌, ap, AreCalls, arith, at_set, at_snoc, Bool, calls_of, Entry, eq-eqb, eqb, false, Fits, FitsPass, Guarded, has_slot, has_turn, heard, if◌then◌else◌}
+use Rattle.turn_cell.proofs.Common.{is_live, is_pass, IsKept, joined, Joins, le_refl, length, List, ltb, ne_eqb, note_of, one_if, Option, owns, passes, Phase, refl, SeatView, set, set_else, slots, spent, split_from, split_off, Splits}
+use Rattle.turn_cell.proofs.{Common.{State, subst, sym, times, total, true, turns}, Sums.{total_set, total_same, total_at, total_two, total_append}, Prefixes.{prefix_self, prefix_shorter}, Histories.{calls_none, more_seen, calls_snoc}}
+use Rattle.turn_cell.proofs.{Histories.times_snoc, Turns.{pass_lives, owns_if, fits_again}}
 use mathlib.Core.Logic.{dite}
 use mathlib.Core.Option.{some}
 use mathlib.Core.List.{IsPrefix}
 use native.Mathlib.Decide.{ℕ_discrete}
 use lib.ListN.{get_elem?}
-use Rattle.atomic_table.specs.Table.{State, Splits, Joins}
-use Rattle.atomic_table.proofs.Lists.{at_set, at_snoc, set_else}
-use Rattle.turn_cell.specs.declared.journal.Entry.{Entry}
-use Rattle.turn_cell.specs.declared.guarded.Guarded.{Guarded}
-use Rattle.turn_cell.specs.declared.seat_view.SeatView.{SeatView}
-use Rattle.turn_cell.specs.declared.seat_view.Phase.{Phase}
 use Rattle.turn_cell.specs.declared.seat_view.Phase.TheVariants.{Note, Idle, Inside}
-use Rattle.turn_cell.specs.History.{calls_of}
-use Rattle.turn_cell.specs.Rule.{is_live, is_pass, has_turn, has_slot, one_if, total, times, turns, slots, passes, owns, AreCalls, Fits, FitsPass, IsKept, note_of, spent, split_from, split_off, heard, joined}
 use Rattle.std.proofs.lemmas.Bool.{ltb-true, ltb-false}
-use Rattle.turn_cell.proofs.Sums.{total_set, total_same, total_at, total_two, total_append}
-use Rattle.turn_cell.proofs.Prefixes.{prefix_self, prefix_shorter}
-use Rattle.turn_cell.proofs.Histories.{calls_none, more_seen, calls_snoc, times_snoc}
-use Rattle.turn_cell.proofs.Turns.{pass_lives, owns_if, fits_again}
 
 one_number : (k n : ℕ) → k ≢ n → one_if (eqb k n) ≡ 0
 one_number k n ne = ap one_if (ne_eqb k n ne)

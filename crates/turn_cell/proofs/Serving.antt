@@ -1,12 +1,7 @@
 -- What a call does to the journal.
-use Rattle.std.proofs.Common.{◌≡◌, ℕ, List, [], ◌∷◌, ◌++◌, length, drop, refl, sym, ap, ◌∙◌, subst, Option, Some, None, Bool, true, false, if◌then◌else◌}
-use Rattle.std.proofs.Math.Seq.{drop-append_seam}
+use Rattle.turn_cell.proofs.Common.{[], ℕ, ◌++◌, ◌∙◌, ◌∷◌, ◌≡◌, ap, Bool, Calls, calls_of, drop, drop-append_seam, Entry, entry, false, if◌then◌else◌, IsLegal, IsLegalFrom, IsStateAfter, length, List, None, Option, PassView, refl, Some}
+use Rattle.turn_cell.proofs.{Common.{state_after, subst, sym, true}, Prefixes.prefix_self, Histories.calls_of-own}
 use mathlib.Core.List.{IsPrefix}
-use Rattle.turn_cell.specs.declared.journal.Entry.{Entry}
-use Rattle.turn_cell.specs.History.{state_after, IsLegal, IsLegalFrom, IsStateAfter, calls_of, entry}
-use Rattle.turn_cell.specs.Passes.{PassView, Calls}
-use Rattle.turn_cell.proofs.Prefixes.{prefix_self}
-use Rattle.turn_cell.proofs.Histories.{calls_of-own}
 
 module _ {M E R W S : Type 0} (after : S → E → S) (reply : S → E → R) where
   pub legal_snoc : (s : S) (xs : List (Entry M E R W S)) (e : Entry M E R W S) → IsLegal after reply s xs → e.reply ≡ reply (state_after after s xs) e.event → IsLegal after reply s (xs ++ e ∷ [])

@@ -1,23 +1,14 @@
 -- Each step of a seat keeps the rule.
-use Rattle.std.proofs.Common.{◌≡◌, ◌≢◌, ℕ, ◌+◌, ◌*◌, ◌≤◌, ◌<◌, eqb, eq-eqb, Bool, true, List, [], ◌∷◌, ◌++◌, length, drop, set, refl, sym, ap, ◌∙◌, subst, ⊎_elim, arith, Option, Some, if◌then◌else◌, get_or, le_refl}
+use Rattle.turn_cell.proofs.Common.{[], ℕ, ⊎_elim, ◌*◌, ◌++◌, ◌+◌, ◌<◌, ◌∙◌, ◌∷◌, ◌≡◌, ◌≢◌, ◌≤◌, acquired, Act, Allows, ap, AreCalls, arith, at_set, Bool, calls_of, carried_after, carried_log, committed, drop, drop-append_seam, Entry}
+use Rattle.turn_cell.proofs.Common.{eq-eqb, eqb, exchanged, Fits, FitsPass, get_or, gives, Guarded, has_slot, has_turn, if◌then◌else◌, is_live, is_pass, IsHeld, IsKept, IsLegal, IsLegalFrom, IsStateAfter, IsYoung, keeps, le_refl, length}
+use Rattle.turn_cell.proofs.Common.{List, observed, one_if, Option, owns, passes, Phase, refl, released, Seated, SeatView, set, slots, Some, State, state_after, step, stepped, subst, sym, takes, times, took_out, total, true, turns, Valid}
+use Rattle.turn_cell.proofs.{Sums.{total_set, total_same, total_at, total_two, total_below, total_gap}, Prefixes.{prefix_self, prefix_trans}, Histories.{calls_of-own, calls_of-other, others_stay, seen_whole, pasts_stay, legal_start}}
 use mathlib.Core.Option.{some, none, some-injective, some-ne-none}
 use mathlib.Core.Option as maybe
-use Rattle.std.proofs.Math.Seq.{drop-append_seam}
 use mathlib.Core.List.{IsPrefix}
 use lib.ListN.{get_elem?}
 use prog.Atomic.{either}
-use Rattle.atomic_table.specs.Table.{State, Act, step, keeps, takes, gives, stepped, carried_after, Valid, Allows}
-use Rattle.atomic_table.proofs.Lists.{at_set, exchanged}
-use Rattle.turn_cell.specs.declared.journal.Entry.{Entry}
-use Rattle.turn_cell.specs.declared.guarded.Guarded.{Guarded}
-use Rattle.turn_cell.specs.declared.seat_view.SeatView.{SeatView}
-use Rattle.turn_cell.specs.declared.seat_view.Phase.{Phase}
 use Rattle.turn_cell.specs.declared.seat_view.Phase.TheVariants.{Spent, Note, Idle, Entered, Inside}
-use Rattle.turn_cell.specs.History.{IsLegal, IsLegalFrom, IsStateAfter, state_after, calls_of}
-use Rattle.turn_cell.specs.Rule.{is_live, is_pass, has_turn, has_slot, one_if, total, times, turns, slots, passes, owns, AreCalls, Fits, FitsPass, IsHeld, IsYoung, IsKept, Seated, acquired, committed, released, observed, took_out, carried_log}
-use Rattle.turn_cell.proofs.Sums.{total_set, total_same, total_at, total_two, total_below, total_gap}
-use Rattle.turn_cell.proofs.Prefixes.{prefix_self, prefix_trans}
-use Rattle.turn_cell.proofs.Histories.{calls_of-own, calls_of-other, others_stay, seen_whole, pasts_stay, legal_start}
 
 pub pass_lives : (st : Phase) → is_pass st ≡ true → is_live st ≡ true
 pass_lives Spent e = e

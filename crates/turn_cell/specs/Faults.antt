@@ -1,7 +1,6 @@
 -- Why calls are not made.
-use Rattle.turn_cell.specs.declared.faults.CallFault.{CallFault}
+use Rattle.turn_cell.specs.{declared.faults.CallFault.CallFault, declared.faults.TryFault.TryFault}
 use Rattle.turn_cell.specs.declared.faults.CallFault.TheVariants.{Full, NoMemory}
-use Rattle.turn_cell.specs.declared.faults.TryFault.{TryFault}
 use Rattle.turn_cell.specs.declared.faults.TryFault.TheVariants as try_with
 
 -- the fault of a `try_call` that has the turn

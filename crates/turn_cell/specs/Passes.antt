@@ -2,12 +2,7 @@
 use Rattle.std.specs.Prelude.{◌≡◌, ℕ, ◌+◌, List, [], ◌∷◌, ◌++◌, Option, Some, None, Result, All, Any, ◌⊎◌}
 use mathlib.Core.List.{IsPrefix}
 use Rattle.atomic_table.specs.Seated.{TableId}
-use Rattle.turn_cell.specs.declared.faults.CallFault.{CallFault}
-use Rattle.turn_cell.specs.declared.journal.Entry.{Entry}
-use Rattle.turn_cell.specs.declared.seat_view.SeatView.{SeatView}
-use Rattle.turn_cell.specs.declared.pass.Pass.{Pass}
-use Rattle.turn_cell.specs.declared.cell.Cell.{Cell}
-use Rattle.turn_cell.specs.History.{IsLegalFrom, IsStateAfter, calls_of, entry}
+use Rattle.turn_cell.specs.{declared.faults.CallFault.CallFault, declared.journal.Entry.Entry, declared.seat_view.SeatView.SeatView, declared.pass.Pass.Pass, declared.cell.Cell.Cell, History.{IsLegalFrom, IsStateAfter, calls_of, entry}}
 use Rattle.turn_cell.specs.Rule.{longer}
 
 -- A pass: its cell and that cell's opening state, its number, the beginning of the journal that it has seen,

@@ -5,13 +5,9 @@ use mathlib.Core.Option.{some, none}
 use mathlib.Core.List.{IsPrefix}
 use lib.ListN.{get_elem?}
 use Rattle.atomic_table.specs.Table.{State, Me, Step, rest}
-use Rattle.turn_cell.specs.declared.journal.Entry.{Entry}
-use Rattle.turn_cell.specs.declared.guarded.Guarded.{Guarded}
-use Rattle.turn_cell.specs.declared.seat_view.SeatView.{SeatView}
-use Rattle.turn_cell.specs.declared.seat_view.Phase.{Phase}
-use Rattle.turn_cell.specs.declared.seat_view.Phase.TheVariants.{Spent, Note, Idle, Entered, Inside}
-use Rattle.turn_cell.specs.declared.limits.TheConstants.{MAX_ENTRIES, MAX_OPENING_AGE, MAX_WEIGHT}
+use Rattle.turn_cell.specs.{declared.journal.Entry.Entry, declared.guarded.Guarded.Guarded, declared.seat_view.SeatView.SeatView, declared.seat_view.Phase.Phase, declared.limits.TheConstants.{MAX_ENTRIES, MAX_OPENING_AGE, MAX_WEIGHT}}
 use Rattle.turn_cell.specs.History.{IsLegal, IsLegalFrom, IsStateAfter, state_after, calls_of}
+use Rattle.turn_cell.specs.declared.seat_view.Phase.TheVariants.{Spent, Note, Idle, Entered, Inside}
 
 -- not taken in by another
 abbrev pub is_live : Phase → Bool

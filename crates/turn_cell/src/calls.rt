@@ -1,8 +1,7 @@
 //! The calls on a cell.
 ghost use Rattle.std.specs.Prelude.{◌≡◌, ◌≢◌, ◌+◌, ◌≤◌, ◌<◌, [], length, IfOk, IfErr, OnErr, MatchResult, None};
 ghost use Rattle.turn_cell.specs.declared.seat_view.Phase.TheVariants.{Idle, Entered, Inside};
-ghost use Rattle.turn_cell.specs.History.{IsViewAfter};
-ghost use Rattle.turn_cell.specs.Passes.{view_of, view_at, cell_id, IsPassOf, Stays, Sees, Calls};
+ghost use Rattle.turn_cell.specs.{History.IsViewAfter, Passes.{view_of, view_at, cell_id, IsPassOf, Stays, Sees, Calls}};
 
 use crate::cell::{Cell, PassSeat};
 use crate::faults::{CallFault, TryFault};

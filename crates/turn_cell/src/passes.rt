@@ -1,8 +1,7 @@
 //! How passes are made, told of one another and taken in, and how a cell begins and ends.
 ghost use Rattle.std.specs.Prelude.{◌≡◌, ◌+◌, ◌^◌, ◌-◌, ◌≤◌, ◌<◌, IfOk};
 ghost use mathlib.Core.List.{IsPrefix};
-ghost use Rattle.turn_cell.specs.Passes.{view_of, cell_id, IsPassOf, IsLegalView, IsClosed, first_of, split_off, joined};
-ghost use Rattle.turn_cell.specs.Rule.{longer};
+ghost use Rattle.turn_cell.specs.{Passes.{view_of, cell_id, IsPassOf, IsLegalView, IsClosed, first_of, split_off, joined}, Rule.longer};
 
 use crate::cell::{Cell, GUARDED};
 use crate::guarded::Guarded;

@@ -1,8 +1,7 @@
 //! The atomic steps of a pass on the table of its cell.
 ghost use Rattle.std.specs.Prelude.{◌≡◌, ◌+◌, ◌*◌, ◌≤◌, ◌++◌, ◌∷◌, [], true, false, length, None, Some};
 ghost use Rattle.turn_cell.specs.declared.seat_view.Phase.TheVariants.{Idle, Entered, Inside};
-ghost use Rattle.turn_cell.specs.History.{IsLegalFrom, IsStateAfter};
-ghost use Rattle.turn_cell.specs.Rule.{IsSeen, TakesOut, with_log};
+ghost use Rattle.turn_cell.specs.{History.{IsLegalFrom, IsStateAfter}, Rule.{IsSeen, TakesOut, with_log}};
 
 use crate::cell::{COUNT, Cell, GUARDED, HELD, PassSeat};
 use crate::guarded::Guarded;

@@ -1,22 +1,10 @@
 -- What the end of a talk says of the whole of it.
-use Rattle.std.proofs.Common.{◌≡◌, ◌⊎◌, inl, inr, ℕ, ◌<◌, ◌≤◌, ◌^◌, Bool, true, List, [], ◌++◌, length, Option, Some, None, refl, sym, ap, subst, ◌∙◌, append_assoc, arith, length-append}
-use Rattle.std.specs.Prelude.{IfSome, IsErrOf, OnErr, OnOk, Result, Ok, Err}
-use Rattle.std.specs.Io.KnownBytes.{Appends, Consumes, IsAtEnd}
-use Rattle.std.proofs.KnownBytes.{Consumes-whole}
-use Rattle.std.proofs.lemmas.List.{append-nil}
-use Rattle.adept_io.specs.Written.{AppendsPrefix}
+use Rattle.turn_loop.proofs.Common.{[], ℕ, ◌++◌, ◌<◌, ◌^◌, ◌∙◌, ◌≡◌, ◌≤◌, ◌⊎◌, Acknowledged, answers, ap, append-nil, append_assoc, Appends, AppendsPrefix, arith, as_turn, Begins, Bool, Bytes, Consumes, Consumes-whole, Ended, Err}
+use Rattle.turn_loop.proofs.Common.{HoldsBeginningOf, HoldsItems, HoldsTurns, IfSome, inl, inr, IsAtEnd, IsErrOf, joined, LeavesOnly, length, length-append, List, None, Ok, OnErr, OnOk, Option, refl, Result, Rules, said, Some, split}
+use Rattle.turn_loop.proofs.{Common.{split_from, still_first, subst, sym, TalkFault, true, turns_of, weaker, worked}, Splits.{answers-append, begins-self, begins-trans, split-append}, Stored.turns-items-held, InTurns.joined-append}
+use Rattle.turn_loop.proofs.InTurns.{joined-of, joined-turns}
 use Rattle.adept_io.proofs.Sent.{AppendsPrefix-after, AppendsPrefix-append}
-use Rattle.store_disk.specs.Disk.{LeavesOnly}
-use Rattle.store_disk.proofs.Moments.{weaker}
-use Rattle.turn_loop.specs.Groups.{HoldsItems, HoldsTurns}
-use Rattle.turn_loop.specs.Serving.{Acknowledged, Ended, HoldsBeginningOf}
-use Rattle.turn_loop.specs.Talk.{Begins, Bytes, Rules, answers, said, split, split_from, still_first, worked}
-use Rattle.turn_loop.specs.Turns.{as_turn, joined, turns_of}
-use Rattle.turn_loop.specs.declared.faults.TalkFault.{TalkFault}
 use Rattle.turn_loop.specs.declared.faults.TalkFault.TheVariants as fault
-use Rattle.turn_loop.proofs.Splits.{answers-append, begins-self, begins-trans, split-append}
-use Rattle.turn_loop.proofs.Stored.{turns-items-held}
-use Rattle.turn_loop.proofs.InTurns.{joined-append, joined-of, joined-turns}
 
 -- bytes of which some were taken are these and what is left
 taken-front : (a b : Option Bytes) (given : Bytes) (P : Bytes → Type 0) → Consumes a b given → ((left : Bytes) → b ≡ Some left → P (given ++ left)) → IfSome a P

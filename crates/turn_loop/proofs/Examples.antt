@@ -1,8 +1,6 @@
 -- Talks, computed from the definitions alone.
-use Rattle.std.specs.Prelude.{◌≡◌, true, [], ◌∷◌, refl, codes}
-use Rattle.turn_loop.specs.Counting.{line_ends, line_rules}
-use Rattle.turn_loop.specs.Talk.{held_at_last, said, split}
-use Rattle.turn_loop.specs.Turns.{turns_of}
+use Rattle.turn_loop.proofs.Common.{codes, held_at_last, line_ends, line_rules, said, split, turns_of}
+use Rattle.std.specs.Prelude.{◌≡◌, true, [], ◌∷◌, refl}
 
 two_lines : split line_ends (codes "+a\nb\nrest") ≡ record { items = codes "+a\n" ∷ codes "b\n" ∷ []; rest = codes "rest" }
 two_lines = refl

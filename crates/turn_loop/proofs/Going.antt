@@ -1,29 +1,11 @@
 -- A talk that goes on, and how it ends.
-use Rattle.std.proofs.Common.{◌≡◌, ◌==◌, ◌⊎◌, inl, inr, ℕ, ◌<◌, ◌≤◌, ◌^◌, true, Bool, List, [], ◌∷◌, ◌++◌, length, drop, Option, refl, sym, ap, subst, ◌∙◌, append_assoc, arith, length-append}
-use Rattle.std.specs.Prelude.{Result, Ok, Err}
-use Rattle.std.specs.List.{AllByRecursion}
-use Rattle.std.specs.Io.KnownBytes.{Appends, Consumes, IsAtEnd}
-use Rattle.std.specs.Result.{IsErrAnd}
-use Rattle.std.proofs.KnownBytes.{Appends-kept, Appends-nil, Appends-trans, Consumes-nil, Consumes-trans}
-use Rattle.std.proofs.lemmas.Bool.{eqb-true}
-use Rattle.std.proofs.lemmas.List.{append-nil}
-use Rattle.adept_io.specs.Written.{AppendsPrefix}
-use Rattle.store_disk.specs.Disk.{LeavesOnly}
-use Rattle.store_disk.specs.Image.{HasList}
-use Rattle.store_disk.specs.Rest.{IsAtRest}
-use Rattle.store_disk.proofs.Moments.{and_then}
-use Rattle.turn_loop.specs.Groups.{held, HoldsNoneOrAll, HoldsTurns}
-use Rattle.turn_loop.specs.Serving.{Closes, Cut, CutTells, Ended, EndTells, Front, Turned}
-use Rattle.turn_loop.specs.Talk.{Begins, Bytes, IsRest, Rules, answers, behind, split, split_from, still_first, worked}
-use Rattle.turn_loop.specs.Turns.{IsRead, NoneWaited, as_turn, but_last, joined, turns, turns_of}
-use Rattle.turn_loop.specs.Waiting.{Filled, ReadAnew, Unworked}
-use Rattle.turn_loop.specs.declared.faults.TalkFault.{TalkFault}
+use Rattle.turn_loop.proofs.Common.{[], ℕ, ◌++◌, ◌<◌, ◌==◌, ◌^◌, ◌∙◌, ◌∷◌, ◌≡◌, ◌≤◌, ◌⊎◌, AllByRecursion, and_then, answers, ap, append-nil, append_assoc, Appends, Appends-kept, Appends-nil, Appends-trans, AppendsPrefix, arith, as_turn}
+use Rattle.turn_loop.proofs.Common.{Begins, behind, Bool, but_last, Bytes, Closes, Consumes, Consumes-nil, Consumes-trans, Cut, CutTells, drop, Ended, EndTells, eqb-true, Err, Front, HasList, held, HoldsNoneOrAll, HoldsTurns, inl, inr}
+use Rattle.turn_loop.proofs.Common.{IsAtEnd, IsAtRest, IsErrAnd, IsRead, IsRest, joined, LeavesOnly, length, length-append, List, MAX_INPUT, NoneWaited, Ok, Option, refl, Result, Rules, split, split_from, still_first, subst, sym, TalkFault}
+use Rattle.turn_loop.proofs.{Common.{true, Turned, turns, turns_of, worked}, Splits.{answers-append, begins-self, begins-trans, front-all, front-more, front-none, front-then, split-append, still-first, worked-append}, Stored.holds-any}
+use Rattle.turn_loop.proofs.{Stored.{holds-done, holds-more, holds-turn, now, rest-held, rest-image, stays}, InTurns.{but-last-more, joined-more, joined-turns, turns-append}}
+use Rattle.turn_loop.specs.{Waiting.{Filled, ReadAnew, Unworked}, declared.turns.Turn.Turn}
 use Rattle.turn_loop.specs.declared.faults.TalkFault.TheVariants as fault
-use Rattle.turn_loop.specs.declared.limits.TheConstants.{MAX_INPUT}
-use Rattle.turn_loop.specs.declared.turns.Turn.{Turn}
-use Rattle.turn_loop.proofs.Splits.{answers-append, begins-self, begins-trans, front-all, front-more, front-none, front-then, split-append, still-first, worked-append}
-use Rattle.turn_loop.proofs.Stored.{holds-any, holds-done, holds-more, holds-turn, now, rest-held, rest-image, stays}
-use Rattle.turn_loop.proofs.InTurns.{but-last-more, joined-more, joined-turns, turns-append}
 
 -- Between two turns: what was read is the items of whole turns and what waits; the state and the disk are those of the
 -- accepted ones, and what was written is the answers to all.

@@ -1,12 +1,7 @@
 -- Items as turns.
-use Rattle.std.proofs.Common.{◌≡◌, ℕ, ◌+◌, ◌-◌, ◌<◌, ◌≤◌, Bool, true, false, if◌then◌else◌, List, [], ◌∷◌, ◌++◌, length, take, refl, sym, ap, ◌∙◌, append_assoc, arith, zero-add, length-append}
-use Rattle.std.specs.Prelude.{nat_lt}
-use Rattle.std.proofs.lemmas.Bool.{le-ltb, lt-ltb}
-use Rattle.std.proofs.lemmas.List.{append-nil, take-append-le, take_all}
+use Rattle.turn_loop.proofs.Common.{[], ℕ, ◌++◌, ◌+◌, ◌-◌, ◌<◌, ◌∙◌, ◌∷◌, ◌≡◌, ◌≤◌, ap, append-nil, append_assoc, arith, as_turn, behind, Bool, but_last, Bytes, false, held_behind, if◌then◌else◌, joined, le-ltb, length, length-append, List}
+use Rattle.turn_loop.proofs.Common.{lt-ltb, MAX_ANSWERS, nat_lt, refl, Rules, split_from, still_first, sym, take, take-append-le, take_all, true, turns, turns_from, turns_of, worked, zero-add}
 use Rattle.std.proofs.lemmas.List.Concat.{flat_map-append}
-use Rattle.turn_loop.specs.Talk.{Bytes, Rules, behind, held_behind, split_from, still_first, worked}
-use Rattle.turn_loop.specs.Turns.{as_turn, but_last, joined, turns, turns_from, turns_of}
-use Rattle.turn_loop.specs.declared.limits.TheConstants.{MAX_ANSWERS}
 use Rattle.turn_loop.proofs.Splits.{split-append, still-first, worked-append}
 
 pub joined-append : {A : Type 0} (xs ys : List (List A)) → joined (xs ++ ys) ≡ joined xs ++ joined ys

@@ -1,9 +1,5 @@
 -- Bytes that are kept up to a limit.
-use Rattle.std.proofs.Common.{◌≡◌, inl, inr, ℕ, zero, suc, ◌-◌, ◌≤◌, [], ◌∷◌, ◌++◌, length, take, sym, ap, ◌∙◌, arith}
-use Rattle.std.specs.Prelude.{min}
-use Rattle.std.proofs.lemmas.Bool.{cases_lt}
-use Rattle.std.proofs.lemmas.List.{take_all}
-use Rattle.turn_loop.specs.Talk.{Bytes}
+use Rattle.turn_loop.proofs.Common.{[], ℕ, ◌++◌, ◌-◌, ◌∙◌, ◌∷◌, ◌≡◌, ◌≤◌, ap, arith, Bytes, cases_lt, inl, inr, length, min, suc, sym, take, take_all, zero}
 
 -- as many more as there is room for
 pub kept-more : (n m : ℕ) (xs ys : Bytes) → length xs ≤ n → m ≡ min (n - length xs) (length ys) → xs ++ take m ys ≡ take n (xs ++ ys)

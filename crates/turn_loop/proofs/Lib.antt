@@ -1,3 +1,4 @@
+pub mod Common
 pub mod Ending
 mod Examples
 pub mod Going

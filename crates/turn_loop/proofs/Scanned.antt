@@ -1,12 +1,8 @@
 -- Where a line ends.
-use Rattle.std.proofs.Common.{◌≡◌, inl, inr, ℕ, suc, ◌+◌, ◌<◌, ◌≤◌, ◌==◌, not, cond, true, false, Bool, if◌then◌else◌, [], ◌∷◌, ◌++◌, length, take, refl, sym, ap, subst, ◌∙◌, append_assoc, arith}
-use Rattle.std.specs.List.{position, prefix_len}
-use Rattle.std.specs.Prelude.{nat_lt, Some, None}
-use Rattle.std.proofs.lemmas.Bool.{cases_lt, lt-ltb, ltb-true}
+use Rattle.turn_loop.proofs.Common.{[], ℕ, ◌++◌, ◌+◌, ◌<◌, ◌==◌, ◌∙◌, ◌∷◌, ◌≡◌, ◌≤◌, ap, append-nil, append_assoc, arith, behind, Bool, Bytes, cases_lt, cond, false, if◌then◌else◌, inl, inr, length, line_ends, lt-ltb, ltb-true, nat_lt, not}
+use Rattle.turn_loop.proofs.Common.{position, prefix_len, refl, split_from, subst, suc, sym, take, Takes, true}
+use Rattle.std.specs.Prelude.{Some, None}
 use Rattle.std.proofs.lemmas.List.Sums.{prefix_len-le-length}
-use Rattle.std.proofs.lemmas.List.{append-nil}
-use Rattle.turn_loop.specs.Counting.{line_ends}
-use Rattle.turn_loop.specs.Talk.{Bytes, Takes, behind, split_from}
 
 -- how many bytes are there before a line feed
 abbrev pub before_feed : Bytes → ℕ

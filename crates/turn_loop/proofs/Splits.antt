@@ -1,8 +1,6 @@
 -- How bytes are split where more bytes come.
-use Rattle.std.proofs.Common.{◌≡◌, ℕ, Bool, true, false, if◌then◌else◌, List, [], ◌∷◌, ◌++◌, take, Some, None, refl, sym, ap, ◌∙◌, append_assoc}
-use Rattle.std.proofs.lemmas.List.{append-nil}
-use Rattle.turn_loop.specs.Serving.{Front}
-use Rattle.turn_loop.specs.Talk.{Begins, Bytes, IsItem, IsRest, Rules, Takes, answers, behind, held_behind, split, split_from, still_first, worked}
+use Rattle.turn_loop.proofs.Common.{[], ℕ, ◌++◌, ◌∙◌, ◌∷◌, ◌≡◌, answers, ap, append-nil, append_assoc, Begins, behind, Bool, Bytes, false, Front, held_behind, if◌then◌else◌, IsItem, IsRest, List, None, refl, Rules, Some, split, split_from}
+use Rattle.turn_loop.proofs.Common.{still_first, sym, take, Takes, true, worked}
 
 -- what is split goes on where it stopped
 pub split-append : (ends : Bytes → ℕ → Bool) (begun xs ys : Bytes)

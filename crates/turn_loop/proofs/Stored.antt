@@ -1,16 +1,7 @@
 -- What a disk holds.
-use Rattle.std.proofs.Common.{◌≡◌, ◌==◌, ◌⊎◌, Bool, false, inl, inr, ℕ, ◌<◌, ◌≤◌, ◌^◌, List, [], ◌∷◌, ◌++◌, length, refl, sym, ap, subst, ◌∙◌, arith}
-use Rattle.store_disk.specs.Disk.{LeavesOnly}
-use Rattle.store_disk.specs.Image.{all_framed, frames, payloads_in, HasList}
-use Rattle.store_disk.specs.Rest.{IsAtRest}
-use Rattle.store_disk.proofs.Framing.{frames_at}
-use Rattle.store_disk.proofs.Groups.{in-frames}
-use Rattle.store_disk.proofs.Moments.{started}
-use Rattle.turn_loop.specs.Groups.{held, HoldsItems, HoldsNoneOrAll, HoldsTurns}
-use Rattle.turn_loop.specs.Talk.{Begins, Bytes, Rules, worked}
-use Rattle.turn_loop.specs.Turns.{as_turn, joined}
-use Rattle.turn_loop.proofs.Splits.{begins-self, begins-trans, worked-append}
-use Rattle.turn_loop.proofs.InTurns.{joined-append, joined-turns}
+use Rattle.turn_loop.proofs.Common.{[], ℕ, ◌++◌, ◌<◌, ◌==◌, ◌^◌, ◌∙◌, ◌∷◌, ◌≡◌, ◌≤◌, ◌⊎◌, all_framed, ap, arith, as_turn, Begins, Bool, Bytes, false, frames, HasList, held, HoldsItems, HoldsNoneOrAll, HoldsTurns, inl, inr, IsAtRest, joined}
+use Rattle.turn_loop.proofs.{Common.{LeavesOnly, length, List, payloads_in, refl, Rules, started, subst, sym, worked}, Splits.{begins-self, begins-trans, worked-append}, InTurns.{joined-append, joined-turns}}
+use Rattle.store_disk.proofs.{Framing.frames_at, Groups.in-frames}
 
 held-list : (ps : List Bytes) (image : List ℕ) → HasList ps image → held image ≡ ps
 held-list ps image list = ap payloads_in list ∙ in-frames 0 ps

@@ -1,22 +1,8 @@
 -- A turn: what was worked, stored and answered.
-use Rattle.std.proofs.Common.{◌≡◌, ◌⊎◌, inl, inr, ℕ, ◌<◌, ◌^◌, Bool, List, [], ◌∷◌, ◌++◌, length, drop, Option, refl, sym, ap, subst, ◌∙◌, arith}
-use Rattle.std.specs.Prelude.{IfErr, Result, Ok, Err}
-use Rattle.std.specs.Result.{IsErrAnd}
-use Rattle.std.specs.Io.KnownBytes.{Appends}
-use Rattle.std.proofs.KnownBytes.{Keeps-refl}
-use Rattle.std.proofs.lemmas.List.{append-nil, drop_all}
-use Rattle.adept_io.specs.Written.{AppendsPrefix}
-use Rattle.store_disk.specs.Disk.{LeavesOnly}
-use Rattle.store_disk.specs.Image.{HasList}
-use Rattle.store_disk.specs.Rest.{HasNoneOrAll, IsAtRest}
-use Rattle.turn_loop.specs.Groups.{HoldsNoneOrAll}
-use Rattle.turn_loop.specs.Serving.{Cut, Turned, Works}
-use Rattle.turn_loop.specs.Talk.{Begins, Bytes, Rules, answers, split, still_first, worked}
-use Rattle.turn_loop.specs.Turns.{as_turn, turns, turns_from}
+use Rattle.turn_loop.proofs.Common.{[], ℕ, ◌++◌, ◌<◌, ◌^◌, ◌∙◌, ◌∷◌, ◌≡◌, ◌⊎◌, answers, ap, append-nil, Appends, AppendsPrefix, arith, as_turn, Begins, Bool, Bytes, Cut, drop, drop_all, Err, HasList, HasNoneOrAll, HoldsNoneOrAll, IfErr}
+use Rattle.turn_loop.proofs.Common.{inl, inr, IsAtRest, IsErrAnd, Keeps-refl, LeavesOnly, length, List, MAX_ANSWERS, Ok, Option, refl, Result, Rules, split, still_first, subst, sym, Turned, turns, turns_from, worked, Works}
+use Rattle.turn_loop.proofs.{Stored.{rest-image, stays}, InTurns.turn-is-full}
 use Rattle.turn_loop.specs.declared.faults.TalkFault.TheVariants as fault
-use Rattle.turn_loop.specs.declared.limits.TheConstants.{MAX_ANSWERS}
-use Rattle.turn_loop.proofs.Stored.{rest-image, stays}
-use Rattle.turn_loop.proofs.InTurns.{turn-is-full}
 
 -- what holds of the error of a result
 pub err-of : {T E : Type 0} (r : Result T E) (P Q : E → Type 0) → IsErrAnd r P → ((e : E) → P e → Q e) → IfErr r Q

@@ -1,13 +1,7 @@
 -- One item more.
-use Rattle.std.proofs.Common.{◌≡◌, ◌⊎◌, inl, inr, ℕ, ◌+◌, ◌<◌, ◌≤◌, ◌^◌, true, false, Bool, if◌then◌else◌, List, [], ◌∷◌, ◌++◌, length, take, drop, Some, None, refl, sym, ap, subst, ◌∙◌, append_assoc, arith, length-append}
-use Rattle.std.proofs.lemmas.List.{append-nil, drop-drop, drop_all, take-append-drop}
-use Rattle.store_disk.specs.Image.{all_framed}
-use Rattle.turn_loop.specs.Serving.{Front, Works}
-use Rattle.turn_loop.specs.Talk.{Bytes, IsRest, Rules, Takes, answers, held_behind, payload_of, still_first, worked}
-use Rattle.turn_loop.specs.Turns.{turns, turns_from}
-use Rattle.turn_loop.specs.declared.limits.TheConstants.{MAX_ANSWERS}
-use Rattle.turn_loop.proofs.Splits.{answers-append, front-item, front-none, front-then, no-more-first, took-all, took-item, worked-append}
-use Rattle.turn_loop.proofs.InTurns.{turn-goes-on}
+use Rattle.turn_loop.proofs.Common.{[], ℕ, ◌++◌, ◌+◌, ◌<◌, ◌^◌, ◌∙◌, ◌∷◌, ◌≡◌, ◌≤◌, ◌⊎◌, all_framed, answers, ap, append-nil, append_assoc, arith, Bool, Bytes, drop, drop-drop, drop_all, false, Front, held_behind, if◌then◌else◌, inl, inr}
+use Rattle.turn_loop.proofs.Common.{IsRest, length, length-append, List, MAX_ANSWERS, None, payload_of, refl, Rules, Some, still_first, subst, sym, take, take-append-drop, Takes, true, turns, turns_from, worked, Works}
+use Rattle.turn_loop.proofs.{Splits.{answers-append, front-item, front-none, front-then, no-more-first, took-all, took-item, worked-append}, InTurns.turn-goes-on}
 
 module _ {E : Type 0} {rules : Rules} {holds : E → Bool → List Bytes → Bytes → Type 0} {first : Bool} {ps : List Bytes} {begun bytes : Bytes} where
   pub none-yet : (desk : E) (text : Bytes) (group : List Bytes) → holds desk first ps begun → IsRest rules.ends begun → text ≡ [] → group ≡ [] → Works rules holds first ps begun bytes desk text group 0

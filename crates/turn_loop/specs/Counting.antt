@@ -1,8 +1,6 @@
 -- A responder to lines, of which some are kept.
 use Rattle.std.specs.Prelude.{◌≡◌, ◌==◌, ◌&&◌, ℕ, ◌+◌, ◌<◌, ◌^◌, true, false, Bool, List, [], ◌∷◌, ◌++◌, length, nat_lt}
-use Rattle.std.proofs.Common.{ap, arith}
-use Rattle.std.proofs.lemmas.Bool.{ltb-true}
-use Rattle.std.proofs.lemmas.List.{length-append}
+use Rattle.std.proofs.{Common.{ap, arith}, lemmas.Bool.ltb-true, lemmas.List.length-append}
 use Rattle.store_disk.specs.Image.{all_framed, framed, u32}
 use Rattle.store_disk.proofs.Framing.{framed-more}
 use Rattle.turn_loop.specs.Talk.{Bytes, Rules}

@@ -1,8 +1,7 @@
 -- What the images of a disk hold of a talk.
 use Rattle.std.specs.Prelude.{◌⊎◌, ℕ, List}
 use Rattle.store_disk.specs.Image.{frames, payloads_in, HasList}
-use Rattle.turn_loop.specs.Talk.{Begins, Bytes, Rules, worked}
-use Rattle.turn_loop.specs.Turns.{joined}
+use Rattle.turn_loop.specs.{Talk.{Begins, Bytes, Rules, worked}, Turns.joined}
 
 -- the payloads of the records of an image
 abbrev pub held : List ℕ → List Bytes

@@ -1,18 +1,10 @@
 -- How a talk in turns goes on, and how it ends.
-use Rattle.std.specs.Prelude.{◌≡◌, ◌⊎◌, ℕ, ◌<◌, ◌≤◌, ◌^◌, Bool, true, List, [], ◌++◌, length, drop, Option, IfSome, IfOk, IfErr, Result, Ok, Err}
-use Rattle.std.specs.List.{AllByRecursion}
-use Rattle.std.specs.Io.KnownBytes.{Appends, Consumes, IsAtEnd, Keeps}
+use Rattle.std.specs.{Prelude.{◌≡◌, ◌⊎◌, ℕ, ◌<◌, ◌≤◌, ◌^◌, Bool, true, List, [], ◌++◌, length, drop, Option, IfSome, IfOk, IfErr, Result, Ok, Err}, List.AllByRecursion, Io.KnownBytes.{Appends, Consumes, IsAtEnd, Keeps}}
 use Rattle.adept_io.specs.Written.{AppendsPrefix}
-use Rattle.store_disk.specs.Disk.{LeavesOnly}
-use Rattle.store_disk.specs.Image.{all_framed, HasList}
-use Rattle.store_disk.specs.Rest.{IsAtRest}
-use Rattle.turn_loop.specs.Groups.{HoldsItems, HoldsNoneOrAll, HoldsTurns}
-use Rattle.turn_loop.specs.Talk.{Begins, Bytes, Rules, IsRest, answers, behind, said, split, still_first, worked}
-use Rattle.turn_loop.specs.Turns.{IsRead, NoneWaited, as_turn, but_last, joined, turns, turns_from, turns_of}
-use Rattle.turn_loop.specs.declared.faults.TalkFault.{TalkFault}
+use Rattle.store_disk.specs.{Disk.LeavesOnly, Image.{all_framed, HasList}, Rest.IsAtRest}
+use Rattle.turn_loop.specs.{Groups.{HoldsItems, HoldsNoneOrAll, HoldsTurns}, Talk.{Begins, Bytes, Rules, IsRest, answers, behind, said, split, still_first, worked}, Turns.{IsRead, NoneWaited, as_turn, but_last, joined, turns, turns_from}}
+use Rattle.turn_loop.specs.{Turns.turns_of, declared.faults.TalkFault.TalkFault, declared.limits.TheConstants.MAX_INPUT, declared.turns.Turn.Turn}
 use Rattle.turn_loop.specs.declared.faults.TalkFault.TheVariants as fault
-use Rattle.turn_loop.specs.declared.limits.TheConstants.{MAX_INPUT}
-use Rattle.turn_loop.specs.declared.turns.Turn.{Turn}
 
 -- bytes begin with these items, and go on with a rest, whatever stands behind them
 pub record Front (ends : Bytes → ℕ → Bool) (bytes : Bytes) (items : List Bytes) (rest : Bytes) : Type 0 where

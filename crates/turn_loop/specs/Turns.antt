@@ -1,8 +1,6 @@
 -- Turns: which items are worked, stored and answered together.
-use Rattle.std.specs.Prelude.{ℕ, ◌+◌, ◌-◌, ◌≤◌, ◌<◌, Bool, true, false, List, [], ◌∷◌, ◌++◌, length, take, nat_lt, if◌then◌else◌}
-use Rattle.std.specs.List.{flat_map}
-use Rattle.turn_loop.specs.Talk.{Bytes, Rules, Begins, held_behind, split_from, still_first, worked}
-use Rattle.turn_loop.specs.declared.limits.TheConstants.{MAX_ANSWERS, MAX_READ}
+use Rattle.std.specs.{Prelude.{ℕ, ◌+◌, ◌-◌, ◌≤◌, ◌<◌, Bool, true, false, List, [], ◌∷◌, ◌++◌, length, take, nat_lt, if◌then◌else◌}, List.flat_map}
+use Rattle.turn_loop.specs.{Talk.{Bytes, Rules, Begins, held_behind, split_from, still_first, worked}, declared.limits.TheConstants.{MAX_ANSWERS, MAX_READ}}
 
 -- lists one behind another
 abbrev pub joined : {A : Type 0} → List (List A) → List A

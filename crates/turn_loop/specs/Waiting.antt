@@ -1,8 +1,6 @@
 -- What was read and not yet worked, and what a read makes of it.
-use Rattle.std.specs.Prelude.{◌≡◌, ◌≢◌, ◌⊎◌, ℕ, ◌+◌, ◌≤◌, [], length, Option}
-use Rattle.std.specs.Io.KnownBytes.{Consumes, IsAtEnd}
-use Rattle.turn_loop.specs.Talk.{Bytes}
-use Rattle.turn_loop.specs.declared.limits.TheConstants.{MAX_INPUT, MAX_READ}
+use Rattle.std.specs.{Prelude.{◌≡◌, ◌≢◌, ◌⊎◌, ℕ, ◌+◌, ◌≤◌, [], length, Option}, Io.KnownBytes.{Consumes, IsAtEnd}}
+use Rattle.turn_loop.specs.{Talk.Bytes, declared.limits.TheConstants.{MAX_INPUT, MAX_READ}}
 
 -- bytes that were read and not yet worked, and how many bytes were read so far
 pub record Unworked : Type 0 where

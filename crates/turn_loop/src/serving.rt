@@ -1,12 +1,8 @@
 // A talk from its first byte to its end.
-ghost use Rattle.std.specs.Prelude.{◌≡◌, ◌<◌, ◌≤◌, ◌^◌, ◌++◌, [], ℕ, List, Bool, true, length, IfSome, OnOk, OnErr, IfErr, IsErrOf};
-ghost use Rattle.std.specs.Io.KnownBytes.{Appends, IsAtEnd};
-ghost use Rattle.adept_io.specs.Counts.{Rose};
-ghost use Rattle.adept_io.specs.Written.{AppendsPrefix};
-ghost use Rattle.store_disk.specs.Disk.{LeavesOnly};
-ghost use Rattle.store_disk.specs.Rest.{IsAtRest};
-ghost use Rattle.turn_loop.specs.Serving.{Acknowledged, Closes, Ended, HoldsBeginningOf};
-ghost use Rattle.turn_loop.specs.Talk.{Rules, said};
+ghost use Rattle.std.specs.{Prelude.{◌≡◌, ◌<◌, ◌≤◌, ◌^◌, ◌++◌, [], ℕ, List, Bool, true, length, IfSome, OnOk, OnErr, IfErr, IsErrOf}, Io.KnownBytes.{Appends, IsAtEnd}};
+ghost use Rattle.adept_io.specs.{Counts.Rose, Written.AppendsPrefix};
+ghost use Rattle.store_disk.specs.{Disk.LeavesOnly, Rest.IsAtRest};
+ghost use Rattle.turn_loop.specs.{Serving.{Acknowledged, Closes, Ended, HoldsBeginningOf}, Talk.{Rules, said}};
 
 use crate::faults::TalkFault;
 use crate::responders::Responder;

@@ -1,13 +1,8 @@
 // One turn: work, store, answer.
-ghost use Rattle.std.specs.Prelude.{◌≡◌, ◌⊎◌, ◌<◌, ◌≤◌, ◌^◌, ◌++◌, [], ℕ, List, Bool, length, IfOk, IfErr, OnOk, OnErr, IsErrOf};
-ghost use Rattle.std.specs.Io.KnownBytes.{Appends};
-ghost use Rattle.adept_io.specs.Counts.{Rose};
-ghost use Rattle.adept_io.specs.Written.{AppendsPrefix};
-ghost use Rattle.store_disk.specs.Disk.{LeavesOnly};
-ghost use Rattle.store_disk.specs.Image.{all_framed};
-ghost use Rattle.store_disk.specs.Rest.{HasNoneOrAll, IsAtRest};
-ghost use Rattle.turn_loop.specs.Serving.{CutFrom, TurnedFrom};
-ghost use Rattle.turn_loop.specs.Talk.{IsRest};
+ghost use Rattle.std.specs.{Prelude.{◌≡◌, ◌⊎◌, ◌<◌, ◌≤◌, ◌^◌, ◌++◌, [], ℕ, List, Bool, length, IfOk, IfErr, OnOk, OnErr, IsErrOf}, Io.KnownBytes.Appends};
+ghost use Rattle.adept_io.specs.{Counts.Rose, Written.AppendsPrefix};
+ghost use Rattle.store_disk.specs.{Disk.LeavesOnly, Image.all_framed, Rest.{HasNoneOrAll, IsAtRest}};
+ghost use Rattle.turn_loop.specs.{Serving.{CutFrom, TurnedFrom}, Talk.IsRest};
 
 use crate::faults::TalkFault;
 use crate::responders::Responder;

@@ -1,6 +1,5 @@
 // What was read and not yet worked.
-ghost use Rattle.std.specs.Prelude.{◌≡◌, ◌≢◌, ◌⊎◌, ◌==◌, ◌<◌, ◌≤◌, [], length, drop, IfOk, IfErr, OnOk, OnErr, IsErrOf};
-ghost use Rattle.std.specs.Io.KnownBytes.{Consumes};
+ghost use Rattle.std.specs.{Prelude.{◌≡◌, ◌≢◌, ◌⊎◌, ◌==◌, ◌<◌, ◌≤◌, [], length, drop, IfOk, IfErr, OnOk, OnErr, IsErrOf}, Io.KnownBytes.Consumes};
 ghost use Rattle.adept_io.specs.Counts.{Rose};
 ghost use Rattle.turn_loop.specs.Waiting.{Filled, Unworked};
 

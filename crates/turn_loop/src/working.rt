@@ -1,7 +1,6 @@
 // The items at the front of bytes, worked one after another.
 ghost use Rattle.std.specs.Prelude.{◌≡◌, ◌⊎◌, ◌<◌, ◌≤◌, [], length, IfOk};
-ghost use Rattle.turn_loop.specs.Serving.{Works};
-ghost use Rattle.turn_loop.specs.Talk.{WhereBegun};
+ghost use Rattle.turn_loop.specs.{Serving.Works, Talk.WhereBegun};
 
 use crate::limits::MAX_ANSWERS;
 use crate::responders::Responder;

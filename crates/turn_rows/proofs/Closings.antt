@@ -1,15 +1,7 @@
 -- Rows of which the first cells were closed.
-use Rattle.std.proofs.Common.{◌≡◌, List, [], ◌∷◌, ◌++◌, length, All, refl, sym, ap, ◌∙◌, append_assoc}
-use Rattle.std.specs.List.{AllZip}
-use Rattle.std.proofs.lemmas.List.{map_push, append-nil, nil_from_length}
-use Rattle.std.proofs.lemmas.List.Elements.{All-head, All-tail}
-use Rattle.std.proofs.lemmas.Slice.Zip.{all_zipped_more}
+use Rattle.turn_rows.proofs.Common.{[], ◌++◌, ◌∙◌, ◌∷◌, ◌≡◌, All, All-head, All-tail, all_zipped_more, AllZip, ap, append-nil, append_assoc, AreOf, CanClose, Cell, IsClosedAs, IsPassOf, length, List, map_push, nil_from_length, Pass, refl}
+use Rattle.turn_rows.proofs.Common.{sym, view_of, views}
 use Rattle.turn_cell.specs.declared.journal.Closed.{Closed}
-use Rattle.turn_cell.specs.declared.pass.Pass.{Pass}
-use Rattle.turn_cell.specs.declared.cell.Cell.{Cell}
-use Rattle.turn_cell.specs.Passes.{view_of, IsPassOf}
-use Rattle.turn_batch.specs.Batch.{AreOf}
-use Rattle.turn_rows.specs.Rows.{CanClose, IsClosedAs, views}
 
 module _ {M E R W S : Type 0} (after : S → E → S) (reply : S → E → R) (state : M → S) {g : _} where
   -- The cells of the first of ps were closed, as cs. These cells are left, with these passes.

@@ -1,10 +1,6 @@
 -- Flags, and the first of them that is raised.
-use Rattle.std.proofs.Common.{◌≡◌, ℕ, zero, suc, ◌+◌, ◌<◌, ◌≤◌, Bool, true, false, not, List, [], ◌∷◌, length, drop, None, Some, slice_get, refl, ltb, arith}
-use Rattle.std.proofs.Math.Bool.{cond}
-use Rattle.std.proofs.lemmas.Bool.{ltb-false}
-use Rattle.std.proofs.lemmas.List.Sums.{prefix_len-le-length}
-use Rattle.std.specs.List.{position, position_or_len}
-use Rattle.std.specs.Option.{unwrap_or}
+use Rattle.turn_rows.proofs.Common.{[], ℕ, ◌+◌, ◌<◌, ◌∷◌, ◌≡◌, ◌≤◌, arith, Bool, drop, false, length, List, ltb, None, not, position, position_or_len, refl, slice_get, Some, suc, true, unwrap_or, zero}
+use Rattle.std.proofs.{Math.Bool.cond, lemmas.Bool.ltb-false, lemmas.List.Sums.prefix_len-le-length}
 
 -- before it all are lowered
 pub lowered_before : (flags : List Bool) (from p : ℕ) → from ≤ length flags → from ≤ p → p < from + position_or_len (λ b. b) (drop from flags) → slice_get flags p ≡ Some false

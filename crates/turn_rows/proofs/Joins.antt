@@ -1,17 +1,7 @@
 -- Passes of which the first ones have taken others in.
-use Rattle.std.proofs.Common.{◌≡◌, ℕ, ◌+◌, ◌<◌, ◌≤◌, List, [], ◌∷◌, ◌++◌, length, take, get_or, set, All, refl, sym, ◌∙◌, arith}
+use Rattle.turn_rows.proofs.Common.{[], ℕ, ◌++◌, ◌+◌, ◌<◌, ◌∙◌, ◌∷◌, ◌≡◌, ◌≤◌, All, All-push, all_zipped_more, AllZip, AreOf, arith, Cell, get_or, IsLegalView, IsPassOf, IsSeenBy, joined, length, length_push, List, map_more, Pass, PassView}
+use Rattle.turn_rows.proofs.{Common.{refl, set, sym, take, take_all, view_of, views, zip_with}, Lists.{IsSameFrom, same_at, same_from_next, map-take_put, zip_with-push}, Passes.AreOf-set}
 use mathlib.Core.List.{IsPrefix}
-use Rattle.std.specs.List.{AllZip}
-use Rattle.std.proofs.lemmas.List.{map_more, take_all, length_push}
-use Rattle.std.proofs.lemmas.List.Elements.{All-push}
-use Rattle.std.proofs.lemmas.Slice.Zip.{all_zipped_more}
-use Rattle.turn_cell.specs.declared.pass.Pass.{Pass}
-use Rattle.turn_cell.specs.declared.cell.Cell.{Cell}
-use Rattle.turn_cell.specs.Passes.{PassView, view_of, IsPassOf, IsLegalView, joined}
-use Rattle.turn_batch.specs.Batch.{AreOf}
-use Rattle.turn_rows.specs.Rows.{IsSeenBy, views, zip_with}
-use Rattle.turn_rows.proofs.Lists.{IsSameFrom, same_at, same_from_next, map-take_put, zip_with-push}
-use Rattle.turn_rows.proofs.Passes.{AreOf-set}
 
 module _ {M E R W S : Type 0} (after : S → E → S) (reply : S → E → R) where
   -- the views of a pass, of one that it takes in, and of the pass then

@@ -1,7 +1,6 @@
 -- Lists of which the first places are done.
-use Rattle.std.proofs.Common.{◌≡◌, ℕ, ◌+◌, ◌<◌, List, [], ◌∷◌, ◌++◌, length, map, take, drop, get_or, set, All, refl, sym, ap, ◌∙◌, subst, append_assoc, arith}
-use Rattle.std.proofs.lemmas.List.{take_more, take_more_set, get_or-drop, drop-drop, drop-set-lt, map_push, get_or-map, length-map}
-use Rattle.turn_rows.specs.Rows.{zip_with}
+use Rattle.turn_rows.proofs.Common.{[], ℕ, ◌++◌, ◌+◌, ◌<◌, ◌∙◌, ◌∷◌, ◌≡◌, All, ap, append_assoc, arith, drop, drop-drop, drop-set-lt, get_or, get_or-drop, get_or-map, length, length-map, List, map, map_push, refl, set, subst, sym, take}
+use Rattle.turn_rows.proofs.Common.{take_more, take_more_set, zip_with}
 
 module _ {A : Type 0} where
   -- one more item of a list

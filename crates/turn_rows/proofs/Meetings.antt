@@ -1,23 +1,11 @@
 -- Passes of which the first ones have met.
-use Rattle.std.proofs.Common.{◌≡◌, ℕ, zero, suc, ◌+◌, ◌-◌, ◌<◌, ◌≤◌, ltb, Bool, true, false, List, [], ◌∷◌, ◌++◌, length, take, get_or, set, All, Some, slice_get, refl, sym, ap, ◌∙◌, subst, arith, if◌then◌else◌}
+use Rattle.turn_rows.proofs.Common.{[], ℕ, ◌++◌, ◌+◌, ◌-◌, ◌<◌, ◌∙◌, ◌∷◌, ◌≡◌, ◌≤◌, All, All-push, all_zipped_more, AllZip, ap, AreLevel, AreOf, arith, Bool, Cell, false, first_met, get_or, HasMet, if◌then◌else◌, IsLegalView, IsPassOf}
+use Rattle.turn_rows.proofs.Common.{IsSeenBy, length, length_push, List, ltb, map_more, Pass, PassView, refl, second_met, seen_of, set, slice_get, slice_get-get_or, slice_get-map, Some, subst, suc, sym, take, take_all, true, view_of, views}
+use Rattle.turn_rows.proofs.{Common.{zero, zip_with}, Lists.{IsSameFrom, same_at, same_from_next, same_from_after, map-take_put, zip_with-push}, Passes.AreOf-set, Places.All-slice_get}
 use mathlib.Core.List.{IsPrefix}
 use Rattle.std.specs.Prelude.{option_map}
-use Rattle.std.specs.List.{AllZip}
-use Rattle.std.proofs.lemmas.List.{map_more, take_all, length_push}
-use Rattle.std.proofs.lemmas.List.Elements.{All-push}
-use Rattle.std.proofs.lemmas.Slice.Zip.{all_zipped_more}
-use Rattle.std.proofs.lemmas.Option.{slice_get-get_or, slice_get-map}
 use Rattle.turn_cell.proofs.Prefixes.{prefix_self}
-use Rattle.turn_cell.specs.Rule.{longer}
-use Rattle.turn_cell.specs.declared.journal.Entry.{Entry}
-use Rattle.turn_cell.specs.declared.pass.Pass.{Pass}
-use Rattle.turn_cell.specs.declared.cell.Cell.{Cell}
-use Rattle.turn_cell.specs.Passes.{PassView, view_of, IsPassOf, IsLegalView}
-use Rattle.turn_batch.specs.Batch.{AreOf}
-use Rattle.turn_rows.specs.Rows.{AreLevel, HasMet, IsSeenBy, first_met, second_met, seen_of, views, zip_with}
-use Rattle.turn_rows.proofs.Lists.{IsSameFrom, same_at, same_from_next, same_from_after, map-take_put, zip_with-push}
-use Rattle.turn_rows.proofs.Passes.{AreOf-set}
-use Rattle.turn_rows.proofs.Places.{All-slice_get}
+use Rattle.turn_cell.specs.{Rule.longer, declared.journal.Entry.Entry}
 
 -- of two lists that are the same the longer is that list
 pub longer-same : {A : Type 0} (xs ys : List A) → xs ≡ ys → longer xs ys ≡ xs

@@ -1,13 +1,6 @@
 -- Machines of which the first have cells.
-use Rattle.std.proofs.Common.{◌≡◌, List, [], ◌∷◌, ◌++◌, length, All, refl, sym, ap, ◌∙◌, append_assoc}
-use Rattle.std.proofs.lemmas.List.{append-nil, nil_from_length}
-use Rattle.std.proofs.lemmas.List.Elements.{All-head, All-tail}
+use Rattle.turn_rows.proofs.{Common.{[], ◌++◌, ◌∙◌, ◌∷◌, ◌≡◌, All, All-head, All-tail, ap, append-nil, append_assoc, AreOpened, Cell, cell_id, first_of, length, List, nil_from_length, Pass, refl, sym, view_of}, Passes.AreOpened-push}
 use Rattle.turn_cell.specs.declared.machine.Machine.{Ghosts}
-use Rattle.turn_cell.specs.declared.pass.Pass.{Pass}
-use Rattle.turn_cell.specs.declared.cell.Cell.{Cell}
-use Rattle.turn_cell.specs.Passes.{view_of, cell_id, first_of}
-use Rattle.turn_rows.specs.Rows.{AreOpened}
-use Rattle.turn_rows.proofs.Passes.{AreOpened-push}
 
 module _ {M E R W S : Type 0} {g : Ghosts M E R W S} (state : M → S) (young : M → Type 0) where
   -- The first of ms have the cells cs with the first passes ps, and these machines are left.

@@ -1,10 +1,5 @@
 -- Passes of cells, place by place.
-use Rattle.std.proofs.Common.{◌≡◌, ℕ, zero, suc, ◌<◌, List, [], ◌∷◌, ◌++◌, length, get_or, set, sym, ap, ◌∙◌, arith}
-use Rattle.turn_cell.specs.declared.pass.Pass.{Pass}
-use Rattle.turn_cell.specs.declared.cell.Cell.{Cell}
-use Rattle.turn_cell.specs.Passes.{view_of, cell_id, IsPassOf, first_of}
-use Rattle.turn_batch.specs.Batch.{AreOf}
-use Rattle.turn_rows.specs.Rows.{AreOpened}
+use Rattle.turn_rows.proofs.Common.{[], ℕ, ◌++◌, ◌<◌, ◌∙◌, ◌∷◌, ◌≡◌, ap, AreOf, AreOpened, arith, Cell, cell_id, first_of, get_or, IsPassOf, length, List, Pass, set, suc, sym, view_of, zero}
 
 module _ {M E R W S : Type 0} {g : _} where
   -- the pass at a place is of the cell there

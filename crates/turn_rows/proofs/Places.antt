@@ -1,14 +1,6 @@
 -- From what holds of rows to the cell and the pass at a place.
-use Rattle.std.proofs.Common.{◌≡◌, ℕ, zero, suc, List, [], ◌∷◌, ◌++◌, length, All, Some, slice_get, refl, sym, ◌∙◌, subst, arith}
-use Rattle.std.specs.List.{AllZip}
-use Rattle.std.proofs.lemmas.List.{length-map}
-use Rattle.std.proofs.lemmas.List.Elements.{All-nil, All-cons, All-head, All-tail}
-use Rattle.std.proofs.lemmas.Option.{slice_get-map}
-use Rattle.turn_cell.specs.declared.pass.Pass.{Pass}
-use Rattle.turn_cell.specs.declared.cell.Cell.{Cell}
-use Rattle.turn_cell.specs.Passes.{PassView, view_of, cell_id, IsPassOf, first_of}
-use Rattle.turn_batch.specs.Batch.{AreOf}
-use Rattle.turn_rows.specs.Rows.{AreOpened, views, zip_with}
+use Rattle.turn_rows.proofs.Common.{[], ℕ, ◌++◌, ◌∙◌, ◌∷◌, ◌≡◌, All, All-cons, All-head, All-nil, All-tail, AllZip, AreOf, AreOpened, arith, Cell, cell_id, first_of, IsPassOf, length, length-map, List, Pass, PassView, refl, slice_get}
+use Rattle.turn_rows.proofs.Common.{slice_get-map, Some, subst, suc, sym, view_of, views, zero, zip_with}
 
 module _ {A : Type 0} (P : A → Type 0) where
   pub All-slice_get : (xs : List A) (i : ℕ) (x : A) → All P xs → slice_get xs i ≡ Some x → P x

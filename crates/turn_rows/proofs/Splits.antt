@@ -1,14 +1,6 @@
 -- Passes of which the first ones were split.
-use Rattle.std.proofs.Common.{◌≡◌, ℕ, ◌+◌, ◌<◌, ◌≤◌, List, [], ◌∷◌, ◌++◌, length, map, take, get_or, set, All, refl, sym, ◌∙◌, arith}
-use Rattle.std.proofs.lemmas.List.{map_push, map_more, take_all}
-use Rattle.std.proofs.lemmas.List.Elements.{All-push}
-use Rattle.turn_cell.specs.declared.pass.Pass.{Pass}
-use Rattle.turn_cell.specs.declared.cell.Cell.{Cell}
-use Rattle.turn_cell.specs.Passes.{PassView, view_of, IsPassOf, IsLegalView, split_off}
-use Rattle.turn_batch.specs.Batch.{AreOf}
-use Rattle.turn_rows.specs.Rows.{split_from, views}
-use Rattle.turn_rows.proofs.Lists.{IsSameFrom, take_item, same_at, same_from_next, map-take_put}
-use Rattle.turn_rows.proofs.Passes.{AreOf-set, AreOf-push}
+use Rattle.turn_rows.proofs.Common.{[], ℕ, ◌++◌, ◌+◌, ◌<◌, ◌∙◌, ◌∷◌, ◌≡◌, ◌≤◌, All, All-push, AreOf, arith, Cell, get_or, IsLegalView, IsPassOf, length, List, map, map_more, map_push, Pass, PassView, refl, set, split_from, split_off, sym}
+use Rattle.turn_rows.proofs.{Common.{take, take_all, view_of, views}, Lists.{IsSameFrom, take_item, same_at, same_from_next, map-take_put}, Passes.{AreOf-set, AreOf-push}}
 
 module _ {M E R W S : Type 0} (after : S → E → S) (reply : S → E → R) where
   -- views before a split and after it, and those of the passes that it makes

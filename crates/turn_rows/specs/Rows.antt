@@ -1,12 +1,7 @@
 -- Rows: one pass of each of many cells.
 use Rattle.std.specs.Prelude.{◌≡◌, ℕ, ◌+◌, ◌-◌, ◌^◌, ◌<◌, Bool, false, List, [], ◌∷◌, map, Option, Some, None, slice_get}
 use mathlib.Core.List.{IsPrefix}
-use Rattle.turn_cell.specs.declared.journal.Closed.{Closed}
-use Rattle.turn_cell.specs.declared.journal.Entry.{Entry}
-use Rattle.turn_cell.specs.declared.pass.Pass.{Pass}
-use Rattle.turn_cell.specs.declared.cell.Cell.{Cell}
-use Rattle.turn_cell.specs.Passes.{PassView, view_of, cell_id, first_of, IsClosed, IsLegalView}
-use Rattle.turn_cell.specs.Rule.{longer}
+use Rattle.turn_cell.specs.{declared.journal.Closed.Closed, declared.journal.Entry.Entry, declared.pass.Pass.Pass, declared.cell.Cell.Cell, Passes.{PassView, view_of, cell_id, first_of, IsClosed, IsLegalView}, Rule.longer}
 
 -- f of the two items at each place
 abbrev pub zip_with : {A B C : Type 0} → (A → B → C) → List A → List B → List C

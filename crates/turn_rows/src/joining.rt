@@ -1,6 +1,5 @@
 //! How the passes of a row take in those of another.
-ghost use Rattle.std.specs.Prelude.{◌≡◌, All};
-ghost use Rattle.std.specs.List.{AllZip};
+ghost use Rattle.std.specs.{Prelude.{◌≡◌, All}, List.AllZip};
 ghost use Rattle.turn_batch.specs.Batch.{AreOf};
 ghost use Rattle.turn_cell.specs.Passes.{IsLegalView, joined};
 ghost use Rattle.turn_rows.specs.Rows.{CanJoin, IsSeenBy, views, zip_with};

@@ -1,6 +1,5 @@
 //! How the passes of two rows tell each other what they have seen.
-ghost use Rattle.std.specs.Prelude.{◌≡◌, ◌≤◌, ◌<◌, length, All, Some, false, slice_get};
-ghost use Rattle.std.specs.List.{AllZip, position, position_or_len};
+ghost use Rattle.std.specs.{Prelude.{◌≡◌, ◌≤◌, ◌<◌, length, All, Some, false, slice_get}, List.{AllZip, position, position_or_len}};
 ghost use Rattle.turn_batch.specs.Batch.{AreOf};
 ghost use Rattle.turn_cell.specs.Passes.{IsLegalView};
 ghost use Rattle.turn_rows.specs.Rows.{AreLevel, IsSeenBy, first_met, second_met, views, zip_with};

@@ -1,7 +1,6 @@
 -- The versions of a type are numbered one after another.
 use Rattle.std.proofs.Common.{◌≡◌, ℕ, ◌+◌, ◌-◌, List, [], ◌∷◌, ◌++◌, length, refl, Option, Some, None, sym, ◌∙◌, ap, subst, slice_get, arith, rules}
-use Rattle.type_core.specs.KindModel.{Numbered}
-use Rattle.type_core.specs.Machine.{newest_of}
+use Rattle.type_core.specs.{KindModel.Numbered, Machine.newest_of}
 use Rattle.wsm_sound.specs.VersionModel.{VersionModel}
 
 last_index : (v : VersionModel) (vs : List VersionModel) → length (v ∷ vs) - 1 ≡ length vs

@@ -1,19 +1,12 @@
 -- A type that has a version keeps it, and tells of it.
-use Rattle.std.proofs.Common.{◌≡◌, ℕ, ◌+◌, ◌-◌, ◌<◌, ◌≤◌, ltb, Bool, true, false, List, [], ◌∷◌, ◌++◌, length, Option, Some, None, Result, Ok, Err, get_or, refl, ap, arith, if◌then◌else◌, length-append}
-use Rattle.std.proofs.lemmas.Option.{slice_get-get_or}
-use Rattle.turn_cell.specs.History.{state_after}
-use Rattle.turn_cell.specs.declared.journal.Entry.{Entry}
-use Rattle.type_core.specs.KindModel.{KindModel, not_defined}
-use Rattle.type_core.specs.Machine.{newest_of, with_version, defined_by, installed_by, event_on, next_kind, kind_after, kind_reply}
-use Rattle.type_core.specs.declared.events.KindEvent.{KindEvent}
+use Rattle.std.proofs.{Common.{◌≡◌, ℕ, ◌+◌, ◌-◌, ◌<◌, ◌≤◌, ltb, Bool, true, false, List, [], ◌∷◌, ◌++◌, length, Option, Some, None, Result, Ok, Err, get_or, refl, ap, arith, if◌then◌else◌, length-append}, lemmas.Option.slice_get-get_or}
+use Rattle.turn_cell.specs.{History.state_after, declared.journal.Entry.Entry}
+use Rattle.type_core.specs.{KindModel.{KindModel, not_defined}, Machine.{newest_of, with_version, defined_by, installed_by, event_on, next_kind, kind_after, kind_reply}, declared.events.KindEvent.KindEvent}
 use Rattle.type_core.specs.declared.events.KindEvent.TheVariants.{Define, Install, Newest}
 use Rattle.type_core.specs.declared.replies.KindReply.TheVariants as reply
 use Rattle.wsm_schema.specs.SchemaModel.{SchemaModel}
 use Rattle.wsm_sound.proofs.NoFaults.{first_taken}
-use Rattle.wsm_sound.specs.Faults.{fault_of}
-use Rattle.wsm_sound.specs.VersionModel.{VersionModel}
-use Rattle.wsm_sound.specs.Versions.{first_of, first_version, evolved}
-use Rattle.wsm_sound.specs.declared.faults.Fault.{Fault}
+use Rattle.wsm_sound.specs.{Faults.fault_of, VersionModel.VersionModel, Versions.{first_of, first_version, evolved}, declared.faults.Fault.Fault}
 
 -- no event takes a version away
 pub one-more : (k : KindModel) (v : VersionModel) → length k.versions < length (with_version k v).versions

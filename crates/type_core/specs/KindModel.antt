@@ -1,6 +1,5 @@
 -- A process type as contracts see it.
-use Rattle.std.specs.Prelude.{◌≡◌, ℕ, ◌+◌, List, [], ◌∷◌, refl}
-use Rattle.std.specs.Coded.{Coded, code_by, coded×, coded_ℕ, coded_list}
+use Rattle.std.specs.{Prelude.{◌≡◌, ℕ, ◌+◌, List, [], ◌∷◌, refl}, Coded.{Coded, code_by, coded×, coded_ℕ, coded_list}}
 use Rattle.wsm_sound.specs.VersionModel.{VersionModel, version_code}
 
 -- the type's number, and its versions from the first on

@@ -1,15 +1,11 @@
 -- The type machine: what each event does to a type, and what the type answers.
 use Rattle.std.specs.Prelude.{ℕ, ◌-◌, ◌*◌, List, [], ◌∷◌, ◌++◌, length, slice_get, nat_lt, Option, Some, None, Result, Ok, Err, if◌then◌else◌, ◌==◌}
-use Rattle.type_core.specs.KindModel.{KindModel}
-use Rattle.type_core.specs.declared.events.KindEvent.{KindEvent}
+use Rattle.type_core.specs.{KindModel.KindModel, declared.events.KindEvent.KindEvent, declared.replies.KindReply.KindReply}
 use Rattle.type_core.specs.declared.events.KindEvent.TheVariants as event
-use Rattle.type_core.specs.declared.replies.KindReply.{KindReply}
 use Rattle.type_core.specs.declared.replies.KindReply.TheVariants as reply
 use Rattle.wsm_ops.specs.declared.operations.Op.{Op}
 use Rattle.wsm_schema.specs.Flat.{cards_of}
-use Rattle.wsm_sound.specs.VersionModel.{VersionModel}
-use Rattle.wsm_sound.specs.Versions.{first_of, evolved}
-use Rattle.wsm_sound.specs.declared.faults.Fault.{Fault}
+use Rattle.wsm_sound.specs.{VersionModel.VersionModel, Versions.{first_of, evolved}, declared.faults.Fault.Fault}
 
 -- the last version, where there is one
 abbrev pub newest_of : List VersionModel → Option VersionModel

@@ -1,8 +1,6 @@
 // Process types.
-ghost use Rattle.std.specs.Prelude.{◌≡◌, ◌<◌, ◌≤◌, ◌+◌, ◌^◌, Ok, None, Some, length, IfOk, IfErr, OnErr};
-ghost use Rattle.std.specs.Option.{option_copied};
-ghost use Rattle.type_core.specs.KindModel.{not_defined};
-ghost use Rattle.type_core.specs.Machine.{newest_of, version_in, next_kind, weight};
+ghost use Rattle.std.specs.{Prelude.{◌≡◌, ◌<◌, ◌≤◌, ◌+◌, ◌^◌, Ok, None, Some, length, IfOk, IfErr, OnErr}, Option.option_copied};
+ghost use Rattle.type_core.specs.{KindModel.not_defined, Machine.{newest_of, version_in, next_kind, weight}};
 
 use crate::events::KindEvent;
 use crate::replies::{KindReply, both};

@@ -1,21 +1,9 @@
 -- The lines of a unit are read alike in a file and behind what is held.
-use Rattle.std.proofs.Common.{◌≡◌, ℕ, ◌+◌, Bool, true, false, not, List, [], ◌∷◌, length, take, refl, sym, ap, subst, ◌∙◌, inl, inr, add-one, arith, if◌then◌else◌, Ok, Err, Result}
-use Rattle.file_words.specs.Lines.{Bytes, without_return}
-use Rattle.file_words.specs.Words.{is_skipped, words_of}
-use Rattle.file_model.specs.Reading.{at_line, refused, step_in}
+use Rattle.unit_files.proofs.Common.{[], ℕ, ◌+◌, ◌∙◌, ◌∷◌, ◌≡◌, Act, add-one, ap, arith, at_line, Bool, Bytes, Contents, Err, false, Follows, GrowsStep, if◌then◌else◌, inl, inr, is_skipped, IsAtLine, IsInUnit, IsOfFile, length}
+use Rattle.unit_files.proofs.Common.{lines_behind, lines_taken, List, not, Ok, Reads, refl, Refused, refused, rest_of, Result, said_of, SameNames, SamePlace, SameState, says, Section, State, Step, step_in, step_in-grows, subst, sym, take}
+use Rattle.unit_files.proofs.{Common.{true, Why, without_return, words_of}, Follows.step_in-follows}
 use Rattle.file_model.specs.RefusalTexts.{text_of}
-use Rattle.file_model.specs.Steps.{State, Step}
-use Rattle.file_model.specs.declared.files.Act.{Act}
-use Rattle.file_model.specs.declared.refusals.Refused.{Refused}
-use Rattle.file_model.specs.declared.refusals.Why.{Why}
-use Rattle.file_model.specs.declared.states.Contents.{Contents}
-use Rattle.file_model.specs.declared.states.Section.{Section}
 use Rattle.file_model.specs.declared.states.Section.TheVariants as section
-use Rattle.file_units.specs.Units.{says}
-use Rattle.file_units.proofs.Grows.{GrowsStep, IsInUnit, step_in-grows}
-use Rattle.unit_files.specs.Alike.{IsAtLine, Reads, lines_behind, lines_taken, said_of}
-use Rattle.unit_files.specs.Same.{Follows, IsOfFile, SameNames, SamePlace, SameState, rest_of}
-use Rattle.unit_files.proofs.Follows.{step_in-follows}
 
 -- a place that both have is none of the header line
 in_unit : (p q : Section) → SamePlace p q → IsInUnit p

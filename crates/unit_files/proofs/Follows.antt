@@ -1,50 +1,25 @@
 -- A line makes of what is held what it makes of what was read of a file, but where a limit cuts that off.
-use Rattle.std.proofs.Common.{◌≡◌, ◌⊎◌, ◌≤◌, ℕ, ◌+◌, ◌==◌, Bool, true, false, not, List, [], ◌∷◌, ◌++◌, map, length, refl, sym, ap, subst, ◌∙◌, inl, inr, arith, append_assoc, append-nil, if◌then◌else◌, Option, Some, None}
-use Rattle.std.proofs.lemmas.Bool.{eq-eqb, leb-false, lt-leb, ltb-false, le-ltb}
+use Rattle.unit_files.proofs.Common.{[], ℕ, ◌++◌, ◌+◌, ◌==◌, ◌∙◌, ◌∷◌, ◌≡◌, ◌≤◌, ◌⊎◌, a_case, a_deed, a_read, a_sync, a_type, a_write, Act, acted, activity, actor_in, all_phases, an_actor, an_element, ap, append-nil, append_assoc, arith}
+use Rattle.unit_files.proofs.Common.{at_head, at_place, begins_reserved, behind, Bool, but_for, Bytes, case_declared, case_in, changing, closes_block, conditional, Contents, counted, Declaration, declaration_line, declared, declares, Deed}
+use Rattle.unit_files.proofs.Common.{deed_of, deeds, deeds_in, delete, Draft, element, element_in, ended, eq-eqb, false, Fault, fault_of, first_long, first_phase, fitting, Follows, formed, Group, group_end, grouped, has_element, has_read}
+use Rattle.unit_files.proofs.Common.{has_sync, has_write, if_known, if◌then◌else◌, inl, inr, insert, installing, is_listed, is_some, is_utf8, IsFileLimit, IsOfFile, le-ltb, leb-false, length, line_of, line_of_group, List, lt-leb, ltb-false}
+use Rattle.unit_files.proofs.Common.{map, migrate_of, migrating, migrations_with, move, NamedGap, nat_le, nat_lt, new_draft, next_phase, node_in, None, not, numbered, one_install, op_in, open_lines, opens_and, opens_branch, opens_loop}
+use Rattle.unit_files.proofs.Common.{opens_xor, operated, operation_line, OperationLine, Option, option_or, outside, over, parallel, phase_begun, phases_with, place_of, read, refl, refuse, renumbered, Rest, rest_of, role_numbers, SameNames}
+use Rattle.unit_files.proofs.Common.{SamePlace, SameRefusal, SameState, SchemaModel, script_line, scripted, ScriptLine, Section, set_role, Some, State, Step, step_in, step_outside, subst, sym, sync, to_change, to_create, to_end, to_install}
+use Rattle.unit_files.proofs.Common.{to_migrate, to_start, to_withdraw, TooLong, true, twice, type_end, type_line, typed, TypeLine, unless, unless_long, unless_not_text, unread, unsync, unwrite, whole, Why, why_long, with_actor, with_case}
+use Rattle.unit_files.proofs.Common.{with_element, with_elements, with_group, with_line, with_names, with_node, with_op, with_place, with_roles, with_script_line, Within, write}
 use Rattle.std.proofs.lemmas.List.{length-append}
-use Rattle.std.specs.Prelude.{nat_le, nat_lt}
-use Rattle.std.specs.Option.{is_some, option_or}
-use Rattle.std.specs.Str.{is_utf8}
 use Rattle.wsm_lists.specs.declared.values.Value.{Value}
 use Rattle.wsm_ops.specs.declared.operations.Op.{Op}
-use Rattle.wsm_schema.specs.SchemaModel.{SchemaModel}
-use Rattle.wsm_sound.specs.Faults.{fault_of}
-use Rattle.wsm_sound.specs.declared.faults.Fault.{Fault}
 use Rattle.wsm_sound.specs.declared.versions.CaseId.{CaseId}
 use Rattle.file_limits.specs.declared.TheConstants.{MAX_DEPTH, MAX_INSTALLS, MAX_LINES, MAX_OPS, MAX_PHASES, MAX_ROLES}
-use Rattle.file_words.specs.Lengths.{first_long}
-use Rattle.file_words.specs.Lines.{Bytes}
-use Rattle.file_words.specs.declared.lengths.TooLong.{TooLong}
-use Rattle.file_names.specs.Names.{is_listed, place_of}
-use Rattle.file_forms.specs.DeclarationForms.{begins_reserved, declaration_line}
-use Rattle.file_forms.specs.Forms.{Declaration, a_type, an_actor, a_case, first_phase, TypeLine, activity, opens_and, opens_xor, opens_branch, opens_loop, closes_block, a_sync, an_element, a_read, a_write, type_end}
-use Rattle.file_forms.specs.Forms.{Deed, to_create, to_start, to_withdraw, to_end, to_change, to_install, to_migrate, ScriptLine, next_phase, a_deed}
-use Rattle.file_forms.specs.Forms.{NamedGap, behind, at_head, OperationLine, insert, parallel, conditional, delete, move, sync, unsync, element, read, unread, write, unwrite, set_role, group_end}
-use Rattle.file_forms.specs.OperationForms.{operation_line}
-use Rattle.file_forms.specs.ScriptForms.{script_line}
-use Rattle.file_forms.specs.TypeForms.{type_line}
-use Rattle.file_drafts.specs.Drafts.{new_draft, whole}
-use Rattle.file_drafts.specs.declared.drafts.Draft.{Draft}
-use Rattle.file_model.specs.CaseCounts.{cases_of_type}
-use Rattle.file_model.specs.Declaring.{case_declared, declared, phase_begun, role_numbers, with_actor, with_case, with_roles}
-use Rattle.file_model.specs.Operating.{grouped, line_of_group, op_in, operated, with_names, with_op, with_place}
-use Rattle.file_model.specs.Reading.{declares, fitting, formed, step_in, step_outside, unless_long, unless_not_text, why_long}
-use Rattle.file_model.specs.Scripting.{acted, actor_in, case_in, changing, counted, if_known, installing, line_of, migrate_of, migrating, migrations_with, numbered, one_install, scripted, with_elements, with_group, with_line}
-use Rattle.file_model.specs.Steps.{State, Step, all_phases, at_place, element_in, node_in, open_lines, outside, over, phases_with, refuse, twice, unless, with_element, with_node, with_script_line}
-use Rattle.file_model.specs.Typing.{ended, has_element, has_read, has_sync, has_write, typed}
-use Rattle.file_model.specs.declared.files.Act.{Act}
+use Rattle.file_model.specs.{CaseCounts.cases_of_type, declared.files.Line.Line, declared.refusals.FileLimit.FileLimit}
 use Rattle.file_model.specs.declared.files.Act.TheVariants as act
-use Rattle.file_model.specs.declared.files.Line.{Line}
-use Rattle.file_model.specs.declared.refusals.FileLimit.{FileLimit}
 use Rattle.file_model.specs.declared.refusals.FileLimit.TheVariants as limit
-use Rattle.file_model.specs.declared.refusals.Why.{Why}
 use Rattle.file_model.specs.declared.refusals.Why.TheVariants as why
-use Rattle.file_model.specs.declared.states.Contents.{Contents}
-use Rattle.file_model.specs.declared.states.Group.{Group}
-use Rattle.file_model.specs.declared.states.Section.{Section}
 use Rattle.file_model.specs.declared.states.Section.TheVariants as section
 use Rattle.file_model.specs.declared.states.Target.TheVariants as target
-use Rattle.unit_files.specs.Same.{Follows, IsFileLimit, IsOfFile, Rest, SameNames, SamePlace, SameRefusal, SameState, Within, but_for, deed_of, deeds, deeds_in, opens, renumbered, rest_of}
+use Rattle.unit_files.specs.Same.{opens}
 
 -- ---- tests that speak against a line
 abbrev Tests : (file held : Option Why) → Type 0

@@ -1,13 +1,9 @@
 -- The lines of an item: none but the last ends it.
-use Rattle.std.proofs.Common.{◌≡◌, ℕ, suc, ◌==◌, ◌&&◌, Bool, true, false, List, [], ◌∷◌, ◌++◌, length, refl, ap, sym, subst, ◌∙◌, arith, append_assoc, if◌then◌else◌, Option, Some, None}
-use Rattle.std.proofs.lemmas.Bool.{and_parts, eqb-true}
-use Rattle.std.specs.Prelude.{option_map}
-use Rattle.file_words.specs.Lines.{Bytes, lines_of}
-use Rattle.talk_items.specs.Items.{ends, ends_line, item_end, place_behind, place_of, words}
-use Rattle.talk_items.specs.declared.items.Place.{Place}
+use Rattle.unit_files.proofs.Common.{[], ℕ, ◌&&◌, ◌++◌, ◌==◌, ◌∙◌, ◌∷◌, ◌≡◌, and_parts, ap, append_assoc, arith, Bool, Bytes, ends, ends_line, eqb-true, false, GoesOn, if◌then◌else◌, IsOneItem, item_end, length, lines_of, List, None}
+use Rattle.unit_files.proofs.Common.{Option, option_map, Place, place_behind, refl, Some, subst, suc, sym, true, words}
+use Rattle.talk_items.specs.Items.{place_of}
 use Rattle.talk_items.specs.declared.items.Place.TheVariants as places
 use Rattle.talk_items.proofs.LinesMore.{lines-byte, lines-feed}
-use Rattle.unit_files.specs.Items.{GoesOn, IsOneItem}
 
 pub record IsItemLines (unit : Bytes) : Type 0 where
   pub front : List Bytes

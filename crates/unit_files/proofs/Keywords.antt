@@ -1,24 +1,14 @@
 -- What the words of a line tell of its form.
-use Rattle.std.proofs.Common.{◌≡◌, ℕ, ◌==◌, ◌&&◌, Bool, true, false, List, [], ◌∷◌, length, map, refl, ap, sym, ◌∙◌, if◌then◌else◌, Option}
+use Rattle.unit_files.proofs.Common.{[], ℕ, ◌&&◌, ◌==◌, ◌||◌, ◌∙◌, ◌∷◌, ◌≡◌, a_case, a_deed, a_read, a_sync, a_type, a_write, activity, actor_ahead, actor_line, an_actor, an_element, ap, around_items, begins_reserved, begins_with_change}
+use Rattle.unit_files.proofs.Common.{Bool, Bytes, choice_ahead, closes_block, codes, conditional_line, Declaration, declaration_line, Deed, deed, delete, edge_line, edge_operation, element, end_deed, false, first_phase, group_end, IfSome}
+use Rattle.unit_files.proofs.Common.{if◌then◌else◌, insert_line, is, is_comment, is_end, is_reserved, is_skipped, Keyword, keyword, length, List, map, move_line, named_deed, nat_le, new_node, next_phase, opens, opens_and, opens_branch}
+use Rattle.unit_files.proofs.Common.{opens_loop, opens_xor, operation_line, OperationLine, Option, outer_line, pairs, parallel_line, place, read, refl, role_line, roles_at_end, row_line, script_line, ScriptLine, sym, to_change, to_create}
+use Rattle.unit_files.proofs.Common.{to_end, to_install, to_migrate, to_start, to_withdraw, tree_line, tree_operation, true, type_end, type_line, TypeLine, unit_opens, with_block}
 use Rattle.std.proofs.lemmas.Slice.Eq.{bytes_eq-Decides}
-use Rattle.std.specs.Prelude.{◌||◌, IfSome, codes, nat_le}
-use Rattle.file_words.specs.Lines.{Bytes}
-use Rattle.file_words.specs.Names.{name}
-use Rattle.file_words.specs.Numbers.{code}
-use Rattle.file_words.specs.Words.{is, is_comment, is_skipped}
-use Rattle.file_forms.specs.DeclarationForms.{actor_ahead, actor_line, begins_reserved, declaration_line, is_reserved, roles_at_end}
-use Rattle.file_forms.specs.Forms.{Declaration, a_type, an_actor, a_case, first_phase, TypeLine, activity, opens_and, opens_xor, opens_branch, opens_loop, closes_block, a_sync, an_element, a_read, a_write, type_end}
-use Rattle.file_forms.specs.Forms.{Deed, to_create, to_start, to_withdraw, to_end, to_change, to_install, to_migrate, ScriptLine, next_phase, a_deed}
-use Rattle.file_forms.specs.Forms.{OperationLine, delete, element, read, group_end}
-use Rattle.file_forms.specs.OperationForms.{around_items, conditional_line, edge_line, edge_operation, insert_line, move_line, new_node, operation_line, parallel_line, place, role_line, row_line, tree_operation, with_block}
+use Rattle.file_words.specs.{Names.name, Numbers.code}
 use Rattle.file_forms.specs.PieceForms.{◌>>=◌, element_and_kind, name_ahead, name_and_role, nothing_more, one_name, only, read_edge, role_word, two_names, two_names_ahead, two_names_and_role}
-use Rattle.file_forms.specs.ScriptForms.{choice_ahead, deed, end_deed, named_deed, pairs, script_line}
-use Rattle.file_forms.specs.TypeForms.{outer_line, tree_line, type_line}
 use Rattle.file_forms.proofs.Options.{some-any, some-bound, some-mapped, some-or}
 use Rattle.talk_items.specs.Items as items
-use Rattle.talk_items.specs.Items.{begins_with_change, is_end, opens, unit_opens}
-use Rattle.talk_items.specs.Keywords.{keyword}
-use Rattle.talk_items.specs.declared.keywords.Keyword.{Keyword}
 use Rattle.talk_items.specs.declared.keywords.Keyword.TheVariants as keywords
 
 abbrev Any : {A : Type 0} → A → Type 0

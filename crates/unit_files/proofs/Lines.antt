@@ -1,7 +1,5 @@
 -- Bytes behind bytes that end with a line feed have their lines behind those.
-use Rattle.std.proofs.Common.{◌≡◌, ℕ, ◌==◌, Bool, true, false, List, [], ◌∷◌, ◌++◌, refl, ap, ◌∙◌}
-use Rattle.file_words.specs.Lines.{Bytes, CutLines, lines_of, onto_lines, put_first}
-use Rattle.unit_files.specs.Files.{IsWhole}
+use Rattle.unit_files.proofs.Common.{[], ℕ, ◌++◌, ◌==◌, ◌∙◌, ◌∷◌, ◌≡◌, ap, Bool, Bytes, CutLines, false, IsWhole, lines_of, List, onto_lines, put_first, refl, true}
 
 -- what is left of the first bytes goes in front of the first line of the others
 abbrev onto_left : Bytes → CutLines → CutLines

@@ -1,53 +1,17 @@
 -- A unit that is one item has no line behind its end, and is not left open: so it is refused only by a line of its own.
-use Rattle.std.proofs.Common.{◌≡◌, ℕ, ◌+◌, ◌==◌, ◌&&◌, Bool, true, false, not, List, [], ◌∷◌, ◌++◌, map, refl, ap, sym, subst, ◌∙◌, if◌then◌else◌, Option, Some, None, Result, Ok, Err}
-use Rattle.std.proofs.lemmas.Bool.{and_parts, eq-eqb, not-true}
-use Rattle.std.specs.Prelude.{IfOk, IfSome}
-use Rattle.std.specs.Option.{is_some}
-use Rattle.std.specs.Str.{is_utf8}
-use Rattle.wsm_schema.specs.SchemaModel.{SchemaModel}
-use Rattle.wsm_sound.specs.Faults.{fault_of}
-use Rattle.wsm_sound.specs.declared.faults.Fault.{Fault}
-use Rattle.file_words.specs.Lengths.{first_long}
-use Rattle.file_words.specs.Lines.{Bytes, without_return}
-use Rattle.file_words.specs.Words.{is_skipped, words_of}
-use Rattle.file_words.specs.declared.lengths.TooLong.{TooLong}
-use Rattle.file_names.specs.Names.{place_of}
-use Rattle.file_forms.specs.DeclarationForms.{begins_reserved, declaration_line}
-use Rattle.file_forms.specs.Forms.{Declaration, a_type, an_actor, a_case, first_phase, TypeLine, activity, opens_and, opens_xor, opens_branch, opens_loop, closes_block, a_sync, an_element, a_read, a_write, type_end}
-use Rattle.file_forms.specs.Forms.{Deed, to_create, to_start, to_withdraw, to_end, to_change, to_install, to_migrate, ScriptLine, next_phase, a_deed}
-use Rattle.file_forms.specs.Forms.{OperationLine, insert, parallel, conditional, delete, move, sync, unsync, element, read, unread, write, unwrite, set_role, group_end}
-use Rattle.file_forms.specs.OperationForms.{operation_line}
-use Rattle.file_forms.specs.ScriptForms.{script_line}
-use Rattle.file_forms.specs.TypeForms.{type_line}
-use Rattle.file_drafts.specs.Drafts.{around, whole}
-use Rattle.file_drafts.specs.declared.drafts.Draft.{Draft}
-use Rattle.file_model.specs.Declaring.{case_declared, declared}
-use Rattle.file_model.specs.Operating.{operated}
-use Rattle.file_model.specs.Reading.{at_line, declares, fitting, formed, step_in, step_outside, unless_long, unless_not_text}
-use Rattle.file_model.specs.Scripting.{acted, actor_in, case_in, if_known, scripted}
-use Rattle.file_model.specs.Steps.{State, Step, at_place, outside, refuse, unless}
-use Rattle.file_model.specs.Typing.{ended, fits_in, typed}
-use Rattle.file_model.specs.declared.refusals.Refused.{Refused}
-use Rattle.file_model.specs.declared.refusals.Why.{Why}
-use Rattle.file_model.specs.declared.refusals.Why.TheVariants as why
-use Rattle.file_model.specs.declared.states.Contents.{Contents}
-use Rattle.file_model.specs.declared.states.Group.{Group}
-use Rattle.file_model.specs.declared.states.Section.{Section}
-use Rattle.file_model.specs.declared.states.Section.TheVariants as section
-use Rattle.file_units.specs.Units.{has_ended, lines_read, unit_read}
-use Rattle.file_units.proofs.Grows.{GrowsStep, IsInUnit, step_in-grows}
-use Rattle.talk_items.specs.Items as items
-use Rattle.talk_items.specs.Items.{ends_line, is_end, opens, place_behind, words}
-use Rattle.talk_items.specs.Keywords.{keyword}
-use Rattle.talk_items.specs.declared.items.Place.{Place}
-use Rattle.talk_items.specs.declared.items.Place.TheVariants as places
-use Rattle.talk_items.specs.declared.keywords.Keyword.{Keyword}
-use Rattle.talk_items.specs.declared.keywords.Keyword.TheVariants as keywords
-use Rattle.unit_files.specs.Alike.{lines_taken, said_of, unit_taken}
-use Rattle.unit_files.specs.Files.{IsWhole}
-use Rattle.unit_files.specs.Items.{GoesOn, IsOneItem, IsOpen, Lands}
-use Rattle.unit_files.proofs.ItemLines.{IsItemLines, item-lines}
+use Rattle.unit_files.proofs.Common.{[], ℕ, ◌&&◌, ◌++◌, ◌+◌, ◌==◌, ◌∙◌, ◌∷◌, ◌≡◌, a_case, a_deed, a_read, a_sync, a_type, a_write, acted, activity, actor_in, an_actor, an_element, and_parts, ap, around, at_line, at_place, begins_reserved}
+use Rattle.unit_files.proofs.Common.{Bool, Bytes, case_declared, case_in, closes_block, conditional, Contents, Declaration, declaration_line, declared, declares, Deed, delete, Draft, element, ended, ends_line, eq-eqb, Err, false, Fault}
+use Rattle.unit_files.proofs.Common.{fault_of, first_long, first_phase, fits_in, fitting, formed, GoesOn, Group, group_end, GrowsStep, has_ended, if_known, IfOk, IfSome, if◌then◌else◌, insert, is_end, is_skipped, is_some, is_utf8, IsInUnit}
+use Rattle.unit_files.proofs.Common.{IsOneItem, IsOpen, IsWhole, Keyword, keyword, Lands, lines_read, lines_taken, List, map, move, next_phase, None, not, not-true, Ok, opens, opens_and, opens_branch, opens_loop, opens_xor, operated}
+use Rattle.unit_files.proofs.Common.{operation_line, OperationLine, Option, outside, parallel, Place, place_behind, place_of, read, refl, refuse, Refused, Result, said_of, SchemaModel, script_line, scripted, ScriptLine, Section, set_role}
+use Rattle.unit_files.proofs.Common.{Some, State, Step, step_in, step_in-grows, step_outside, subst, sym, sync, to_change, to_create, to_end, to_install, to_migrate, to_start, to_withdraw, TooLong, true, type_end, type_line, typed}
+use Rattle.unit_files.proofs.{Common.{TypeLine, unit_read, unit_taken, unless, unless_long, unless_not_text, unread, unsync, unwrite, whole, Why, without_return, words, words_of, write}, ItemLines.{IsItemLines, item-lines}}
 use Rattle.unit_files.proofs.Keywords.{closes_group, closes_type, declaration-tells, group-tells, opens_declaration, opens_deed, opens_script, script-tells, skipped-same, type-tells}
+use Rattle.file_model.specs.declared.refusals.Why.TheVariants as why
+use Rattle.file_model.specs.declared.states.Section.TheVariants as section
+use Rattle.talk_items.specs.Items as items
+use Rattle.talk_items.specs.declared.items.Place.TheVariants as places
+use Rattle.talk_items.specs.declared.keywords.Keyword.TheVariants as keywords
 
 abbrev LandsStep : Bool → Step → Type 0
 LandsStep b o = IfOk o (λ s. Lands b s.place)

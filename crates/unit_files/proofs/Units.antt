@@ -1,25 +1,12 @@
 -- Units that are accepted one behind another are read as the file of their bytes, and one that is refused is refused there too.
-use Rattle.std.proofs.Common.{◌≡◌, ℕ, ◌+◌, Bool, true, false, List, [], ◌∷◌, ◌++◌, length, refl, sym, ap, subst, ◌∙◌, inl, arith, append_assoc, append-nil, if◌then◌else◌, Ok, Err, Result}
-use Rattle.std.specs.Prelude.{flat_map, fold, codes}
-use Rattle.file_words.specs.Lines.{Bytes, CutLines, lines_of, without_return}
-use Rattle.file_words.specs.Words.{words_of}
-use Rattle.file_model.specs.Reading.{at_line, file, file_of, finished, finished_in, read_from, step, step_in}
-use Rattle.file_model.specs.Steps.{State, Step, at_place, no_contents, outside, refuse}
-use Rattle.file_model.specs.declared.files.Act.{Act}
+use Rattle.unit_files.proofs.Common.{[], ℕ, ◌++◌, ◌+◌, ◌∙◌, ◌∷◌, ◌≡◌, Accepted, Act, ap, append-nil, append_assoc, AreAccepted, arith, at_line, at_place, behind_read, behind_unit, Bool, but_for, Bytes, bytes_of, codes, Contents, CutLines}
+use Rattle.unit_files.proofs.Common.{deeds, deeds_read, deeds_said, Err, false, file, file_of, finished, finished_in, flat_map, fold, has_ended, if◌then◌else◌, inl, IsFileOf, IsOfFile, IsOneItem, IsReadAs, IsRefusedAs, IsWhole, length}
+use Rattle.unit_files.proofs.Common.{line_behind, lines_behind, lines_in, lines_of, lines_read, lines_taken, List, no_contents, no_units, Ok, outside, read_from, Reads, refl, refuse, Refused, rest_of, Result, said, SamePlace, SameState}
+use Rattle.unit_files.proofs.{Common.{Section, settled, State, Step, step, step_in, subst, sym, true, unit_end, unit_read, unit_taken, units_read, Within, without_return, words_of}, Lines.whole-lines, Alike.all-read, OneItem.item-refused}
+use Rattle.unit_files.proofs.OneItem.{item-whole}
 use Rattle.file_model.specs.declared.files.File.{File}
-use Rattle.file_model.specs.declared.refusals.Refused.{Refused}
 use Rattle.file_model.specs.declared.refusals.Why.TheVariants as why
-use Rattle.file_model.specs.declared.states.Contents.{Contents}
-use Rattle.file_model.specs.declared.states.Section.{Section}
 use Rattle.file_model.specs.declared.states.Section.TheVariants as section
-use Rattle.file_units.specs.Units.{behind_read, behind_unit, has_ended, lines_read, no_units, said, settled, unit_end, unit_read, units_read}
-use Rattle.unit_files.specs.Files.{Accepted, AreAccepted, IsFileOf, IsReadAs, IsRefusedAs, IsWhole, bytes_of, deeds_read, deeds_said, line_behind, lines_in}
-use Rattle.unit_files.specs.Alike.{Reads, lines_behind, lines_taken, unit_taken}
-use Rattle.unit_files.specs.Same.{IsOfFile, SamePlace, SameState, Within, but_for, deeds, rest_of}
-use Rattle.unit_files.specs.Items.{IsOneItem}
-use Rattle.unit_files.proofs.Lines.{whole-lines}
-use Rattle.unit_files.proofs.Alike.{all-read}
-use Rattle.unit_files.proofs.OneItem.{item-refused, item-whole}
 
 -- ---- an accepted unit has its end outside of types and groups, and no line behind it
 ended-taken : (k : ℕ) (p : Section) (c d : Contents) → at_line k (unit_end p c) ≡ Ok d → at_place p c ≡ outside d

@@ -1,13 +1,7 @@
 -- Lines of a file and the same lines as those of units, one after another.
-use Rattle.std.specs.Prelude.{◌≡◌, ◌⊎◌, ℕ, ◌+◌, List, [], ◌∷◌, length, map, take, Result, Ok, Err}
-use Rattle.std.specs.List.{filter}
-use Rattle.file_words.specs.Lines.{Bytes, without_return}
-use Rattle.file_words.specs.Words.{words_of}
-use Rattle.file_model.specs.Reading.{at_line, step, step_in}
-use Rattle.file_model.specs.Steps.{State, outside}
-use Rattle.file_model.specs.declared.files.Act.{Act}
-use Rattle.file_model.specs.declared.refusals.Refused.{Refused}
-use Rattle.file_model.specs.declared.states.Contents.{Contents}
+use Rattle.std.specs.{Prelude.{◌≡◌, ◌⊎◌, ℕ, ◌+◌, List, [], ◌∷◌, length, map, take, Result, Ok, Err}, List.filter}
+use Rattle.file_words.specs.{Lines.{Bytes, without_return}, Words.words_of}
+use Rattle.file_model.specs.{Reading.{at_line, step, step_in}, Steps.{State, outside}, declared.files.Act.Act, declared.refusals.Refused.Refused, declared.states.Contents.Contents}
 use Rattle.file_units.specs.Units.{said, says}
 use Rattle.unit_files.specs.Same.{IsOfFile, SameState}
 

@@ -1,13 +1,9 @@
 -- The process file of a header line and units.
 use Rattle.std.specs.Prelude.{◌≡◌, ◌⊎◌, ℕ, ◌+◌, length, List, [], ◌∷◌, ◌++◌, flat_map, Result, Ok, Err, codes}
 use Rattle.file_words.specs.Lines.{Bytes, lines_of}
-use Rattle.file_model.specs.declared.files.Act.{Act}
-use Rattle.file_model.specs.declared.files.File.{File}
-use Rattle.file_model.specs.declared.refusals.Refused.{Refused}
-use Rattle.file_model.specs.declared.states.Contents.{Contents}
+use Rattle.file_model.specs.{declared.files.Act.Act, declared.files.File.File, declared.refusals.Refused.Refused, declared.states.Contents.Contents}
 use Rattle.file_units.specs.Units.{behind_unit, no_units, settled, unit_read, units_read}
-use Rattle.unit_files.specs.Alike.{IsSameRefusal}
-use Rattle.unit_files.specs.Same.{IsOfFile, deeds, deeds_in, rest_of}
+use Rattle.unit_files.specs.{Alike.IsSameRefusal, Same.{IsOfFile, deeds, deeds_in, rest_of}}
 
 -- the bytes of the header line and of units
 abbrev pub bytes_of : List Bytes → Bytes

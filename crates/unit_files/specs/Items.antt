@@ -3,8 +3,7 @@ use Rattle.std.specs.Prelude.{◌≡◌, length, Some, Bool, List, [], ◌∷◌
 use Rattle.file_words.specs.Lines.{Bytes}
 use Rattle.file_model.specs.declared.states.Section.{Section}
 use Rattle.file_model.specs.declared.states.Section.TheVariants as section
-use Rattle.talk_items.specs.Items.{ends_line, item_end, place_behind, words}
-use Rattle.talk_items.specs.declared.items.Place.{Place}
+use Rattle.talk_items.specs.{Items.{ends_line, item_end, place_behind, words}, declared.items.Place.Place}
 
 -- bytes are one item, and no more
 abbrev pub IsOneItem : Bytes → Type 0

@@ -1,17 +1,9 @@
 -- What was read of a file and what is held of the same lines agree, but for lines and their numbers, phases and what limits count.
 use Rattle.std.specs.Prelude.{◌≡◌, ◌⊎◌, ◌≤◌, ℕ, List, [], ◌∷◌, ◌++◌, map, length, Option, Some, None, Ok, Err}
-use Rattle.file_model.specs.Steps.{State, Step, phases_with}
-use Rattle.file_model.specs.declared.files.Act.{Act}
-use Rattle.file_model.specs.declared.files.Line.{Line}
-use Rattle.file_model.specs.declared.refusals.FileLimit.{FileLimit}
+use Rattle.file_model.specs.{Steps.{State, Step, phases_with}, declared.files.Act.Act, declared.files.Line.Line, declared.refusals.FileLimit.FileLimit, declared.refusals.Why.Why, declared.states.Contents.Contents}
+use Rattle.file_model.specs.{declared.states.Counts.Counts, declared.states.Group.Group, declared.states.Limits.Limits, declared.states.Section.Section}
 use Rattle.file_model.specs.declared.refusals.FileLimit.TheVariants as limit
-use Rattle.file_model.specs.declared.refusals.Why.{Why}
 use Rattle.file_model.specs.declared.refusals.Why.TheVariants as why
-use Rattle.file_model.specs.declared.states.Contents.{Contents}
-use Rattle.file_model.specs.declared.states.Counts.{Counts}
-use Rattle.file_model.specs.declared.states.Group.{Group}
-use Rattle.file_model.specs.declared.states.Limits.{Limits}
-use Rattle.file_model.specs.declared.states.Section.{Section}
 use Rattle.file_model.specs.declared.states.Section.TheVariants as section
 
 -- ---- limits that a file has, and what is held has not, or only far above them

@@ -1,17 +1,7 @@
 -- A run behind calls that were made at the places of cases.
-use Rattle.std.proofs.Common.{◌≡◌, ℕ, List, take, Ok, Err, None, Some, OnOk, Result, ap, sym, ◌∙◌}
-use Rattle.std.specs.Prelude.{slice_get}
+use Rattle.unit_run.proofs.Common.{ℕ, ◌∙◌, ◌≡◌, ap, call_case, CaseId, changed_at, changed_where, ClosedCase, ClosedKind, Err, File, IsOf, List, None, Ok, on_case, on_each, OnOk, places_of, Placing, Result, Run, slice_get, Some, sym, take}
+use Rattle.unit_run.proofs.{Each.all-called, Placed.{changed_all, place-found}}
 use Rattle.case_core.specs.declared.events.Event.{Event}
-use Rattle.case_places.specs.Places.{places_of}
-use Rattle.file_model.specs.declared.files.File.{File}
-use Rattle.script_run.specs.Calls.{call_case, changed_at, changed_where, on_case, on_each}
-use Rattle.script_run.specs.declared.runs.ClosedCase.{ClosedCase}
-use Rattle.script_run.specs.declared.runs.ClosedKind.{ClosedKind}
-use Rattle.script_run.specs.declared.runs.Run.{Run}
-use Rattle.unit_run.proofs.Each.{all-called}
-use Rattle.unit_run.proofs.Placed.{changed_all, place-found}
-use Rattle.unit_run.specs.Runs.{IsOf, Placing}
-use Rattle.wsm_sound.specs.declared.versions.CaseId.{CaseId}
 
 -- what two clauses give
 pub both_ok : {X Y A B C : Type 0} (r : Result X Y) → (A → B → C) → OnOk r A → OnOk r B → OnOk r C

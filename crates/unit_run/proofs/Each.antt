@@ -1,22 +1,8 @@
 -- The calls of the first so many cases of a type, one after another.
-use Rattle.std.proofs.Common.{◌≡◌, ◌≤◌, ◌<◌, ℕ, zero, suc, ◌+◌, ◌-◌, Bool, true, false, List, [], ◌∷◌, ◌++◌, length, take, get_or, refl, ap, sym, subst, ◌∙◌, arith, add-one, if◌then◌else◌, Some}
-use Rattle.std.proofs.Math.Seq.{take-suc}
-use Rattle.std.proofs.lemmas.Bool.{and_parts, eqb-true, ltb-true}
-use Rattle.std.proofs.lemmas.List.{length-take}
-use Rattle.std.proofs.lemmas.List.Sums.{fold-append}
-use Rattle.std.proofs.lemmas.Option.{slice_get-get_or}
-use Rattle.std.specs.List.{position_from}
-use Rattle.std.specs.Prelude.{◌==◌, ◌&&◌, nat_lt, slice_get}
-use Rattle.case_places.specs.Places.{places_of}
-use Rattle.file_facts.specs.Facts.{ArePlaced}
-use Rattle.file_model.specs.CaseCounts.{has_id, is_among}
-use Rattle.file_model.specs.declared.files.CaseDecl.{CaseDecl}
-use Rattle.line_calls.proofs.Places.{position-from_0}
-use Rattle.script_run.specs.Calls.{changed_at, each_of}
-use Rattle.script_run.specs.declared.runs.ClosedCase.{ClosedCase}
-use Rattle.unit_run.proofs.Placed.{changed_all, each-placed, found}
-use Rattle.unit_run.specs.Runs.{types_of}
-use Rattle.wsm_sound.specs.declared.versions.CaseId.{CaseId}
+use Rattle.unit_run.proofs.Common.{[], ℕ, ◌&&◌, ◌++◌, ◌+◌, ◌-◌, ◌<◌, ◌==◌, ◌∙◌, ◌∷◌, ◌≡◌, ◌≤◌, add-one, and_parts, ap, ArePlaced, arith, Bool, CaseDecl, CaseId, changed_at, ClosedCase, each_of, eqb-true, false, fold-append, get_or, has_id}
+use Rattle.unit_run.proofs.{Common.{if◌then◌else◌, is_among, length, length-take, List, ltb-true, nat_lt, places_of, position-from_0, position_from, refl, slice_get, Some, subst, suc, sym, take, true, types_of, zero}, Placed.changed_all}
+use Rattle.unit_run.proofs.Placed.{each-placed, found}
+use Rattle.std.proofs.{Math.Seq.take-suc, lemmas.Option.slice_get-get_or}
 
 -- a front of a front
 take-within : {A : Type 0} (i n : ℕ) (xs : List A) → i ≤ n → take i (take n xs) ≡ take i xs

@@ -1,21 +1,8 @@
 -- Where cases stand, by their types and their places there.
-use Rattle.std.proofs.Common.{◌≡◌, ◌≤◌, ◌<◌, ℕ, zero, suc, ◌+◌, ◌-◌, Bool, true, false, List, [], ◌∷◌, ◌++◌, length, take, refl, ap, sym, subst, ◌∙◌, arith, append_assoc, if◌then◌else◌, Option, Some, None}
-use Rattle.std.proofs.lemmas.Bool.{eqb-true, eqb-false, ltb-true, ltb-false}
-use Rattle.std.proofs.lemmas.List.{length-append}
-use Rattle.std.proofs.lemmas.List.Sums.{sum_by-cons}
-use Rattle.std.specs.List.{position_from}
-use Rattle.std.specs.Prelude.{◌==◌, ◌&&◌, cond, fold, nat_lt, position, slice_get}
-use Rattle.case_places.specs.Places.{places_from, places_of}
-use Rattle.file_facts.specs.Facts.{ArePlaced}
-use Rattle.file_model.specs.CaseCounts.{cases_of_type, has_id}
-use Rattle.file_model.specs.declared.files.CaseDecl.{CaseDecl}
-use Rattle.file_model.specs.declared.files.File.{File}
-use Rattle.line_calls.proofs.Places.{position-from_0}
+use Rattle.unit_run.proofs.Common.{[], ℕ, ◌&&◌, ◌++◌, ◌+◌, ◌-◌, ◌<◌, ◌==◌, ◌∙◌, ◌∷◌, ◌≡◌, ◌≤◌, ap, append_assoc, ArePlaced, arith, Bool, CaseDecl, CaseId, cases_of_type, changed_at, ClosedCase, cond, each_of, eqb-false, eqb-true, false}
+use Rattle.unit_run.proofs.Common.{File, fold, has_id, if◌then◌else◌, length, length-append, List, ltb-false, ltb-true, nat_lt, None, Option, places_from, places_of, position, position-from_0, position_from, put_back, refl, slice_get, Some}
+use Rattle.unit_run.proofs.Common.{subst, suc, sum_by-cons, sym, take, true, types_of, zero}
 use Rattle.line_calls.specs.Files.{place_of}
-use Rattle.script_run.specs.Calls.{changed_at, each_of, put_back}
-use Rattle.script_run.specs.declared.runs.ClosedCase.{ClosedCase}
-use Rattle.unit_run.specs.Runs.{types_of}
-use Rattle.wsm_sound.specs.declared.versions.CaseId.{CaseId}
 
 -- how many cases of each type stand in front, with one case more
 abbrev pub with_one : (ℕ → ℕ) → CaseDecl → ℕ → ℕ

@@ -1,9 +1,5 @@
 -- A type that was called and is put back is as it was.
-use Rattle.std.proofs.Common.{◌≡◌, ℕ, zero, suc, List, [], ◌∷◌, ◌++◌, length, take, refl, ap, ◌∙◌, Option, Some, None}
-use Rattle.std.specs.Prelude.{option_map, slice_get}
-use Rattle.script_run.specs.Calls.{call_kind, changed_at, on_kind, put_back}
-use Rattle.script_run.specs.declared.runs.ClosedKind.{ClosedKind}
-use Rattle.script_run.specs.declared.runs.Run.{Run}
+use Rattle.unit_run.proofs.Common.{[], ℕ, ◌++◌, ◌∙◌, ◌∷◌, ◌≡◌, ap, call_kind, changed_at, ClosedKind, length, List, None, on_kind, Option, option_map, put_back, refl, Run, slice_get, Some, suc, take, zero}
 use Rattle.type_core.specs.declared.events.KindEvent.{KindEvent}
 use Rattle.unit_run.specs.Tries.{before_of, kind_before, put_back_kind, restored}
 

@@ -2,10 +2,8 @@
 use Rattle.std.specs.Prelude.{◌≡◌, ℕ, List, [], ◌∷◌, ◌++◌, length, map}
 use Rattle.case_places.specs.Places.{Placed}
 use Rattle.file_facts.specs.Facts.{ArePlaced}
-use Rattle.file_model.specs.declared.files.CaseDecl.{CaseDecl}
-use Rattle.file_model.specs.declared.files.TypeDecl.{TypeDecl}
-use Rattle.script_run.specs.Serial.{defined, uncalled}
-use Rattle.script_run.specs.declared.runs.Run.{Run}
+use Rattle.file_model.specs.{declared.files.CaseDecl.CaseDecl, declared.files.TypeDecl.TypeDecl}
+use Rattle.script_run.specs.{Serial.{defined, uncalled}, declared.runs.Run.Run}
 
 -- before the first type
 abbrev pub no_run : Run

@@ -1,15 +1,8 @@
 -- Calls that are tried, and a type that is put back.
 use Rattle.std.specs.Prelude.{ℕ, ◌+◌, ◌-◌, Bool, true, false, length, take, slice_get, Option, Some, None, option_map}
-use Rattle.case_core.specs.Machine.{next_case}
-use Rattle.case_core.specs.declared.events.Event.{Event}
-use Rattle.script_run.specs.Calls.{changed_at}
-use Rattle.script_run.specs.Entries.{CaseEntry, KindEntry}
-use Rattle.script_run.specs.declared.runs.ClosedCase.{ClosedCase}
-use Rattle.script_run.specs.declared.runs.ClosedKind.{ClosedKind}
-use Rattle.script_run.specs.declared.runs.Run.{Run}
-use Rattle.type_core.specs.Machine.{next_kind}
-use Rattle.type_core.specs.declared.events.KindEvent.{KindEvent}
-use Rattle.type_core.specs.declared.replies.KindReply.{KindReply}
+use Rattle.case_core.specs.{Machine.next_case, declared.events.Event.Event}
+use Rattle.script_run.specs.{Calls.changed_at, Entries.{CaseEntry, KindEntry}, declared.runs.ClosedCase.ClosedCase, declared.runs.ClosedKind.ClosedKind, declared.runs.Run.Run}
+use Rattle.type_core.specs.{Machine.next_kind, declared.events.KindEvent.KindEvent, declared.replies.KindReply.KindReply}
 use Rattle.type_core.specs.declared.replies.KindReply.TheVariants as kind_reply
 use Rattle.unit_run.specs.declared.tries.KindBefore.{KindBefore}
 

@@ -3,8 +3,7 @@ ghost use Rattle.std.specs.Prelude.{◌≡◌, ◌<◌, ◌≤◌, ◌^◌, ◌+
 ghost use Rattle.case_core.specs.Ages.{weight};
 ghost use Rattle.file_model.specs.Sizes.{line_effort};
 ghost use Rattle.line_calls.specs.Calls.{call_weight};
-ghost use Rattle.script_run.specs.Calls.{called, on_case, on_each, told_to, worked};
-ghost use Rattle.script_run.specs.Oldest.{oldest};
+ghost use Rattle.script_run.specs.{Calls.{called, on_case, on_each, told_to, worked}, Oldest.oldest};
 ghost use Rattle.unit_run.specs.Runs.{IsOf, no_run, with_case, with_kind};
 ghost use Rattle.wsm_schema.specs.Flat.{cards_of};
 

@@ -1,6 +1,5 @@
 // Calls that are tried: what each would add to a journal, on a run that stays as it is, and a type that is put back.
-ghost use Rattle.std.specs.Prelude.{◌≡◌, ◌+◌, ◌≤◌, slice_get, IfOk, IfSome, option_map};
-ghost use Rattle.std.specs.Option.{option_copied};
+ghost use Rattle.std.specs.{Prelude.{◌≡◌, ◌+◌, ◌≤◌, slice_get, IfOk, IfSome, option_map}, Option.option_copied};
 ghost use Rattle.case_core.specs.Ages.{age, weight};
 ghost use Rattle.script_run.specs.Calls.{newest};
 ghost use Rattle.type_core.specs.Machine.{weight as kind_weight};

@@ -1,34 +1,9 @@
 -- What is found of a changed schema is what the replay answers.
-use Rattle.std.proofs.Common.{◌≡◌, ℕ, suc, true, not, List, [], refl, ap, sym, ◌∙◌, subst, Option, Some, None}
-use Rattle.std.specs.Prelude.{is_some}
-use Rattle.std.proofs.lemmas.Bool.{both_ways}
-use Rattle.wsm_lists.specs.ByNumber.{changed}
-use Rattle.wsm_lists.specs.Keys.{first}
-use Rattle.wsm_lists.specs.Rows.{Ascends}
-use Rattle.wsm_schema.specs.Flat.{FlatModel, card_at, cards_of, flat_of}
-use Rattle.wsm_schema.specs.Marks.{facts_of, marks_of}
-use Rattle.wsm_schema.specs.Replay.{replay_of}
-use Rattle.wsm_schema.specs.SchemaModel.{SchemaModel}
-use Rattle.wsm_schema.specs.Trail.{is_one_of}
-use Rattle.wsm_schema.specs.declared.cards.Card.{Card}
-use Rattle.wsm_schema.specs.declared.marks.Mark.{Mark}
-use Rattle.wsm_marks.specs.Fits.{Ends, last_position}
-use Rattle.wsm_marks.specs.Timed.{Entries}
-use Rattle.wsm_walk.specs.Current.{mark_now}
-use Rattle.wsm_walk.proofs.Goals.{trail-aim}
-use Rattle.wsm_adapt.specs.Adapted.{AdaptsRight, IsAdapted, gone_of, without}
-use Rattle.wsm_adapt.specs.Adapting.{Changes}
-use Rattle.wsm_adapt.specs.Begun.{IsFound}
-use Rattle.wsm_adapt.specs.Misfits.{region_misfit}
-use Rattle.wsm_adapt.specs.Region.{is_reached}
-use Rattle.wsm_adapt.specs.Walking.{Confined, Standing}
+use Rattle.wsm_adapt.proofs.Common.{[], ℕ, ◌∙◌, ◌≡◌, AdaptsRight, ap, Ascends, both_ways, Card, card_at, cards_of, changed, Changes, Confined, Ends, Entries, facts_of, first, flat_of, FlatModel, Found, gone_of, is_one_of, is_reached}
+use Rattle.wsm_adapt.proofs.Common.{is_some, IsAdapted, IsFound, last_position, List, Mark, mark_now, marks_of, None, not, Option, refl, region_misfit, replay_of, SchemaModel, Some, Standing, subst, suc, sym, trail-aim, true, without}
+use Rattle.wsm_adapt.proofs.{Filtered.{filtered, filtered-passes}, NewTable.new-table, OldMarks.{m2, old-begins}, RegionMisfits.region-ends}
 use Rattle.wsm_adapt.specs.declared.adapting.Adapted.{Adapted}
 use Rattle.wsm_adapt.specs.declared.adapting.Adapted.TheVariants as adapted
-use Rattle.wsm_adapt.specs.declared.walks.Found.{Found}
-use Rattle.wsm_adapt.proofs.Filtered.{filtered, filtered-passes}
-use Rattle.wsm_adapt.proofs.NewTable.{new-table}
-use Rattle.wsm_adapt.proofs.OldMarks.{m2, old-begins}
-use Rattle.wsm_adapt.proofs.RegionMisfits.{region-ends}
 
 none-of : (o : Option Card) → not (is_some o) ≡ true → o ≡ None
 none-of None h = refl

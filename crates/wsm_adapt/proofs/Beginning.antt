@@ -1,39 +1,9 @@
 -- With the touched nodes and those that their cards name a walk may begin.
-use Rattle.std.proofs.Common.{◌≡◌, ◌⊎◌, ℕ, Bool, true, false, ◌||◌, cond, eqb, List, [], ◌∷◌, refl, ap, sym, ◌∙◌, subst, inl, inr, arith, Option, Some, None}
-use Rattle.std.specs.Prelude.{is_some}
-use Rattle.std.specs.List.{list_any}
-use Rattle.std.proofs.lemmas.Bool.{cases_Bool, both_ways, eqb-true, eq-eqb, or_left, or_right}
-use Rattle.std.proofs.lemmas.Option.{same_Some}
-use Rattle.wsm_lists.specs.ByNumber.{item_after, item_at}
-use Rattle.wsm_lists.specs.Keys.{first}
-use Rattle.wsm_lists.specs.Rows.{AllRows, Ascends}
-use Rattle.wsm_lists.proofs.ByNumber.{item_at-put}
+use Rattle.wsm_adapt.proofs.Common.{[], ℕ, ◌||◌, ◌∙◌, ◌∷◌, ◌≡◌, ◌⊎◌, Aim, AllKnown, AllRows, ap, arith, Ascends, Begins, begun_row, begun_rows, Bool, both_ways, Card, card_at, cards_of, cases_Bool, cond, Confined, End, eq-eqb, eqb}
+use Rattle.wsm_adapt.proofs.Common.{eqb-true, false, first, Found, Handed, HasCard, in_rank, inl, inr, is_known, is_led, is_one_of, is_pending, is_reached, is_some, IsAsKept, IsRank, item_after, item_at, item_at-put, leads_to, List}
+use Rattle.wsm_adapt.proofs.Common.{list_any, Mark, mark_or, NoEdgeFrom, None, NoneOf, Option, or-true, or_left, or_right, own, place-one, rank_place, reached-keeps, reached-names, ReadsMore, refl, Regular, said, said-mark, same_Some}
+use Rattle.wsm_adapt.proofs.{Common.{SchemaModel, seen, Some, Standing, Stands, subst, sym, time_by, timed_of, true, untimed, with_time}, Filtered.{any-of, known-row, passes-of, row-of}, Visiting.{known-put, shown}}
 use Rattle.wsm_lists.proofs.Rows.{ascends_put}
-use Rattle.wsm_schema.specs.Flat.{card_at, cards_of}
-use Rattle.wsm_schema.specs.Rank.{IsRank}
-use Rattle.wsm_schema.specs.SchemaModel.{SchemaModel}
-use Rattle.wsm_schema.specs.Trail.{is_one_of}
-use Rattle.wsm_schema.specs.declared.cards.Card.{Card}
-use Rattle.wsm_schema.specs.declared.cards.End.{End}
-use Rattle.wsm_schema.specs.declared.marks.Mark.{Mark}
-use Rattle.wsm_marks.specs.Schemas.{HasCard, Regular}
-use Rattle.wsm_marks.proofs.RankInduction.{in_rank}
-use Rattle.wsm_walk.specs.Kept.{mark_or, timed_of}
-use Rattle.wsm_walk.specs.Listed.{said, seen}
-use Rattle.wsm_walk.specs.RankPlaces.{Handed, is_pending, rank_place}
-use Rattle.wsm_walk.specs.Targets.{leads_to}
-use Rattle.wsm_walk.specs.Walk.{Aim, NoEdgeFrom, Stands, time_by, untimed, with_time}
-use Rattle.wsm_walk.proofs.Listed.{said-mark}
-use Rattle.wsm_walk.proofs.Reached.{or-true, reached-keeps}
-use Rattle.wsm_walk.proofs.ReachedNames.{reached-names}
-use Rattle.wsm_walk.proofs.WalkSteps.{place-one}
-use Rattle.wsm_adapt.specs.Begun.{Begins, NoneOf, begun_row, begun_rows, is_led}
-use Rattle.wsm_adapt.specs.Border.{AllKnown, ReadsMore, is_known, own}
-use Rattle.wsm_adapt.specs.Region.{is_reached}
-use Rattle.wsm_adapt.specs.Walking.{Confined, IsAsKept, Standing}
-use Rattle.wsm_adapt.specs.declared.walks.Found.{Found}
-use Rattle.wsm_adapt.proofs.Filtered.{any-of, known-row, passes-of, row-of}
-use Rattle.wsm_adapt.proofs.Visiting.{known-put, shown}
 
 -- ---- the rows with which it begins
 module _ (cards : List Card) (known : List (ℕ × Option Mark)) where

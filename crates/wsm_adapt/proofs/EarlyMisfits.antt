@@ -1,38 +1,10 @@
 -- Of a node that is not touched only its Start and its Again can misfit, and only where it was visited.
-use Rattle.std.proofs.Common.{◌≡◌, ℕ, Bool, true, false, ◌&&◌, List, [], refl, ap, sym, ◌∙◌, Option, Some, None}
-use Rattle.std.proofs.lemmas.Bool.{both_ways}
-use Rattle.std.proofs.lemmas.Option.{same_Some}
-use Rattle.wsm_schema.specs.Flat.{card_at, cards_of, flat_of}
-use Rattle.wsm_schema.specs.Kinds.{is_loop_end, is_loop_start, worked_on}
-use Rattle.wsm_schema.specs.Marks.{Facts, facts_of, is_again_of, position_of}
-use Rattle.wsm_schema.specs.Replay.{fits_choice, fits_edges}
-use Rattle.wsm_schema.specs.Rules.{is_yes}
-use Rattle.wsm_schema.specs.SchemaModel.{SchemaModel}
-use Rattle.wsm_schema.specs.Trail.{is_one_of}
-use Rattle.wsm_schema.specs.declared.cards.Card.{Card}
-use Rattle.wsm_schema.specs.declared.cards.NodeKind.{NodeKind}
-use Rattle.wsm_schema.specs.declared.cards.NodeKind.TheVariants.{Activity, LoopEnd, LoopStart, XorSplit}
-use Rattle.wsm_schema.specs.declared.marks.Mark.{Mark}
-use Rattle.wsm_trail.specs.EntryAt.{entry_at}
-use Rattle.wsm_marks.specs.Fits.{partner_done}
-use Rattle.wsm_marks.specs.Timed.{Entries, Timed, before}
-use Rattle.wsm_walk.specs.FirstBad.{lesser}
-use Rattle.wsm_walk.specs.Kept.{timed_of}
-use Rattle.wsm_walk.specs.Touches.{edges_fit, reads_fit}
-use Rattle.wsm_walk.proofs.Kept.{timed_of-by}
-use Rattle.wsm_walk.proofs.Touches.{edges-fit}
-use Rattle.wsm_walk.proofs.Regions.{kinds-fit}
-use Rattle.wsm_adapt.specs.Adapting.{Changes}
-use Rattle.wsm_adapt.specs.Border.{is_known}
-use Rattle.wsm_adapt.specs.Misfits.{again_misfit, again_misfit_in, early_in, early_start, end_misfit, misfit_of, reads_in, start_misfit, unless}
-use Rattle.wsm_adapt.specs.Walking.{Standing, loop_end}
-use Rattle.wsm_adapt.specs.declared.walks.Found.{Found}
-use Rattle.wsm_adapt.proofs.Fitted.{again-fitted, end-fitted, start-fitted}
-use Rattle.wsm_adapt.proofs.KnownMisfits.{again-same, fit, kept-time, known-new}
-use Rattle.wsm_adapt.proofs.Least.{Below, below-eq, below-then, lesser-glb, lesser-left, lesser-right}
-use Rattle.wsm_adapt.proofs.LoopEnds.{end-behind}
-use Rattle.wsm_adapt.proofs.OldMarks.{goal, kept, m1, m2}
+use Rattle.wsm_adapt.proofs.Common.{[], ℕ, ◌&&◌, ◌∙◌, ◌≡◌, again_misfit, again_misfit_in, ap, before, Bool, both_ways, Card, card_at, cards_of, Changes, early_in, early_start, edges-fit, edges_fit, end_misfit, Entries, entry_at, Facts}
+use Rattle.wsm_adapt.proofs.Common.{facts_of, false, fits_choice, fits_edges, flat_of, Found, is_again_of, is_known, is_loop_end, is_loop_start, is_one_of, is_yes, kinds-fit, lesser, List, loop_end, Mark, misfit_of, NodeKind, None, Option}
+use Rattle.wsm_adapt.proofs.{Common.{partner_done, position_of, reads_fit, reads_in, refl, same_Some, SchemaModel, Some, Standing, start_misfit, sym, Timed, timed_of, timed_of-by, true, unless, worked_on}, Fitted.{again-fitted, end-fitted}}
+use Rattle.wsm_adapt.proofs.{Fitted.start-fitted, KnownMisfits.{again-same, fit, kept-time, known-new}, Least.{Below, below-eq, below-then, lesser-glb, lesser-left, lesser-right}, LoopEnds.end-behind, OldMarks.{goal, kept, m1, m2}}
 use Rattle.wsm_adapt.proofs.Partners.{start-of_end}
+use Rattle.wsm_schema.specs.declared.cards.NodeKind.TheVariants.{Activity, LoopEnd, LoopStart, XorSplit}
 
 and_true : (b t : Bool) → t ≡ true → (b && t) ≡ b
 and_true true t h = h

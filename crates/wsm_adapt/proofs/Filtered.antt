@@ -1,10 +1,6 @@
 -- The members of lists, and of those that are filtered.
-use Rattle.std.proofs.Common.{◌≡◌, ℕ, ◌<◌, zero, suc, Bool, true, eqb, List, [], ◌∷◌, filter, get_or, refl, ap, sym, ◌∙◌, subst, inl, inr, arith, length, Option, Some, None}
-use Rattle.std.specs.Prelude.{is_some}
-use Rattle.std.specs.List.{list_any}
-use Rattle.std.proofs.lemmas.Bool.{both_ways, cases_Bool, eqb-true, eq-eqb}
-use Rattle.wsm_lists.specs.Rows.{AllRows}
-use Rattle.wsm_schema.specs.Trail.{is_one_of}
+use Rattle.wsm_adapt.proofs.Common.{[], ℕ, ◌<◌, ◌∙◌, ◌∷◌, ◌≡◌, AllRows, ap, arith, Bool, both_ways, cases_Bool, eq-eqb, eqb, eqb-true, filter, get_or, inl, inr, is_one_of, is_some, length, List, list_any, None, Option, refl, Some, subst}
+use Rattle.wsm_adapt.proofs.Common.{suc, sym, true, zero}
 
 pub filtered : (test : ℕ → Bool) (xs : List ℕ) (n : ℕ) → is_one_of n xs ≡ true → test n ≡ true → is_one_of n (filter test xs) ≡ true
 filtered test [] n among it = among

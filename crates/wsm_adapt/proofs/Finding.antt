@@ -1,17 +1,6 @@
 -- What a walk over a change finds, and how much it reads for that.
-use Rattle.std.proofs.Common.{◌≡◌, ℕ, ◌+◌, ◌≤◌, List, [], refl, ap, sym, ◌∙◌, subst, arith}
-use Rattle.wsm_schema.specs.Flat.{FlatModel, cards_of}
-use Rattle.wsm_schema.specs.declared.cards.Card.{Card}
-use Rattle.wsm_schema.specs.declared.marks.Mark.{Mark}
-use Rattle.wsm_walk.specs.RankPlaces.{Handed}
-use Rattle.wsm_adapt.specs.Adapted.{marks_to_read}
-use Rattle.wsm_adapt.specs.Begun.{IsFound, TellsOf, begun_rows}
-use Rattle.wsm_adapt.specs.Border.{AllAmong, AllKnown, FewAmong, ReadsMore, SpendsAmong, is_known, own}
-use Rattle.wsm_adapt.specs.Region.{IsNet, is_reached}
-use Rattle.wsm_adapt.specs.Walking.{Confined, GoesOn, KeepsTold, ReadsFew, StaysInside}
-use Rattle.wsm_adapt.specs.declared.walks.Found.{Found}
-use Rattle.wsm_adapt.proofs.Beginning.{begun-known, confined-first, names_first, standing-first}
-use Rattle.wsm_adapt.proofs.LoopEnds.{reached-closed_in}
+use Rattle.wsm_adapt.proofs.Common.{[], ℕ, ◌+◌, ◌∙◌, ◌≡◌, ◌≤◌, AllAmong, AllKnown, ap, arith, begun_rows, Card, cards_of, Confined, FewAmong, FlatModel, Found, GoesOn, Handed, is_known, is_reached, IsFound, IsNet, KeepsTold, List, Mark}
+use Rattle.wsm_adapt.proofs.{Common.{marks_to_read, own, ReadsFew, ReadsMore, refl, SpendsAmong, StaysInside, subst, sym, TellsOf}, Beginning.{begun-known, confined-first, names_first, standing-first}, LoopEnds.reached-closed_in}
 use Rattle.wsm_adapt.proofs.RegionReads.{all_read, read-covered, read-length, touched-read, unknown-none}
 
 module _ (cards : List Card) (rank touched keys : List ℕ) (handed : Handed rank (names_first cards touched) 0 [] keys) (first found : Found) (none : first.nodes ≡ []) where

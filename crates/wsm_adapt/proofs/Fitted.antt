@@ -1,26 +1,8 @@
 -- What of a trail that replays whole fitted the old schema, node by node.
-use Rattle.std.proofs.Common.{◌≡◌, ℕ, true, ◌&&◌, refl, ap, sym, ◌∙◌, Some}
-use Rattle.std.proofs.lemmas.Bool.{and_parts, both_ways, eqb-true}
-use Rattle.wsm_lists.specs.Rows.{AllRows}
-use Rattle.wsm_lists.specs.Values.{Written}
-use Rattle.wsm_schema.specs.Flat.{FlatModel, card_at}
-use Rattle.wsm_schema.specs.Kinds.{is_loop_end, worked_on}
-use Rattle.wsm_schema.specs.Marks.{Facts, choice_of, facts_of, is_again_of, is_end_of, is_start_of, position_of}
-use Rattle.wsm_schema.specs.Replay.{fits_choice, fits_edges, fits_reads}
-use Rattle.wsm_schema.specs.Rules.{is_yes}
-use Rattle.wsm_schema.specs.Trail.{value_below}
-use Rattle.wsm_schema.specs.declared.cards.Card.{Card}
-use Rattle.wsm_schema.specs.declared.entries.Entry.{Entry}
+use Rattle.wsm_adapt.proofs.Common.{ℕ, ◌&&◌, ◌∙◌, ◌≡◌, AllRows, and_parts, ap, before, both_ways, Card, card_at, choice_of, Entries, Entry, entry_at, eqb-true, Facts, facts_of, fits, fits_choice, fits_edges, fits_reads, FlatModel}
+use Rattle.wsm_adapt.proofs.Common.{found-entry, found-row, is_again_of, is_end_of, is_loop_end, is_start_of, is_yes, Marking, on_card-true, partner_done, position-found, position_of, reads-fit, reads_fit, reads_in, refl, RisesAfter, Some}
+use Rattle.wsm_adapt.proofs.Common.{sym, true, value_below, worked_on, Written}
 use Rattle.wsm_schema.specs.declared.entries.Entry.TheVariants as entry
-use Rattle.wsm_trail.specs.EntryAt.{entry_at}
-use Rattle.wsm_marks.specs.Fits.{RisesAfter, fits, partner_done}
-use Rattle.wsm_marks.specs.Timed.{Entries, Marking, before}
-use Rattle.wsm_marks.proofs.Cards.{on_card-true}
-use Rattle.wsm_marks.proofs.SaneTrails.{found-row, position-found}
-use Rattle.wsm_walk.specs.Touches.{reads_fit}
-use Rattle.wsm_walk.proofs.FoundAt.{found-entry}
-use Rattle.wsm_walk.proofs.Touches.{reads-fit}
-use Rattle.wsm_adapt.specs.Misfits.{reads_in}
 
 module _ (a : FlatModel) (m : Marking) (es : Entries) (rises : RisesAfter 0 es) (fit : AllRows (λ (e : ℕ × Entry). fits a (facts_of es) m (λ d. value_below d e.0 es) e.0 e.1 ≡ true) es) where
   abbrev f : Facts

@@ -1,45 +1,11 @@
 -- What does not fit of a node is told by the marks that are known after the pass.
-use Rattle.std.proofs.Common.{◌≡◌, ℕ, true, false, ◌&&◌, eqb, List, [], ◌∷◌, refl, ap, sym, ◌∙◌, inl, inr, Option, Some, None}
-use Rattle.std.specs.Prelude.{if◌then◌else◌}
-use Rattle.std.proofs.lemmas.Bool.{cases_Bool, both_ways}
-use Rattle.wsm_lists.specs.ByNumber.{item_at}
-use Rattle.wsm_lists.specs.Rows.{AllRows}
-use Rattle.wsm_lists.specs.Values.{Written}
-use Rattle.wsm_lists.specs.declared.values.ElementKind.{ElementKind}
-use Rattle.wsm_schema.specs.Flat.{card_at, cards_of, flat_of, kind_in}
-use Rattle.wsm_schema.specs.Kinds.{is_loop_end, worked_on}
-use Rattle.wsm_schema.specs.Marks.{Facts, facts_of, is_again_of, position_of}
-use Rattle.wsm_schema.specs.Replay.{fits_edges, is_of_kind, on_card}
-use Rattle.wsm_schema.specs.Rules.{is_yes}
-use Rattle.wsm_schema.specs.SchemaModel.{SchemaModel}
-use Rattle.wsm_schema.specs.Trail.{is_one_of, value_below}
-use Rattle.wsm_schema.specs.declared.cards.Card.{Card}
-use Rattle.wsm_schema.specs.declared.entries.Entry.{Entry}
-use Rattle.wsm_schema.specs.declared.marks.Mark.{Mark}
-use Rattle.wsm_marks.specs.Fits.{fits, partner_done}
-use Rattle.wsm_marks.specs.Timed.{Entries, Timed, before, early}
-use Rattle.wsm_marks.proofs.Cards.{on_card-same, same_card}
-use Rattle.wsm_marks.proofs.Causality.{solved_net}
-use Rattle.wsm_marks.proofs.FirstFailure.{fits-rows}
-use Rattle.wsm_marks.proofs.MarksOfTrails.{whole-fits}
-use Rattle.wsm_marks.proofs.WholeTrails.{whole-orderly}
-use Rattle.wsm_walk.specs.FirstBad.{lesser}
-use Rattle.wsm_walk.specs.Kept.{timed_of}
-use Rattle.wsm_walk.specs.Listed.{seen}
-use Rattle.wsm_walk.specs.Walk.{untimed}
-use Rattle.wsm_walk.proofs.Goals.{trail-aim}
-use Rattle.wsm_walk.proofs.Kept.{timed_of-by}
-use Rattle.wsm_walk.proofs.Stands.{stands-end}
-use Rattle.wsm_adapt.specs.Adapting.{Changes}
-use Rattle.wsm_adapt.specs.Border.{is_known}
-use Rattle.wsm_adapt.specs.Misfits.{again_misfit, again_misfit_in, end_misfit, misfit_in, misfit_of, partner_in, start_misfit, unless}
-use Rattle.wsm_adapt.specs.Walking.{IsAsKept, Standing}
-use Rattle.wsm_adapt.specs.declared.walks.Found.{Found}
-use Rattle.wsm_adapt.proofs.Filtered.{known-row}
-use Rattle.wsm_adapt.proofs.Fitted.{again-fitted}
-use Rattle.wsm_adapt.proofs.OldMarks.{goal, kept, m1, m2, old-facts, same-time}
-use Rattle.wsm_adapt.proofs.Partners.{end-of_start, start-of_end}
+use Rattle.wsm_adapt.proofs.Common.{[], ℕ, ◌&&◌, ◌∙◌, ◌∷◌, ◌≡◌, again_misfit, again_misfit_in, AllRows, ap, before, both_ways, Card, card_at, cards_of, cases_Bool, Changes, early, ElementKind, end_misfit, Entries, Entry, eqb, Facts}
+use Rattle.wsm_adapt.proofs.Common.{facts_of, false, fits, fits_edges, flat_of, Found, if◌then◌else◌, inl, inr, is_again_of, is_known, is_loop_end, is_of_kind, is_one_of, is_yes, IsAsKept, item_at, kind_in, lesser, List, Mark, misfit_in}
+use Rattle.wsm_adapt.proofs.Common.{misfit_of, None, on_card, on_card-same, Option, partner_done, partner_in, position_of, refl, same_card, SchemaModel, seen, Some, Standing, start_misfit, sym, Timed, timed_of, timed_of-by, trail-aim, true}
+use Rattle.wsm_adapt.proofs.{Common.{unless, untimed, value_below, whole-fits, worked_on, Written}, Filtered.known-row, Fitted.again-fitted, OldMarks.{goal, kept, m1, m2, old-facts, same-time}, Partners.{end-of_start, start-of_end}}
 use Rattle.wsm_adapt.proofs.Visiting.{shown}
+use Rattle.wsm_marks.proofs.{Causality.solved_net, FirstFailure.fits-rows, WholeTrails.whole-orderly}
+use Rattle.wsm_walk.proofs.Stands.{stands-end}
 
 -- nothing fits a node that is gone, whatever its time
 gone-start : (es : Entries) (x y : Timed) (o : Option ℕ) → start_misfit es None x o ≡ start_misfit es None y o

@@ -1,13 +1,6 @@
 -- What rows of a map and of a list tell of a node.
-use Rattle.std.proofs.Common.{◌≡◌, ℕ, List, [], ◌∷◌, ◌++◌, None, Some, eqb, refl, ap, sym, ◌∙◌, inl, inr}
-use Rattle.std.specs.Option.{option_or}
+use Rattle.wsm_adapt.proofs.Common.{[], ℕ, ◌++◌, ◌∙◌, ◌∷◌, ◌≡◌, ap, both_ways, cases_Bool, eq-eqb, eqb, eqb-true, first, inl, inr, item_at, item_at-put, List, nat_eq, ne_eqb, None, option_or, put_row, refl, Some, sym}
 use Rattle.std.specs.Map.{lookup}
-use Rattle.std.specs.Prelude.{nat_eq}
-use Rattle.std.proofs.lemmas.Bool.{cases_Bool, both_ways, eqb-true, eq-eqb, ne_eqb}
-use Rattle.wsm_lists.specs.ByNumber.{item_at}
-use Rattle.wsm_lists.specs.Keys.{first}
-use Rattle.wsm_lists.specs.Rows.{put_row}
-use Rattle.wsm_lists.proofs.ByNumber.{item_at-put}
 
 pub lookup-item : {A : Type 0} (n : ℕ) (rows : List (ℕ × A)) → lookup (nat_eq n) rows ≡ item_at n rows
 lookup-item n [] = refl

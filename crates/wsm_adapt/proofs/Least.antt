@@ -1,9 +1,6 @@
 -- The least of positions goes by the members of a list alone.
-use Rattle.std.proofs.Common.{◌≡◌, ℕ, ◌≤◌, true, eqb, ltb, List, [], ◌∷◌, map, refl, ap, ◌∙◌, subst, inl, inr, arith, Option, Some, None}
-use Rattle.std.proofs.lemmas.Bool.{cases_Bool, both_ways, eqb-true, eq-eqb, ltb-true, ltb-false}
-use Rattle.std.proofs.lemmas.Option.{same_Some}
-use Rattle.wsm_schema.specs.Trail.{is_one_of}
-use Rattle.wsm_walk.specs.FirstBad.{least, lesser}
+use Rattle.wsm_adapt.proofs.Common.{[], ℕ, ◌∙◌, ◌∷◌, ◌≡◌, ◌≤◌, ap, arith, both_ways, cases_Bool, eq-eqb, eqb, eqb-true, inl, inr, is_one_of, least, lesser, List, ltb, ltb-false, ltb-true, map, None, Option, refl, same_Some, Some, subst}
+use Rattle.wsm_adapt.proofs.Common.{true}
 
 -- where there is the second, the first is there too, and not above it
 abbrev pub Below : Option ℕ → Option ℕ → Type 0

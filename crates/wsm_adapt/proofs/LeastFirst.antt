@@ -1,8 +1,5 @@
 -- The least of positions, one after another.
-use Rattle.std.proofs.Common.{◌≡◌, ℕ, ◌+◌, ◌<◌, true, false, ltb, List, drop, get_or, length, map, refl, ap, sym, ◌∙◌, inl, inr, arith, Option, Some, None}
-use Rattle.std.proofs.lemmas.Bool.{cases_Bool, ltb-true, ltb-false}
-use Rattle.std.proofs.lemmas.List.{drop_more}
-use Rattle.wsm_walk.specs.FirstBad.{least, lesser}
+use Rattle.wsm_adapt.proofs.Common.{ℕ, ◌+◌, ◌<◌, ◌∙◌, ◌≡◌, ap, arith, cases_Bool, drop, drop_more, false, get_or, inl, inr, least, length, lesser, List, ltb, ltb-false, ltb-true, map, None, Option, refl, Some, sym, true}
 
 pub lesser-assoc : (a b c : Option ℕ) → lesser (lesser a b) c ≡ lesser a (lesser b c)
 lesser-assoc None b c = refl

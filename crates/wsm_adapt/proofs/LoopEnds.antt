@@ -1,30 +1,8 @@
 -- The nodes that some nodes reach have with a node those that its card names, and with the start of a loop its end, which stands behind it.
-use Rattle.std.proofs.Common.{◌≡◌, ◌⊎◌, ℕ, ◌<◌, true, false, eqb, List, [], ◌∷◌, ◌++◌, length, refl, ap, sym, ◌∙◌, subst, inl, inr, arith, Some, None}
-use Rattle.std.proofs.lemmas.Bool.{cases_Bool, both_ways, eqb-true, eq-eqb}
-use Rattle.wsm_lists.specs.Rows.{AllRows}
-use Rattle.wsm_lists.proofs.Lists.{all_rows}
-use Rattle.wsm_schema.specs.Flat.{card_at, cards_of}
-use Rattle.wsm_schema.specs.Kinds.{is_loop_end, is_loop_start}
-use Rattle.wsm_schema.specs.Rank.{IsRank}
-use Rattle.wsm_schema.specs.SchemaModel.{SchemaModel}
-use Rattle.wsm_schema.specs.Touched.{Reaches, by_control, by_sync, here}
-use Rattle.wsm_schema.specs.Trail.{is_one_of}
-use Rattle.wsm_schema.specs.declared.cards.Card.{Card}
-use Rattle.wsm_schema.specs.declared.cards.End.{End}
-use Rattle.wsm_schema.specs.declared.cards.NodeKind.{NodeKind}
+use Rattle.wsm_adapt.proofs.Common.{[], ℕ, ◌++◌, ◌<◌, ◌∙◌, ◌∷◌, ◌≡◌, ◌⊎◌, all_rows, AllRows, ap, arith, both_ways, by_control, by_sync, Card, card_at, cards_of, cases_Bool, Closed, End, eq-eqb, eqb, eqb-true, false, here, in_rank, inl, inr}
+use Rattle.wsm_adapt.proofs.Common.{is_loop_end, is_loop_start, is_one_of, is_reached, IsRank, length, List, loop_end, member-splits, NodeKind, None, or-true, place-behind, place-front, rank_place, reached-keeps, reached-least}
+use Rattle.wsm_adapt.proofs.{Common.{reached-names, Reaches, refl, region-of, Regular, rows-member, same_card, SchemaModel, Some, subst, sym, true}, Partners.end-of_start}
 use Rattle.wsm_schema.specs.declared.cards.NodeKind.TheVariants.{LoopEnd, LoopStart}
-use Rattle.wsm_schema.proofs.Rounds.{member-splits}
-use Rattle.wsm_marks.specs.Schemas.{Regular}
-use Rattle.wsm_marks.proofs.Cards.{same_card}
-use Rattle.wsm_marks.proofs.RankInduction.{in_rank}
-use Rattle.wsm_walk.specs.RankPlaces.{rank_place}
-use Rattle.wsm_walk.proofs.Reached.{or-true, reached-keeps, reached-least, rows-member}
-use Rattle.wsm_walk.proofs.ReachedNames.{reached-names}
-use Rattle.wsm_walk.proofs.Regions.{region-of}
-use Rattle.wsm_walk.proofs.WalkSteps.{place-behind, place-front}
-use Rattle.wsm_adapt.specs.Region.{is_reached}
-use Rattle.wsm_adapt.specs.Walking.{Closed, loop_end}
-use Rattle.wsm_adapt.proofs.Partners.{end-of_start}
 
 -- a card with the end of its loop is that of a loop's start
 pub starts-loop : (c : Card) (e : ℕ) → loop_end c ≡ Some e → (is_loop_start c.kind ≡ true) × (c.partner ≡ Some e)

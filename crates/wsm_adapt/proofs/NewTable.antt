@@ -1,31 +1,7 @@
 -- The changes make the new table of marks of the old one.
-use Rattle.std.proofs.Common.{◌≡◌, ℕ, Bool, true, false, eqb, List, [], ◌∷◌, refl, ap, sym, ◌∙◌, subst, inl, inr, Option, Some, None}
-use Rattle.std.specs.Prelude.{if◌then◌else◌}
-use Rattle.std.proofs.lemmas.Bool.{both_ways, cases_Bool}
-use Rattle.wsm_lists.specs.ByNumber.{changed, item_after, item_at}
-use Rattle.wsm_lists.specs.Keys.{first}
-use Rattle.wsm_lists.specs.Rows.{Ascends, put_row}
-use Rattle.wsm_lists.proofs.ByNumber.{ascends-changed, item_at-changed, item_at-put, items-same}
-use Rattle.wsm_schema.specs.Flat.{card_at, cards_of, flat_of}
-use Rattle.wsm_schema.specs.Marks.{marks_of}
-use Rattle.wsm_schema.specs.Replay.{replay_of, whole}
-use Rattle.wsm_schema.specs.Rules.{Spots}
-use Rattle.wsm_schema.specs.SchemaModel.{SchemaModel}
-use Rattle.wsm_schema.specs.Trail.{is_one_of}
-use Rattle.wsm_schema.specs.declared.cards.Card.{Card}
-use Rattle.wsm_schema.specs.declared.marks.Mark.{Mark}
-use Rattle.wsm_marks.specs.Timed.{Entries}
-use Rattle.wsm_marks.proofs.MarksOfTrails.{whole-marks}
-use Rattle.wsm_walk.specs.Current.{mark_now}
-use Rattle.wsm_walk.specs.Kept.{mark_or}
-use Rattle.wsm_walk.specs.Listed.{listed, said}
-use Rattle.wsm_walk.proofs.Listed.{ascends-listed, listed-item, said-mark}
-use Rattle.wsm_adapt.specs.Adapted.{without}
-use Rattle.wsm_adapt.specs.Adapting.{Changes}
-use Rattle.wsm_adapt.specs.Walking.{Standing}
-use Rattle.wsm_adapt.specs.declared.walks.Found.{Found}
-use Rattle.wsm_adapt.proofs.KnownMisfits.{all-new}
-use Rattle.wsm_adapt.proofs.OldMarks.{kept, kept-listed}
+use Rattle.wsm_adapt.proofs.Common.{[], ℕ, ◌∙◌, ◌∷◌, ◌≡◌, ap, Ascends, ascends-changed, ascends-listed, Bool, both_ways, Card, card_at, cards_of, cases_Bool, changed, Changes, Entries, eqb, false, first, flat_of, Found, if◌then◌else◌, inl}
+use Rattle.wsm_adapt.proofs.Common.{inr, is_one_of, item_after, item_at, item_at-changed, item_at-put, items-same, List, listed, listed-item, Mark, mark_now, mark_or, marks_of, None, Option, put_row, refl, replay_of, said, said-mark}
+use Rattle.wsm_adapt.proofs.{Common.{SchemaModel, Some, Spots, Standing, subst, sym, true, whole, whole-marks, without}, KnownMisfits.all-new, OldMarks.{kept, kept-listed}}
 
 -- what the row of a node that went holds
 abbrev no_row : Option (Option Mark)

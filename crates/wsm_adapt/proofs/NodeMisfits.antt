@@ -1,28 +1,8 @@
 -- What of a node does not fit a new schema is told by its cards, its mark and the new marks, if all of it fitted the old one.
-use Rattle.std.proofs.Common.{◌≡◌, ℕ, Bool, true, false, ◌&&◌, not, List, refl, ap, sym, ◌∙◌, Option, Some, None}
-use Rattle.std.specs.Prelude.{find, option_map, if◌then◌else◌}
-use Rattle.std.proofs.lemmas.Bool.{and_parts, both_ways, eqb-true}
-use Rattle.wsm_lists.specs.Rows.{AllRows}
-use Rattle.wsm_lists.specs.Values.{Written}
-use Rattle.wsm_lists.specs.declared.values.Value.{Value}
-use Rattle.wsm_schema.specs.Flat.{FlatModel, card_at}
-use Rattle.wsm_schema.specs.Kinds.{worked_on}
-use Rattle.wsm_schema.specs.Marks.{Facts, choice_of, facts_of, is_again_of, is_end_of, is_start_of}
-use Rattle.wsm_schema.specs.Replay.{fits_choice, fits_edges, fits_reads, on_card}
-use Rattle.wsm_schema.specs.Rules.{is_yes}
-use Rattle.wsm_schema.specs.Trail.{value_below}
-use Rattle.wsm_schema.specs.declared.cards.Card.{Card}
-use Rattle.wsm_schema.specs.declared.entries.Entry.{Entry}
+use Rattle.wsm_adapt.proofs.Common.{ℕ, ◌&&◌, ◌∙◌, ◌≡◌, again_fits, again_misfit, AllRows, and_parts, ap, bad_at, before, Bool, both_ways, Card, card_at, choice_of, edges-fit, end_fits, end_misfit, Entries, Entry, entry_at, eqb-true, Facts}
+use Rattle.wsm_adapt.proofs.Common.{facts_of, false, find, fits, fits_choice, fits_edges, fits_reads, FlatModel, found-entry, found-row, if◌then◌else◌, is_again_of, is_end_of, is_start_of, is_yes, lesser, List, Marking, misfit_of, node_bad}
+use Rattle.wsm_adapt.proofs.Common.{None, not, on_card, Option, option_map, reads-fit, reads_in, refl, RisesAfter, Some, start_fits, start_misfit, sym, Timed, true, unless, Value, value_below, worked_on, Written}
 use Rattle.wsm_schema.specs.declared.entries.Entry.TheVariants as entry
-use Rattle.wsm_trail.specs.EntryAt.{entry_at}
-use Rattle.wsm_marks.specs.Fits.{RisesAfter, fits}
-use Rattle.wsm_marks.specs.Timed.{Entries, Marking, Timed, before}
-use Rattle.wsm_marks.proofs.SaneTrails.{found-row}
-use Rattle.wsm_walk.specs.FirstBad.{bad_at, lesser}
-use Rattle.wsm_walk.proofs.FoundAt.{found-entry}
-use Rattle.wsm_walk.proofs.RegionMisfit.{node_bad}
-use Rattle.wsm_walk.proofs.Touches.{edges-fit, reads-fit}
-use Rattle.wsm_adapt.specs.Misfits.{again_fits, again_misfit, end_fits, end_misfit, misfit_of, reads_in, start_fits, start_misfit, unless}
 
 flip : (t : Bool) (p : ℕ) → (if not t then Some p else None) ≡ unless t p
 flip true p = refl

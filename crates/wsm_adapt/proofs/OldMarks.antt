@@ -1,28 +1,9 @@
 -- What the kept marks tell of the new ones: the facts of each node; and from them a walk may begin.
-use Rattle.std.proofs.Common.{◌≡◌, ℕ, false, List, refl, ap, sym, ◌∙◌, subst, Option, Some, None}
-use Rattle.wsm_lists.specs.ByNumber.{item_at}
-use Rattle.wsm_lists.proofs.Lists.{all-rows-map}
-use Rattle.wsm_schema.specs.Flat.{card_at, cards_of, flat_of}
-use Rattle.wsm_schema.specs.Marks.{facts_of, list_marks, marks_of}
-use Rattle.wsm_schema.specs.SchemaModel.{SchemaModel}
-use Rattle.wsm_schema.specs.Trail.{is_one_of}
-use Rattle.wsm_schema.specs.declared.cards.Card.{Card}
-use Rattle.wsm_schema.specs.declared.marks.Mark.{Mark}
+use Rattle.wsm_adapt.proofs.Common.{ℕ, ◌∙◌, ◌≡◌, all-rows-map, ap, Begins, Card, card_at, cards_of, Changes, Entries, facts_by, facts_of, false, flat_of, is_one_of, item_at, List, list_marks, listed, listed-item, listed-read, Mark}
+use Rattle.wsm_adapt.proofs.Common.{mark_now, mark_or, Marking, marks_of, None, Option, refl, SchemaModel, sig_at, sig_by, Some, sources-have_cards, subst, sym, timed_of, timed_of-by, times_by, trail-aim, untimed, whole-marks, with_time}
 use Rattle.wsm_marks.specs.Solving.{solution}
-use Rattle.wsm_marks.specs.Timed.{Entries, Marking, sig_at, sig_by}
-use Rattle.wsm_marks.proofs.MarksOfTrails.{whole-marks}
 use Rattle.wsm_marks.proofs.Solutions.{eq_of-same, solution-solves}
-use Rattle.wsm_marks.proofs.Sources.{sources-have_cards}
-use Rattle.wsm_walk.specs.Current.{mark_now}
-use Rattle.wsm_walk.specs.Kept.{mark_or, timed_of}
-use Rattle.wsm_walk.specs.Listed.{listed}
-use Rattle.wsm_walk.specs.Walk.{facts_by, times_by, untimed, with_time}
-use Rattle.wsm_walk.proofs.Goals.{trail-aim}
-use Rattle.wsm_walk.proofs.Kept.{listed-read, timed_of-by}
-use Rattle.wsm_walk.proofs.Listed.{listed-item}
 use Rattle.wsm_walk.proofs.Told.{untold}
-use Rattle.wsm_adapt.specs.Adapting.{Changes}
-use Rattle.wsm_adapt.specs.Begun.{Begins}
 
 module _ (before after : SchemaModel) (rank touched : List ℕ) (es : Entries) (ch : Changes before after rank touched es) where
   abbrev pub kept : List (ℕ × Mark)

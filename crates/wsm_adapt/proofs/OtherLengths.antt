@@ -1,9 +1,5 @@
 -- Lists of other lengths do not fit.
-use Rattle.std.proofs.Common.{◌≡◌, ◌≢◌, ℕ, Bool, false, List, [], ◌∷◌, length, refl, arith, Option}
-use Rattle.std.proofs.lemmas.Bool.{and_right}
-use Rattle.wsm_lists.specs.declared.values.ElementKind.{ElementKind}
-use Rattle.wsm_lists.specs.declared.values.Value.{Value}
-use Rattle.wsm_walk.specs.Touches.{edges_fit, reads_fit}
+use Rattle.wsm_adapt.proofs.Common.{[], ℕ, ◌∷◌, ◌≡◌, ◌≢◌, and_right, arith, Bool, edges_fit, ElementKind, false, length, List, Option, reads_fit, refl, Value}
 
 pub edges-lengths : (a b : List (ℕ × ElementKind)) (cs ds : List ℕ) → length cs ≢ length ds → edges_fit a b cs ds ≡ false
 edges-lengths a b [] [] h = absurd (h refl)

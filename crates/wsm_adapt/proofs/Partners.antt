@@ -1,21 +1,8 @@
 -- A loop's start and its end name each other.
-use Rattle.std.proofs.Common.{◌≡◌, ◌⊎◌, ℕ, Bool, true, false, eqb, List, [], ◌∷◌, ◌++◌, map, refl, ap, sym, ◌∙◌, subst, inl, inr, Option, Some}
-use Rattle.std.proofs.lemmas.Bool.{both_ways, eq-eqb}
-use Rattle.std.proofs.lemmas.Option.{same_Some}
-use Rattle.wsm_lists.specs.Rows.{AllRows}
-use Rattle.wsm_lists.proofs.Lists.{rows-append, rows-map}
-use Rattle.wsm_schema.specs.Ends.{first_node, last_of}
-use Rattle.wsm_schema.specs.Flat.{card_at, card_of, cards_of}
-use Rattle.wsm_schema.specs.Kinds.{is_loop_end, is_loop_start}
-use Rattle.wsm_schema.specs.Places.{join_kind, labelled, lanes_places, part_places, parts_places, places, plain_end, split_kind}
-use Rattle.wsm_schema.specs.SchemaModel.{SchemaModel}
-use Rattle.wsm_schema.specs.Tree.{Gate, Lanes, Part, Parts, act, and_gate, gate, lane, loop, no_lane, nothing, part, xor_gate}
-use Rattle.wsm_schema.specs.declared.cards.Card.{Card}
-use Rattle.wsm_schema.specs.declared.cards.End.{End}
-use Rattle.wsm_schema.specs.declared.cards.NodeKind.{NodeKind}
-use Rattle.wsm_schema.specs.declared.places.Place.{Place}
-use Rattle.wsm_schema.proofs.Rounds.{all-rows-card_at, card_at-node}
-use Rattle.wsm_marks.specs.Schemas.{Distinct, Regular}
+use Rattle.wsm_adapt.proofs.Common.{[], ℕ, ◌++◌, ◌∙◌, ◌∷◌, ◌≡◌, ◌⊎◌, all-rows-card_at, AllRows, ap, Bool, both_ways, Card, card_at, card_at-node, card_of, cards_of, Distinct, End, eq-eqb, eqb, false, inl, inr, is_loop_end, is_loop_start}
+use Rattle.wsm_adapt.proofs.Common.{List, map, NodeKind, Option, refl, Regular, rows-append, rows-map, same_Some, SchemaModel, Some, subst, sym, true}
+use Rattle.wsm_schema.specs.{Ends.{first_node, last_of}, Places.{join_kind, labelled, lanes_places, part_places, parts_places, places, plain_end, split_kind}, Tree.{Gate, Lanes, Part, Parts, act, and_gate, gate, lane, loop, no_lane}}
+use Rattle.wsm_schema.specs.{Tree.{nothing, part, xor_gate}, declared.places.Place.Place}
 
 -- n is a place of that kind, with partner l
 abbrev Has : (NodeKind → Bool) → ℕ → ℕ → List Place → Type 0

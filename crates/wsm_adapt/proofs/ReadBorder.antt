@@ -1,15 +1,6 @@
 -- Marks are read where they are not known, one after another.
-use Rattle.std.proofs.Common.{◌≡◌, ℕ, ◌+◌, ◌<◌, ◌≤◌, Bool, true, false, cond, eqb, List, [], ◌∷◌, drop, get_or, length, refl, ap, sym, ◌∙◌, subst, inl, inr, arith, Option, Some, None}
-use Rattle.std.specs.Prelude.{is_some, if◌then◌else◌}
-use Rattle.std.proofs.lemmas.Bool.{cases_Bool, both_ways, eqb-true, eq-eqb}
-use Rattle.std.proofs.lemmas.List.{drop_more}
-use Rattle.wsm_lists.specs.ByNumber.{item_at}
-use Rattle.wsm_lists.specs.Keys.{first}
-use Rattle.wsm_lists.specs.Rows.{put_row, row_at}
-use Rattle.wsm_lists.proofs.ByNumber.{is_some-map, item_at-put}
-use Rattle.wsm_schema.specs.Trail.{is_one_of}
-use Rattle.wsm_schema.specs.declared.marks.Mark.{Mark}
-use Rattle.wsm_adapt.specs.Border.{AllAmong, AllKnown, FewAmong, ReadsMore, SpendsAmong, is_known, unknown, unknown_in}
+use Rattle.wsm_adapt.proofs.Common.{[], ℕ, ◌+◌, ◌<◌, ◌∙◌, ◌∷◌, ◌≡◌, ◌≤◌, AllAmong, AllKnown, ap, arith, Bool, both_ways, cases_Bool, cond, drop, drop_more, eq-eqb, eqb, eqb-true, false, FewAmong, first, get_or, if◌then◌else◌, inl, inr}
+use Rattle.wsm_adapt.proofs.Common.{is_known, is_one_of, is_some, is_some-map, item_at, item_at-put, length, List, Mark, None, Option, put_row, ReadsMore, refl, row_at, Some, SpendsAmong, subst, sym, true, unknown, unknown_in}
 use Rattle.wsm_adapt.proofs.Filtered.{row-at}
 
 pub more-none : (kept : List (ℕ × Mark)) (old : List (ℕ × Option Mark)) → ReadsMore kept old old

@@ -1,32 +1,10 @@
 -- The least misfit over touched and visited nodes is where the replay on the new schema fails.
-use Rattle.std.proofs.Common.{◌≡◌, ℕ, suc, Bool, true, false, not, List, [], ◌∷◌, map, refl, ap, sym, ◌∙◌, subst, inl, inr, Option, Some, None}
-use Rattle.std.proofs.lemmas.Bool.{both_ways, cases_Bool}
-use Rattle.wsm_schema.specs.Flat.{card_at, cards_of, flat_of}
-use Rattle.wsm_schema.specs.Marks.{Facts, facts_of}
-use Rattle.wsm_schema.specs.Replay.{replay_of}
-use Rattle.wsm_schema.specs.SchemaModel.{SchemaModel}
-use Rattle.wsm_schema.specs.Touched.{Reaches, by_control, by_sync, here}
-use Rattle.wsm_schema.specs.Trail.{is_one_of, value_below}
-use Rattle.wsm_schema.specs.declared.cards.Card.{Card}
-use Rattle.wsm_schema.specs.declared.entries.Entry.{Entry}
-use Rattle.wsm_schema.specs.declared.marks.Mark.{Mark}
-use Rattle.wsm_marks.specs.Fits.{Ends, fits, last_position}
-use Rattle.wsm_marks.specs.Timed.{Entries, Timed}
-use Rattle.wsm_walk.specs.FirstBad.{least, lesser}
+use Rattle.wsm_adapt.proofs.Common.{[], ℕ, ◌∙◌, ◌∷◌, ◌≡◌, ap, Bool, both_ways, by_control, by_sync, Card, card_at, cards_of, cases_Bool, Changes, Confined, early_in, Ends, Entries, Entry, Facts, facts_of, false, fits, flat_of, Found, here}
+use Rattle.wsm_adapt.proofs.Common.{inl, inr, is_one_of, is_reached, last_position, least, lesser, List, map, Mark, misfit_in, misfit_of, node_bad, None, not, Option, reached-keeps, reached-least, Reaches, refl, replay_of, SchemaModel}
+use Rattle.wsm_adapt.proofs.{Common.{Some, Standing, subst, suc, sym, Timed, true, value_below}, EarlyMisfits.{early-below, steady-misfit, untouched-misfit}, KnownMisfits.{fit, gone-misfit, known-misfit}, Least.{Below, below-both}}
+use Rattle.wsm_adapt.proofs.{Least.{below-eq, below-then, least-glb, least-member, lesser-glb, lesser-left, lesser-right}, NodeMisfits.misfit-is, OldMarks.{goal, kept, m1, m2}}
 use Rattle.wsm_walk.specs.Reached.{reached_from}
 use Rattle.wsm_walk.proofs.Adapts.{adapt-ends}
-use Rattle.wsm_walk.proofs.Reached.{reached-keeps, reached-least}
-use Rattle.wsm_walk.proofs.RegionMisfit.{node_bad}
-use Rattle.wsm_adapt.specs.Adapting.{Changes}
-use Rattle.wsm_adapt.specs.Misfits.{early_in, misfit_in, misfit_of}
-use Rattle.wsm_adapt.specs.Region.{is_reached}
-use Rattle.wsm_adapt.specs.Walking.{Confined, Standing}
-use Rattle.wsm_adapt.specs.declared.walks.Found.{Found}
-use Rattle.wsm_adapt.proofs.EarlyMisfits.{early-below, steady-misfit, untouched-misfit}
-use Rattle.wsm_adapt.proofs.KnownMisfits.{fit, gone-misfit, known-misfit}
-use Rattle.wsm_adapt.proofs.Least.{Below, below-both, below-eq, below-then, least-glb, least-member, lesser-glb, lesser-left, lesser-right}
-use Rattle.wsm_adapt.proofs.NodeMisfits.{misfit-is}
-use Rattle.wsm_adapt.proofs.OldMarks.{goal, kept, m1, m2}
 
 module _ (before_ after : SchemaModel) (rank touched : List ℕ) (es : Entries) (ch : Changes before_ after rank touched es) (found : Found)
     (st : Standing (cards_of after) rank (goal before_ after rank touched es ch) (kept before_ after rank touched es ch) touched [] found)

@@ -1,26 +1,9 @@
 -- The nodes whose marks may be read, and how many they are.
-use Rattle.std.proofs.Common.{◌≡◌, ℕ, ◌+◌, Bool, true, false, eqb, List, [], ◌∷◌, ◌++◌, refl, ap, sym, ◌∙◌, subst, inl, inr, arith, length-append, Option, Some, None}
-use Rattle.std.specs.Prelude.{if◌then◌else◌, is_some, length, not}
-use Rattle.std.proofs.lemmas.Bool.{cases_Bool, eq-eqb}
-use Rattle.std.proofs.lemmas.Option.{same_Some}
-use Rattle.wsm_lists.specs.Rows.{AllRows}
-use Rattle.wsm_lists.proofs.Lists.{all-rows-map, both_rows}
-use Rattle.wsm_schema.specs.Flat.{card_at, cards_of}
-use Rattle.wsm_schema.specs.SchemaModel.{SchemaModel}
-use Rattle.wsm_schema.specs.Trail.{is_one_of}
-use Rattle.wsm_schema.specs.declared.cards.Card.{Card}
-use Rattle.wsm_schema.specs.declared.cards.End.{End}
-use Rattle.wsm_schema.proofs.Rounds.{card_at-node}
-use Rattle.wsm_marks.specs.Schemas.{HasCard, Regular}
-use Rattle.wsm_marks.proofs.Lists.{one_of-front}
-use Rattle.wsm_marks.proofs.Sources.{sources-have_cards}
-use Rattle.wsm_walk.proofs.Reached.{reached-keeps}
-use Rattle.wsm_adapt.specs.Adapted.{gone_of}
-use Rattle.wsm_adapt.specs.Border.{AllAmong, SourcesAmong, end_node, own, unknown_in}
+use Rattle.wsm_adapt.proofs.Common.{[], ℕ, ◌++◌, ◌+◌, ◌∙◌, ◌∷◌, ◌≡◌, all-rows-map, AllAmong, AllRows, ap, arith, Bool, both_rows, Card, card_at, card_at-node, cards_of, cases_Bool, Covered, End, end_node, eq-eqb, eqb, false, gone_of}
+use Rattle.wsm_adapt.proofs.Common.{HasCard, if◌then◌else◌, inl, inr, is_one_of, is_reached, is_some, length-append, List, None, one_of-front, Option, own, reached-keeps, refl, Regular, same_Some, SchemaModel, Some, sources-have_cards}
+use Rattle.wsm_adapt.proofs.{Common.{SourcesAmong, subst, sym, true, unknown_in}, Filtered.{filtered, rows-of}}
+use Rattle.std.specs.Prelude.{length, not}
 use Rattle.wsm_adapt.specs.Bounds.{others_in, region_reads}
-use Rattle.wsm_adapt.specs.Region.{is_reached}
-use Rattle.wsm_adapt.specs.Walking.{Covered}
-use Rattle.wsm_adapt.proofs.Filtered.{filtered, rows-of}
 
 one_of-behind : (k : ℕ) (xs ys : List ℕ) → is_one_of k ys ≡ true → is_one_of k (xs ++ ys) ≡ true
 one_of-behind k [] ys among = among

@@ -1,17 +1,8 @@
 -- Each touched node has a row among the changes.
-use Rattle.std.proofs.Common.{◌≡◌, ◌⊎◌, ℕ, true, false, List, refl, ap, sym, ◌∙◌, subst, inl, inr, Option, Some, None}
-use Rattle.std.specs.Prelude.{if◌then◌else◌, is_some, not}
-use Rattle.std.proofs.lemmas.Bool.{cases_Bool}
-use Rattle.wsm_lists.specs.ByNumber.{item_at}
-use Rattle.wsm_schema.specs.Flat.{card_at}
-use Rattle.wsm_schema.specs.Trail.{is_one_of}
-use Rattle.wsm_schema.specs.declared.cards.Card.{Card}
-use Rattle.wsm_schema.specs.declared.marks.Mark.{Mark}
-use Rattle.wsm_adapt.specs.Adapted.{TellsTouched, gone_of, without}
-use Rattle.wsm_adapt.specs.Border.{is_known}
+use Rattle.wsm_adapt.proofs.Common.{ℕ, ◌∙◌, ◌≡◌, ◌⊎◌, ap, Card, card_at, cases_Bool, false, gone_of, if◌then◌else◌, inl, inr, is_known, is_one_of, is_some, item_at, List, Mark, None, Option, refl, Some, subst, sym, TellsTouched, true}
+use Rattle.wsm_adapt.proofs.{Common.without, Filtered.filtered, NewTable.item-without}
+use Rattle.std.specs.Prelude.{not}
 use Rattle.wsm_adapt.specs.declared.adapting.Adapted.TheVariants as adapted
-use Rattle.wsm_adapt.proofs.Filtered.{filtered}
-use Rattle.wsm_adapt.proofs.NewTable.{item-without}
 
 known-without : (k : ℕ) (ns : List ℕ) (rows : List (ℕ × Option Mark)) → (is_one_of k ns ≡ true) ⊎ (is_known rows k ≡ true) → is_known (without ns rows) k ≡ true
 known-without k ns rows either =

@@ -1,39 +1,11 @@
 -- One visit of a walk over a change, and how visits follow one another.
-use Rattle.std.proofs.Common.{◌≡◌, ◌⊎◌, ℕ, ◌+◌, ◌<◌, ◌≤◌, Bool, true, false, ◌||◌, cond, eqb, List, [], ◌∷◌, ◌++◌, get_or, length, refl, ap, sym, ◌∙◌, subst, inl, inr, arith, Option, Some, None}
-use Rattle.std.specs.Prelude.{is_some}
-use Rattle.std.proofs.lemmas.Bool.{cases_Bool, both_ways, eqb-true, eq-eqb, or_left, or_right}
-use Rattle.std.proofs.lemmas.Option.{same_Some}
-use Rattle.wsm_lists.specs.ByNumber.{item_after, item_at}
-use Rattle.wsm_lists.specs.Keys.{first}
-use Rattle.wsm_lists.specs.Rows.{put_row}
-use Rattle.wsm_lists.proofs.ByNumber.{item_at-put}
-use Rattle.wsm_lists.proofs.Lists.{all-rows-map}
-use Rattle.wsm_schema.specs.Flat.{card_at}
-use Rattle.wsm_schema.specs.Rank.{IsRank}
-use Rattle.wsm_schema.specs.Trail.{is_one_of}
-use Rattle.wsm_schema.specs.declared.cards.Card.{Card}
-use Rattle.wsm_schema.specs.declared.cards.End.{End}
-use Rattle.wsm_schema.specs.declared.marks.Mark.{Mark}
-use Rattle.wsm_schema.proofs.Rounds.{card_at-node}
-use Rattle.wsm_marks.specs.Schemas.{HasCard}
-use Rattle.wsm_marks.proofs.Cards.{same_card}
-use Rattle.wsm_marks.proofs.Lists.{one_of-last}
-use Rattle.wsm_marks.proofs.RankInduction.{Known, in_rank}
-use Rattle.wsm_walk.specs.Kept.{mark_or, timed_of}
-use Rattle.wsm_walk.specs.Listed.{said, seen}
-use Rattle.wsm_walk.specs.RankPlaces.{AllBehind, Handed, is_pending, rank_place}
-use Rattle.wsm_walk.specs.Targets.{leads_to}
-use Rattle.wsm_walk.specs.Walk.{Aim, Stands, time_by, with_time}
-use Rattle.wsm_walk.proofs.Reached.{or-true}
+use Rattle.wsm_adapt.proofs.Common.{[], ℕ, ◌++◌, ◌+◌, ◌<◌, ◌||◌, ◌∙◌, ◌∷◌, ◌≡◌, ◌≤◌, ◌⊎◌, Aim, all-rows-map, AllBehind, ap, arith, Bool, both_ways, Card, card_at, card_at-node, cases_Bool, Closed, cond, Confined, Covered, End, eq-eqb, eqb}
+use Rattle.wsm_adapt.proofs.Common.{eqb-true, false, FewAmong, fewer-places, first, Found, get_or, GoesOn, Handed, HasCard, in_rank, inl, inr, is_known, is_named, is_one_of, is_pending, is_some, IsAsKept, IsRank, IsVisit, item_after}
+use Rattle.wsm_adapt.proofs.Common.{item_at, item_at-put, KeepsTold, Known, leads_to, length, List, loop_end, Mark, mark_or, None, one_of-last, Option, or-true, or_left, or_right, passed-to, place-behind, place-one, put_row, rank_place}
+use Rattle.wsm_adapt.proofs.Common.{ReadsFew, refl, said, same_card, same_Some, seen, Some, SpendsAmong, SpendsOn, Standing, Stands, StaysInside, subst, sym, time_by, timed_of, true, unknown_in, VisitAmong, walks-new, walks-none}
+use Rattle.wsm_adapt.proofs.{Common.{walks-same, with_time}, Filtered.known-row, ReadBorder.known-stays}
 use Rattle.wsm_walk.proofs.Walk.{equation-same, fresh-last}
-use Rattle.wsm_walk.proofs.WalkSteps.{fewer-places, passed-to, place-behind, place-one}
 use Rattle.wsm_settle.specs.Revised.{IsRevised}
-use Rattle.wsm_settle.proofs.Visits.{walks-new, walks-none, walks-same}
-use Rattle.wsm_adapt.specs.Border.{SpendsAmong, FewAmong, is_known, unknown_in}
-use Rattle.wsm_adapt.specs.Walking.{Closed, Confined, Covered, GoesOn, IsAsKept, IsVisit, KeepsTold, ReadsFew, SpendsOn, Standing, StaysInside, VisitAmong, is_named, loop_end}
-use Rattle.wsm_adapt.specs.declared.walks.Found.{Found}
-use Rattle.wsm_adapt.proofs.Filtered.{known-row}
-use Rattle.wsm_adapt.proofs.ReadBorder.{known-stays}
 
 -- a walk with more places, none before those that it had
 pub stands-more : (cards : List Card) (rank : List ℕ) (goal : ℕ → Mark) (kept : List (ℕ × Mark)) (places places' : List ℕ) (changes : List (ℕ × Option Mark)) → ((q : ℕ) → is_one_of q places ≡ true → is_one_of q places' ≡ true) →

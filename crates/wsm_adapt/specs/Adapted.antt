@@ -1,22 +1,9 @@
 -- What is found where a running case's schema changes.
 use Rattle.std.specs.Prelude.{◌≡◌, ℕ, ◌+◌, true, not, is_some, List, [], ◌∷◌, filter, length, Option, None}
-use Rattle.wsm_lists.specs.ByNumber.{changed}
-use Rattle.wsm_lists.specs.Keys.{first}
-use Rattle.wsm_lists.specs.Rows.{put_row}
-use Rattle.wsm_schema.specs.Flat.{FlatModel, card_at, flat_of}
-use Rattle.wsm_schema.specs.Marks.{marks_of}
-use Rattle.wsm_schema.specs.Replay.{fails, replay_of, whole}
-use Rattle.wsm_schema.specs.Rules.{Spots}
-use Rattle.wsm_schema.specs.SchemaModel.{SchemaModel}
-use Rattle.wsm_schema.specs.Trail.{is_one_of}
-use Rattle.wsm_schema.specs.declared.cards.Card.{Card}
-use Rattle.wsm_schema.specs.declared.marks.Mark.{Mark}
+use Rattle.wsm_lists.specs.{ByNumber.changed, Keys.first, Rows.put_row}
+use Rattle.wsm_schema.specs.{Flat.{FlatModel, card_at, flat_of}, Marks.marks_of, Replay.{fails, replay_of, whole}, Rules.Spots, SchemaModel.SchemaModel, Trail.is_one_of, declared.cards.Card.Card, declared.marks.Mark.Mark}
 use Rattle.wsm_marks.specs.Timed.{Entries}
-use Rattle.wsm_adapt.specs.Adapting.{Changes}
-use Rattle.wsm_adapt.specs.Border.{is_known}
-use Rattle.wsm_adapt.specs.Bounds.{region_reads}
-use Rattle.wsm_adapt.specs.Region.{is_reached}
-use Rattle.wsm_adapt.specs.declared.adapting.Adapted.{Adapted}
+use Rattle.wsm_adapt.specs.{Adapting.Changes, Border.is_known, Bounds.region_reads, Region.is_reached, declared.adapting.Adapted.Adapted}
 use Rattle.wsm_adapt.specs.declared.adapting.Adapted.TheVariants as adapted
 
 -- those of some nodes that the schema does not have

@@ -1,14 +1,7 @@
 -- What is asked of a change of a running case's schema, and what is found of it.
 use Rattle.std.specs.Prelude.{◌≡◌, ℕ, false, List}
-use Rattle.wsm_schema.specs.Flat.{cards_of, flat_of}
-use Rattle.wsm_schema.specs.Rank.{IsRank}
-use Rattle.wsm_schema.specs.Replay.{replay_of, whole}
-use Rattle.wsm_schema.specs.Rules.{Spots}
-use Rattle.wsm_schema.specs.SchemaModel.{SchemaModel}
-use Rattle.wsm_schema.specs.Trail.{is_one_of}
-use Rattle.wsm_marks.specs.Fits.{RisesAfter}
-use Rattle.wsm_marks.specs.Schemas.{Regular}
-use Rattle.wsm_marks.specs.Timed.{Entries}
+use Rattle.wsm_schema.specs.{Flat.{cards_of, flat_of}, Rank.IsRank, Replay.{replay_of, whole}, Rules.Spots, SchemaModel.SchemaModel, Trail.is_one_of}
+use Rattle.wsm_marks.specs.{Fits.RisesAfter, Schemas.Regular, Timed.Entries}
 use Rattle.wsm_walk.specs.Untouched.{Untouched}
 
 -- two regular schemas with ranks, which differ in the touched nodes alone, and a trail that replays whole on the first

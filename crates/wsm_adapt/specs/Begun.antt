@@ -1,20 +1,10 @@
 -- With what a walk over a change begins, and what it finds.
 use Rattle.std.specs.Prelude.{◌≡◌, ℕ, Bool, true, false, List, [], ◌∷◌, Option, Some, None}
-use Rattle.wsm_lists.specs.ByNumber.{item_at}
-use Rattle.wsm_lists.specs.Keys.{first}
-use Rattle.wsm_lists.specs.Rows.{AllRows, put_row}
-use Rattle.wsm_schema.specs.Flat.{card_at}
-use Rattle.wsm_schema.specs.Trail.{is_one_of}
-use Rattle.wsm_schema.specs.declared.cards.Card.{Card}
-use Rattle.wsm_schema.specs.declared.marks.Mark.{Mark}
+use Rattle.wsm_lists.specs.{ByNumber.item_at, Keys.first, Rows.{AllRows, put_row}}
+use Rattle.wsm_schema.specs.{Flat.card_at, Trail.is_one_of, declared.cards.Card.Card, declared.marks.Mark.Mark}
 use Rattle.wsm_marks.specs.Schemas.{HasCard}
-use Rattle.wsm_walk.specs.Kept.{mark_or, timed_of}
-use Rattle.wsm_walk.specs.Listed.{said, seen}
-use Rattle.wsm_walk.specs.Targets.{leads_to}
-use Rattle.wsm_walk.specs.Walk.{Aim, time_by, untimed, with_time}
-use Rattle.wsm_adapt.specs.Border.{is_known}
-use Rattle.wsm_adapt.specs.Walking.{Standing}
-use Rattle.wsm_adapt.specs.declared.walks.Found.{Found}
+use Rattle.wsm_walk.specs.{Kept.{mark_or, timed_of}, Listed.{said, seen}, Targets.leads_to, Walk.{Aim, time_by, untimed, with_time}}
+use Rattle.wsm_adapt.specs.{Border.is_known, Walking.Standing, declared.walks.Found.Found}
 
 -- a row of what is known of each of some nodes that the net has
 abbrev pub begun_row : ℕ → Option Card → List (ℕ × Option Mark) → List (ℕ × Option Mark) → List (ℕ × Option Mark)

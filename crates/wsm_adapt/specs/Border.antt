@@ -1,11 +1,7 @@
 -- The marks of nodes, and of those from which edges lead to a node, read where they are not known.
 use Rattle.std.specs.Prelude.{◌≡◌, ◌≤◌, ◌⊎◌, ℕ, ◌+◌, Bool, true, List, [], ◌∷◌, Option, Some, None, is_some, if◌then◌else◌}
-use Rattle.wsm_lists.specs.ByNumber.{item_at}
-use Rattle.wsm_lists.specs.Rows.{AllRows}
-use Rattle.wsm_schema.specs.Trail.{is_one_of}
-use Rattle.wsm_schema.specs.declared.cards.Card.{Card}
-use Rattle.wsm_schema.specs.declared.cards.End.{End}
-use Rattle.wsm_schema.specs.declared.marks.Mark.{Mark}
+use Rattle.wsm_lists.specs.{ByNumber.item_at, Rows.AllRows}
+use Rattle.wsm_schema.specs.{Trail.is_one_of, declared.cards.Card.Card, declared.cards.End.End, declared.marks.Mark.Mark}
 
 -- whether a node has a row
 abbrev pub is_known : List (ℕ × Option Mark) → ℕ → Bool

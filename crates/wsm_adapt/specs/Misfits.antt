@@ -1,23 +1,12 @@
 -- Whether what was started, ended and repeated of a node still fits, told by its cards, its mark and the new marks alone.
 use Rattle.std.specs.Prelude.{ℕ, Bool, false, ◌&&◌, ◌||◌, not, List, [], map, Option, Some, None, if◌then◌else◌}
 use Rattle.wsm_lists.specs.declared.values.Value.{Value}
-use Rattle.wsm_schema.specs.Flat.{FlatModel, card_at}
-use Rattle.wsm_schema.specs.Kinds.{is_loop_end, worked_on}
-use Rattle.wsm_schema.specs.Marks.{Facts, is_again_of, position_of}
-use Rattle.wsm_schema.specs.Replay.{fits_choice, on_card}
-use Rattle.wsm_schema.specs.Rules.{is_yes}
-use Rattle.wsm_schema.specs.declared.cards.Card.{Card}
-use Rattle.wsm_schema.specs.declared.entries.Entry.{Entry}
-use Rattle.wsm_schema.specs.declared.entries.Entry.TheVariants as entry
+use Rattle.wsm_schema.specs.{Flat.{FlatModel, card_at}, Kinds.{is_loop_end, worked_on}, Marks.{Facts, is_again_of, position_of}, Replay.{fits_choice, on_card}, Rules.is_yes, declared.cards.Card.Card, declared.entries.Entry.Entry}
 use Rattle.wsm_schema.specs.declared.marks.Mark.{Mark}
+use Rattle.wsm_schema.specs.declared.entries.Entry.TheVariants as entry
 use Rattle.wsm_trail.specs.EntryAt.{entry_at}
-use Rattle.wsm_marks.specs.Fits.{partner_done}
-use Rattle.wsm_marks.specs.Timed.{Entries, Marking, Timed, before}
-use Rattle.wsm_walk.specs.FirstBad.{least, lesser}
-use Rattle.wsm_walk.specs.Kept.{timed_of}
-use Rattle.wsm_walk.specs.Listed.{seen}
-use Rattle.wsm_walk.specs.Touches.{edges_fit, reads_fit}
-use Rattle.wsm_walk.specs.Walk.{facts_by, times_by}
+use Rattle.wsm_marks.specs.{Fits.partner_done, Timed.{Entries, Marking, Timed, before}}
+use Rattle.wsm_walk.specs.{FirstBad.{least, lesser}, Kept.timed_of, Listed.seen, Touches.{edges_fit, reads_fit}, Walk.{facts_by, times_by}}
 use Rattle.wsm_adapt.specs.Border.{is_known}
 
 -- a position, unless what is there fits

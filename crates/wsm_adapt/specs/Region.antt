@@ -1,10 +1,6 @@
 -- The nodes that a change reaches.
 use Rattle.std.specs.Prelude.{◌≡◌, ℕ, Bool, List}
-use Rattle.wsm_schema.specs.Flat.{FlatModel, cards_of, flat_of}
-use Rattle.wsm_schema.specs.Rank.{IsRank}
-use Rattle.wsm_schema.specs.SchemaModel.{SchemaModel}
-use Rattle.wsm_schema.specs.Trail.{is_one_of}
-use Rattle.wsm_schema.specs.declared.cards.Card.{Card}
+use Rattle.wsm_schema.specs.{Flat.{FlatModel, cards_of, flat_of}, Rank.IsRank, SchemaModel.SchemaModel, Trail.is_one_of, declared.cards.Card.Card}
 use Rattle.wsm_marks.specs.Schemas.{Regular}
 use Rattle.wsm_walk.specs.Reached.{reached_from}
 

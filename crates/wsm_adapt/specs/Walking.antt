@@ -1,20 +1,10 @@
 -- A walk over a change: where it stands, and what it may read.
 use Rattle.std.specs.Prelude.{◌≡◌, ◌≤◌, ◌<◌, ℕ, ◌+◌, Bool, true, false, List, [], ◌∷◌, ◌++◌, Option, Some, None, if◌then◌else◌}
 use Rattle.wsm_lists.specs.ByNumber.{item_at}
-use Rattle.wsm_schema.specs.Flat.{card_at}
-use Rattle.wsm_schema.specs.Kinds.{is_loop_start}
-use Rattle.wsm_schema.specs.Rank.{IsRank}
-use Rattle.wsm_schema.specs.Trail.{is_one_of}
-use Rattle.wsm_schema.specs.declared.cards.Card.{Card}
-use Rattle.wsm_schema.specs.declared.marks.Mark.{Mark}
+use Rattle.wsm_schema.specs.{Flat.card_at, Kinds.is_loop_start, Rank.IsRank, Trail.is_one_of, declared.cards.Card.Card, declared.marks.Mark.Mark}
 use Rattle.wsm_marks.specs.Schemas.{HasCard}
-use Rattle.wsm_walk.specs.Kept.{mark_or}
-use Rattle.wsm_walk.specs.Listed.{seen}
-use Rattle.wsm_walk.specs.RankPlaces.{is_pending, rank_place}
-use Rattle.wsm_walk.specs.Spent.{NamesInside}
-use Rattle.wsm_walk.specs.Walk.{Aim, Stands}
-use Rattle.wsm_adapt.specs.Border.{ReadsMore, SourcesAmong, SourcesKnown, is_known, unknown_in}
-use Rattle.wsm_adapt.specs.declared.walks.Found.{Found}
+use Rattle.wsm_walk.specs.{Kept.mark_or, Listed.seen, RankPlaces.{is_pending, rank_place}, Spent.NamesInside, Walk.{Aim, Stands}}
+use Rattle.wsm_adapt.specs.{Border.{ReadsMore, SourcesAmong, SourcesKnown, is_known, unknown_in}, declared.walks.Found.Found}
 
 -- the end of the loop that the card's node starts
 abbrev pub loop_end : Card → Option ℕ

@@ -1,10 +1,7 @@
 // The marks of a running case whose schema changes.
 ghost use Rattle.std.specs.Prelude.{◌≡◌, ◌+◌, ◌≤◌, length, IfOk, OnOk};
-ghost use Rattle.wsm_adapt.specs.Adapted.{AdaptsRight, TellsTouched, gone_of, marks_to_read, without};
-ghost use Rattle.wsm_adapt.specs.Misfits.{region_misfit};
-ghost use Rattle.wsm_adapt.specs.Region.{IsNet};
-ghost use Rattle.wsm_lists.specs.Keys.{first};
-ghost use Rattle.wsm_lists.specs.Rows.{Ascends};
+ghost use Rattle.wsm_adapt.specs.{Adapted.{AdaptsRight, TellsTouched, gone_of, marks_to_read, without}, Misfits.region_misfit, Region.IsNet};
+ghost use Rattle.wsm_lists.specs.{Keys.first, Rows.Ascends};
 
 use crate::begins::marks_found;
 use crate::misfits::{early_misfit, lesser, touched_misfit};

@@ -1,12 +1,7 @@
 // A walk over a change begins with the touched nodes and with those to which their edges lead.
-ghost use Rattle.std.specs.Prelude.{◌≡◌, ◌≤◌, ◌+◌, ◌||◌, [], IfOk, OnOk};
-ghost use Rattle.std.specs.List.{list_any};
-ghost use Rattle.wsm_adapt.specs.Adapted.{marks_to_read};
-ghost use Rattle.wsm_adapt.specs.Begun.{IsEmpty, IsFound, TellsOf, begun_rows, is_led};
-ghost use Rattle.wsm_adapt.specs.Region.{IsNet, is_reached};
-ghost use Rattle.wsm_adapt.specs.Walking.{Confined};
-ghost use Rattle.wsm_schema.specs.Flat.{card_at};
-ghost use Rattle.wsm_schema.specs.Trail.{is_one_of};
+ghost use Rattle.std.specs.{Prelude.{◌≡◌, ◌≤◌, ◌+◌, ◌||◌, [], IfOk, OnOk}, List.list_any};
+ghost use Rattle.wsm_adapt.specs.{Adapted.marks_to_read, Begun.{IsEmpty, IsFound, TellsOf, begun_rows, is_led}, Region.{IsNet, is_reached}, Walking.Confined};
+ghost use Rattle.wsm_schema.specs.{Flat.card_at, Trail.is_one_of};
 ghost use Rattle.wsm_walk.specs.RankPlaces.{Handed};
 
 use crate::border::read_nodes;

@@ -1,6 +1,5 @@
 // Whether what was started and ended of a node fits its new card.
-ghost use Rattle.std.specs.Prelude.{◌≡◌};
-ghost use Rattle.std.specs.Option.{option_copied};
+ghost use Rattle.std.specs.{Prelude.◌≡◌, Option.option_copied};
 ghost use Rattle.wsm_adapt.specs.Misfits.{end_fits, start_fits, writes_in};
 ghost use Rattle.wsm_marks.specs.Timed.{before};
 ghost use Rattle.wsm_schema.specs.Rules.{is_yes};

@@ -1,10 +1,7 @@
 // The marks that are known while a change is walked.
-ghost use Rattle.std.specs.Prelude.{◌≡◌, ℕ, [], reverse, IfOk, OnOk};
-ghost use Rattle.std.specs.Option.{option_copied};
+ghost use Rattle.std.specs.{Prelude.{◌≡◌, ℕ, [], reverse, IfOk, OnOk}, Option.option_copied};
 ghost use Rattle.wsm_adapt.specs.Border.{is_known};
-ghost use Rattle.wsm_lists.specs.ByNumber.{item_at};
-ghost use Rattle.wsm_lists.specs.Keys.{first};
-ghost use Rattle.wsm_lists.specs.Rows.{put_row};
+ghost use Rattle.wsm_lists.specs.{ByNumber.item_at, Keys.first, Rows.put_row};
 
 use std::alloc::Global;
 use std::collections::HashMap;

@@ -1,13 +1,9 @@
 // The first position at which something of a region does not fit.
-ghost use Rattle.std.specs.Prelude.{◌≡◌, ◌+◌, ◌≤◌, [], Some, length, map};
-ghost use Rattle.std.specs.Option.{option_copied};
+ghost use Rattle.std.specs.{Prelude.{◌≡◌, ◌+◌, ◌≤◌, [], Some, length, map}, Option.option_copied};
 ghost use Rattle.wsm_adapt.specs.Misfits.{again_known, again_misfit_in, early_by, early_in, early_start, end_misfit, misfit_by, misfit_in, partner_in, start_fits, start_misfit, reads_in, unless};
-ghost use Rattle.wsm_marks.specs.Fits.{partner_done};
-ghost use Rattle.wsm_marks.specs.Timed.{early};
+ghost use Rattle.wsm_marks.specs.{Fits.partner_done, Timed.early};
 ghost use Rattle.wsm_trail.specs.EntryAt.{entry_at};
-ghost use Rattle.wsm_walk.specs.FirstBad.{least, lesser};
-ghost use Rattle.wsm_walk.specs.Listed.{seen};
-ghost use Rattle.wsm_walk.specs.Walk.{facts_by, times_by};
+ghost use Rattle.wsm_walk.specs.{FirstBad.{least, lesser}, Listed.seen, Walk.{facts_by, times_by}};
 
 use crate::fits::{end_fits, is_ready_before, start_fits};
 use crate::known::Known;

@@ -1,13 +1,8 @@
 // A walk over a change, in the order of the rank, which stops where no mark changes.
 ghost use Rattle.std.specs.Prelude.{◌≡◌, ℕ, ◌<◌, ◌≤◌, ◌+◌, ◌∷◌, ◌||◌, [], length, OnOk};
-ghost use Rattle.wsm_adapt.specs.Border.{FewAmong, SpendsAmong};
-ghost use Rattle.wsm_adapt.specs.Walking.{GoesOn, IsVisit, KeepsTold, ReadsFew, SpendsOn, StaysInside, VisitAmong, is_named, loop_end};
-ghost use Rattle.wsm_lists.specs.ByNumber.{item_at};
-ghost use Rattle.wsm_lists.specs.Keys.{first};
-ghost use Rattle.wsm_lists.specs.Rows.{put_row};
-ghost use Rattle.wsm_walk.specs.Listed.{said};
-ghost use Rattle.wsm_walk.specs.RankPlaces.{AllBehind, AllWithin, Handed};
-ghost use Rattle.wsm_walk.specs.Targets.{leads_to};
+ghost use Rattle.wsm_adapt.specs.{Border.{FewAmong, SpendsAmong}, Walking.{GoesOn, IsVisit, KeepsTold, ReadsFew, SpendsOn, StaysInside, VisitAmong, is_named, loop_end}};
+ghost use Rattle.wsm_lists.specs.{ByNumber.item_at, Keys.first, Rows.put_row};
+ghost use Rattle.wsm_walk.specs.{Listed.said, RankPlaces.{AllBehind, AllWithin, Handed}, Targets.leads_to};
 
 use crate::border::{read_card_sources, read_unknown};
 use crate::known::Known;

@@ -1,14 +1,6 @@
 -- Where nodes are distinct, the card of a node tells whether it is an activity.
-use Rattle.std.proofs.Common.{◌≡◌, ℕ, Bool, true, false, ◌||◌, eqb, List, [], ◌∷◌, refl, sym, ◌∙◌, inl, inr, Option, Some, None}
-use Rattle.std.proofs.lemmas.Bool.{cases_Bool, eqb-true, eq-eqb, both_ways, or_parts}
-use Rattle.std.proofs.Common.{subst}
-use Rattle.wsm_lists.specs.Rows.{AllRows}
-use Rattle.wsm_schema.specs.Trail.{is_one_of}
-use Rattle.wsm_schema.specs.Kinds.{is_activity}
-use Rattle.wsm_schema.specs.Flat.{card_at}
-use Rattle.wsm_schema.specs.Sound.{twice, nodes_of, is_act_in}
-use Rattle.wsm_schema.specs.declared.cards.Card.{Card}
-use Rattle.wsm_block.proofs.CardRows.{fresh-rows}
+use Rattle.wsm_block.proofs.Common.{[], ℕ, ◌||◌, ◌∙◌, ◌∷◌, ◌≡◌, AllRows, Bool, both_ways, Card, card_at, cases_Bool, eq-eqb, eqb, eqb-true, false, inl, inr, is_act_in, is_activity, is_one_of, List, nodes_of, None, Option, or_parts, refl}
+use Rattle.wsm_block.proofs.{Common.{Some, subst, sym, true, twice}, CardRows.fresh-rows}
 
 -- whether a card is an activity's
 abbrev pub is_act : Option Card → Bool

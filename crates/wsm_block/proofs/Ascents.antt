@@ -1,12 +1,6 @@
 -- Of numbers that ascend none stands twice.
-use Rattle.std.proofs.Common.{◌≡◌, ℕ, ◌+◌, ◌<◌, ◌≤◌, true, false, List, [], ◌∷◌, map, length, get_or, drop, drop-cons, drop_of_length-le, add-one, refl, ap, sym, ◌∙◌, subst, Option, Some, None, arith}
-use Rattle.std.specs.Prelude.{nat_lt}
-use Rattle.std.proofs.lemmas.Bool.{and_parts, ltb-true, ne_eqb}
-use Rattle.std.proofs.lemmas.List.{length-map, get_or-map}
-use Rattle.wsm_lists.specs.Rows.{AllRows}
-use Rattle.wsm_schema.specs.Sound.{twice}
-use Rattle.wsm_schema.specs.Trail.{is_one_of}
-use Rattle.wsm_block.specs.Ascents.{is_above, ascend_from}
+use Rattle.wsm_block.proofs.Common.{[], ℕ, ◌+◌, ◌<◌, ◌∙◌, ◌∷◌, ◌≡◌, ◌≤◌, add-one, AllRows, and_parts, ap, arith, ascend_from, drop, drop-cons, drop_of_length-le, false, get_or, get_or-map, is_above, is_one_of, length, length-map, List}
+use Rattle.wsm_block.proofs.Common.{ltb-true, map, nat_lt, ne_eqb, None, Option, refl, Some, subst, sym, true, twice}
 
 -- a number above all that were seen is none of them
 above-all : (n m : ℕ) (seen : List ℕ) → n < m → AllRows (λ s. s ≤ n) seen → is_one_of m seen ≡ false

@@ -1,21 +1,7 @@
 -- A front of the sync edges that has an order closes no cycle, and what the test of an order says.
-use Rattle.std.proofs.Common.{◌≡◌, ℕ, ◌<◌, ◌≤◌, Bool, true, false, ◌&&◌, List, [], ◌∷◌, ◌++◌, length, refl, ap, sym, ◌∙◌, inl, inr, arith, eqb, Option, Some, None, ◌+◌, ◌-◌, take, drop, get_or, subst, append_assoc}
-use Rattle.std.specs.Prelude.{nat_lt, is_some}
-use Rattle.std.specs.List.{list_all}
-use Rattle.std.proofs.lemmas.Bool.{cases_Bool, both_ways, and_parts, ltb-true, eqb-true}
-use Rattle.std.proofs.lemmas.List.{take-append-drop, length-map}
-use Rattle.wsm_lists.specs.Rows.{AllRows}
-use Rattle.wsm_lists.proofs.Lists.{all-rows-map}
-use Rattle.wsm_schema.specs.Trail.{is_one_of}
-use Rattle.wsm_schema.specs.Sound.{leads, sync_cycle, twice, nodes_of, control_edges}
-use Rattle.wsm_schema.specs.declared.cards.Card.{Card}
-use Rattle.wsm_block.specs.Clauses.{cycle_in}
-use Rattle.wsm_block.specs.Heights.{height_in}
-use Rattle.wsm_block.specs.Order.{Edges, IsOrder, SameNodes, onto_seen}
-use Rattle.wsm_block.proofs.Forward.{order-rises}
-use Rattle.wsm_block.proofs.Growing.{onto-next}
-use Rattle.wsm_block.proofs.Ranks.{onto-rows, rises-ordered, twice-Once}
-use Rattle.wsm_block.proofs.Upwards.{Rises, leads-up}
+use Rattle.wsm_block.proofs.Common.{[], ℕ, ◌&&◌, ◌++◌, ◌+◌, ◌-◌, ◌<◌, ◌∙◌, ◌∷◌, ◌≡◌, ◌≤◌, all-rows-map, AllRows, and_parts, ap, append_assoc, arith, Bool, both_ways, Card, cases_Bool, control_edges, cycle_in, drop, Edges, eqb, eqb-true}
+use Rattle.wsm_block.proofs.Common.{false, get_or, height_in, inl, inr, is_one_of, is_some, IsOrder, leads, length, length-map, List, list_all, ltb-true, nat_lt, nodes_of, None, onto_seen, Option, refl, SameNodes, Some, subst, sym}
+use Rattle.wsm_block.proofs.{Common.{sync_cycle, take, take-append-drop, true, twice}, Forward.order-rises, Growing.onto-next, Ranks.{onto-rows, rises-ordered, twice-Once}, Upwards.{Rises, leads-up}}
 
 -- where the edges go upwards, and those of the front too, the first cycle is closed behind the front
 pub skipped : (height : ℕ → ℕ) (n : ℕ) (edges front rest : Edges) → AllRows (Rises height) edges → AllRows (Rises height) front →

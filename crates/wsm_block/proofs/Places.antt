@@ -1,14 +1,7 @@
 -- Where numbers stand first, among numbers with their places.
-use Rattle.std.proofs.Common.{◌≡◌, ℕ, zero, suc, ◌+◌, ◌<◌, ◌≤◌, false, eqb, ltb, Bool, cond, List, [], ◌∷◌, length, refl, ap, sym, ◌∙◌, inl, inr, ◌⊎◌, arith, take, Option, Some, None}
-use Rattle.std.specs.Prelude.{slice_get, is_some}
-use Rattle.std.specs.List.{position_from}
-use Rattle.std.proofs.lemmas.List.{length-map}
-use Rattle.std.proofs.lemmas.Bool.{cases_Bool, eqb-true, lt-ltb, le-ltb, ltb-true, ltb-false}
+use Rattle.wsm_block.proofs.Common.{[], ℕ, ◌+◌, ◌<◌, ◌∙◌, ◌∷◌, ◌≡◌, ◌≤◌, ◌⊎◌, ap, arith, Bool, Card, cases_Bool, cond, eqb, eqb-true, false, height_in, inl, inr, is_one_of, is_some, le-ltb, length, length-map, List, lt-ltb, ltb, ltb-false}
+use Rattle.wsm_block.proofs.Common.{ltb-true, nodes_of, None, Option, placed, position_from, refl, slice_get, Some, suc, sym, take, zero}
 use Rattle.wsm_schema.specs.Groups.{rows_with}
-use Rattle.wsm_schema.specs.Trail.{is_one_of}
-use Rattle.wsm_schema.specs.Sound.{nodes_of}
-use Rattle.wsm_schema.specs.declared.cards.Card.{Card}
-use Rattle.wsm_block.specs.Heights.{height_in, placed}
 
 -- the first row of a number has its height
 placed-first : (n start : ℕ) (ns : List ℕ) →

@@ -1,23 +1,8 @@
 -- From ranks to heights, and from orders to ranks.
-use Rattle.std.proofs.Common.{◌≡◌, ℕ, ◌<◌, Bool, true, false, ◌||◌, eqb, List, [], ◌∷◌, ◌++◌, length, refl, ap, sym, ◌∙◌, subst, inl, inr, arith, Some, None, append_assoc}
-use Rattle.std.proofs.lemmas.Bool.{cases_Bool, both_ways, or_cases, or_left, or_right}
-use Rattle.std.proofs.lemmas.List.{length-map}
-use Rattle.wsm_lists.specs.Rows.{AllRows}
-use Rattle.wsm_lists.proofs.Lists.{all-rows-map}
-use Rattle.wsm_schema.specs.Trail.{is_one_of}
-use Rattle.wsm_schema.specs.SchemaModel.{SchemaModel}
-use Rattle.wsm_schema.specs.Flat.{card_at, cards_of}
-use Rattle.wsm_schema.specs.Places.{places}
-use Rattle.wsm_schema.specs.Rank.{IsRank}
-use Rattle.wsm_schema.specs.Sound.{twice, nodes_of, control_edges}
-use Rattle.wsm_schema.proofs.Rounds.{member-splits, all-rows-card_at, card_at-node}
-use Rattle.wsm_schema.proofs.DocumentOrder.{twice-once}
-use Rattle.wsm_schema.specs.declared.cards.Card.{Card}
-use Rattle.wsm_block.specs.Heights.{height_in}
-use Rattle.wsm_block.specs.Order.{Edges, Ordered, Once, IsOrder, SameNodes, onto_seen}
-use Rattle.wsm_block.proofs.CardRows.{control-rows, rows-into, found-rows, sources-are, rows-of_sources}
-use Rattle.wsm_block.proofs.Repeated.{seen-behind}
-use Rattle.wsm_block.proofs.Upwards.{Rises, height-at, height-below, below-height}
+use Rattle.wsm_block.proofs.Common.{[], ℕ, ◌++◌, ◌<◌, ◌||◌, ◌∙◌, ◌∷◌, ◌≡◌, all-rows-card_at, all-rows-map, AllRows, ap, append_assoc, arith, Bool, both_ways, Card, card_at, card_at-node, cards_of, cases_Bool, control_edges, Edges, eqb}
+use Rattle.wsm_block.proofs.Common.{false, height_in, inl, inr, is_one_of, IsOrder, IsRank, length, length-map, List, member-splits, nodes_of, None, Once, onto_seen, or_cases, or_left, or_right, Ordered, places, refl, SameNodes}
+use Rattle.wsm_block.proofs.{Common.{SchemaModel, Some, subst, sym, true, twice, twice-once}, CardRows.{control-rows, rows-into, found-rows, sources-are, rows-of_sources}, Repeated.seen-behind, Upwards.{Rises, height-at, height-below}}
+use Rattle.wsm_block.proofs.Upwards.{below-height}
 
 -- ---- in a rank edges rise
 module _ (cards : List Card) (rank : List ℕ) (is : IsRank cards rank) where

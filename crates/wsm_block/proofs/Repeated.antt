@@ -1,13 +1,6 @@
 -- The first number that stood earlier goes by the members of what stood earlier alone.
-use Rattle.std.proofs.Common.{◌≡◌, ℕ, true, false, ◌||◌, eqb, List, [], ◌∷◌, ◌++◌, map, refl, ap, sym, ◌∙◌, subst, inl, inr, Some, ◌+◌, ◌<◌, length, get_or, take, drop, drop-cons, add-one}
-use Rattle.std.proofs.lemmas.Bool.{cases_Bool, or_right}
-use Rattle.std.proofs.Math.Seq.{take-suc}
-use Rattle.std.proofs.lemmas.List.{length-map, get_or-map}
-use Rattle.wsm_schema.specs.Sound.{twice, codes_of}
-use Rattle.wsm_schema.specs.Trail.{is_one_of}
-use Rattle.wsm_schema.specs.Tree.{lanes}
-use Rattle.wsm_schema.specs.TreeOf.{lanes_of, lane_of}
-use Rattle.wsm_schema.specs.declared.blocks.Branch.{Branch}
+use Rattle.wsm_block.proofs.Common.{[], ℕ, ◌++◌, ◌+◌, ◌<◌, ◌||◌, ◌∙◌, ◌∷◌, ◌≡◌, add-one, ap, Branch, cases_Bool, codes_of, drop, drop-cons, eqb, false, get_or, get_or-map, inl, inr, is_one_of, lane_of, lanes, lanes_of, length, length-map}
+use Rattle.wsm_block.proofs.Common.{List, map, or_right, refl, Some, subst, sym, take, take-suc, true, twice}
 use Rattle.wsm_schema.specs.declared.blocks.Block.TheFolds.{fold_out-Branch}
 
 code-of_lane : (b : Branch) → (lane_of b).0 ≡ b.code

@@ -1,14 +1,9 @@
 -- The nodes of a tree, counted without making their cards.
-use Rattle.std.proofs.Common.{◌≡◌, ℕ, Bool, true, false, suc, ◌+◌, ◌<◌, ◌≤◌, ltb, length, refl, ap, sym, ◌∙◌, inl, inr, arith, Option, Some, None}
-use Rattle.std.specs.Prelude.{nat_lt, not, is_some, is_none}
-use Rattle.std.proofs.lemmas.Bool.{cases_Bool, both_ways, lt-ltb, le-ltb, ltb-true, ltb-false}
-use Rattle.std.proofs.lemmas.List.{length-map, length-append}
-use Rattle.wsm_schema.specs.Tree.{Part, Parts, Lanes, act, gate, loop, nothing, part, no_lane, lane}
-use Rattle.wsm_schema.specs.SchemaModel.{SchemaModel}
-use Rattle.wsm_schema.specs.Flat.{cards_of}
+use Rattle.wsm_block.proofs.Common.{ℕ, ◌+◌, ◌<◌, ◌∙◌, ◌≡◌, ◌≤◌, act, ap, arith, Bool, both_ways, cards_of, cases_Bool, false, gate, inl, inr, is_none, is_some, lane, Lanes, lanes_size, le-ltb, length, length-map, loop, lt-ltb, ltb}
+use Rattle.wsm_block.proofs.Common.{ltb-false, ltb-true, nat_lt, no_lane, None, nothing, Option, Part, part, part_size, Parts, parts_size, refl, room_behind, SchemaModel, Some, suc, sym, true}
+use Rattle.std.specs.Prelude.{not}
+use Rattle.std.proofs.lemmas.List.{length-append}
 use Rattle.wsm_schema.proofs.TreeNodes.{part_nodes, parts_nodes, lanes_nodes, nodes-of_tree}
-use Rattle.wsm_schema.specs.Sizes.{part_size, parts_size, lanes_size}
-use Rattle.wsm_block.specs.Sizes.{room_behind}
 
 mutual
   part-size : (p : Part) → length (part_nodes p) ≡ part_size p

@@ -1,13 +1,6 @@
 -- Where each edge goes from a smaller number to a larger one, no sync edge closes a cycle.
-use Rattle.std.proofs.Common.{◌≡◌, ℕ, zero, suc, ◌<◌, ◌≤◌, true, false, ◌&&◌, eqb, List, [], ◌∷◌, ◌++◌, length, refl, ap, inl, inr, arith}
-use Rattle.std.specs.List.{list_any}
-use Rattle.std.proofs.lemmas.Bool.{eqb-true, eq-eqb, cases_Bool, both_ways, or_cases, or_parts, and_parts}
-use Rattle.wsm_lists.specs.Rows.{AllRows}
-use Rattle.wsm_schema.specs.Trail.{is_one_of}
-use Rattle.wsm_schema.specs.Sound.{leads}
-use Rattle.wsm_block.specs.Heights.{height_in}
-use Rattle.wsm_block.specs.Order.{Edges}
-use Rattle.wsm_block.proofs.Leading.{passes}
+use Rattle.wsm_block.proofs.Common.{[], ℕ, ◌&&◌, ◌++◌, ◌<◌, ◌∷◌, ◌≡◌, ◌≤◌, AllRows, and_parts, ap, arith, both_ways, cases_Bool, Edges, eq-eqb, eqb, eqb-true, false, height_in, inl, inr, is_one_of, leads, length, List, list_any, or_cases}
+use Rattle.wsm_block.proofs.{Common.{or_parts, refl, suc, true, zero}, Leading.passes}
 
 module _ (height : ℕ → ℕ) where
   abbrev pub Rises : ℕ × ℕ → Type 0

@@ -1,7 +1,6 @@
 // The clauses of a sound schema in their order, but the last one.
 ghost use Rattle.std.specs.Prelude.{◌≡◌, [], None, option_map, IfOk};
-ghost use Rattle.wsm_schema.specs.Flat.{flat_of};
-ghost use Rattle.wsm_schema.specs.Sound.{twice, nodes_of};
+ghost use Rattle.wsm_schema.specs.{Flat.flat_of, Sound.{twice, nodes_of}};
 ghost use Rattle.wsm_schema.specs.declared.faults.BlockFault.TheVariants.{Twice};
 ghost use Rattle.wsm_block.specs.Clauses.{tree_fault, sync_fault, shape_fault};
 

@@ -1,10 +1,7 @@
 // The longest front of the sync edges that has an order, by a binary search.
-ghost use Rattle.std.specs.Prelude.{◌≡◌, ◌≤◌, IfOk, IfSome, IsTrue, length, take, nat_lt, ◌&&◌};
-ghost use Rattle.std.specs.List.{list_all};
-ghost use Rattle.wsm_schema.specs.Sound.{nodes_of, control_edges};
-ghost use Rattle.wsm_schema.specs.Trail.{is_one_of};
-ghost use Rattle.wsm_block.specs.Heights.{height_in};
-ghost use Rattle.wsm_block.specs.Order.{IsOrder, SameNodes, onto_seen};
+ghost use Rattle.std.specs.{Prelude.{◌≡◌, ◌≤◌, IfOk, IfSome, IsTrue, length, take, nat_lt, ◌&&◌}, List.list_all};
+ghost use Rattle.wsm_schema.specs.{Sound.{nodes_of, control_edges}, Trail.is_one_of};
+ghost use Rattle.wsm_block.specs.{Heights.height_in, Order.{IsOrder, SameNodes, onto_seen}};
 
 use crate::heights::{Heights, number_twice};
 use crate::sorting::sorted;

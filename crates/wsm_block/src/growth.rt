@@ -1,9 +1,7 @@
 // An order with all sync edges, or the first one that closes a cycle.
 ghost use Rattle.std.specs.Prelude.{◌≡◌, ◌∷◌, [], ◌++◌, None, IfOk, IfErr, OnOk, length, map};
 ghost use Rattle.wsm_schema.specs.Sound.{nodes_of, control_edges, sync_cycle};
-ghost use Rattle.wsm_block.specs.Clauses.{cycle_in};
-ghost use Rattle.wsm_block.specs.Order.{EndAmong, IsOrder, SameNodes, onto_seen};
-ghost use Rattle.wsm_block.specs.Refusals.{IsBlockFault};
+ghost use Rattle.wsm_block.specs.{Clauses.cycle_in, Order.{EndAmong, IsOrder, SameNodes, onto_seen}, Refusals.IsBlockFault};
 
 use crate::block_refusals::BlockRefusal;
 use crate::fronts::longest_front;

@@ -14,11 +14,8 @@ mod sorting;
 mod syncs;
 
 ghost use Rattle.std.specs.Prelude.{◌≡◌, None, IfOk, IfErr};
-ghost use Rattle.wsm_schema.specs.Flat.{flat_of, cards_of};
-ghost use Rattle.wsm_schema.specs.Rank.{IsRank};
-ghost use Rattle.wsm_schema.specs.Sound.{block_fault};
-ghost use Rattle.wsm_block.specs.Clauses.{shape_fault, cycle_fault};
-ghost use Rattle.wsm_block.specs.Refusals.{IsBlockFault};
+ghost use Rattle.wsm_schema.specs.{Flat.{flat_of, cards_of}, Rank.IsRank, Sound.block_fault};
+ghost use Rattle.wsm_block.specs.{Clauses.{shape_fault, cycle_fault}, Refusals.IsBlockFault};
 
 use crate::faults::shape_fault;
 use crate::growth::grown_rank;

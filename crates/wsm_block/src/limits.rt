@@ -1,13 +1,7 @@
 // The limits on the size of a schema.
-ghost use Rattle.std.specs.Prelude.{◌≡◌, ◌≤◌, ◌==◌, nat_lt, true, map, take, length, IsTrue};
-ghost use Rattle.std.specs.List.{list_any};
-ghost use Rattle.std.specs.Option.{option_or, option_and_then};
-ghost use Rattle.wsm_schema.specs.Flat.{cards_of};
-ghost use Rattle.wsm_schema.specs.Sound.{over_limit, part_depth, parts_depth, lanes_depth, too_many, when};
+ghost use Rattle.std.specs.{Prelude.{◌≡◌, ◌≤◌, ◌==◌, nat_lt, true, map, take, length, IsTrue}, List.list_any, Option.{option_or, option_and_then}};
+ghost use Rattle.wsm_schema.specs.{Flat.cards_of, Sound.{over_limit, part_depth, parts_depth, lanes_depth, too_many, when}, Sizes.{part_size, parts_size, lanes_size}, Tree.lanes, TreeOf.{part_of, parts_of, lanes_of}};
 ghost use Rattle.wsm_block.specs.Sizes.{room_behind};
-ghost use Rattle.wsm_schema.specs.Sizes.{part_size, parts_size, lanes_size};
-ghost use Rattle.wsm_schema.specs.Tree.{lanes};
-ghost use Rattle.wsm_schema.specs.TreeOf.{part_of, parts_of, lanes_of};
 ghost use Rattle.wsm_schema.specs.declared.faults.BlockFault.TheVariants.{Limit};
 ghost use Rattle.wsm_schema.specs.declared.faults.LimitKind.TheVariants as limit;
 

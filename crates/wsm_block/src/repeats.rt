@@ -1,7 +1,6 @@
 // Numbers that stand twice.
 ghost use Rattle.std.specs.Prelude.{◌≡◌, ◌≤◌, [], None, map, take, length, IfOk};
-ghost use Rattle.wsm_schema.specs.Sound.{twice, nodes_of};
-ghost use Rattle.wsm_schema.specs.Trail.{is_one_of};
+ghost use Rattle.wsm_schema.specs.{Sound.{twice, nodes_of}, Trail.is_one_of};
 ghost use Rattle.wsm_block.specs.Ascents.{is_above, ascend_from};
 
 use crate::heights::Heights;

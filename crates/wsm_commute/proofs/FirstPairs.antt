@@ -1,19 +1,8 @@
 -- The walk from the last list to the first finds the first two lists that overlap.
-use Rattle.std.proofs.Common.{◌≡◌, ℕ, suc, ◌+◌, ◌<◌, ◌≤◌, Bool, true, false, ◌||◌, cond, List, [], ◌∷◌, ◌++◌, filter, drop, length, get_or, refl, ap, sym, ◌∙◌, inl, inr, arith, Option, Some, None, is_some, option_map, rules, drop-cons, add-one, drop_of_length-le, if◌then◌else◌}
-use Rattle.std.specs.Option.{option_or}
-use Rattle.std.specs.List.{list_any, position_from}
-use Rattle.std.specs.Ordering.{is_eq, ordering_reverse}
-use Rattle.std.specs.declared.cmp.Ordering.{Ordering}
+use Rattle.wsm_commute.proofs.Common.{[], ℕ, ◌++◌, ◌+◌, ◌<◌, ◌||◌, ◌∙◌, ◌∷◌, ◌≡◌, ◌≤◌, add-one, all_changes, ap, arith, Bool, cases_Bool, comparing, cond, drop, drop-cons, drop_of_length-le, earlier, earliest, false, filter, first_changing}
+use Rattle.wsm_commute.proofs.Common.{first_overlap, first_pair, first_touching, footprint, get_or, if◌then◌else◌, inl, inr, is_among, is_eq, is_some, IsTotalOrder, least, least_overlap, length, lesser, List, list_any, Name, name_cmp, None}
+use Rattle.wsm_commute.proofs.Common.{Op, Option, option_map, option_or, Ordering, ordering_reverse, overlap_with, overlaps, pair_or, position_from, refl, rules, Some, suc, sym, true}
 use Rattle.std.specs.declared.cmp.Ordering.TheVariants.{Less, Equal, Greater}
-use Rattle.std.specs.Cmp.{IsTotalOrder}
-use Rattle.std.specs.Cmp.Rules.{comparing}
-use Rattle.std.proofs.lemmas.Bool.{cases_Bool}
-use Rattle.wsm_ops.specs.declared.operations.Op.{Op}
-use Rattle.wsm_foot.specs.Order.{name_cmp}
-use Rattle.wsm_foot.specs.Foot.{all_changes, footprint, is_among, lesser, least, least_overlap}
-use Rattle.wsm_foot.specs.declared.names.Name.{Name}
-use Rattle.wsm_commute.specs.Sweep.{earlier, earliest, first_touching, first_changing, overlaps, pair_or, first_pair}
-use Rattle.wsm_commute.specs.Merging.{overlap_with, first_overlap}
 use Rattle.wsm_commute.specs.declared.refusals.ManyRefusal.TheVariants as many
 
 -- ---- the first of two places

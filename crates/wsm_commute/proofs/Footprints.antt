@@ -1,16 +1,7 @@
 -- Operations whose footprints have nothing in common that one of them changes.
-use Rattle.std.proofs.Common.{◌≡◌, Bool, true, List, [], ◌∷◌, ◌++◌, filter, flat_map, refl, inl, inr, ◌⊎◌, Option, Some, None, rules, subst}
-use Rattle.std.specs.Ordering.{is_eq, ordering_reverse}
-use Rattle.std.specs.declared.cmp.Ordering.{Ordering}
+use Rattle.wsm_commute.proofs.Common.{[], ◌++◌, ◌∷◌, ◌≡◌, ◌⊎◌, all_changes, AllRows, Bool, cases_Bool, changes, comparing, filter, flat_map, footprint, inl, inr, is_among, is_eq, IsTotalOrder, least, least_overlap, lesser, List, Name}
+use Rattle.wsm_commute.proofs.Common.{name_cmp, None, Op, Option, Ordering, ordering_reverse, refl, rules, Some, subst, true, uses}
 use Rattle.std.specs.declared.cmp.Ordering.TheVariants.{Less, Equal, Greater}
-use Rattle.std.specs.Cmp.{IsTotalOrder}
-use Rattle.std.specs.Cmp.Rules.{comparing}
-use Rattle.std.proofs.lemmas.Bool.{cases_Bool}
-use Rattle.wsm_lists.specs.Rows.{AllRows}
-use Rattle.wsm_ops.specs.declared.operations.Op.{Op}
-use Rattle.wsm_foot.specs.Order.{name_cmp}
-use Rattle.wsm_foot.specs.declared.names.Name.{Name}
-use Rattle.wsm_foot.specs.Foot.{changes, uses, all_changes, footprint, is_among, lesser, least, least_overlap}
 
 -- a name is one of some names
 abbrev pub In : Name → List Name → Type 0

@@ -1,15 +1,7 @@
 -- From pairs of operations to pairs of lists, and from these to many lists in any order.
-use Rattle.std.proofs.Common.{◌≡◌, ℕ, ◌+◌, List, [], ◌∷◌, refl, ap, sym, ◌∙◌, subst, Option, Some, None, Ok}
-use Rattle.wsm_lists.specs.Rows.{AllRows}
-use Rattle.wsm_schema.specs.SchemaModel.{SchemaModel}
-use Rattle.wsm_ops.specs.Apply.{refusal, effect, unless_refused, applied_from, applied}
-use Rattle.wsm_ops.specs.declared.operations.Op.{Op}
+use Rattle.wsm_commute.proofs.Common.{[], ℕ, ◌+◌, ◌∙◌, ◌∷◌, ◌≡◌, AllRows, ap, applied, applied_from, effect, in_order, IsOrdered, List, None, Ok, Op, Option, refl, refusal, SchemaModel, Some, subst, sym, unless_fault, unless_refused}
+use Rattle.wsm_commute.proofs.{Footprints.{Apart, flip, ApartFrom, AllApart}, Pairs.{effect-ordered, effects-commute, refusal-stays}, Reorders.{Reorder, same, under, exchange, joined}}
 use Rattle.wsm_ops.specs.declared.faults.OpWhy.{OpWhy}
-use Rattle.wsm_commute.specs.Merging.{unless_fault, in_order}
-use Rattle.wsm_commute.specs.Ordered.{IsOrdered}
-use Rattle.wsm_commute.proofs.Footprints.{Apart, flip, ApartFrom, AllApart}
-use Rattle.wsm_commute.proofs.Pairs.{effect-ordered, effects-commute, refusal-stays}
-use Rattle.wsm_commute.proofs.Reorders.{Reorder, same, under, exchange, joined}
 
 -- ---- the first operation of a list that applies
 pub record Steps (i : ℕ) (s : SchemaModel) (o : Op) (os : List Op) (t : SchemaModel) : Type 0 where

@@ -1,18 +1,8 @@
 -- What a refusal looks at of a node: its kind, its partner and the labels of the edges out of it. Edits of the tree leave it, but for nodes that they bring or take away.
-use Rattle.std.proofs.Common.{◌≡◌, ℕ, Bool, eqb, List, [], ◌∷◌, ◌++◌, map, refl, ap, sym, ◌∙◌, inl, inr, Option, Some, None, option_map, if◌then◌else◌}
-use Rattle.std.specs.Prelude.{◌==◌}
-use Rattle.std.specs.Option.{option_or}
-use Rattle.std.proofs.lemmas.Bool.{cases_Bool}
-use Rattle.wsm_schema.specs.Tree.{Part, Parts, Lanes, act, gate, loop, nothing, part, no_lane, lane}
-use Rattle.wsm_schema.specs.Ends.{first_node, last_of}
-use Rattle.wsm_schema.specs.Places.{split_kind, join_kind, part_places, parts_places, lanes_places, places, place, plain_end, labelled, branch_heads, branch_tails, leaving}
-use Rattle.wsm_schema.specs.SchemaModel.{SchemaModel}
-use Rattle.wsm_schema.specs.Flat.{card_of, cards_of, card_at}
-use Rattle.wsm_schema.specs.declared.cards.Card.{Card}
-use Rattle.wsm_schema.specs.declared.cards.End.{End}
-use Rattle.wsm_schema.specs.declared.cards.NodeKind.{NodeKind}
+use Rattle.wsm_commute.proofs.Common.{[], ℕ, ◌++◌, ◌==◌, ◌∙◌, ◌∷◌, ◌≡◌, act, ap, Bool, Card, card_at, card_of, cards_of, cases_Bool, End, eqb, first_node, gate, if◌then◌else◌, inl, inr, lane, Lanes, last_of, List, loop, map, no_lane}
+use Rattle.wsm_commute.proofs.Common.{NodeKind, None, nothing, Option, option_map, option_or, Part, part, Parts, refl, SchemaModel, Some, sym}
+use Rattle.wsm_schema.specs.{Places.{split_kind, join_kind, part_places, parts_places, lanes_places, places, place, plain_end, labelled, branch_heads, branch_tails, leaving}, declared.places.Place.Place}
 use Rattle.wsm_schema.specs.declared.cards.NodeKind.TheVariants.{Start, Finish, Activity, LoopStart, LoopEnd}
-use Rattle.wsm_schema.specs.declared.places.Place.{Place}
 
 pub record Look : Type 0 where
   pub node : ℕ

@@ -1,20 +1,9 @@
 -- Edits of the tree leave what is seen of a node that they neither bring nor take away.
-use Rattle.std.proofs.Common.{◌≡◌, ℕ, Bool, true, false, eqb, List, [], ◌∷◌, refl, ap, sym, ◌∙◌, Option, Some, None}
-use Rattle.std.specs.Prelude.{◌==◌}
-use Rattle.std.specs.Option.{option_or}
-use Rattle.std.proofs.lemmas.Bool.{eqb-true}
-use Rattle.wsm_lists.specs.Rows.{AllRows}
-use Rattle.wsm_schema.specs.Tree.{Part, Parts, Lanes, act, gate, loop, nothing, part, no_lane, lane}
-use Rattle.wsm_schema.specs.Ends.{last_of}
-use Rattle.wsm_schema.specs.SchemaModel.{SchemaModel}
+use Rattle.wsm_commute.proofs.Common.{[], ℕ, ◌==◌, ◌∙◌, ◌∷◌, ◌≡◌, act, AllRows, ap, beside, Bool, change, change_inside, change_lanes, effect, eqb, eqb-true, false, Gap, gate, head_code, is_act_of, is_behind, is_code, is_item, lane, Lanes}
+use Rattle.wsm_commute.proofs.Common.{last_of, List, loop, no_lane, None, nothing, Op, Option, option_or, Part, part, Parts, put, put_if, put_inside, put_lanes, refl, SchemaModel, Some, still_wanted, sym, true, without, without_inside}
+use Rattle.wsm_commute.proofs.{Common.{without_lanes, wrap_if}, Footprints.{Apart, flip}, Looks.{look, look_if, head_labels, part_look, parts_look, lanes_look, tree_look, seen, seen-tree, or-none}, TreeEffects.{Brought, activity}}
+use Rattle.wsm_commute.proofs.TreeEffects.{conditional, piece, new_nodes, Edit, puts, drops, wraps, run, run_all, edits, effect-body, effect-start, effect-finish, Changes, Touches, Sited, edits-sited, other_node}
 use Rattle.wsm_schema.specs.declared.cards.NodeKind.TheVariants.{Start, Finish}
-use Rattle.wsm_ops.specs.Edit.{is_behind, is_code, head_code, still_wanted, is_act_of, is_item, put_if, put, put_inside, put_lanes, without, without_inside, without_lanes, change, change_inside, change_lanes, wrap_if, beside}
-use Rattle.wsm_ops.specs.Apply.{effect}
-use Rattle.wsm_ops.specs.declared.operations.Gap.{Gap}
-use Rattle.wsm_ops.specs.declared.operations.Op.{Op}
-use Rattle.wsm_commute.proofs.Footprints.{Apart, flip}
-use Rattle.wsm_commute.proofs.Looks.{look, look_if, head_labels, part_look, parts_look, lanes_look, tree_look, seen, seen-tree, or-none}
-use Rattle.wsm_commute.proofs.TreeEffects.{Brought, activity, conditional, piece, new_nodes, Edit, puts, drops, wraps, run, run_all, edits, effect-body, effect-start, effect-finish, Changes, Touches, Sited, edits-sited, other_node}
 
 -- ---- something is put at a gap
 module _ (n : ℕ) (g : Gap) (x : Part) (unseen : part_look n x ≡ None) where

@@ -1,19 +1,8 @@
 -- Many lists that apply to one schema, of which no two overlap.
-use Rattle.std.proofs.Common.{◌≡◌, ℕ, ◌+◌, List, [], ◌∷◌, refl, sym, ◌∙◌, Option, Some, None, Result, Ok, Err, option_map, IsPermutation}
-use Rattle.std.specs.Option.{option_or}
+use Rattle.wsm_commute.proofs.Common.{[], ℕ, ◌+◌, ◌∙◌, ◌∷◌, ◌≡◌, AllRows, applied, Err, first_overlap, first_refused, in_order, IsOrdered, IsPermutation, least_overlap, List, None, Ok, Op, OpFault, Option, option_map, option_or}
+use Rattle.wsm_commute.proofs.{Common.{overlap_with, refl, Result, SchemaModel, Some, sym}, Footprints.{AllApart, no-overlap}, ListsCommute.{Applies, PairsApart, Fits, all-made, any-order}, Reorders.reordered}
 use Rattle.std.specs.Result.{result_err}
-use Rattle.wsm_lists.specs.Rows.{AllRows}
-use Rattle.wsm_schema.specs.SchemaModel.{SchemaModel}
-use Rattle.wsm_ops.specs.Apply.{applied}
-use Rattle.wsm_ops.specs.declared.operations.Op.{Op}
-use Rattle.wsm_ops.specs.declared.faults.OpFault.{OpFault}
-use Rattle.wsm_foot.specs.Foot.{least_overlap}
-use Rattle.wsm_commute.specs.Merging.{in_order, first_refused, overlap_with, first_overlap}
-use Rattle.wsm_commute.specs.Ordered.{IsOrdered}
 use Rattle.wsm_commute.specs.declared.refusals.ManyRefusal.TheVariants as many
-use Rattle.wsm_commute.proofs.Footprints.{AllApart, no-overlap}
-use Rattle.wsm_commute.proofs.ListsCommute.{Applies, PairsApart, Fits, all-made, any-order}
-use Rattle.wsm_commute.proofs.Reorders.{reordered}
 
 -- ---- what the tests tell
 first_none : {X : Type 0} (a b : Option X) → option_or a b ≡ None → (a ≡ None) × (b ≡ None)

@@ -1,23 +1,10 @@
 -- Two operations that are apart: each is refused behind the other as it was before, and both orders make one schema.
-use Rattle.std.proofs.Common.{◌≡◌, ℕ, Bool, List, [], refl, ap, sym, ◌∙◌, inl, inr}
-use Rattle.wsm_lists.specs.Rows.{row_at}
-use Rattle.wsm_lists.specs.Keys.{both, first, first_two}
-use Rattle.wsm_lists.specs.declared.values.ElementKind.{ElementKind}
-use Rattle.wsm_schema.specs.Tree.{Parts}
-use Rattle.wsm_schema.specs.Kinds.{is_activity, worked_on}
-use Rattle.wsm_schema.specs.SchemaModel.{SchemaModel}
-use Rattle.wsm_ops.specs.Apply.{refusal, effect}
-use Rattle.wsm_ops.specs.declared.operations.Gap.{Gap}
+use Rattle.wsm_commute.proofs.Common.{[], ℕ, ◌∙◌, ◌≡◌, ap, Bool, both, effect, ElementKind, first, first_two, Gap, gap_owner, inl, inr, is_activity, IsOrdered, List, Op, Parts, refl, refusal, row_at, SchemaModel, sym, worked_on}
+use Rattle.wsm_commute.proofs.{Footprints.{In, foot, Apart}, RowEffects.{on_syncs, on_elements, on_reads, on_writes, on_roles, syncs-rewritten, elements-rewritten, reads-rewritten, writes-rewritten, roles-rewritten, syncs-told}}
+use Rattle.wsm_commute.proofs.{RowEffects.{elements-told, reads-told, writes-told, roles-told, sync_name, sync_nodes, element_name, no_node, read_name, write_name, role_name, one_node, Names, rows-commute, named-stays}, TreeEffects.Touches}
+use Rattle.wsm_commute.proofs.{TreeEffects.{bodies-commute, effect-start, effect-finish}, LooksKept.seen-stays, RefusalsKept.{SameSeen, gap_node, wrong-same, by_kind, taken-same, three-same, gap-same, item-same}}
 use Rattle.wsm_ops.specs.declared.operations.Gap.TheVariants as gap
-use Rattle.wsm_ops.specs.declared.operations.Op.{Op}
 use Rattle.wsm_ops.specs.declared.operations.Op.TheVariants as op
-use Rattle.wsm_foot.specs.Foot.{gap_owner}
-use Rattle.wsm_commute.specs.Ordered.{IsOrdered}
-use Rattle.wsm_commute.proofs.Footprints.{In, foot, Apart}
-use Rattle.wsm_commute.proofs.RowEffects.{on_syncs, on_elements, on_reads, on_writes, on_roles, syncs-rewritten, elements-rewritten, reads-rewritten, writes-rewritten, roles-rewritten, syncs-told, elements-told, reads-told, writes-told, roles-told, sync_name, sync_nodes, element_name, no_node, read_name, write_name, role_name, one_node, Names, rows-commute, named-stays}
-use Rattle.wsm_commute.proofs.TreeEffects.{Touches, bodies-commute, effect-start, effect-finish}
-use Rattle.wsm_commute.proofs.LooksKept.{seen-stays}
-use Rattle.wsm_commute.proofs.RefusalsKept.{SameSeen, gap_node, wrong-same, by_kind, taken-same, three-same, gap-same, item-same}
 
 pub effect-ordered : (s : SchemaModel) (o : Op) → IsOrdered s → IsOrdered (effect s o)
 effect-ordered s o h = record {

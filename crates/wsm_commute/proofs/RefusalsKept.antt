@@ -1,22 +1,10 @@
 -- A refusal looks at what is seen of the nodes that the operation touches, and at whether the rows that it names are listed.
-use Rattle.std.proofs.Common.{◌≡◌, ℕ, Bool, ◌&&◌, ◌||◌, List, [], ◌∷◌, map, refl, ap, sym, ◌∙◌, Option, Some, None, is_some, option_map, if◌then◌else◌}
-use Rattle.std.specs.Prelude.{◌==◌, not}
-use Rattle.std.specs.Option.{option_or}
-use Rattle.std.specs.List.{list_any}
-use Rattle.wsm_schema.specs.Kinds.{is_activity}
-use Rattle.wsm_schema.specs.Flat.{cards_of, card_at}
-use Rattle.wsm_schema.specs.SchemaModel.{SchemaModel}
-use Rattle.wsm_schema.specs.Sound.{when}
+use Rattle.wsm_commute.proofs.Common.{[], ℕ, ◌&&◌, ◌==◌, ◌||◌, ◌∙◌, ◌∷◌, ◌≡◌, ap, Bool, Card, card_at, cards_of, End, Gap, if◌then◌else◌, is_activity, is_code, is_some, List, list_any, map, NodeKind, None, not, Option, option_map}
+use Rattle.wsm_commute.proofs.{Common.{option_or, refl, SchemaModel, Some, sym, when}, Looks.{look_of, seen}}
 use Rattle.wsm_schema.specs.Trail.{is_one_of}
-use Rattle.wsm_schema.specs.declared.cards.Card.{Card}
-use Rattle.wsm_schema.specs.declared.cards.End.{End}
-use Rattle.wsm_schema.specs.declared.cards.NodeKind.{NodeKind}
-use Rattle.wsm_ops.specs.Edit.{is_code}
 use Rattle.wsm_ops.specs.Refusals.{by_card, wrong_unless, taken, one_taken, takes_behind, is_split, has_code, gap_refusal, begins_item, ends_item, wrong_item, item_refusal}
-use Rattle.wsm_ops.specs.declared.operations.Gap.{Gap}
 use Rattle.wsm_ops.specs.declared.operations.Gap.TheVariants as gap
 use Rattle.wsm_ops.specs.declared.faults.OpWhy.TheVariants.{NodeThere, WrongKind}
-use Rattle.wsm_commute.proofs.Looks.{look_of, seen}
 
 -- two cards of which the same is seen
 abbrev Alike : Option Card → Option Card → Type 0

@@ -1,7 +1,6 @@
 -- The orders of a list, by exchanges of neighbours.
-use Rattle.std.proofs.Common.{ℕ, zero, suc, ◌<◌, List, [], ◌∷◌, set, get_or, length, subst, arith, swap, IsPermutation}
-use Rattle.std.proofs.lemmas.List.Sorted.{IsPermutation-keeps}
-use Rattle.std.proofs.lemmas.List.Edits.{swap_is}
+use Rattle.wsm_commute.proofs.Common.{[], ℕ, ◌<◌, ◌∷◌, arith, get_or, IsPermutation, length, List, set, subst, suc, swap, zero}
+use Rattle.std.proofs.{lemmas.List.Sorted.IsPermutation-keeps, lemmas.List.Edits.swap_is}
 
 -- one list is the other with neighbours exchanged, any number of times
 pub data Reorder {X : Type 0} : List X → List X → Type 0 where

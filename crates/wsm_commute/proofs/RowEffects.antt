@@ -1,22 +1,10 @@
 -- What each operation does to the five lists, at each key, and that operations which are apart leave each other's keys.
-use Rattle.std.proofs.Common.{◌≡◌, ℕ, Bool, true, false, ◌||◌, eqb, List, [], ◌∷◌, refl, ap, sym, ◌∙◌, inl, inr, ◌⊎◌, Option, Some, None, subst, if◌then◌else◌}
-use Rattle.std.specs.Prelude.{◌==◌}
-use Rattle.std.proofs.lemmas.Bool.{cases_Bool, eqb-true, or_cases}
-use Rattle.wsm_lists.specs.Rows.{key_eq, AllRows, Ascends, row_at}
-use Rattle.wsm_lists.specs.Keys.{both, first, first_two, put_role}
-use Rattle.wsm_lists.specs.declared.values.ElementKind.{ElementKind}
-use Rattle.wsm_lists.proofs.Rows.{ascends_put, ascends_drop, eq_means}
-use Rattle.wsm_schema.specs.SchemaModel.{SchemaModel}
-use Rattle.wsm_ops.specs.Apply.{effect}
-use Rattle.wsm_ops.specs.declared.operations.Op.{Op}
+use Rattle.wsm_commute.proofs.Common.{[], ℕ, ◌==◌, ◌||◌, ◌∙◌, ◌∷◌, ◌≡◌, ◌⊎◌, AllRows, ap, Ascends, ascends_drop, ascends_put, Bool, both, cases_Bool, changes, effect, ElementKind, eq_means, eqb, eqb-true, false, first, first_two}
+use Rattle.wsm_commute.proofs.{Common.{if◌then◌else◌, inl, inr, key_eq, List, Name, None, Op, Option, or_cases, put_role, refl, row_at, SchemaModel, Some, subst, sym, true}, Footprints.{In, foot, Apart, changed}, RowsAtKeys.put-at}
+use Rattle.wsm_commute.proofs.{RowsAtKeys.{drop-at, clear-at, key-is}, SameRows.same-rows}
 use Rattle.wsm_ops.specs.declared.operations.Op.TheVariants as op
 use Rattle.wsm_ops.proofs.Rising.{Ascends-filter}
-use Rattle.wsm_foot.specs.Foot.{changes}
-use Rattle.wsm_foot.specs.declared.names.Name.{Name}
 use Rattle.wsm_foot.specs.declared.names.Name.TheVariants as name
-use Rattle.wsm_commute.proofs.Footprints.{In, foot, Apart, changed}
-use Rattle.wsm_commute.proofs.RowsAtKeys.{put-at, drop-at, clear-at, key-is}
-use Rattle.wsm_commute.proofs.SameRows.{same-rows}
 
 -- the keys at which an operation may change a list, and what stands there then
 pub record Rewrite (X : Type 0) : Type 0 where

@@ -1,10 +1,6 @@
 -- Changes of rows, told at each key: rows with another row, without one, or without all rows of some keys.
-use Rattle.std.proofs.Common.{◌≡◌, ℕ, Bool, true, false, List, [], ◌∷◌, filter, refl, ap, sym, ◌∙◌, inl, inr, Some, None, subst, if◌then◌else◌}
-use Rattle.std.specs.Prelude.{not}
-use Rattle.std.proofs.lemmas.Bool.{cases_Bool, both_ways}
-use Rattle.wsm_lists.specs.Rows.{key_lt, key_eq, AllRows, Ascends, row_at, put_row, drop_row}
-use Rattle.wsm_lists.proofs.Rows.{eq_means, eq_from}
-use Rattle.wsm_commute.proofs.SameRows.{none_below, differs}
+use Rattle.wsm_commute.proofs.Common.{[], ℕ, ◌∙◌, ◌∷◌, ◌≡◌, AllRows, ap, Ascends, Bool, both_ways, cases_Bool, drop_row, eq_from, eq_means, false, filter, if◌then◌else◌, inl, inr, key_eq, key_lt, List, None, not, put_row, refl, row_at}
+use Rattle.wsm_commute.proofs.{Common.{Some, subst, sym, true}, SameRows.{none_below, differs}}
 
 -- a key that the test finds is that key
 pub key-is : (a b : ℕ × ℕ) → key_eq a b ≡ true → a ≡ b

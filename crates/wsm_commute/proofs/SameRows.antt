@@ -1,8 +1,6 @@
 -- Ascending rows are told by what stands at each key.
-use Rattle.std.proofs.Common.{◌≡◌, ℕ, Bool, true, false, List, [], ◌∷◌, Option, Some, None, refl, sym, ◌∙◌, ap, subst, if◌then◌else◌}
-use Rattle.wsm_lists.specs.Rows.{key_lt, key_eq, AllRows, Ascends, row_at}
+use Rattle.wsm_commute.proofs.Common.{[], ℕ, ◌∙◌, ◌∷◌, ◌≡◌, AllRows, ap, Ascends, Bool, eq_from, eq_means, false, if◌then◌else◌, key_eq, key_lt, List, lt_not_eq, lt_other, lt_trans, None, Option, refl, row_at, Some, subst, sym, true}
 use Rattle.wsm_lists.proofs.Lists.{all-rows-map}
-use Rattle.wsm_lists.proofs.Rows.{eq_means, eq_from, lt_not_eq, lt_trans, lt_other}
 
 -- a key above another is not it
 pub differs : (a b : ℕ × ℕ) → key_lt a b ≡ true → key_eq b a ≡ false

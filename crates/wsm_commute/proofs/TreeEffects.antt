@@ -1,22 +1,10 @@
 -- What each operation does to the tree, as edits, and that the edits of operations which are apart commute.
-use Rattle.std.proofs.Common.{◌≡◌, ℕ, Bool, true, false, ◌&&◌, eqb, List, [], ◌∷◌, refl, ap, sym, ◌∙◌, inl, inr, None, subst}
-use Rattle.std.specs.Prelude.{◌==◌}
-use Rattle.std.proofs.lemmas.Bool.{cases_Bool, eqb-true}
-use Rattle.wsm_lists.specs.Rows.{AllRows}
-use Rattle.wsm_schema.specs.Tree.{Part, Parts, act}
-use Rattle.wsm_schema.specs.Ends.{last_of}
-use Rattle.wsm_schema.specs.SchemaModel.{SchemaModel}
-use Rattle.wsm_ops.specs.Edit.{is_behind, is_code, head_code, is_act_of, is_item, put_if, put, put_inside, without, without_inside, change, change_inside, beside, choice}
-use Rattle.wsm_ops.specs.Apply.{effect}
-use Rattle.wsm_ops.specs.declared.operations.Gap.{Gap}
+use Rattle.wsm_commute.proofs.Common.{[], ℕ, ◌&&◌, ◌==◌, ◌∙◌, ◌∷◌, ◌≡◌, act, AllRows, ap, beside, Bool, cases_Bool, change, change_inside, changes, choice, effect, eqb, eqb-true, false, Gap, gap_name, gap_owner, head_code, inl, inr}
+use Rattle.wsm_commute.proofs.{Common.{is_act_of, is_behind, is_code, is_item, last_of, List, Name, None, Op, Part, Parts, put, put_if, put_inside, refl, SchemaModel, subst, sym, true, without, without_inside}, Footprints.{In, foot, Apart}}
+use Rattle.wsm_commute.proofs.{Footprints.{changed, flip}, Trees.{both_if, put_put-parts, without-parts, without-put_if, put_without-parts, change-put_if, put_change-parts, without_change-parts, change_change-parts, item-last}}
 use Rattle.wsm_ops.specs.declared.operations.Gap.TheVariants as gap
-use Rattle.wsm_ops.specs.declared.operations.Op.{Op}
 use Rattle.wsm_ops.specs.declared.operations.Op.TheVariants as op
-use Rattle.wsm_foot.specs.Foot.{changes, gap_name, gap_owner}
-use Rattle.wsm_foot.specs.declared.names.Name.{Name}
 use Rattle.wsm_foot.specs.declared.names.Name.TheVariants as name
-use Rattle.wsm_commute.proofs.Footprints.{In, foot, Apart, changed, flip}
-use Rattle.wsm_commute.proofs.Trees.{both_if, put_put-parts, without-parts, without-put_if, put_without-parts, change-put_if, put_change-parts, without_change-parts, change_change-parts, item-last}
 
 -- what is put at a gap
 pub data Brought : Type 0 where

@@ -1,10 +1,7 @@
 -- Edits of trees commute. Nothing is asked of the tree: its nodes need not be distinct.
-use Rattle.std.proofs.Common.{◌≡◌, ℕ, Bool, true, false, ◌==◌, ◌&&◌, Option, None, refl, sym, ◌∙◌, ap, arith, if◌then◌else◌}
-use Rattle.std.proofs.lemmas.Bool.Decides.{nat_tests}
-use Rattle.wsm_schema.specs.Tree.{Part, Parts, Lanes, act, gate, loop, nothing, part, no_lane, lane, and_gate}
-use Rattle.wsm_schema.specs.Ends.{first_of, last_of}
-use Rattle.wsm_ops.specs.Edit.{is_act_of, without, without_inside, without_lanes, put, put_inside, put_lanes, put_if, is_behind, is_code, still_wanted, head_code, change, change_inside, change_lanes, is_item, wrap_if, beside}
-use Rattle.wsm_ops.specs.declared.operations.Gap.{Gap}
+use Rattle.wsm_commute.proofs.Common.{ℕ, ◌&&◌, ◌∙◌, ◌≡◌, act, and_gate, ap, arith, beside, Bool, change, change_inside, change_lanes, false, first_of, Gap, gate, head_code, if◌then◌else◌, is_act_of, is_behind, is_code, is_item, lane, Lanes}
+use Rattle.wsm_commute.proofs.Common.{last_of, loop, no_lane, None, nothing, Option, Part, part, Parts, put, put_if, put_inside, put_lanes, refl, still_wanted, sym, true, without, without_inside, without_lanes, wrap_if}
+use Rattle.std.proofs.{Common.◌==◌, lemmas.Bool.Decides.nat_tests}
 
 -- an edit inside leaves the ends of a part, and whether it is an activity
 last-without : (n : ℕ) (p : Part) → last_of (without_inside n p) ≡ last_of p

@@ -1,14 +1,5 @@
 -- Two lists that apply to one schema and do not overlap.
-use Rattle.std.proofs.Common.{◌≡◌, List, [], ◌∷◌, sym, ◌∙◌, None, Ok, Err}
-use Rattle.wsm_schema.specs.SchemaModel.{SchemaModel}
-use Rattle.wsm_ops.specs.Apply.{applied}
-use Rattle.wsm_ops.specs.declared.operations.Op.{Op}
-use Rattle.wsm_ops.specs.declared.faults.OpFault.{OpFault}
-use Rattle.wsm_foot.specs.Foot.{least_overlap}
-use Rattle.wsm_commute.specs.Merging.{in_order}
-use Rattle.wsm_commute.specs.Ordered.{IsOrdered}
-use Rattle.wsm_commute.proofs.Footprints.{no-overlap}
-use Rattle.wsm_commute.proofs.ListsCommute.{Meet, two-lists}
+use Rattle.wsm_commute.proofs.{Common.{[], ◌∙◌, ◌∷◌, ◌≡◌, applied, Err, in_order, IsOrdered, least_overlap, List, None, Ok, Op, OpFault, SchemaModel, sym}, Footprints.no-overlap, ListsCommute.{Meet, two-lists}}
 
 module _ (s one other : SchemaModel) (left right : List Op) (ordered : IsOrdered s) (first : applied s left ≡ Ok one) (second : applied s right ≡ Ok other) (apart : least_overlap left right ≡ None) where
   meet : Meet 1 1 one other left right

@@ -1,15 +1,10 @@
 -- Lists of operations that change one schema: what speaks against all of them together, and the schema behind them.
-use Rattle.std.specs.Prelude.{ℕ, ◌+◌, List, [], ◌∷◌, Result, Ok, Err, Option, None, option_map}
-use Rattle.std.specs.Option.{option_or}
-use Rattle.std.specs.Result.{result_err}
+use Rattle.std.specs.{Prelude.{ℕ, ◌+◌, List, [], ◌∷◌, Result, Ok, Err, Option, None, option_map}, Option.option_or, Result.result_err}
 use Rattle.wsm_schema.specs.SchemaModel.{SchemaModel}
-use Rattle.wsm_ops.specs.Apply.{applied}
-use Rattle.wsm_ops.specs.declared.operations.Op.{Op}
-use Rattle.wsm_ops.specs.declared.faults.OpFault.{OpFault}
+use Rattle.wsm_ops.specs.{Apply.applied, declared.operations.Op.Op, declared.faults.OpFault.OpFault}
 use Rattle.wsm_foot.specs.Foot.{least_overlap}
-use Rattle.wsm_commute.specs.declared.refusals.MergeRefusal.{MergeRefusal}
+use Rattle.wsm_commute.specs.{declared.refusals.MergeRefusal.MergeRefusal, declared.refusals.ManyRefusal.ManyRefusal}
 use Rattle.wsm_commute.specs.declared.refusals.MergeRefusal.TheVariants as merge
-use Rattle.wsm_commute.specs.declared.refusals.ManyRefusal.{ManyRefusal}
 use Rattle.wsm_commute.specs.declared.refusals.ManyRefusal.TheVariants as many
 
 -- what follows where there is no fault

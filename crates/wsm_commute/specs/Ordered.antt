@@ -1,6 +1,5 @@
 -- The lists of a schema.
-use Rattle.wsm_lists.specs.Rows.{Ascends}
-use Rattle.wsm_lists.specs.Keys.{both, first, first_two}
+use Rattle.wsm_lists.specs.{Rows.Ascends, Keys.{both, first, first_two}}
 use Rattle.wsm_schema.specs.SchemaModel.{SchemaModel}
 
 -- each ascends by its key

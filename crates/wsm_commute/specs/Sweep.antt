@@ -1,9 +1,7 @@
 -- The first two of some lists that overlap, found by one walk from the last list to the first.
-use Rattle.std.specs.Prelude.{ℕ, ◌+◌, Bool, List, [], ◌∷◌, min, Option, Some, None, is_some}
-use Rattle.std.specs.List.{position_from}
+use Rattle.std.specs.{Prelude.{ℕ, ◌+◌, Bool, List, [], ◌∷◌, min, Option, Some, None, is_some}, List.position_from}
 use Rattle.wsm_ops.specs.declared.operations.Op.{Op}
-use Rattle.wsm_foot.specs.Foot.{all_changes, footprint, is_among, least_overlap}
-use Rattle.wsm_foot.specs.declared.names.Name.{Name}
+use Rattle.wsm_foot.specs.{Foot.{all_changes, footprint, is_among, least_overlap}, declared.names.Name.Name}
 
 -- the lesser of two places
 abbrev pub earlier : Option ℕ → Option ℕ → Option ℕ

@@ -1,15 +1,10 @@
 // Many lists of operations.
-ghost use Rattle.std.specs.Prelude.{◌≡◌, ◌≤◌, ◌<◌, ◌+◌, ◌^◌, [], length, List, IsPermutation, IfOk, OnOk, IfErr, Ok, None, Some, option_map};
-ghost use Rattle.std.specs.Result.{result_err};
+ghost use Rattle.std.specs.{Prelude.{◌≡◌, ◌≤◌, ◌<◌, ◌+◌, ◌^◌, [], length, List, IsPermutation, IfOk, OnOk, IfErr, Ok, None, Some, option_map}, Result.result_err};
 ghost use Rattle.wsm_lists.specs.Rows.{AllRows};
-ghost use Rattle.wsm_schema.specs.Flat.{cards_of};
-ghost use Rattle.wsm_schema.specs.Sound.{nodes_of, twice};
-ghost use Rattle.wsm_ops.specs.Apply.{applied, IsOpFault};
-ghost use Rattle.wsm_ops.specs.declared.operations.Op.{Op};
+ghost use Rattle.wsm_schema.specs.{Flat.cards_of, Sound.{nodes_of, twice}};
+ghost use Rattle.wsm_ops.specs.{Apply.{applied, IsOpFault}, declared.operations.Op.Op};
 ghost use Rattle.wsm_commute.specs.declared.refusals.ManyRefusal.TheVariants as refusal;
-ghost use Rattle.wsm_commute.specs.Merging.{in_order, first_refused, first_overlap, many_fault};
-ghost use Rattle.wsm_commute.specs.Refusals.{IsManyRefusal};
-ghost use Rattle.wsm_commute.specs.Sweep.{first_pair};
+ghost use Rattle.wsm_commute.specs.{Merging.{in_order, first_refused, first_overlap, many_fault}, Refusals.IsManyRefusal, Sweep.first_pair};
 
 use crate::ordered::read_lists;
 use crate::refusals::ManyRefusal;

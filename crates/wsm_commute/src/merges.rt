@@ -1,14 +1,10 @@
 // Two lists of operations.
-ghost use Rattle.std.specs.Prelude.{◌≡◌, ◌<◌, ◌^◌, [], ◌∷◌, length, IfOk, OnOk, IfErr, Ok, None, option_map};
-ghost use Rattle.wsm_schema.specs.Flat.{cards_of};
-ghost use Rattle.wsm_schema.specs.Sound.{nodes_of, twice};
+ghost use Rattle.std.specs.{Prelude.{◌≡◌, ◌<◌, ◌^◌, [], ◌∷◌, length, IfOk, OnOk, IfErr, Ok, None, option_map}, Result.result_err};
+ghost use Rattle.wsm_schema.specs.{Flat.cards_of, Sound.{nodes_of, twice}};
 ghost use Rattle.wsm_ops.specs.Apply.{applied};
 ghost use Rattle.wsm_foot.specs.Foot.{least_overlap};
-ghost use Rattle.std.specs.Result.{result_err};
 ghost use Rattle.wsm_commute.specs.declared.refusals.MergeRefusal.TheVariants as refusal;
-ghost use Rattle.wsm_commute.specs.Merging.{in_order, merge_fault, many_fault, in_many};
-ghost use Rattle.wsm_commute.specs.Ordered.{IsOrdered};
-ghost use Rattle.wsm_commute.specs.Refusals.{IsMergeRefusal};
+ghost use Rattle.wsm_commute.specs.{Merging.{in_order, merge_fault, many_fault, in_many}, Ordered.IsOrdered, Refusals.IsMergeRefusal};
 
 use crate::ordered::read_lists;
 use crate::refusals::MergeRefusal;

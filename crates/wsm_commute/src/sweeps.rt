@@ -2,9 +2,7 @@
 ghost use Rattle.std.specs.Prelude.{◌≡◌, IfOk, OnOk, if◌then◌else◌, Some, ℕ};
 ghost use Rattle.std.specs.BTreeMap as tree;
 ghost use Rattle.wsm_ops.specs.declared.operations.Op.{Op};
-ghost use Rattle.wsm_foot.specs.Order.{name_cmp};
-ghost use Rattle.wsm_foot.specs.Foot.{is_among};
-ghost use Rattle.wsm_foot.specs.declared.names.Name.{Name};
+ghost use Rattle.wsm_foot.specs.{Order.name_cmp, Foot.is_among, declared.names.Name.Name};
 ghost use Rattle.wsm_commute.specs.Sweep.{earlier, earliest, pair_or, first_pair};
 
 use std::alloc::Global;

@@ -1,10 +1,6 @@
 -- The answers of the clauses, by a schema in place of its flat form.
-use Rattle.std.proofs.Common.{◌≡◌, ℕ, Bool, List, ap, ◌∙◌, Option}
-use Rattle.wsm_schema.specs.SchemaModel.{SchemaModel}
-use Rattle.wsm_schema.specs.Flat.{FlatModel, flat_of}
-use Rattle.wsm_schema.specs.Sound.{first_some, unknown}
+use Rattle.wsm_data.proofs.Common.{ℕ, ◌∙◌, ◌≡◌, ap, Bool, first_some, flat_of, FlatModel, List, Option, SchemaModel, unknown, unknown_in}
 use Rattle.wsm_schema.specs.declared.faults.DataFault.{DataFault}
-use Rattle.wsm_data.specs.Unknowns.{unknown_in}
 
 module _ (s m : SchemaModel) (f : FlatModel) (flat : f ≡ flat_of s) (view : m ≡ s) where
   pub read-clause : (found : Option DataFault) (reads : List (ℕ × ℕ × Bool)) → reads ≡ m.reads → found ≡ first_some (λ r. unknown_in f r.0 r.1) reads → found ≡ first_some (λ r. unknown s r.0 r.1) s.reads

@@ -1,13 +1,7 @@
 -- What a set has after a put, and in what is left of a list.
-use Rattle.std.proofs.Common.{◌≡◌, ℕ, ◌<◌, ◌≤◌, Bool, true, false, ◌||◌, ◌&&◌, eqb, List, [], ◌∷◌, length, get_or, subst, refl, ap, sym, ◌∙◌, inl, inr}
-use Rattle.std.specs.List.{insert, slice_get}
-use Rattle.std.specs.Option.{is_some}
+use Rattle.wsm_data.proofs.Common.{[], ℕ, ◌&&◌, ◌<◌, ◌||◌, ◌∙◌, ◌∷◌, ◌≡◌, ◌≤◌, ap, ascends_put, Bool, cases_Bool, eq_means, eqb, eqb-true, false, get_or, inl, InOrder, inr, insert, insert_where_absent, is_one_of, is_row_at, is_some, key_eq}
+use Rattle.wsm_data.proofs.Common.{key_lt, length, List, number, put_row, refl, row_at, row_is_there, rows_below, slice_get, subst, sym, true}
 use Rattle.std.proofs.lemmas.Option.{slice_get-get_or, slice_get_past}
-use Rattle.std.proofs.lemmas.Bool.{cases_Bool, eqb-true}
-use Rattle.wsm_lists.specs.Rows.{key_eq, key_lt, row_at, rows_below, is_row_at, put_row}
-use Rattle.wsm_lists.proofs.Rows.{eq_means, row_is_there, insert_where_absent, ascends_put}
-use Rattle.wsm_data.specs.Sets.{number, InOrder}
-use Rattle.wsm_schema.specs.Trail.{is_one_of}
 
 pub eq_number : (a n : ℕ) → key_eq (a, 0) (n, 0) ≡ eqb a n
 eq_number a n =

@@ -1,10 +1,5 @@
 -- First answers.
-use Rattle.std.proofs.Common.{◌≡◌, true, false, [], refl, ap, Option, Some, None}
-use Rattle.std.specs.Option.{is_some, option_or}
-use Rattle.std.proofs.lemmas.Bool.{both_ways}
-use Rattle.wsm_schema.specs.SchemaModel.{SchemaModel}
-use Rattle.wsm_schema.specs.Flat.{cards_of}
-use Rattle.wsm_schema.specs.Sound.{block_fault, twice, nodes_of}
+use Rattle.wsm_data.proofs.Common.{[], ◌≡◌, ap, block_fault, both_ways, cards_of, false, is_some, nodes_of, None, Option, option_or, refl, SchemaModel, Some, true, twice}
 use Rattle.wsm_schema.specs.declared.faults.BlockFault.TheVariants.{Twice}
 use Rattle.wsm_marks.proofs.NoFault.{no_either, no_map}
 

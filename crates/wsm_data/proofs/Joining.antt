@@ -1,13 +1,7 @@
 -- What two lists of numbers that ascend have together.
-use Rattle.std.proofs.Common.{◌≡◌, ℕ, zero, suc, ◌+◌, ◌<◌, Bool, true, false, ◌||◌, eqb, List, [], ◌∷◌, ◌++◌, length, drop, get_or, refl, ap, sym, ◌∙◌, subst, ◌⊎◌, inl, inr, arith, add-one, drop-cons, append-nil}
-use Rattle.wsm_lists.specs.Rows.{AllRows}
-use Rattle.wsm_lists.proofs.Rows.{lt_from}
-use Rattle.wsm_lists.proofs.Lists.{all-rows-map, rows-append}
+use Rattle.wsm_data.proofs.Common.{[], ℕ, ◌++◌, ◌+◌, ◌<◌, ◌||◌, ◌∙◌, ◌∷◌, ◌≡◌, ◌⊎◌, add-one, all-rows-map, AllBelow, AllRows, ap, append-nil, arith, Bool, drop, drop-cons, eqb, false, get_or, Holds, inl, InOrder, inr, is_one_of, length}
+use Rattle.wsm_data.proofs.{Common.{List, lt_from, number, refl, rows-append, subst, suc, sym, true, zero}, Elements.{or_swap, or_group}, Merging.{all-above, above-less, has-last, order-last}}
 use Rattle.wsm_schema.proofs.DocumentOrder.{one_of-append}
-use Rattle.wsm_schema.specs.Trail.{is_one_of}
-use Rattle.wsm_data.specs.Sets.{number, InOrder, AllBelow, Holds}
-use Rattle.wsm_data.proofs.Elements.{or_swap, or_group}
-use Rattle.wsm_data.proofs.Merging.{all-above, above-less, has-last, order-last}
 
 -- part of it, and what is left of both lists
 pub record Joined (xs ys all front back : List ℕ) : Type 0 where

@@ -1,15 +1,8 @@
 -- What a lookup says of the cards and of the elements.
-use Rattle.std.proofs.Common.{◌≡◌, ℕ, Bool, true, false, ◌||◌, eqb, List, [], ◌∷◌, refl, ap, sym, ◌∙◌, inl, inr, Some, None}
-use Rattle.std.specs.Option.{is_some}
-use Rattle.std.specs.List.{list_any}
-use Rattle.std.proofs.lemmas.Bool.{cases_Bool, both_ways, eqb-true, or_left, or_right}
+use Rattle.wsm_data.proofs.Common.{[], ℕ, ◌||◌, ◌∙◌, ◌∷◌, ◌≡◌, ap, Bool, both_ways, Card, card_at, cases_Bool, eqb, eqb-true, false, inl, inr, is_one_of, is_some, is_worked_on_in, kind_in, List, list_any, nodes_of, None, or_left, or_right}
+use Rattle.wsm_data.proofs.Common.{refl, Some, sym, true, twice, works}
 use Rattle.wsm_lists.specs.declared.values.ElementKind.{ElementKind}
-use Rattle.wsm_schema.specs.Flat.{card_at, kind_in}
 use Rattle.wsm_schema.specs.Kinds.{worked_on}
-use Rattle.wsm_schema.specs.Sound.{twice, nodes_of, is_worked_on_in}
-use Rattle.wsm_schema.specs.Trail.{is_one_of}
-use Rattle.wsm_schema.specs.declared.cards.Card.{Card}
-use Rattle.wsm_data.specs.Unknowns.{works}
 
 -- a number that stood earlier stands nowhere later
 none-later : (seen : List ℕ) (cards : List Card) (n : ℕ) → twice seen (nodes_of cards) ≡ None → is_one_of n seen ≡ true → is_worked_on_in cards n ≡ false

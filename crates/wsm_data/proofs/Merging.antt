@@ -1,14 +1,6 @@
 -- What two lists of numbers that ascend share.
-use Rattle.std.proofs.Common.{◌≡◌, ℕ, zero, suc, ◌+◌, ◌-◌, ◌<◌, ◌≤◌, Bool, true, false, cond, ◌||◌, ◌&&◌, eqb, List, [], ◌∷◌, ◌++◌, length, drop, get_or, refl, ap, sym, ◌∙◌, subst, inl, inr, arith, add-one, drop-cons, Option, None, Some}
-use Rattle.std.specs.Prelude.{find}
-use Rattle.std.proofs.lemmas.Bool.{ne_eqb, cases_Bool, eqb-true}
-use Rattle.wsm_lists.specs.Rows.{AllRows, key_lt}
-use Rattle.wsm_lists.proofs.Rows.{lt_means, lt_from}
-use Rattle.wsm_lists.proofs.Lists.{all-rows-map, rows-append}
-use Rattle.wsm_marks.proofs.Lists.{rows-swap}
-use Rattle.wsm_data.specs.Sets.{number, InOrder, AllBelow, Holds}
-use Rattle.wsm_data.proofs.Elements.{or_swap, or_group, and_false}
-use Rattle.wsm_schema.specs.Trail.{is_one_of}
+use Rattle.wsm_data.proofs.Common.{[], ℕ, ◌&&◌, ◌++◌, ◌+◌, ◌-◌, ◌<◌, ◌||◌, ◌∙◌, ◌∷◌, ◌≡◌, ◌≤◌, add-one, all-rows-map, AllBelow, AllRows, ap, arith, Bool, cases_Bool, cond, drop, drop-cons, eqb, eqb-true, false, find, get_or, Holds, inl}
+use Rattle.wsm_data.proofs.{Common.{InOrder, inr, is_one_of, key_lt, length, List, lt_from, lt_means, ne_eqb, None, number, Option, refl, rows-append, rows-swap, Some, subst, suc, sym, true, zero}, Elements.{or_swap, or_group, and_false}}
 
 -- ---- numbers that stand above another
 pub less_of : (x y : ℕ) → key_lt (number x) (number y) ≡ true → x < y

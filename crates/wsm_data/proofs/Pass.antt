@@ -1,30 +1,11 @@
 -- The steps of the passes: what is sure at the next card, and the table with a row for it.
-use Rattle.std.proofs.Common.{◌≡◌, ℕ, suc, ◌+◌, ◌<◌, Bool, true, false, not, ◌||◌, ◌&&◌, eqb, List, [], ◌∷◌, ◌++◌, map, length, take, drop, get_or, refl, ap, sym, ◌∙◌, subst, inl, inr, Option, Some, None, add-one, drop-cons}
+use Rattle.wsm_data.proofs.Common.{[], ℕ, ◌&&◌, ◌++◌, ◌+◌, ◌<◌, ◌||◌, ◌∙◌, ◌∷◌, ◌≡◌, add-one, all-rows-map, AllRows, and_parts, ap, Behind, Bool, both_ways, by_node, Card, card_at, card_of, cards_of, cases_Bool, drop, drop-cons, eq-eqb}
+use Rattle.wsm_data.proofs.Common.{eq_means, eqb, eqb-true, false, find, first_some, get_or, has_one_edge, Holds, inl, inr, is_one_of, IsNext, IsPut, key_eq, key_lt, length, List, list_all, list_any, lt_not_eq, map, map-same, missing_at}
+use Rattle.wsm_data.proofs.Common.{None, not, one_of-last, Option, option_map, option_or, parts_bound, Place, places, put_row, refl, row_at, SchemaModel, set_behind, set_of, Some, subst, suc, Sure, sure_behind, sure_by, sure_of, sym, take}
+use Rattle.wsm_data.proofs.{Common.{take-append-drop, Tells, TellsAt, told_by_syncs, true, writes_of}, Elements.{eq_number, or_swap, has-there}, Firsts.{first-some, first-none}, Sure.any-same}
 use Rattle.std.proofs.Math.Seq.{take-suc}
-use Rattle.std.proofs.lemmas.List.{take-append-drop}
-use Rattle.std.specs.List.{list_any, list_all, filter}
-use Rattle.std.specs.Prelude.{find, option_map, is_some}
-use Rattle.std.specs.Option.{option_or}
-use Rattle.std.proofs.lemmas.Bool.{cases_Bool, both_ways, and_parts, eqb-true, eq-eqb}
-use Rattle.wsm_lists.specs.Rows.{AllRows, key_eq, key_lt, row_at, put_row}
-use Rattle.wsm_lists.proofs.Lists.{map-same, all-rows-map}
-use Rattle.wsm_lists.proofs.Rows.{eq_means, lt_not_eq}
-use Rattle.wsm_schema.specs.SchemaModel.{SchemaModel}
-use Rattle.wsm_schema.specs.Flat.{card_at, card_of, cards_of}
-use Rattle.wsm_schema.specs.Places.{places}
-use Rattle.wsm_schema.specs.Sound.{Sure, sure_behind, sure_by, sure_of, has_one_edge, parts_bound, first_some, missing_at, writes_of}
-use Rattle.wsm_schema.specs.declared.cards.Card.{Card}
+use Rattle.std.specs.{List.filter, Prelude.is_some}
 use Rattle.wsm_schema.specs.declared.faults.DataFault.TheVariants.{Missing}
-use Rattle.wsm_schema.specs.declared.places.Place.{Place}
-use Rattle.wsm_schema.specs.Trail.{is_one_of}
-use Rattle.wsm_marks.proofs.Lists.{one_of-last}
-use Rattle.wsm_data.specs.Passes.{IsNext}
-use Rattle.wsm_data.specs.Sets.{Holds}
-use Rattle.wsm_data.specs.Tables.{by_node, set_of, set_behind, told_by_syncs, Tells, TellsAt, IsPut}
-use Rattle.wsm_data.specs.declared.tables.Behind.{Behind}
-use Rattle.wsm_data.proofs.Elements.{eq_number, or_swap, has-there}
-use Rattle.wsm_data.proofs.Firsts.{first-some, first-none}
-use Rattle.wsm_data.proofs.Sure.{any-same}
 
 -- what a table tells of a card's sources is what is sure there
 pub told-sure : (s : SchemaModel) (rows : List Behind) (seen : List ℕ) (c : Card) → Tells s rows seen → IsNext s seen c → TellsAt s rows c

@@ -1,27 +1,11 @@
 -- What is sure solves its rule at each node, and comes from nodes that stand before it in a rank.
-use Rattle.std.proofs.Common.{◌≡◌, ℕ, zero, suc, ◌+◌, ◌≤◌, Bool, true, ◌||◌, ◌&&◌, List, [], ◌∷◌, ◌++◌, map, length, refl, ap, sym, ◌∙◌, subst, inl, inr, arith, Option, Some, None, append_assoc, append-nil}
+use Rattle.wsm_data.proofs.Common.{[], ℕ, ◌&&◌, ◌++◌, ◌+◌, ◌||◌, ◌∙◌, ◌∷◌, ◌≡◌, ◌≤◌, all-rows-map, AllRows, ap, append-nil, append_assoc, arith, block_fault, Bool, both_ways, Card, card_at, card_at-node, card_of, cards_of, has_one_edge}
+use Rattle.wsm_data.proofs.Common.{inl, inr, is_one_of, IsNext, IsRank, iterate-last, length, List, list_any, map, map-same, None, none_sure, one_of-last, Option, parts_bound, places, refl, rows-map, SchemaModel, Seen, Some, subst, suc}
+use Rattle.wsm_data.proofs.Common.{Sure, sure_at, sure_behind, sure_by, sure_by_syncs, sure_of, sym, true, writes_of, zero}
 use Rattle.std.specs.Fn.{iterate}
-use Rattle.std.specs.List.{list_any}
-use Rattle.std.proofs.lemmas.Bool.{both_ways}
-use Rattle.wsm_lists.specs.Rows.{AllRows}
-use Rattle.wsm_lists.proofs.Lists.{map-same, all-rows-map, rows-map}
-use Rattle.wsm_schema.specs.SchemaModel.{SchemaModel}
-use Rattle.wsm_schema.specs.Flat.{card_at, card_of, cards_of}
-use Rattle.wsm_schema.specs.Places.{places}
-use Rattle.wsm_schema.specs.Rank.{IsRank}
-use Rattle.wsm_schema.specs.Sound.{Sure, none_sure, sure_behind, sure_by, sure_by_syncs, sure_at, sure_of, has_one_edge, parts_bound, writes_of, block_fault}
-use Rattle.wsm_schema.specs.Trail.{is_one_of}
-use Rattle.wsm_schema.specs.declared.cards.Card.{Card}
 use Rattle.wsm_schema.specs.declared.cards.End.{End}
-use Rattle.wsm_schema.proofs.Rounds.{iterate-last, card_at-node}
 use Rattle.wsm_marks.specs.Schemas.{HasCard, Regular}
-use Rattle.wsm_marks.proofs.Cards.{placed-rows}
-use Rattle.wsm_marks.proofs.Lists.{one_of-last}
-use Rattle.wsm_marks.proofs.RankInduction.{in_rank}
-use Rattle.wsm_marks.proofs.SoundSchemas.{sound-regular}
-use Rattle.wsm_marks.proofs.Sources.{sources-have_cards}
-use Rattle.wsm_marks.proofs.Values.{card-edged}
-use Rattle.wsm_data.specs.Passes.{IsNext, Seen}
+use Rattle.wsm_marks.proofs.{Cards.placed-rows, RankInduction.in_rank, SoundSchemas.sound-regular, Sources.sources-have_cards, Values.card-edged}
 
 -- two tests that say the same of each row find the same
 pub any-same : {X : Type 0} (f g : X → Bool) (xs : List X) → AllRows (λ x. f x ≡ g x) xs → list_any f xs ≡ list_any g xs

@@ -1,11 +1,5 @@
 -- Lookups in the table of sync edges.
-use Rattle.std.proofs.Common.{◌≡◌, ℕ, true, ◌||◌, ◌&&◌, eqb, List, [], ◌∷◌, refl, inl, inr}
-use Rattle.std.specs.List.{list_any}
-use Rattle.std.specs.Option.{is_some}
-use Rattle.std.proofs.lemmas.Bool.{cases_Bool}
-use Rattle.wsm_lists.specs.Keys.{both}
-use Rattle.wsm_lists.specs.Rows.{row_at}
-use Rattle.wsm_data.proofs.Elements.{or_swap}
+use Rattle.wsm_data.proofs.{Common.{[], ℕ, ◌&&◌, ◌||◌, ◌∷◌, ◌≡◌, both, cases_Bool, eqb, inl, inr, is_some, List, list_any, refl, row_at, true}, Elements.or_swap}
 
 -- an edge either way is there
 pub synced-is : (a b : ℕ) (edges : List (ℕ × ℕ)) →

@@ -1,21 +1,7 @@
 -- What cards write, and cards without writes.
-use Rattle.std.proofs.Common.{◌≡◌, ℕ, true, not, ◌&&◌, eqb, List, [], ◌∷◌, map, filter, refl, ap, sym, ◌∙◌, subst, inl, inr, arith, None}
-use Rattle.std.specs.Prelude.{find, option_map}
-use Rattle.std.specs.Option.{option_or}
-use Rattle.std.proofs.lemmas.Bool.{cases_Bool, eqb-true}
-use Rattle.wsm_lists.specs.Keys.{both}
-use Rattle.wsm_lists.specs.Rows.{AllRows, Ascends, key_lt}
-use Rattle.wsm_lists.proofs.Rows.{lt_means, lt_from}
-use Rattle.wsm_lists.proofs.Lists.{all_rows, rows-map}
-use Rattle.wsm_schema.specs.SchemaModel.{SchemaModel}
-use Rattle.wsm_schema.specs.Flat.{card_of, cards_of}
-use Rattle.wsm_schema.specs.Places.{places}
-use Rattle.wsm_schema.specs.Sound.{first_some, parts_apart, synced, parallel_write, parallel_writes}
-use Rattle.wsm_schema.specs.declared.cards.Card.{Card}
+use Rattle.wsm_data.proofs.Common.{[], ℕ, ◌&&◌, ◌∙◌, ◌∷◌, ◌≡◌, all_rows, AllRows, ap, arith, Ascends, both, Card, card_of, cards_of, cases_Bool, eqb, eqb-true, filter, find, first_some, inl, InOrder, inr, is_one_of, key_lt, List, lt_from}
+use Rattle.wsm_data.proofs.Common.{lt_means, map, None, not, number, option_map, option_or, parallel_write, parallel_writes, parts_apart, Place, places, refl, rows-map, SchemaModel, subst, sym, synced, true, WritesInOrder}
 use Rattle.wsm_schema.specs.declared.faults.DataFault.TheVariants.{ParallelWrite}
-use Rattle.wsm_schema.specs.declared.places.Place.{Place}
-use Rattle.wsm_schema.specs.Trail.{is_one_of}
-use Rattle.wsm_data.specs.Sets.{number, InOrder, WritesInOrder}
 
 no-write : (s : SchemaModel) (a b : Card) → a.writes ≡ [] → parallel_write s a b ≡ None
 no-write s a b none =

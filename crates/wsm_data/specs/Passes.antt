@@ -1,13 +1,8 @@
 -- What one pass over the nodes in the order of a rank goes by.
 use Rattle.std.specs.Prelude.{◌≡◌, ℕ, true, List, Some}
 use Rattle.wsm_lists.specs.Rows.{AllRows}
-use Rattle.wsm_marks.specs.Loops.{HasEdge}
-use Rattle.wsm_marks.specs.Schemas.{HasCard}
-use Rattle.wsm_schema.specs.SchemaModel.{SchemaModel}
-use Rattle.wsm_schema.specs.Flat.{cards_of}
-use Rattle.wsm_schema.specs.Sound.{sure_at, sure_of}
-use Rattle.wsm_schema.specs.Trail.{is_one_of}
-use Rattle.wsm_schema.specs.declared.cards.Card.{Card}
+use Rattle.wsm_marks.specs.{Loops.HasEdge, Schemas.HasCard}
+use Rattle.wsm_schema.specs.{SchemaModel.SchemaModel, Flat.cards_of, Sound.{sure_at, sure_of}, Trail.is_one_of, declared.cards.Card.Card}
 
 -- a node of the net is among those seen
 abbrev pub Seen : SchemaModel → List ℕ → ℕ → Type 0

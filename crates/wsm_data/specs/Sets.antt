@@ -1,8 +1,7 @@
 -- Sets of numbers: lists that ascend.
 use Rattle.std.specs.Prelude.{◌≡◌, ◌<◌, ℕ, Bool, List}
 use Rattle.wsm_lists.specs.Rows.{AllRows, Ascends}
-use Rattle.wsm_schema.specs.declared.cards.Card.{Card}
-use Rattle.wsm_schema.specs.Trail.{is_one_of}
+use Rattle.wsm_schema.specs.{declared.cards.Card.Card, Trail.is_one_of}
 
 -- the key of a number
 abbrev pub number : ℕ → ℕ × ℕ

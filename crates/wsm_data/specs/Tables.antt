@@ -1,12 +1,7 @@
 -- What is sure behind nodes: before them, or by what they write.
-use Rattle.std.specs.Prelude.{◌≡◌, ℕ, Bool, true, false, ◌||◌, ◌&&◌, ◌==◌, List, [], map, Option, Some, None}
-use Rattle.std.specs.List.{list_any}
+use Rattle.std.specs.{Prelude.{◌≡◌, ℕ, Bool, true, false, ◌||◌, ◌&&◌, ◌==◌, List, [], map, Option, Some, None}, List.list_any}
 use Rattle.wsm_lists.specs.Rows.{row_at}
-use Rattle.wsm_schema.specs.SchemaModel.{SchemaModel}
-use Rattle.wsm_schema.specs.Flat.{cards_of}
-use Rattle.wsm_schema.specs.Sound.{sure_behind, sure_by, sure_of, has_one_edge, parts_bound}
-use Rattle.wsm_schema.specs.Trail.{is_one_of}
-use Rattle.wsm_schema.specs.declared.cards.Card.{Card}
+use Rattle.wsm_schema.specs.{SchemaModel.SchemaModel, Flat.cards_of, Sound.{sure_behind, sure_by, sure_of, has_one_edge, parts_bound}, Trail.is_one_of, declared.cards.Card.Card}
 use Rattle.wsm_marks.specs.Schemas.{HasCard}
 use Rattle.wsm_data.specs.declared.tables.Behind.{Behind}
 

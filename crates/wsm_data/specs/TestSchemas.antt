@@ -1,7 +1,6 @@
 -- The schemas of the tests.
 use Rattle.std.specs.Prelude.{true, [], ◌∷◌}
-use Rattle.wsm_schema.specs.Tree.{act, gate, nothing, part, no_lane, lane, and_gate, xor_gate}
-use Rattle.wsm_schema.specs.SchemaModel.{SchemaModel, plain}
+use Rattle.wsm_schema.specs.{Tree.{act, gate, nothing, part, no_lane, lane, and_gate, xor_gate}, SchemaModel.{SchemaModel, plain}}
 use Rattle.wsm_lists.specs.declared.values.ElementKind.TheVariants as kind
 
 -- an AND block with an activity in each branch

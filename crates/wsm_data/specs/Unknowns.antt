@@ -1,11 +1,6 @@
 -- Reads and writes that name no node that is worked on, or no listed element, by a flat form.
-use Rattle.std.specs.Prelude.{ℕ, Bool, false, ◌&&◌, not, Option, Some, None, ◌==◌}
-use Rattle.std.specs.List.{list_any}
-use Rattle.wsm_schema.specs.Flat.{FlatModel}
-use Rattle.wsm_schema.specs.Kinds.{worked_on}
-use Rattle.wsm_schema.specs.Sound.{when, is_worked_on_in}
-use Rattle.wsm_schema.specs.declared.cards.Card.{Card}
-use Rattle.wsm_schema.specs.declared.faults.DataFault.{DataFault}
+use Rattle.std.specs.{Prelude.{ℕ, Bool, false, ◌&&◌, not, Option, Some, None, ◌==◌}, List.list_any}
+use Rattle.wsm_schema.specs.{Flat.FlatModel, Kinds.worked_on, Sound.{when, is_worked_on_in}, declared.cards.Card.Card, declared.faults.DataFault.DataFault}
 use Rattle.wsm_schema.specs.declared.faults.DataFault.TheVariants.{Unknown}
 
 -- whether a card that was found is of a node that is worked on

@@ -1,8 +1,6 @@
 // The whole check.
 ghost use Rattle.std.specs.Prelude.{◌≡◌, None, IfOk, IfErr};
-ghost use Rattle.wsm_schema.specs.Flat.{flat_of, cards_of};
-ghost use Rattle.wsm_schema.specs.Rank.{IsRank};
-ghost use Rattle.wsm_schema.specs.Sound.{block_fault, data_fault};
+ghost use Rattle.wsm_schema.specs.{Flat.{flat_of, cards_of}, Rank.IsRank, Sound.{block_fault, data_fault}};
 ghost use Rattle.wsm_data.specs.Refusals.{IsDataFault};
 
 use crate::missing::missing_read;

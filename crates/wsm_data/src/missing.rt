@@ -1,14 +1,9 @@
 // Mandatory reads that may find no value.
-ghost use Rattle.std.specs.Prelude.{◌≡◌, ◌||◌, ◌==◌, None, IfOk, OnOk};
-ghost use Rattle.std.specs.List.{list_all, list_any};
+ghost use Rattle.std.specs.{Prelude.{◌≡◌, ◌||◌, ◌==◌, None, IfOk, OnOk}, List.{list_all, list_any}};
 ghost use Rattle.wsm_lists.specs.Rows.{AllRows};
 ghost use Rattle.wsm_marks.specs.Loops.{HasEdge};
-ghost use Rattle.wsm_schema.specs.Flat.{flat_of, cards_of};
-ghost use Rattle.wsm_schema.specs.Rank.{IsRank};
-ghost use Rattle.wsm_schema.specs.Sound.{block_fault, first_some, missing_at, sure_of, writes_of};
-ghost use Rattle.wsm_schema.specs.Trail.{is_one_of};
-ghost use Rattle.wsm_data.specs.Tables.{IsPut, Tells, TellsAt};
-ghost use Rattle.wsm_data.specs.Sets.{Holds};
+ghost use Rattle.wsm_schema.specs.{Flat.{flat_of, cards_of}, Rank.IsRank, Sound.{block_fault, first_some, missing_at, sure_of, writes_of}, Trail.is_one_of};
+ghost use Rattle.wsm_data.specs.{Tables.{IsPut, Tells, TellsAt}, Sets.Holds};
 
 use crate::sets::ElementSet;
 use crate::tables::{Behind, BehindTable, shared, sure_at};

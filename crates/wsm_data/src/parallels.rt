@@ -1,8 +1,6 @@
 // Writes of one element side by side.
 ghost use Rattle.std.specs.Prelude.{◌≡◌, None, find, IfOk};
-ghost use Rattle.wsm_schema.specs.Flat.{flat_of, cards_of};
-ghost use Rattle.wsm_schema.specs.Sound.{block_fault, first_some, synced, parallel_write, parallel_writes};
-ghost use Rattle.wsm_schema.specs.Trail.{is_one_of};
+ghost use Rattle.wsm_schema.specs.{Flat.{flat_of, cards_of}, Sound.{block_fault, first_some, synced, parallel_write, parallel_writes}, Trail.is_one_of};
 ghost use Rattle.wsm_data.specs.Sets.{InOrder, WritesInOrder};
 
 use crate::merges::shared_element;

@@ -1,10 +1,8 @@
 // Tables of the elements that have a value behind nodes, and the set of a node from those of its sources.
-ghost use Rattle.std.specs.Prelude.{◌≡◌, ◌<◌, ◌||◌, map, length, IfOk, OnOk};
-ghost use Rattle.std.specs.List.{list_all, list_any};
+ghost use Rattle.std.specs.{Prelude.{◌≡◌, ◌<◌, ◌||◌, map, length, IfOk, OnOk}, List.{list_all, list_any}};
 ghost use Rattle.wsm_schema.specs.Trail.{is_one_of};
 ghost use Rattle.wsm_marks.specs.Loops.{HasEdge};
-ghost use Rattle.wsm_data.specs.Sets.{Holds, InOrder};
-ghost use Rattle.wsm_data.specs.Tables.{by_node, set_behind, told_at, told_by_syncs};
+ghost use Rattle.wsm_data.specs.{Sets.{Holds, InOrder}, Tables.{by_node, set_behind, told_at, told_by_syncs}};
 
 use crate::sets::ElementSet;
 use std::alloc::Global;

@@ -1,8 +1,6 @@
 // Reads and writes of nodes and elements that the schema does not have.
-ghost use Rattle.std.specs.Prelude.{◌≡◌, [], None, true, IfSome, ◌==◌};
-ghost use Rattle.std.specs.List.{list_any};
-ghost use Rattle.wsm_schema.specs.Kinds.{worked_on};
-ghost use Rattle.wsm_schema.specs.Sound.{first_some, twice, nodes_of, is_worked_on_in};
+ghost use Rattle.std.specs.{Prelude.{◌≡◌, [], None, true, IfSome, ◌==◌}, List.list_any};
+ghost use Rattle.wsm_schema.specs.{Kinds.worked_on, Sound.{first_some, twice, nodes_of, is_worked_on_in}};
 ghost use Rattle.wsm_data.specs.Unknowns.{unknown_in};
 
 use wsm_schema::{DataFault, Flat, NodeKind};

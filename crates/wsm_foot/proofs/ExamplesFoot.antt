@@ -1,12 +1,10 @@
 -- What single operations change and use, and what lists of them share.
-use Rattle.std.proofs.Common.{◌≡◌, [], ◌∷◌, ◌++◌, Some, None, refl, true}
-use Rattle.std.proofs.Common.{Less, Equal, Greater}
+use Rattle.std.proofs.Common.{◌≡◌, [], ◌∷◌, ◌++◌, Some, None, refl, true, Less, Equal, Greater}
 use Rattle.wsm_lists.specs.declared.values.ElementKind.TheVariants.{Text}
 use Rattle.wsm_ops.specs.declared.operations.Gap.TheVariants.{After, Head}
 use Rattle.wsm_ops.specs.declared.operations.Op.TheVariants as op
 use Rattle.wsm_foot.specs.declared.names.Name.TheVariants.{Node, GapAfter, GapHead, Sync, Read, Write, Element, Role}
-use Rattle.wsm_foot.specs.Order.{name_cmp}
-use Rattle.wsm_foot.specs.Foot.{footprint, least, least_overlap}
+use Rattle.wsm_foot.specs.{Order.name_cmp, Foot.{footprint, least, least_overlap}}
 
 -- ---- the order
 pub by_kind : name_cmp (Role 2) (Node 9) ≡ Greater

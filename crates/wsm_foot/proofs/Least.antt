@@ -1,13 +1,7 @@
 -- The least of names, taken in any grouping.
-use Rattle.std.proofs.Common.{◌≡◌, ℕ, ◌+◌, ◌<◌, Bool, List, [], ◌∷◌, ◌++◌, filter, drop, length, get_or, refl, ap, sym, ◌∙◌, inl, inr, Option, Some, None, Less, Equal, Greater, rules, add-one, drop-cons}
-use Rattle.std.specs.declared.cmp.Ordering.{Ordering}
-use Rattle.std.specs.Ordering.{min_by_ordering, ordering_reverse}
-use Rattle.std.specs.Cmp.{IsTotalOrder}
-use Rattle.std.specs.Cmp.Rules.{comparing}
-use Rattle.std.proofs.lemmas.Bool.{cases_Bool}
-use Rattle.wsm_foot.specs.Order.{name_cmp}
-use Rattle.wsm_foot.specs.Foot.{lesser, least, if_shared}
-use Rattle.wsm_foot.specs.declared.names.Name.{Name}
+use Rattle.std.proofs.{Common.{◌≡◌, ℕ, ◌+◌, ◌<◌, Bool, List, [], ◌∷◌, ◌++◌, filter, drop, length, get_or, refl, ap, sym, ◌∙◌, inl, inr, Option, Some, None, Less, Equal, Greater, rules, add-one, drop-cons}, lemmas.Bool.cases_Bool}
+use Rattle.std.specs.{declared.cmp.Ordering.Ordering, Ordering.{min_by_ordering, ordering_reverse}, Cmp.IsTotalOrder, Cmp.Rules.comparing}
+use Rattle.wsm_foot.specs.{Order.name_cmp, Foot.{lesser, least, if_shared}, declared.names.Name.Name}
 
 name_total : IsTotalOrder name_cmp
 name_total = search (comparing, rules)

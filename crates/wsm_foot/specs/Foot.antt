@@ -1,13 +1,9 @@
 -- What operations change and use, and the least name that two lists of operations share.
-use Rattle.std.specs.Prelude.{Bool, List, [], ◌∷◌, ◌++◌, filter, flat_map, Option, Some, None, if◌then◌else◌}
-use Rattle.std.specs.List.{list_any}
-use Rattle.std.specs.Ordering.{eq_by_cmp, min_by_ordering}
-use Rattle.wsm_ops.specs.declared.operations.Gap.{Gap}
+use Rattle.std.specs.{Prelude.{Bool, List, [], ◌∷◌, ◌++◌, filter, flat_map, Option, Some, None, if◌then◌else◌}, List.list_any, Ordering.{eq_by_cmp, min_by_ordering}}
+use Rattle.wsm_ops.specs.{declared.operations.Gap.Gap, declared.operations.Op.Op}
 use Rattle.wsm_ops.specs.declared.operations.Gap.TheVariants as gap
-use Rattle.wsm_ops.specs.declared.operations.Op.{Op}
 use Rattle.wsm_ops.specs.declared.operations.Op.TheVariants as op
-use Rattle.wsm_foot.specs.Order.{name_cmp}
-use Rattle.wsm_foot.specs.declared.names.Name.{Name}
+use Rattle.wsm_foot.specs.{Order.name_cmp, declared.names.Name.Name}
 use Rattle.wsm_foot.specs.declared.names.Name.TheVariants.{Node, GapAfter, GapHead, Sync, Read, Write, Element, Role}
 
 -- a gap, and the node whose gap it is

@@ -1,7 +1,5 @@
 -- The order of names.
-use Rattle.std.specs.Prelude.{ℕ}
-use Rattle.std.specs.Ordering.{nat_cmp, then_cmp, on}
-use Rattle.std.specs.declared.cmp.Ordering.{Ordering}
+use Rattle.std.specs.{Prelude.ℕ, Ordering.{nat_cmp, then_cmp, on}, declared.cmp.Ordering.Ordering}
 use Rattle.wsm_foot.specs.declared.names.Name.{Name}
 use Rattle.wsm_foot.specs.declared.names.Name.TheVariants as name
 

@@ -1,10 +1,7 @@
 // The names that lists of operations change and use.
-ghost use Rattle.std.specs.Prelude.{◌≡◌, ◌++◌, [], ◌∷◌, IfOk, OnOk, flat_map};
-ghost use Rattle.std.specs.BTreeSet.{contains, IsFromIterResult};
-ghost use Rattle.wsm_foot.specs.Order.{name_cmp};
-ghost use Rattle.wsm_foot.specs.declared.names.Name.{Name};
+ghost use Rattle.std.specs.{Prelude.{◌≡◌, ◌++◌, [], ◌∷◌, IfOk, OnOk, flat_map}, BTreeSet.{contains, IsFromIterResult}};
+ghost use Rattle.wsm_foot.specs.{Order.name_cmp, declared.names.Name.Name, Foot.{gap_name, gap_owner, changes, uses, all_changes, footprint, is_among}};
 ghost use Rattle.wsm_foot.specs.declared.names.Name.TheVariants as name;
-ghost use Rattle.wsm_foot.specs.Foot.{gap_name, gap_owner, changes, uses, all_changes, footprint, is_among};
 
 use crate::names::Name;
 use std::alloc::Global;

@@ -1,9 +1,6 @@
 // What operations change or use.
-ghost use Rattle.std.specs.Prelude.{◌≡◌};
+ghost use Rattle.std.specs.{Prelude.◌≡◌, Cmp.partial_order_from_own_ties, Cmp.Rules.comparing, Ordering.as_partial_cmp};
 ghost use Rattle.std.proofs.Common.{rules};
-ghost use Rattle.std.specs.Cmp.{partial_order_from_own_ties};
-ghost use Rattle.std.specs.Cmp.Rules.{comparing};
-ghost use Rattle.std.specs.Ordering.{as_partial_cmp};
 ghost use Rattle.wsm_foot.specs.Order.{name_kind, first_number, second_number, name_cmp};
 
 use std::cmp::Ordering;

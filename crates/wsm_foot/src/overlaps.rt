@@ -1,8 +1,6 @@
 // What two lists of operations share.
-ghost use Rattle.std.specs.Prelude.{◌≡◌, IfOk, filter};
-ghost use Rattle.std.specs.BTreeSet.{contains};
-ghost use Rattle.wsm_foot.specs.Order.{name_cmp};
-ghost use Rattle.wsm_foot.specs.Foot.{lesser, least, least_overlap, if_shared, is_among, footprint, all_changes};
+ghost use Rattle.std.specs.{Prelude.{◌≡◌, IfOk, filter}, BTreeSet.contains};
+ghost use Rattle.wsm_foot.specs.{Order.name_cmp, Foot.{lesser, least, least_overlap, if_shared, is_among, footprint, all_changes}};
 
 use crate::footprints::{all_changes, footprint};
 use crate::names::Name;

@@ -1,9 +1,7 @@
 -- Items that are chosen one after another.
-use Rattle.std.proofs.Common.{◌≡◌, ℕ, ◌+◌, ◌<◌, Bool, List, [], ◌∷◌, ◌++◌, add-one, append_assoc, drop, drop-cons, filter, get_or, length, refl, ap, sym, ◌∙◌, inl, inr}
+use Rattle.std.proofs.{Common.{◌≡◌, ℕ, ◌+◌, ◌<◌, Bool, List, [], ◌∷◌, ◌++◌, add-one, append_assoc, drop, drop-cons, filter, get_or, length, refl, ap, sym, ◌∙◌, inl, inr}, lemmas.Bool.cases_Bool}
 use Rattle.std.specs.Prelude.{if◌then◌else◌}
-use Rattle.std.proofs.lemmas.Bool.{cases_Bool}
-use Rattle.wsm_items.specs.WorkItems.{items_in}
-use Rattle.wsm_items.specs.declared.work_items.Item.{Item}
+use Rattle.wsm_items.specs.{WorkItems.items_in, declared.work_items.Item.Item}
 
 filter-cons : (test : Item → Bool) (x : Item) (xs : List Item) → filter test (x ∷ xs) ≡ (if test x then x ∷ [] else []) ++ filter test xs
 filter-cons test x xs = elim (cases_Bool (test x)) [ inl it ↦ rw it refl | inr other ↦ rw other refl ]

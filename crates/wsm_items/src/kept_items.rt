@@ -1,10 +1,7 @@
 // Work items by node, in reserved room.
-ghost use Rattle.std.specs.Prelude.{◌≡◌, ℕ, ◌+◌, ◌≤◌, ◌<◌, [], ◌∷◌, ◌++◌, filter, OnOk, IfOk, if◌then◌else◌};
-ghost use Rattle.std.specs.Option.{is_some, option_copied};
+ghost use Rattle.std.specs.{Prelude.{◌≡◌, ℕ, ◌+◌, ◌≤◌, ◌<◌, [], ◌∷◌, ◌++◌, filter, OnOk, IfOk, if◌then◌else◌}, Option.{is_some, option_copied}};
 ghost use Rattle.wsm_items.specs.WorkItems.{ByNode, is_held_by, is_offered_to, item_node, items_in};
-ghost use Rattle.wsm_lists.specs.ByNumber.{item_at};
-ghost use Rattle.wsm_lists.specs.Keys.{first};
-ghost use Rattle.wsm_lists.specs.Rows.{Ascends, drop_row, put_row};
+ghost use Rattle.wsm_lists.specs.{ByNumber.item_at, Keys.first, Rows.{Ascends, drop_row, put_row}};
 
 use crate::work_items::{Item, ItemList};
 use std::alloc::Global;

@@ -1,12 +1,6 @@
 -- Rows that ascend by a number in front of each.
-use Rattle.std.proofs.Common.{◌≡◌, ℕ, true, false, cond, eqb, ltb, List, [], ◌∷◌, refl, ap, sym, ◌∙◌, inl, inr, arith, Option, Some, None}
-use Rattle.std.specs.Option.{is_some, option_map}
-use Rattle.std.proofs.lemmas.Bool.{cases_Bool, both_ways, and_right, eqb-true, eq-eqb}
-use Rattle.wsm_lists.specs.Keys.{first}
-use Rattle.wsm_lists.specs.Rows.{AllRows, Ascends, key_lt, key_eq, row_at, put_row, drop_row}
-use Rattle.wsm_lists.proofs.Ascending.{ascending-same}
-use Rattle.wsm_lists.proofs.Rows.{eq_means, eq_from, lt_means, ascends_put, ascends_drop}
-use Rattle.wsm_lists.specs.ByNumber.{change_row, changed, item_after, item_at}
+use Rattle.wsm_lists.proofs.Common.{[], ℕ, ◌∙◌, ◌∷◌, ◌≡◌, AllRows, and_right, ap, arith, Ascends, both_ways, cases_Bool, change_row, changed, cond, drop_row, eq-eqb, eqb, eqb-true, false, first, inl, inr, is_some, item_after, item_at}
+use Rattle.wsm_lists.proofs.{Common.{key_eq, key_lt, List, ltb, None, Option, option_map, put_row, refl, row_at, Some, sym, true}, Ascending.ascending-same, Rows.{eq_means, eq_from, lt_means, ascends_put, ascends_drop}}
 
 -- the order of such keys is that of their numbers
 pub lt_number : (a n : ℕ) → key_lt (a, 0) (n, 0) ≡ ltb a n

@@ -1,13 +1,7 @@
 -- Entries of a map by pairs, and rows in the order of their keys.
-use Rattle.std.proofs.Common.{◌≡◌, ℕ, List, [], ◌∷◌, refl, ap, sym, ◌∙◌, subst, inl, inr, arith, Ordering}
-use Rattle.std.specs.Prelude.{if◌then◌else◌}
-use Rattle.std.proofs.lemmas.Bool.{cases_order, cases_Bool, eq-eqb, ne_eqb, lt-ltb, le-ltb}
-use Rattle.std.specs.Ordering.{nat_cmp, ordering_then, is_eq, match_ordering}
-use Rattle.std.specs.BTreeMap.{insert_entry, is_at}
-use Rattle.std.specs.Map.{lookup, remove_entry}
-use Rattle.wsm_lists.specs.Rows.{key_lt, key_eq, row_at, put_row, drop_row}
-use Rattle.wsm_lists.proofs.Rows.{eq_means}
-use Rattle.wsm_lists.specs.Entries.{rows_of, Keyed}
+use Rattle.wsm_lists.proofs.Common.{[], ℕ, ◌∙◌, ◌∷◌, ◌≡◌, ap, arith, cases_Bool, cases_order, drop_row, eq-eqb, inl, inr, insert_entry, is_at, key_eq, key_lt, Keyed, le-ltb, List, lt-ltb, ne_eqb, Ordering, put_row, refl, row_at, rows_of}
+use Rattle.wsm_lists.proofs.{Common.{subst, sym}, Rows.eq_means}
+use Rattle.std.specs.{Prelude.if◌then◌else◌, Ordering.{nat_cmp, ordering_then, is_eq, match_ordering}, Map.{lookup, remove_entry}}
 
 abbrev pub pair_cmp : ℕ × ℕ → ℕ × ℕ → Ordering
 pair_cmp a b = ordering_then (nat_cmp a.0 b.0) (nat_cmp a.1 b.1)

@@ -1,6 +1,5 @@
 -- Facts about each row of a list.
-use Rattle.std.proofs.Common.{◌≡◌, List, [], ◌∷◌, ◌++◌, map, refl, ap, ◌∙◌}
-use Rattle.wsm_lists.specs.Rows.{AllRows}
+use Rattle.wsm_lists.proofs.Common.{[], ◌++◌, ◌∙◌, ◌∷◌, ◌≡◌, AllRows, ap, List, map, refl}
 
 -- two functions that agree at each row
 pub map-same : {X Y : Type 0} (f g : X → Y) (xs : List X) → AllRows (λ x. f x ≡ g x) xs → map f xs ≡ map g xs

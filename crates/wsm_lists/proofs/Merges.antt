@@ -1,13 +1,7 @@
 -- A merge from the back puts all rows at their places.
-use Rattle.std.proofs.Common.{◌≡◌, ℕ, zero, suc, ◌+◌, ◌-◌, ◌<◌, ◌≤◌, true, false, eqb, List, [], ◌∷◌, ◌++◌, length, take, drop, get_or, set, refl, ap, sym, ◌∙◌, subst, inl, inr, arith, Option, Some, None, append_assoc, append-nil, length-append}
-use Rattle.std.proofs.lemmas.Bool.{cases_Bool, eqb-true, eq-eqb, lt-ltb, ltb-true}
-use Rattle.std.proofs.lemmas.List.{drop-set, drop_all, get_or-take, length-set, length-take-le, take-append-drop, take-set-le, take-take, take_all, take_more}
-use Rattle.wsm_lists.specs.Keys.{first}
-use Rattle.wsm_lists.specs.Rows.{AllRows, Ascends, key_eq, key_lt, put_row}
-use Rattle.wsm_lists.specs.TakenIn.{Merging, last_number, put_all, put_before, puts_of}
-use Rattle.wsm_lists.proofs.ByNumber.{eq_number, lt_number}
-use Rattle.wsm_lists.proofs.Lists.{all-rows-map, rows-append, rows-parts}
-use Rattle.wsm_lists.proofs.Rows.{all_put}
+use Rattle.wsm_lists.proofs.Common.{[], ℕ, ◌++◌, ◌+◌, ◌-◌, ◌<◌, ◌∙◌, ◌∷◌, ◌≡◌, ◌≤◌, AllRows, ap, append-nil, append_assoc, arith, Ascends, cases_Bool, drop, drop-set, drop_all, eq-eqb, eqb, eqb-true, false, first, get_or, get_or-take, inl}
+use Rattle.wsm_lists.proofs.Common.{inr, key_eq, key_lt, last_number, length, length-append, length-set, length-take-le, List, lt-ltb, ltb-true, Merging, None, Option, put_all, put_before, put_row, puts_of, refl, set, Some, subst, suc, sym}
+use Rattle.wsm_lists.proofs.{Common.{take, take-append-drop, take-set-le, take-take, take_all, take_more, true, zero}, ByNumber.{eq_number, lt_number}, Lists.{all-rows-map, rows-append, rows-parts}, Rows.all_put}
 
 less_key : (a b : ℕ) → a < b → key_lt (a, 0) (b, 0) ≡ true
 less_key a b less = lt_number a b ∙ lt-ltb a b less

@@ -1,12 +1,6 @@
 -- Rows that are put over others: which row a key has, and the same rows put in another order.
-use Rattle.std.proofs.Common.{◌≡◌, ℕ, Bool, true, false, cond, List, [], ◌∷◌, refl, ap, sym, ◌∙◌, subst, inl, inr, Option, Some, None, Result, Ok, Err, OnOk, not}
-use Rattle.std.specs.Option.{is_some}
-use Rattle.std.proofs.lemmas.Bool.{cases_Bool, both_ways}
-use Rattle.wsm_lists.specs.PutOver.{put_over}
-use Rattle.wsm_lists.specs.Rows.{AllRows, Ascends, drop_row, key_eq, key_lt, put_row, row_at}
-use Rattle.wsm_lists.proofs.Ascending.{ascending-same, below-absent, tail-absent}
-use Rattle.wsm_lists.proofs.ByNumber.{row_at-put}
-use Rattle.wsm_lists.proofs.Rows.{ascends_drop, ascends_put, eq_from, eq_means, lt_not_eq, lt_trans}
+use Rattle.wsm_lists.proofs.Common.{[], ℕ, ◌∙◌, ◌∷◌, ◌≡◌, AllRows, ap, Ascends, Bool, both_ways, cases_Bool, cond, drop_row, Err, false, inl, inr, is_some, key_eq, key_lt, List, None, not, Ok, OnOk, Option, put_over, put_row, refl, Result}
+use Rattle.wsm_lists.proofs.{Common.{row_at, Some, subst, sym, true}, Ascending.{ascending-same, below-absent, tail-absent}, ByNumber.row_at-put, Rows.{ascends_drop, ascends_put, eq_from, eq_means, lt_not_eq, lt_trans}}
 
 -- the first of two rows
 abbrev pub or_else : {X : Type 0} → Option X → Option X → Option X

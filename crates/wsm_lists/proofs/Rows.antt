@@ -1,10 +1,8 @@
 -- The place of a key among rows that ascend.
-use Rattle.std.proofs.Common.{◌≡◌, ◌≢◌, ℕ, suc, ◌+◌, ◌-◌, ◌<◌, ◌≤◌, Bool, true, false, cond, ◌&&◌, eqb, ltb, leb, leb-true, leb-false, ◌==◌, List, [], ◌∷◌, length, filter, take, drop, zero, get_or, set, refl, ap, sym, ◌∙◌, inl, inr, ◌⊎◌, arith, Option, Some, None, Result, Ok, Err, OnOk, OnErr}
-use Rattle.std.specs.List.{insert, remove, slice_get, slice_range}
+use Rattle.wsm_lists.proofs.Common.{[], ℕ, ◌&&◌, ◌+◌, ◌-◌, ◌<◌, ◌==◌, ◌∙◌, ◌∷◌, ◌≡◌, ◌≢◌, ◌≤◌, ◌⊎◌, AllRows, and_parts, ap, arith, Ascends, Bool, both_ways, cases_Bool, cases_order, cond, drop, drop_row, eq-eqb, eqb, eqb-true, Err, false}
+use Rattle.wsm_lists.proofs.Common.{filter, get_or, inl, inr, insert, is_row_at, is_some, key_eq, key_lt, le-ltb, leb, leb-false, leb-true, length, List, lt-ltb, ltb, ltb-false, ltb-true, ne_eqb, None, Ok, OnErr, OnOk, Option, or_cases}
+use Rattle.wsm_lists.proofs.Common.{put_row, refl, remove, Result, row_at, rows_below, set, slice_get, slice_range, Some, suc, sym, take, true, zero}
 use Rattle.std.specs.List.Sorted.{IsPartitionedBy, IsPartitionPoint}
-use Rattle.std.specs.Option.{is_some}
-use Rattle.std.proofs.lemmas.Bool.{ltb-true, ltb-false, lt-ltb, le-ltb, eq-eqb, ne_eqb, eqb-true, or_cases, and_parts, cases_order, both_ways, cases_Bool}
-use Rattle.wsm_lists.specs.Rows.{key_lt, key_eq, AllRows, Ascends, row_at, put_row, drop_row, rows_below, is_row_at}
 
 -- the order of keys, by numbers
 pub lt_means : (a b : ℕ × ℕ) → key_lt a b ≡ true → (a.0 < b.0) ⊎ ((a.0 ≡ b.0) × (a.1 < b.1))

@@ -1,16 +1,9 @@
 -- All that changes put, without what they drop, is what they make of the rows one after another.
-use Rattle.std.proofs.Common.{◌≡◌, ℕ, ◌+◌, ◌<◌, ◌≤◌, Bool, true, false, cond, not, eqb, List, [], ◌∷◌, ◌++◌, length, length-append, take, drop, get_or, filter, refl, ap, sym, ◌∙◌, inl, inr, arith, append_assoc, append-nil, Option, Some, None}
-use Rattle.std.specs.List.{list_any}
-use Rattle.std.specs.Option.{is_some}
-use Rattle.std.proofs.lemmas.Bool.{cases_Bool, both_ways, eqb-true, ne_eqb, ltb-true}
-use Rattle.std.proofs.lemmas.List.{drop_all, drop_more, length-set, take-append-le, take_at}
-use Rattle.std.proofs.lemmas.List.Edits.{length-insert}
-use Rattle.wsm_lists.specs.ByNumber.{changed, item_after, item_at}
-use Rattle.wsm_lists.specs.Keys.{first}
-use Rattle.wsm_lists.specs.Rows.{AllRows, Ascends, key_lt, put_row, row_at, rows_below}
-use Rattle.wsm_lists.specs.TakenIn.{absent_of, is_gone, put_all, put_before, puts_of}
-use Rattle.wsm_lists.proofs.ByNumber.{ascends-changed, is_some-map, item_at-above, item_at-changed, item_at-put, items-same, lt_number}
+use Rattle.wsm_lists.proofs.Common.{[], ℕ, ◌++◌, ◌+◌, ◌<◌, ◌∙◌, ◌∷◌, ◌≡◌, ◌≤◌, absent_of, AllRows, ap, append-nil, append_assoc, arith, Ascends, Bool, both_ways, cases_Bool, changed, cond, drop, drop_all, drop_more, eqb, eqb-true, false}
+use Rattle.wsm_lists.proofs.Common.{filter, first, get_or, inl, inr, is_gone, is_some, item_after, item_at, key_lt, length, length-append, length-set, List, list_any, ltb-true, ne_eqb, None, not, Option, put_all, put_before, put_row}
+use Rattle.wsm_lists.proofs.{Common.{puts_of, refl, row_at, rows_below, Some, sym, take, take-append-le, take_at, true}, ByNumber.{ascends-changed, is_some-map, item_at-above, item_at-changed, item_at-put, items-same, lt_number}}
 use Rattle.wsm_lists.proofs.Rows.{ascends_put, insert_where_absent, rows_below_le, set_where_there}
+use Rattle.std.proofs.lemmas.List.Edits.{length-insert}
 
 module _ {A : Type 0} where
   -- how long rows are with one more put

@@ -1,7 +1,6 @@
 -- Rows with a number in front, which stand by that number, and what changes make of them.
 use Rattle.std.specs.Prelude.{ℕ, List, [], ◌∷◌, Option, Some, None, option_map}
-use Rattle.wsm_lists.specs.Keys.{first}
-use Rattle.wsm_lists.specs.Rows.{drop_row, put_row, row_at}
+use Rattle.wsm_lists.specs.{Keys.first, Rows.{drop_row, put_row, row_at}}
 
 -- what the row of a number holds
 abbrev pub item_at : {A : Type 0} → ℕ → List (ℕ × A) → Option A

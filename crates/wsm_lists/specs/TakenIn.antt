@@ -1,8 +1,6 @@
 -- How changes are taken into rows: all that they put, and then those go that they drop.
 use Rattle.std.specs.Prelude.{◌≡◌, ℕ, ◌≤◌, Bool, true, false, List, [], ◌∷◌, ◌++◌, length, take, drop, Option, Some, None, filter, is_some, not}
-use Rattle.wsm_lists.specs.ByNumber.{item_at}
-use Rattle.wsm_lists.specs.Keys.{first}
-use Rattle.wsm_lists.specs.Rows.{put_row}
+use Rattle.wsm_lists.specs.{ByNumber.item_at, Keys.first, Rows.put_row}
 
 -- the row that a change puts, in front of others
 abbrev pub put_before : {A : Type 0} → ℕ → Option A → List (ℕ × A) → List (ℕ × A)

@@ -1,8 +1,7 @@
 -- Values of elements.
 use Rattle.std.specs.Prelude.{ℕ, Bool, true, false, ◌&&◌, List, [], ◌∷◌, Option, Some, None, ◌==◌, int_le, bytes_eq, if◌then◌else◌}
-use Rattle.wsm_lists.specs.declared.values.Value.{Value}
+use Rattle.wsm_lists.specs.{declared.values.Value.Value, declared.values.ElementKind.ElementKind}
 use Rattle.wsm_lists.specs.declared.values.Value.TheVariants as value
-use Rattle.wsm_lists.specs.declared.values.ElementKind.{ElementKind}
 use Rattle.wsm_lists.specs.declared.values.ElementKind.TheVariants as kind
 
 -- the kind of a value

@@ -1,10 +1,6 @@
 // Tables while many rows are put, one after another and in any order.
-ghost use Rattle.std.specs.Prelude.{◌≡◌, ◌<◌, ℕ, [], false, not, OnErr, OnOk, IfOk, if◌then◌else◌};
-ghost use Rattle.std.specs.Option.{is_some, option_copied};
-ghost use Rattle.wsm_lists.specs.Entries.{Keyed, rows_of};
-ghost use Rattle.wsm_lists.specs.Keys.{put_role};
-ghost use Rattle.wsm_lists.specs.PutOver.{put_over};
-ghost use Rattle.wsm_lists.specs.Rows.{Ascends, put_row, drop_row, row_at};
+ghost use Rattle.std.specs.{Prelude.{◌≡◌, ◌<◌, ℕ, [], false, not, OnErr, OnOk, IfOk, if◌then◌else◌}, Option.{is_some, option_copied}};
+ghost use Rattle.wsm_lists.specs.{Entries.{Keyed, rows_of}, Keys.put_role, PutOver.put_over, Rows.{Ascends, put_row, drop_row, row_at}};
 
 use crate::NoMemory;
 use crate::keys::{ByNode, Keys};

@@ -1,7 +1,5 @@
 // Lists that contracts see as their items.
-ghost use Rattle.std.specs.Prelude.{◌≡◌, List, [], ◌∷◌, ◌++◌, length, slice_get, OnErr, OnOk, IfOk, IsTrue, ◌↔◌};
-ghost use Rattle.std.specs.Option.{option_copied};
-ghost use Rattle.std.specs.Slice.Iter.{iter_rest};
+ghost use Rattle.std.specs.{Prelude.{◌≡◌, List, [], ◌∷◌, ◌++◌, length, slice_get, OnErr, OnOk, IfOk, IsTrue, ◌↔◌}, Option.option_copied, Slice.Iter.iter_rest};
 
 use crate::NoMemory;
 use std::alloc::Global;

@@ -1,10 +1,6 @@
 // Rows by number, in reserved room.
-ghost use Rattle.std.specs.Prelude.{◌≡◌, ◌+◌, ◌<◌, ◌≤◌, [], length, slice_get, vec_len, vec_capacity, IfOk, IfSome, OnOk, if◌then◌else◌};
-ghost use Rattle.std.specs.List.{insert};
-ghost use Rattle.std.specs.Option.{is_some, option_copied};
-ghost use Rattle.wsm_lists.specs.Keys.{first};
-ghost use Rattle.wsm_lists.specs.ByNumber.{changed, item_at};
-ghost use Rattle.wsm_lists.specs.Rows.{Ascends, drop_row, put_row, rows_below};
+ghost use Rattle.std.specs.{Prelude.{◌≡◌, ◌+◌, ◌<◌, ◌≤◌, [], length, slice_get, vec_len, vec_capacity, IfOk, IfSome, OnOk, if◌then◌else◌}, List.insert, Option.{is_some, option_copied}};
+ghost use Rattle.wsm_lists.specs.{Keys.first, ByNumber.{changed, item_at}, Rows.{Ascends, drop_row, put_row, rows_below}};
 
 use crate::NoMemory;
 use crate::keys::ByFirst;

@@ -1,9 +1,6 @@
 // The roles of nodes.
-ghost use Rattle.std.specs.Prelude.{◌≡◌, ◌<◌, ℕ, [], length, slice_get, OnErr, OnOk, IfOk};
-ghost use Rattle.std.specs.Option.{option_copied};
-ghost use Rattle.std.specs.Slice.Iter.{iter_rest};
-ghost use Rattle.wsm_lists.specs.Keys.{put_role, role_in, HasRoles};
-ghost use Rattle.wsm_lists.specs.Rows.{AllRows};
+ghost use Rattle.std.specs.{Prelude.{◌≡◌, ◌<◌, ℕ, [], length, slice_get, OnErr, OnOk, IfOk}, Option.option_copied, Slice.Iter.iter_rest};
+ghost use Rattle.wsm_lists.specs.{Keys.{put_role, role_in, HasRoles}, Rows.AllRows};
 
 use crate::NoMemory;
 use crate::keys::ByNode;

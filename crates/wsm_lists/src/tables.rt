@@ -1,7 +1,5 @@
 // Tables: rows that ascend strictly by their keys.
-ghost use Rattle.std.specs.Prelude.{◌≡◌, ◌<◌, ℕ, ◌+◌, List, [], true, false, length, slice_get, filter, ◌==◌, not, OnErr, OnOk, IfOk, IsTrue, ◌↔◌, if◌then◌else◌};
-ghost use Rattle.std.specs.Option.{option_copied, is_some};
-ghost use Rattle.std.specs.Slice.Iter.{iter_rest};
+ghost use Rattle.std.specs.{Prelude.{◌≡◌, ◌<◌, ℕ, ◌+◌, List, [], true, false, length, slice_get, filter, ◌==◌, not, OnErr, OnOk, IfOk, IsTrue, ◌↔◌, if◌then◌else◌}, Option.{option_copied, is_some}, Slice.Iter.iter_rest};
 ghost use Rattle.wsm_lists.specs.Rows.{put_row, drop_row, row_at, rows_below, is_row_at, key_lt, key_eq, Ascends};
 
 use crate::NoMemory;

@@ -1,10 +1,6 @@
 // Changes taken into rows by number, in reserved room.
-ghost use Rattle.std.specs.Prelude.{◌≡◌, ◌+◌, ◌<◌, ◌≤◌, [], ◌∷◌, ◌++◌, length, take, filter, not, is_some, vec_len, vec_capacity};
-ghost use Rattle.std.specs.List.{list_any};
-ghost use Rattle.wsm_lists.specs.ByNumber.{changed, item_at};
-ghost use Rattle.wsm_lists.specs.Keys.{first};
-ghost use Rattle.wsm_lists.specs.Rows.{Ascends};
-ghost use Rattle.wsm_lists.specs.TakenIn.{absent_of, is_gone, last_number, put_all, put_before, puts_of};
+ghost use Rattle.std.specs.{Prelude.{◌≡◌, ◌+◌, ◌<◌, ◌≤◌, [], ◌∷◌, ◌++◌, length, take, filter, not, is_some, vec_len, vec_capacity}, List.list_any};
+ghost use Rattle.wsm_lists.specs.{ByNumber.{changed, item_at}, Keys.first, Rows.Ascends, TakenIn.{absent_of, is_gone, last_number, put_all, put_before, puts_of}};
 
 use crate::reserved::{find, has, set_row};
 

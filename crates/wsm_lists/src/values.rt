@@ -1,6 +1,5 @@
 // Values of data elements.
-ghost use Rattle.std.specs.Prelude.{◌≡◌, ◌≤◌, ◌<◌, ◌++◌, [], take, length, IfOk, IfSome, IsSome, ◌↔◌, IsTrue};
-ghost use Rattle.std.specs.Option.{option_copied};
+ghost use Rattle.std.specs.{Prelude.{◌≡◌, ◌≤◌, ◌<◌, ◌++◌, [], take, length, IfOk, IfSome, IsSome, ◌↔◌, IsTrue}, Option.option_copied};
 ghost use Rattle.wsm_lists.specs.Values.{kind_of, same_value, same_option_value, value_in};
 
 use crate::NoMemory;

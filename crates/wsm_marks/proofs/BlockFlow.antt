@@ -1,28 +1,11 @@
 -- Block flow: what the edge that leaves a part signals, by what the edge that enters it does.
-use Rattle.std.proofs.Common.{◌≡◌, ℕ, ◌≤◌, Bool, true, false, cond, ◌&&◌, eqb, List, [], ◌∷◌, map, refl, ap, sym, ◌∙◌, subst, inl, inr, ◌⊎◌, arith, Option, Some, None}
-use Rattle.std.specs.Prelude.{nat_lt, is_some, count_by, ◌==◌}
-use Rattle.std.specs.List.{list_all}
-use Rattle.std.proofs.lemmas.Bool.{cases_Bool, both_ways, ltb-true, le-ltb, and_left, and_right, and_parts, eqb-true, eq-eqb, ltb-false}
-use Rattle.wsm_schema.specs.Tree.{Part, Parts, Lanes, act, gate, loop, nothing, part, no_lane, lane, and_gate, xor_gate}
-use Rattle.wsm_schema.specs.Ends.{first_node, last_of}
-use Rattle.wsm_schema.specs.declared.places.Place.{Place}
-use Rattle.wsm_schema.specs.Places.{place, part_places, parts_places, lanes_places, leaving, branch_tails, branch_heads, labelled, plain_end}
-use Rattle.wsm_schema.specs.SchemaModel.{SchemaModel}
-use Rattle.wsm_schema.specs.Flat.{card_at, card_of, cards_of}
-use Rattle.wsm_schema.specs.Kinds.{worked_on, is_xor_split}
-use Rattle.wsm_lists.specs.Rows.{AllRows}
-use Rattle.wsm_schema.specs.Rules.{is_yes, is_no, is_chosen}
-use Rattle.wsm_schema.specs.declared.cards.End.{End}
-use Rattle.wsm_schema.specs.declared.cards.NodeKind.{NodeKind}
+use Rattle.wsm_marks.proofs.Common.{[], ℕ, ◌&&◌, ◌==◌, ◌∙◌, ◌∷◌, ◌≡◌, ◌≤◌, ◌⊎◌, act, AllRows, and_gate, and_left, and_parts, and_right, ap, arith, Bool, both_ways, branch_heads, branch_tails, card_at, card_of, cards_of, cases_Bool, cond}
+use Rattle.wsm_marks.proofs.Common.{count_by, End, eq-eqb, eq_of, eqb, eqb-true, Facts, false, first_node, Flow, flow, FullLanes, FullPart, FullParts, gate, greater, has_label, inl, inr, is_chosen, is_no, is_some, is_xor_split, is_yes}
+use Rattle.wsm_marks.proofs.Common.{labelled, lane, Lanes, lanes_places, last_of, latest, le-ltb, leaving, List, list_all, loop, ltb-false, ltb-true, map, Marking, nat_lt, no_lane, NodeKind, None, nothing, Option, Part, part, part_places}
+use Rattle.wsm_marks.proofs.Common.{Parts, parts_places, Place, place, plain_end, refl, rows-parts, SchemaModel, sig_at, sig_by, sig_of, Solves, Some, subst, sym, time, Timed, timed_by, true, worked_on, xor_gate}
 use Rattle.wsm_schema.specs.declared.cards.NodeKind.TheVariants as kind
-use Rattle.wsm_schema.specs.declared.states.Flow.{Flow}
 use Rattle.wsm_schema.specs.declared.states.Flow.TheVariants.{Yes, No}
 use Rattle.wsm_schema.specs.declared.states.Verdict.TheVariants as verdict
-use Rattle.wsm_schema.specs.Replay.{has_label}
-use Rattle.wsm_schema.specs.Marks.{Facts}
-use Rattle.wsm_lists.proofs.Lists.{rows-parts}
-use Rattle.wsm_marks.specs.Schemas.{FullLanes, FullPart, FullParts}
-use Rattle.wsm_marks.specs.Timed.{Marking, Solves, Timed, eq_of, flow, greater, latest, sig_at, sig_by, sig_of, time, timed_by}
 
 -- behind nothing comes nothing, behind a False the same False, behind a True nothing or a later True
 pub data Later : Timed → Timed → Type 0 where

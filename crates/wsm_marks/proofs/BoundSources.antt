@@ -1,28 +1,12 @@
 -- A node that is bound to a ready one is not skipped.
-use Rattle.std.proofs.Common.{◌≡◌, ℕ, Bool, true, false, not, ◌&&◌, ◌||◌, eqb, List, [], ◌∷◌, map, refl, ap, sym, ◌∙◌, inl, inr, Some, None, cond}
-use Rattle.std.specs.Prelude.{is_some}
-use Rattle.std.specs.List.{list_all}
-use Rattle.std.proofs.lemmas.Bool.{both_ways, and_parts, or_cases, eqb-true}
-use Rattle.wsm_lists.specs.Rows.{AllRows}
-use Rattle.wsm_lists.proofs.Lists.{all-rows-map, rows-append, rows-map, rows-parts}
-use Rattle.wsm_schema.specs.Tree.{Part, Parts, Lanes, Gate, act, gate, loop, nothing, part, no_lane, lane, and_gate, xor_gate}
-use Rattle.wsm_schema.specs.Ends.{first_node, last_of}
-use Rattle.wsm_schema.specs.Places.{place, places, part_places, parts_places, lanes_places, leaving, branch_tails, branch_heads, labelled, plain_end, split_kind, join_kind}
-use Rattle.wsm_schema.specs.SchemaModel.{SchemaModel}
-use Rattle.wsm_schema.specs.Flat.{card_at, card_of, cards_of}
-use Rattle.wsm_schema.specs.Rules.{is_yes, is_no}
-use Rattle.wsm_schema.specs.Sound.{is_and, part_has, parts_have, lanes_have, part_bound, parts_bound, lanes_bound}
-use Rattle.wsm_schema.specs.Marks.{Facts}
-use Rattle.wsm_schema.specs.declared.cards.Card.{Card}
-use Rattle.wsm_schema.specs.declared.cards.End.{End}
+use Rattle.wsm_marks.proofs.Common.{[], ℕ, ◌&&◌, ◌||◌, ◌∙◌, ◌∷◌, ◌≡◌, act, all-rows-card_at, all-rows-map, AllRows, and_gate, and_parts, ap, Bool, both_ways, branch_heads, branch_tails, Card, card_at, card_at-node, card_of, cards_of, cond}
+use Rattle.wsm_marks.proofs.Common.{End, eq_of, eqb, eqb-true, Facts, false, first_node, flow, FullLanes, FullPart, FullParts, Gate, gate, inl, inr, is_and, is_no, is_some, is_yes, join_kind, labelled, lane, Lanes, lanes_bound, lanes_have}
+use Rattle.wsm_marks.proofs.Common.{lanes_places, last_of, leaving, List, list_all, loop, map, Marking, no_lane, None, not, nothing, or_cases, Part, part, part_bound, part_has, part_places, Parts, parts_bound, parts_have, parts_places}
+use Rattle.wsm_marks.proofs.{Common.{place, places, plain_end, refl, Regular, rows-append, rows-map, rows-parts, SchemaModel, sig_at, Solves, Some, split_kind, sym, Timed, timed_by, true, xor_gate}, BlockFlow.{Later, Sane, mark-is, no_no}}
+use Rattle.wsm_marks.proofs.{BlockFlow.{node-one, node-silent, none_none, part-flow, parts-flow, sig, yes_none, yes_yes}, HeldInside.{join-silent, parts-entered, parts-nodes, split-entered}}
 use Rattle.wsm_schema.specs.declared.cards.NodeKind.TheVariants as kind
 use Rattle.wsm_schema.specs.declared.states.Flow.TheVariants.{Yes, No}
 use Rattle.wsm_schema.specs.declared.states.Verdict.TheVariants as verdict
-use Rattle.wsm_schema.proofs.Rounds.{all-rows-card_at, card_at-node}
-use Rattle.wsm_marks.specs.Schemas.{FullLanes, FullPart, FullParts, Regular}
-use Rattle.wsm_marks.specs.Timed.{Marking, Solves, Timed, eq_of, flow, sig_at, timed_by}
-use Rattle.wsm_marks.proofs.BlockFlow.{Later, Sane, mark-is, no_no, node-one, node-silent, none_none, part-flow, parts-flow, sig, yes_none, yes_yes}
-use Rattle.wsm_marks.proofs.HeldInside.{join-silent, parts-entered, parts-nodes, split-entered}
 
 -- what stands behind no False is none
 later-not_no : (x y : Timed) → Later x y → is_no (flow x) ≡ false → is_no (flow y) ≡ false

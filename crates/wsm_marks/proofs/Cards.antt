@@ -1,16 +1,6 @@
 -- Facts about the cards and the places of a net.
-use Rattle.std.proofs.Common.{◌≡◌, ℕ, Bool, true, false, eqb, List, [], ◌∷◌, ◌++◌, map, refl, ap, sym, ◌∙◌, inl, inr, Option, Some, None}
-use Rattle.std.proofs.lemmas.Bool.{cases_Bool, both_ways, eq-eqb, or_left, or_right}
-use Rattle.wsm_lists.specs.Rows.{AllRows}
-use Rattle.wsm_schema.specs.SchemaModel.{SchemaModel}
-use Rattle.wsm_schema.specs.Flat.{card_at, card_of}
-use Rattle.wsm_schema.specs.Replay.{on_card}
-use Rattle.wsm_schema.specs.Trail.{is_one_of}
-use Rattle.wsm_schema.specs.declared.cards.Card.{Card}
-use Rattle.wsm_schema.specs.declared.places.Place.{Place}
-use Rattle.std.proofs.lemmas.Option.{same_Some}
-use Rattle.wsm_lists.proofs.Lists.{all-rows-map, both_rows}
-use Rattle.wsm_marks.specs.Schemas.{Distinct, HasCard}
+use Rattle.wsm_marks.proofs.Common.{[], ℕ, ◌++◌, ◌∙◌, ◌∷◌, ◌≡◌, all-rows-map, AllRows, ap, Bool, both_rows, both_ways, Card, card_at, card_of, cases_Bool, Distinct, eq-eqb, eqb, false, HasCard, inl, inr, is_one_of, List, map, None, on_card}
+use Rattle.wsm_marks.proofs.Common.{Option, or_left, or_right, Place, refl, same_Some, SchemaModel, Some, sym, true}
 
 -- a node has one card
 pub same_card : (cards : List Card) (n : ℕ) (c d : Card) → card_at n cards ≡ Some c → card_at n cards ≡ Some d → c ≡ d

@@ -1,31 +1,12 @@
 -- The marking before a number is the settled net of the facts before it.
-use Rattle.std.proofs.Common.{◌≡◌, ℕ, true, false, List, ◌∷◌, map, length, refl, ap, sym, ◌∙◌, subst, inl, inr, arith, Option, Some, None, length-append}
-use Rattle.std.specs.Prelude.{nat_lt, if◌then◌else◌}
-use Rattle.std.proofs.lemmas.Bool.{cases_Bool, both_ways}
-use Rattle.wsm_schema.specs.Flat.{card_at}
-use Rattle.wsm_schema.specs.Kinds.{worked_on, is_xor_split}
-use Rattle.wsm_schema.specs.Rank.{IsRank}
+use Rattle.wsm_marks.proofs.Common.{ℕ, ◌∙◌, ◌∷◌, ◌≡◌, all_rows, ap, arith, before, begun_or, below, both_ways, Card, card_at, card_at-node, cases_Bool, early, End, ended_signal, Facts, false, if◌then◌else◌, inl, inr, InTime, is_begun}
+use Rattle.wsm_marks.proofs.Common.{is_xor_split, IsBelow, IsRank, judge_of, KeptSpots, length, length-append, List, map, map-same, Marking, Meets, member-splits, nat_lt, NodeKind, None, Option, refl, rule_begins_none, settle, settled}
+use Rattle.wsm_marks.proofs.Common.{sig_at, sig_by, sig_of, signal_from, signal_of, solution, Solves, Some, source_signal, Spot, spot, spot_before, spot_in, spot_in-map, Spots, state_by, subst, sym, sync_from, time, Timed, true, verdict_at}
+use Rattle.wsm_marks.proofs.{Common.{verdict_of, worked_on}, Cards.same_card, Lists.map-map, RankInduction.in_rank, Signals.{before_none, is_ready_mark}, Solutions.solution-solves, Threshold.threshold}
 use Rattle.wsm_schema.specs.Pass.{ruled_from}
-use Rattle.wsm_schema.specs.Rules.{Spots, spot, spot_in, signal_of, source_signal, signal_from, sync_from, judge_of, verdict_at, state_by, is_begun, settle}
-use Rattle.wsm_schema.specs.declared.cards.Card.{Card}
-use Rattle.wsm_schema.specs.declared.cards.End.{End}
-use Rattle.wsm_schema.specs.declared.cards.NodeKind.{NodeKind}
 use Rattle.wsm_schema.specs.declared.cards.NodeKind.TheVariants as kind
 use Rattle.wsm_schema.specs.declared.states.Flow.TheVariants.{Yes, No}
-use Rattle.wsm_schema.specs.declared.states.Spot.{Spot}
 use Rattle.wsm_schema.specs.declared.states.State.TheVariants as state
-use Rattle.wsm_schema.proofs.Rounds.{member-splits, spot_in-map, rule_begins_none, settled, Meets}
-use Rattle.wsm_schema.specs.Marks.{Facts}
-use Rattle.wsm_lists.proofs.Lists.{all_rows, map-same}
-use Rattle.wsm_schema.proofs.Rounds.{card_at-node}
-use Rattle.wsm_marks.specs.Solving.{solution}
-use Rattle.wsm_marks.specs.Timed.{InTime, IsBelow, KeptSpots, Marking, Solves, Timed, before, begun_or, below, early, ended_signal, sig_at, sig_by, sig_of, spot_before, time, verdict_of}
-use Rattle.wsm_marks.proofs.Cards.{same_card}
-use Rattle.wsm_marks.proofs.Lists.{map-map}
-use Rattle.wsm_marks.proofs.RankInduction.{in_rank}
-use Rattle.wsm_marks.proofs.Signals.{before_none, is_ready_mark}
-use Rattle.wsm_marks.proofs.Solutions.{solution-solves}
-use Rattle.wsm_marks.proofs.Threshold.{threshold}
 
 silent-not_split : (k : NodeKind) → worked_on k ≡ false → is_xor_split k ≡ false
 silent-not_split kind.XorSplit h = absurd (both_ways _ h refl)

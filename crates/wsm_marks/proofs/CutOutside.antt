@@ -1,31 +1,11 @@
 -- A cut changes no mark outside the loop's body, nor at its start.
-use Rattle.std.proofs.Common.{◌≡◌, ℕ, Bool, true, false, cond, eqb, List, [], ◌∷◌, map, refl, ap, sym, ◌∙◌, subst, inl, inr, ◌⊎◌, Option, Some, None}
-use Rattle.std.specs.Prelude.{nat_lt, is_some, count_by, ◌==◌}
-use Rattle.std.specs.List.{list_all}
-use Rattle.std.proofs.lemmas.Bool.{cases_Bool, both_ways, eqb-true, and_left, and_parts}
-use Rattle.wsm_schema.specs.Flat.{card_at}
-use Rattle.wsm_schema.specs.Kinds.{worked_on}
-use Rattle.wsm_schema.specs.Rank.{IsRank}
-use Rattle.wsm_lists.specs.Rows.{AllRows}
-use Rattle.wsm_schema.specs.Trail.{is_one_of}
-use Rattle.wsm_schema.specs.Rules.{is_yes, is_no, is_ready, is_skipped, judge_of}
-use Rattle.wsm_schema.specs.declared.cards.Card.{Card}
-use Rattle.wsm_schema.specs.declared.cards.End.{End}
-use Rattle.wsm_schema.specs.declared.cards.NodeKind.{NodeKind}
+use Rattle.wsm_marks.proofs.Common.{[], ℕ, ◌==◌, ◌∙◌, ◌∷◌, ◌≡◌, ◌⊎◌, AllRows, and_left, and_parts, ap, before, Bool, both_rows, both_ways, Card, card_at, cases_Bool, Cleared, cond, count_by, early, End, eqb, eqb-true, Facts, false, Flow}
+use Rattle.wsm_marks.proofs.Common.{flow, inl, Inner, inr, InTime, is_no, is_one_of, is_ready, is_skipped, is_some, is_yes, IsRank, judge_of, List, list_all, LoopOf, map, Marking, nat_lt, NodeKind, None, Option, refl, rows-map, sig_at}
+use Rattle.wsm_marks.proofs.{Common.{sig_by, sig_of, Solves, Some, subst, sym, Timed, timed_by, true, verdict_of, worked_on}, Causality.{TimedNet, not_ended-signal, works_before}, Lists.map-map, RankInduction.{Known, rank_induction}}
+use Rattle.wsm_marks.proofs.{Signals.{before_none, is_yes-some}, Solutions.eq_of-same, Threshold.threshold}
 use Rattle.wsm_schema.specs.declared.cards.NodeKind.TheVariants as kind
-use Rattle.wsm_schema.specs.declared.states.Flow.{Flow}
 use Rattle.wsm_schema.specs.declared.states.Flow.TheVariants.{Yes, No}
 use Rattle.wsm_schema.specs.declared.states.Verdict.TheVariants as verdict
-use Rattle.wsm_schema.specs.Marks.{Facts}
-use Rattle.wsm_lists.proofs.Lists.{both_rows, rows-map}
-use Rattle.wsm_marks.specs.Loops.{Cleared, Inner, LoopOf}
-use Rattle.wsm_marks.specs.Timed.{InTime, Marking, Solves, Timed, before, early, flow, sig_at, sig_by, sig_of, timed_by, verdict_of}
-use Rattle.wsm_marks.proofs.Causality.{TimedNet, not_ended-signal, works_before}
-use Rattle.wsm_marks.proofs.Lists.{map-map}
-use Rattle.wsm_marks.proofs.RankInduction.{Known, rank_induction}
-use Rattle.wsm_marks.proofs.Signals.{before_none, is_yes-some}
-use Rattle.wsm_marks.proofs.Solutions.{eq_of-same}
-use Rattle.wsm_marks.proofs.Threshold.{threshold}
 
 -- a node that is not ended, and not skipped, says nothing, or that it is ready
 no-signal : (k : NodeKind) (x : Timed) (choice label : Option ℕ) → worked_on k ≡ true → is_no (flow x) ≡ false → sig_of k x None choice label ≡ None

@@ -1,35 +1,11 @@
 -- A trail cut by a loop whose end is running, with the Again of that end, replays whole.
-use Rattle.std.proofs.Common.{◌≡◌, ℕ, suc, ◌<◌, Bool, true, false, eqb, List, [], ◌∷◌, ◌++◌, refl, ap, sym, ◌∙◌, subst, inl, inr, ◌⊎◌, arith, Option, Some, None}
-use Rattle.std.specs.Prelude.{nat_lt, find, option_map, if◌then◌else◌}
-use Rattle.std.specs.List.{cons_option}
-use Rattle.std.proofs.lemmas.Bool.{cases_Bool, both_ways, ltb-true, lt-ltb, le-ltb, eqb-true}
-use Rattle.wsm_schema.specs.Flat.{FlatModel, card_at}
-use Rattle.wsm_schema.specs.Kinds.{is_loop_end}
-use Rattle.wsm_lists.specs.Rows.{AllRows}
-use Rattle.wsm_schema.specs.Rules.{Spots, is_no}
-use Rattle.wsm_schema.specs.Replay.{replay_of}
-use Rattle.wsm_schema.specs.Replay.{whole}
-use Rattle.wsm_lists.specs.Values.{Written, value_in}
-use Rattle.wsm_schema.specs.Trail.{is_one_of, written_by, value_below, later_or, cut_entry}
-use Rattle.wsm_schema.specs.Marks.{is_start_of, is_end_of, choice_of, Facts, facts_of}
-use Rattle.wsm_schema.specs.declared.cards.Card.{Card}
-use Rattle.wsm_schema.specs.declared.entries.Entry.{Entry}
+use Rattle.wsm_marks.proofs.Common.{[], ℕ, ◌++◌, ◌<◌, ◌∙◌, ◌∷◌, ◌≡◌, ◌⊎◌, AllRows, ap, arith, before, Bool, both_rows, both_ways, Card, card_at, cases_Bool, choice_of, Cleared, cons_option, cut_entries, cut_entry, early, Ends, Entries}
+use Rattle.wsm_marks.proofs.Common.{Entry, eqb, eqb-true, Facts, facts_of, false, find, first_misfit, fits, FlatModel, flow, if◌then◌else◌, inl, InOrder, inr, InTime, is_end_of, is_inside, is_loop_end, is_no, is_one_of, is_start_of}
+use Rattle.wsm_marks.proofs.Common.{last_position, later_or, le-ltb, List, LoopOf, lt-ltb, ltb-true, Marking, nat_lt, None, Option, option_map, Orderly, partner_done, refl, replay_of, RisesAfter, Some, Spots, subst, suc, sym, true, Value}
+use Rattle.wsm_marks.proofs.{Common.{value_below, value_in, whole, Written, written_by}, Cards.on_card-same, Causality.TimedNet, CutOutside.{cut_outside, ready-back}, EntrySteps.in_time-later, FirstFailure.{fits-rows, rows-fit}}
+use Rattle.wsm_marks.proofs.{Lists.rows-last, MarksOfTrails.whole-fits, Signals.is_ready_mark, Telling.{AllBelow, find-last, orderly-told, told-end, trail-ends}}
 use Rattle.wsm_schema.specs.declared.entries.Entry.TheVariants as entry
 use Rattle.wsm_schema.specs.declared.states.Flow.TheVariants.{Yes}
-use Rattle.wsm_lists.specs.declared.values.Value.{Value}
-use Rattle.wsm_lists.proofs.Lists.{both_rows}
-use Rattle.wsm_marks.specs.Fits.{Ends, InOrder, Orderly, RisesAfter, first_misfit, fits, last_position, partner_done}
-use Rattle.wsm_marks.specs.Loops.{Cleared, LoopOf, cut_entries, is_inside}
-use Rattle.wsm_marks.specs.Timed.{Entries, InTime, Marking, before, early, flow}
-use Rattle.wsm_marks.proofs.Cards.{on_card-same}
-use Rattle.wsm_marks.proofs.Causality.{TimedNet}
-use Rattle.wsm_marks.proofs.CutOutside.{cut_outside, ready-back}
-use Rattle.wsm_marks.proofs.EntrySteps.{in_time-later}
-use Rattle.wsm_marks.proofs.FirstFailure.{fits-rows, rows-fit}
-use Rattle.wsm_marks.proofs.Lists.{rows-last}
-use Rattle.wsm_marks.proofs.MarksOfTrails.{whole-fits}
-use Rattle.wsm_marks.proofs.Signals.{is_ready_mark}
-use Rattle.wsm_marks.proofs.Telling.{AllBelow, find-last, orderly-told, told-end, trail-ends}
 
 -- what a cut makes of an entry: it stays, it goes, or its writes stay
 data Cut (body : List ℕ) (p : ℕ) (x : Entry) : Option (ℕ × Entry) → Type 0 where

@@ -1,28 +1,11 @@
 -- One entry of a replay, and the numbers between two entries.
-use Rattle.std.proofs.Common.{◌≡◌, ℕ, suc, ◌≤◌, true, false, cond, ◌&&◌, ◌||◌, eqb, List, ◌∷◌, refl, ap, sym, ◌∙◌, inl, inr, arith, Option, Some, None}
-use Rattle.std.specs.Prelude.{nat_lt, if◌then◌else◌}
-use Rattle.std.proofs.lemmas.Bool.{cases_Bool, both_ways, eqb-true, ltb-true, lt-ltb, or_cases, or_left, and_parts}
-use Rattle.wsm_schema.specs.Flat.{FlatModel, card_at}
-use Rattle.wsm_schema.specs.Kinds.{worked_on, is_loop_end}
-use Rattle.wsm_schema.specs.Rules.{Spots, spot, spot_in, state_by, is_begun, is_yes}
-use Rattle.wsm_schema.specs.Replay.{is_in_state, partner_completed, applicable, after, fits_reads, fits_edges, fits_choice}
-use Rattle.wsm_schema.specs.Marks.{is_start_of, is_end_of, Facts}
-use Rattle.wsm_schema.specs.declared.cards.Card.{Card}
-use Rattle.wsm_schema.specs.declared.cards.NodeKind.{NodeKind}
-use Rattle.wsm_schema.specs.declared.entries.Entry.{Entry}
+use Rattle.wsm_marks.proofs.Common.{ℕ, ◌&&◌, ◌||◌, ◌∙◌, ◌∷◌, ◌≡◌, ◌≤◌, after, and_parts, ap, applicable, arith, before, begun_or, both_ways, Card, card_at, cases_Bool, cond, early, Entry, eqb, eqb-true, Facts, false, fits, fits_choice}
+use Rattle.wsm_marks.proofs.Common.{fits_edges, fits_reads, FlatModel, Flow, if◌then◌else◌, inl, InOrder, inr, InTime, is_begun, is_end_of, is_in_state, is_loop_end, is_start_of, is_yes, IsBelow, KeptSpots, List, lt-ltb, ltb-true, Marking}
+use Rattle.wsm_marks.proofs.Common.{nat_lt, NodeKind, None, Option, or-false, or_cases, or_left, partner_completed, partner_done, Quiet, refl, Some, Spot, spot, spot_in, Spots, state_by, suc, sym, Tells, true, Value, verdict_of, worked_on}
+use Rattle.wsm_marks.proofs.{Cards.{on_card-same, on_card-true}, Causality.{TimedNet, causality, kept-below, works_before}, Lists.{lt-suc_self, not_before_itself}, Signals.{before-later, is_yes-some}}
 use Rattle.wsm_schema.specs.declared.entries.Entry.TheVariants as entry
-use Rattle.wsm_schema.specs.declared.states.Flow.{Flow}
 use Rattle.wsm_schema.specs.declared.states.Flow.TheVariants.{Yes, No}
-use Rattle.wsm_schema.specs.declared.states.Spot.{Spot}
 use Rattle.wsm_schema.specs.declared.states.State.TheVariants as state
-use Rattle.wsm_lists.specs.declared.values.Value.{Value}
-use Rattle.std.proofs.Math.Bool.{or-false}
-use Rattle.wsm_marks.specs.Fits.{InOrder, Quiet, Tells, fits, partner_done}
-use Rattle.wsm_marks.specs.Timed.{InTime, IsBelow, KeptSpots, Marking, before, begun_or, early, verdict_of}
-use Rattle.wsm_marks.proofs.Cards.{on_card-same, on_card-true}
-use Rattle.wsm_marks.proofs.Causality.{TimedNet, causality, kept-below, works_before}
-use Rattle.wsm_marks.proofs.Lists.{lt-suc_self, not_before_itself}
-use Rattle.wsm_marks.proofs.Signals.{before-later, is_yes-some}
 
 begun_or-quiet : (f : Facts) (a b : ℕ) → Quiet f a b → (n : ℕ) (s : Spot) → begun_or b f n s ≡ begun_or a f n s
 begun_or-quiet f a b quiet n s = rw (quiet.ends n, quiet.starts n) refl

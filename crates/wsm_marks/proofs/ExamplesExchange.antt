@@ -1,18 +1,8 @@
 -- A skip goes before an End: two schemas that differ by the exchange of two activities, and a trail of the first.
-use Rattle.std.proofs.Common.{◌≡◌, ℕ, [], ◌∷◌, refl, Option, Some, None}
-use Rattle.wsm_schema.specs.Tree.{act, gate, nothing, part, no_lane, lane, xor_gate}
-use Rattle.wsm_schema.specs.SchemaModel.{SchemaModel, plain}
-use Rattle.wsm_schema.specs.Flat.{FlatModel, flat_of}
-use Rattle.wsm_schema.specs.Marks.{facts_of, marks_of, list_marks}
-use Rattle.wsm_schema.specs.Replay.{fails, replay_of}
-use Rattle.wsm_schema.specs.Sound.{nodes_of}
-use Rattle.wsm_schema.specs.Trail.{value_below}
+use Rattle.wsm_marks.proofs.Common.{[], ℕ, ◌∷◌, ◌≡◌, act, Entries, facts_of, fails, first_misfit, flat_of, FlatModel, gate, lane, list_marks, mark_by, Marking, marks_of, no_lane, nodes_of, None, nothing, Option, part, plain, refl}
+use Rattle.wsm_marks.proofs.Common.{replay_of, SchemaModel, solution, Some, value_below, xor_gate}
 use Rattle.wsm_schema.specs.declared.entries.Entry.TheVariants as entry
 use Rattle.wsm_schema.specs.declared.states.Flow.TheVariants.{No}
-use Rattle.wsm_marks.specs.Fits.{first_misfit}
-use Rattle.wsm_marks.specs.MarkBy.{mark_by}
-use Rattle.wsm_marks.specs.Solving.{solution}
-use Rattle.wsm_marks.specs.Timed.{Entries, Marking}
 
 -- a choice between nothing and two activities, then two more
 abbrev with_two : ℕ → ℕ → SchemaModel

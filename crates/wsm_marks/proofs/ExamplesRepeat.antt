@@ -1,18 +1,8 @@
 -- A skip does not wait for a sync edge: what a loop's end reaches may be skipped or done while the loop is repeated.
-use Rattle.std.proofs.Common.{◌≡◌, false, [], ◌∷◌, refl, Some, None}
-use Rattle.wsm_schema.specs.Tree.{act, gate, loop, nothing, part, no_lane, lane, and_gate, xor_gate}
-use Rattle.wsm_schema.specs.SchemaModel.{SchemaModel, plain}
-use Rattle.wsm_schema.specs.Flat.{FlatModel, flat_of, loop_nodes}
-use Rattle.wsm_schema.specs.Marks.{facts_of, marks_of, list_marks}
-use Rattle.wsm_schema.specs.Sound.{nodes_of}
+use Rattle.wsm_marks.proofs.Common.{[], ◌∷◌, ◌≡◌, act, and_gate, Entries, facts_of, false, flat_of, FlatModel, gate, is_marked, lane, list_marks, loop, loop_nodes, mark_by, Marking, marks_of, no_lane, nodes_of, None, nothing, part, plain}
+use Rattle.wsm_marks.proofs.{Common.{refl, Regular, SchemaModel, solution, Some, xor_gate}, CutTrails.repeated, SoundSchemas.sound-regular}
 use Rattle.wsm_schema.specs.declared.entries.Entry.TheVariants as entry
 use Rattle.wsm_schema.specs.declared.states.Flow.TheVariants.{Yes, No}
-use Rattle.wsm_marks.specs.MarkBy.{mark_by}
-use Rattle.wsm_marks.specs.Schemas.{Regular}
-use Rattle.wsm_marks.specs.Solving.{solution}
-use Rattle.wsm_marks.specs.Timed.{Entries, Marking, is_marked}
-use Rattle.wsm_marks.proofs.CutTrails.{repeated}
-use Rattle.wsm_marks.proofs.SoundSchemas.{sound-regular}
 
 -- beside each other: a loop from 4 to 5 with activity 6, and then activity 7; a choice at 8 between activity 10, which waits for 7, and nothing, and then activity 11
 abbrev schema : SchemaModel

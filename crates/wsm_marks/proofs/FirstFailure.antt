@@ -1,18 +1,7 @@
 -- A replay fails at the first entry that does not fit, else it ends with the marking behind the last position.
-use Rattle.std.proofs.Common.{◌≡◌, ℕ, suc, ◌<◌, ◌≤◌, true, List, [], ◌∷◌, refl, inl, inr, arith, Option, Some, None}
-use Rattle.std.specs.Prelude.{nat_lt}
-use Rattle.std.proofs.lemmas.Bool.{cases_Bool, both_ways, ltb-true, lt-ltb}
-use Rattle.wsm_schema.specs.Flat.{FlatModel}
-use Rattle.wsm_schema.specs.Rules.{Spots, settle}
-use Rattle.wsm_schema.specs.Replay.{after, replay_from, replay_of}
-use Rattle.wsm_schema.specs.Trail.{value_below}
-use Rattle.wsm_lists.specs.declared.values.Value.{Value}
-use Rattle.wsm_schema.specs.Marks.{Facts}
-use Rattle.wsm_lists.specs.Rows.{AllRows}
-use Rattle.wsm_marks.specs.Fits.{Ends, Fresh, Tells, Told, first_misfit, fits, last_position}
-use Rattle.wsm_marks.specs.Timed.{Entries, InTime, IsBelow, Marking}
-use Rattle.wsm_marks.proofs.Causality.{TimedNet, causality}
-use Rattle.wsm_marks.proofs.EntrySteps.{applicable-fits, below-after, in_time-after, in_time-later, slide}
+use Rattle.wsm_marks.proofs.Common.{[], ℕ, ◌<◌, ◌∷◌, ◌≡◌, ◌≤◌, after, AllRows, arith, both_ways, cases_Bool, Ends, Entries, Facts, first_misfit, fits, FlatModel, Fresh, inl, inr, InTime, IsBelow, last_position, List, lt-ltb, ltb-true}
+use Rattle.wsm_marks.proofs.{Common.{Marking, nat_lt, None, Option, refl, replay_from, replay_of, settle, Some, Spots, suc, Tells, Told, true, Value, value_below}, Causality.{TimedNet, causality}, EntrySteps.{applicable-fits, below-after}}
+use Rattle.wsm_marks.proofs.EntrySteps.{in_time-after, in_time-later, slide}
 
 -- every entry fits exactly where there is no first misfit
 pub fits-rows : (g : FlatModel) (f : Facts) (m : Marking) (value : ℕ → ℕ → Option Value) (es : Entries) → first_misfit g f m value es ≡ None → AllRows (λ e. fits g f m (λ d. value d e.0) e.0 e.1 ≡ true) es

@@ -1,39 +1,13 @@
 -- Two nodes that are running at the same time write no common element.
-use Rattle.std.proofs.Common.{◌≡◌, ℕ, Bool, true, false, cond, ◌&&◌, ◌||◌, eqb, List, [], ◌∷◌, map, refl, ap, sym, ◌∙◌, subst, inl, inr, ◌⊎◌, Some, None}
-use Rattle.std.specs.Prelude.{filter, is_some}
-use Rattle.std.specs.List.{list_all, list_any}
-use Rattle.std.proofs.lemmas.Bool.{cases_Bool, both_ways, and_parts, eqb-true, eq-eqb, or_cases, or_left, or_right}
-use Rattle.std.proofs.lemmas.Option.{same_Some}
-use Rattle.wsm_lists.specs.Rows.{AllRows}
-use Rattle.wsm_schema.specs.SchemaModel.{SchemaModel}
-use Rattle.wsm_schema.specs.Places.{places}
-use Rattle.wsm_schema.specs.Flat.{flat_of, card_at, card_of, cards_of}
-use Rattle.wsm_schema.specs.Rank.{IsRank}
-use Rattle.wsm_schema.specs.Rules.{Spots, spot_in, is_yes, is_ready, is_skipped}
-use Rattle.wsm_schema.specs.Replay.{is_in_state, replay_of, whole}
-use Rattle.wsm_schema.specs.Sound.{block_fault, data_fault, first_some, is_worked_on_in, missing_at, parallel_write, parallel_writes, parts_apart, sure_of, synced, unknown, writes_of}
-use Rattle.wsm_schema.specs.Marks.{Facts, facts_of}
-use Rattle.wsm_schema.specs.declared.cards.Card.{Card}
+use Rattle.wsm_marks.proofs.Common.{[], ℕ, ◌&&◌, ◌||◌, ◌∙◌, ◌∷◌, ◌≡◌, ◌⊎◌, all-rows-card_at, all-rows-map, all_rows, AllRows, and_parts, ap, awaited, block_fault, Bool, both_ways, Card, card_at, card_at-node, card_of, cards_of, cases_Bool}
+use Rattle.wsm_marks.proofs.Common.{cond, data_fault, Entries, eq-eqb, eqb, eqb-true, Facts, facts_of, false, filter, first_some, flat_of, flow, HasCard, inl, inr, is_in_state, is_one_of, is_ready, is_skipped, is_some, is_worked_on_in}
+use Rattle.wsm_marks.proofs.Common.{is_yes, IsRank, latest, List, list_all, list_any, map, Marking, missing_at, None, or_cases, or_left, or_right, parallel_write, parallel_writes, parts_apart, places, refl, Regular, replay_of, RisesAfter}
+use Rattle.wsm_marks.proofs.Common.{rows-map, same_Some, SchemaModel, sig_at, sig_by, sig_of, solution, Solves, Some, spot_in, Spots, subst, sure_of, sym, synced, Timed, timed_by, true, unknown, whole, writes_of}
+use Rattle.wsm_marks.proofs.{HeldBranches.held-branches, HeldInside.Held, LastMarking.{WholeTrail, running-held, whole-trail}, Lists.eqb-swap, NoFault.{no_either, no_first, no_map, no_when, not_false}, SaneTrails.all-sane}
+use Rattle.wsm_marks.proofs.{Signals.is_ready_mark, SoundSchemas.sound-regular, SureValues.none-found, Values.{card-writes, writer-found}}
 use Rattle.wsm_schema.specs.declared.states.Flow.TheVariants.{Yes}
 use Rattle.wsm_schema.specs.declared.states.State.TheVariants as state
 use Rattle.wsm_schema.specs.declared.states.Verdict.TheVariants as verdict
-use Rattle.wsm_schema.proofs.Rounds.{all-rows-card_at, card_at-node}
-use Rattle.wsm_schema.specs.Trail.{is_one_of}
-use Rattle.wsm_lists.proofs.Lists.{all-rows-map, all_rows, rows-map}
-use Rattle.wsm_marks.specs.Fits.{RisesAfter}
-use Rattle.wsm_marks.specs.Schemas.{HasCard, Regular}
-use Rattle.wsm_marks.specs.Solving.{solution}
-use Rattle.wsm_marks.specs.Timed.{Entries, Marking, Solves, Timed, awaited, flow, latest, sig_at, sig_by, sig_of, timed_by}
-use Rattle.wsm_marks.proofs.HeldBranches.{held-branches}
-use Rattle.wsm_marks.proofs.HeldInside.{Held}
-use Rattle.wsm_marks.proofs.LastMarking.{WholeTrail, running-held, whole-trail}
-use Rattle.wsm_marks.proofs.Lists.{eqb-swap}
-use Rattle.wsm_marks.proofs.NoFault.{no_either, no_first, no_map, no_when, not_false}
-use Rattle.wsm_marks.proofs.SaneTrails.{all-sane}
-use Rattle.wsm_marks.proofs.Signals.{is_ready_mark}
-use Rattle.wsm_marks.proofs.SoundSchemas.{sound-regular}
-use Rattle.wsm_marks.proofs.SureValues.{none-found}
-use Rattle.wsm_marks.proofs.Values.{card-writes, writer-found}
 
 -- ---- no sync edge joins two held nodes
 -- each sync edge into a ready node signals

@@ -1,26 +1,10 @@
 -- Two nodes that are ready and not ended stand in different branches of an AND block.
-use Rattle.std.proofs.Common.{◌≡◌, ℕ, Bool, true, false, ◌&&◌, ◌||◌, eqb, [], ◌∷◌, refl, ap, sym, ◌∙◌, subst, inl, inr, ◌⊎◌, Some, None}
-use Rattle.std.proofs.lemmas.Bool.{cases_Bool, both_ways, and_from, and_parts, or_cases, eqb-true, eq-eqb}
-use Rattle.std.proofs.lemmas.Option.{same_Some}
-use Rattle.wsm_lists.specs.Rows.{AllRows}
-use Rattle.wsm_schema.specs.Tree.{Part, Parts, Lanes, Gate, act, gate, loop, nothing, part, no_lane, lane, and_gate, xor_gate}
-use Rattle.wsm_schema.specs.Ends.{first_node, last_of}
-use Rattle.wsm_schema.specs.Places.{place, places, part_places, parts_places, lanes_places, leaving, branch_tails, branch_heads, labelled, plain_end, join_kind}
-use Rattle.wsm_schema.specs.SchemaModel.{SchemaModel}
-use Rattle.wsm_schema.specs.Flat.{card_at, card_of, cards_of}
-use Rattle.wsm_schema.specs.Rules.{is_yes}
-use Rattle.wsm_schema.specs.Replay.{has_label}
-use Rattle.wsm_schema.specs.Sound.{part_has, parts_have, lanes_have, part_apart, parts_apart, lanes_apart}
-use Rattle.wsm_schema.specs.Marks.{Facts}
-use Rattle.wsm_schema.specs.declared.cards.Card.{Card}
-use Rattle.wsm_schema.specs.declared.cards.End.{End}
+use Rattle.wsm_marks.proofs.Common.{[], ℕ, ◌&&◌, ◌||◌, ◌∙◌, ◌∷◌, ◌≡◌, ◌⊎◌, act, all-rows-card_at, all-rows-map, AllRows, and_from, and_gate, and_parts, ap, ApartLanes, ApartPart, ApartParts, Bool, both_ways, branch_heads, branch_tails}
+use Rattle.wsm_marks.proofs.Common.{Card, card_at, card_at-node, card_of, cards_of, cases_Bool, End, eq-eqb, eqb, eqb-true, Facts, false, first_node, flow, FullLanes, FullPart, FullParts, Gate, gate, has_label, inl, inr, is_yes, join_kind}
+use Rattle.wsm_marks.proofs.Common.{labelled, lane, Lanes, lanes_apart, lanes_have, lanes_places, last_of, leaving, loop, Marking, no_lane, None, nothing, or_cases, Part, part, part_apart, part_has, part_places, Parts, parts_apart}
+use Rattle.wsm_marks.proofs.{Common.{parts_have, parts_places, place, places, plain_end, refl, Regular, rows-append, rows-map, rows-parts, same_Some, SchemaModel, Solves, Some, subst, sym, true, xor_gate}, BlockFlow.{Sane, node-one, sig}}
+use Rattle.wsm_marks.proofs.{BlockFlow.sig-is, HeldInside.{Held, held-at, join-silent, lanes-entered, no_true, none-flows, parts-entered, parts-nodes, parts-stay, part-stays, sig-chosen, silent-free}}
 use Rattle.wsm_schema.specs.declared.cards.NodeKind.TheVariants as kind
-use Rattle.wsm_schema.proofs.Rounds.{all-rows-card_at, card_at-node}
-use Rattle.wsm_lists.proofs.Lists.{all-rows-map, rows-append, rows-map, rows-parts}
-use Rattle.wsm_marks.specs.Schemas.{ApartLanes, ApartPart, ApartParts, FullLanes, FullPart, FullParts, Regular}
-use Rattle.wsm_marks.specs.Timed.{Marking, Solves, flow}
-use Rattle.wsm_marks.proofs.BlockFlow.{Sane, node-one, sig, sig-is}
-use Rattle.wsm_marks.proofs.HeldInside.{Held, held-at, join-silent, lanes-entered, no_true, none-flows, parts-entered, parts-nodes, parts-stay, part-stays, sig-chosen, silent-free}
 
 -- two numbers that a third one is
 two_same : (a b k : ℕ) → eqb a b ≡ false → eqb k a ≡ true → eqb k b ≡ true → ⊥

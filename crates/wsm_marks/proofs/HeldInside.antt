@@ -1,28 +1,10 @@
 -- A part with a node inside that is ready: the edge that enters is True, and where that node was not ended the edge that leaves signals nothing.
-use Rattle.std.proofs.Common.{◌≡◌, ℕ, ◌≤◌, Bool, true, false, ◌||◌, eqb, List, [], ◌∷◌, map, refl, ap, sym, ◌∙◌, subst, inl, inr, Option, Some, None}
-use Rattle.std.specs.Prelude.{is_some}
-use Rattle.std.specs.List.{list_all}
-use Rattle.std.proofs.lemmas.Bool.{cases_Bool, both_ways, and_left, and_right, or_cases, or_left, or_right, eqb-true, eq-eqb}
-use Rattle.wsm_lists.specs.Rows.{AllRows}
-use Rattle.wsm_schema.specs.Tree.{Part, Parts, Lanes, Gate, act, gate, loop, nothing, part, no_lane, lane, and_gate, xor_gate}
-use Rattle.wsm_schema.specs.Ends.{first_node, last_of}
-use Rattle.wsm_schema.specs.declared.places.Place.{Place}
-use Rattle.wsm_schema.specs.Places.{place, part_places, parts_places, lanes_places, leaving, branch_tails, branch_heads, labelled, plain_end, split_kind, join_kind}
-use Rattle.wsm_schema.specs.SchemaModel.{SchemaModel}
-use Rattle.wsm_schema.specs.Flat.{card_of, cards_of}
-use Rattle.wsm_schema.specs.Kinds.{worked_on}
-use Rattle.wsm_schema.specs.Rules.{is_yes, is_no}
-use Rattle.wsm_schema.specs.Replay.{has_label}
-use Rattle.wsm_schema.specs.Sound.{part_has, parts_have, lanes_have}
-use Rattle.wsm_schema.specs.Marks.{Facts}
-use Rattle.wsm_schema.specs.declared.cards.End.{End}
-use Rattle.wsm_schema.specs.declared.cards.NodeKind.{NodeKind}
+use Rattle.wsm_marks.proofs.Common.{[], ℕ, ◌||◌, ◌∙◌, ◌∷◌, ◌≡◌, ◌≤◌, act, all-rows-map, AllRows, and_gate, and_left, and_right, ap, Bool, both_ways, branch_heads, branch_tails, card_of, cards_of, cases_Bool, End, eq-eqb, eq_of, eqb}
+use Rattle.wsm_marks.proofs.Common.{eqb-true, Facts, false, first_node, Flow, flow, FullLanes, FullPart, FullParts, Gate, gate, has_label, inl, inr, is_no, is_some, is_yes, join_kind, labelled, lane, Lanes, lanes_have, lanes_places}
+use Rattle.wsm_marks.proofs.Common.{last_of, leaving, List, list_all, loop, map, Marking, no_lane, NodeKind, None, nothing, Option, or_cases, or_left, or_right, Part, part, part_has, part_places, Parts, parts_have, parts_places, Place}
+use Rattle.wsm_marks.proofs.Common.{place, plain_end, refl, rows-append, rows-parts, SchemaModel, sig_at, sig_of, Solves, Some, split_kind, subst, sym, Timed, true, worked_on, xor_gate}
 use Rattle.wsm_schema.specs.declared.cards.NodeKind.TheVariants as kind
-use Rattle.wsm_schema.specs.declared.states.Flow.{Flow}
 use Rattle.wsm_schema.specs.declared.states.Flow.TheVariants.{Yes, No}
-use Rattle.wsm_lists.proofs.Lists.{all-rows-map, rows-append, rows-parts}
-use Rattle.wsm_marks.specs.Schemas.{FullLanes, FullPart, FullParts}
-use Rattle.wsm_marks.specs.Timed.{Marking, Solves, Timed, eq_of, flow, sig_at, sig_of}
 use Rattle.wsm_marks.proofs.BlockFlow.{Later, Sane, mark-is, node-one, node-silent, node-works, none-is, none_none, no_no, not_some, part-flow, parts-flow, sig, sig-is, yes_none, yes_yes}
 
 -- ---- signals

@@ -1,34 +1,11 @@
 -- The marking at the end of a trail that replays whole, read at a node.
-use Rattle.std.proofs.Common.{◌≡◌, ℕ, suc, ◌≤◌, Bool, true, false, List, [], ◌∷◌, refl, ap, sym, ◌∙◌, subst, inl, inr, arith, Option, Some, None}
-use Rattle.std.specs.Prelude.{nat_lt}
-use Rattle.std.proofs.lemmas.Bool.{cases_Bool, both_ways, ltb-true, lt-ltb, and_parts}
-use Rattle.wsm_lists.specs.Rows.{AllRows}
-use Rattle.wsm_schema.specs.SchemaModel.{SchemaModel}
-use Rattle.wsm_schema.specs.Flat.{flat_of, card_at, cards_of}
-use Rattle.wsm_schema.specs.Kinds.{worked_on}
-use Rattle.wsm_schema.specs.Rank.{IsRank}
-use Rattle.wsm_schema.specs.Rules.{Spots, spot_in, state_by}
-use Rattle.wsm_schema.specs.Replay.{Outcome, is_in_state, replay_of, whole}
-use Rattle.wsm_schema.specs.Trail.{value_below}
-use Rattle.wsm_schema.specs.Marks.{is_end_of, position_of, facts_of}
-use Rattle.wsm_schema.specs.declared.cards.Card.{Card}
-use Rattle.wsm_schema.specs.declared.cards.NodeKind.{NodeKind}
-use Rattle.wsm_schema.specs.declared.entries.Entry.{Entry}
+use Rattle.wsm_marks.proofs.Common.{[], ℕ, ◌∙◌, ◌∷◌, ◌≡◌, ◌≤◌, AllRows, and_parts, ap, arith, before, Bool, both_ways, Card, card_at, cards_of, cases_Bool, early, Ends, Entries, Entry, facts_of, false, fits, flat_of, inl, inr, InTime}
+use Rattle.wsm_marks.proofs.Common.{is_end_of, is_in_state, IsBelow, IsRank, last_position, List, lt-ltb, ltb-true, nat_lt, NodeKind, None, Option, Orderly, Outcome, position_of, refl, replay_of, RisesAfter, SchemaModel, solution, Some}
+use Rattle.wsm_marks.proofs.{Common.{spot_in, Spots, state_by, subst, suc, sym, true, value_below, Verdict, verdict_of, whole, worked_on}, Causality.{TimedNet, solved_net, works_before}, EntrySteps.fresh-activated, FirstFailure.fits-rows}
+use Rattle.wsm_marks.proofs.{MarksOfTrails.whole-fits, SaneTrails.{found-row, position-found}, Signals.is_yes-some, Telling.{AllBelow, trail-ends}, WholeTrails.whole-orderly}
 use Rattle.wsm_schema.specs.declared.states.Flow.TheVariants.{Yes}
 use Rattle.wsm_schema.specs.declared.states.State.TheVariants as state
-use Rattle.wsm_schema.specs.declared.states.Verdict.{Verdict}
 use Rattle.wsm_schema.specs.declared.states.Verdict.TheVariants as verdict
-use Rattle.wsm_marks.specs.Fits.{Ends, Orderly, RisesAfter, fits, last_position}
-use Rattle.wsm_marks.specs.Solving.{solution}
-use Rattle.wsm_marks.specs.Timed.{Entries, InTime, IsBelow, before, early, verdict_of}
-use Rattle.wsm_marks.proofs.Causality.{TimedNet, solved_net, works_before}
-use Rattle.wsm_marks.proofs.EntrySteps.{fresh-activated}
-use Rattle.wsm_marks.proofs.FirstFailure.{fits-rows}
-use Rattle.wsm_marks.proofs.MarksOfTrails.{whole-fits}
-use Rattle.wsm_marks.proofs.SaneTrails.{found-row, position-found}
-use Rattle.wsm_marks.proofs.Signals.{is_yes-some}
-use Rattle.wsm_marks.proofs.Telling.{AllBelow, trail-ends}
-use Rattle.wsm_marks.proofs.WholeTrails.{whole-orderly}
 
 -- all positions are up to the last one
 positions-early : (last : ℕ) (es : Entries) → RisesAfter last es → AllBelow (suc (last_position last es)) es × (last ≤ last_position last es)

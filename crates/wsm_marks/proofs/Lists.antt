@@ -1,12 +1,7 @@
 -- Facts about numbers and lists.
-use Rattle.std.proofs.Common.{◌≡◌, ℕ, suc, Bool, true, false, ◌||◌, eqb, List, [], ◌∷◌, ◌++◌, map, fold, refl, ap, sym, ◌∙◌, inl, inr, ◌⊎◌, arith}
-use Rattle.std.specs.Prelude.{nat_lt}
-use Rattle.std.proofs.lemmas.Bool.{eqb-true, eqb-false, eq-eqb, ne_eqb, lt-ltb, le-ltb, or_cases, or_left, or_right}
-use Rattle.wsm_lists.specs.Rows.{AllRows}
-use Rattle.wsm_schema.specs.Trail.{is_one_of}
+use Rattle.wsm_marks.proofs.Common.{[], ℕ, ◌++◌, ◌||◌, ◌∙◌, ◌∷◌, ◌≡◌, ◌⊎◌, all_rows, AllRows, ap, arith, Bool, both_rows, eq-eqb, eqb, eqb-false, eqb-true, false, fold, inl, inr, is_one_of, le-ltb, List, lt-ltb, map, nat_lt, ne_eqb}
+use Rattle.wsm_marks.proofs.Common.{or-false, or_cases, or_left, or_right, refl, suc, sym, true}
 use Rattle.wsm_schema.proofs.DocumentOrder.{one_of-append}
-use Rattle.std.proofs.Math.Bool.{or-false}
-use Rattle.wsm_lists.proofs.Lists.{all_rows, both_rows}
 
 -- no number is below itself
 pub not_before_itself : (p : ℕ) → nat_lt p p ≡ false

@@ -1,30 +1,9 @@
 -- A trail that fits one net misfits another only in the region where they differ.
-use Rattle.std.proofs.Common.{◌≡◌, ℕ, Bool, true, false, ◌&&◌, List, [], ◌∷◌, refl, ap, sym, ◌∙◌, inl, inr, Option, Some, None, suc, subst}
-use Rattle.std.specs.Prelude.{if◌then◌else◌}
-use Rattle.std.proofs.lemmas.Bool.{cases_Bool}
-use Rattle.wsm_schema.specs.Flat.{FlatModel, card_at}
-use Rattle.wsm_schema.specs.Kinds.{is_loop_end}
-use Rattle.wsm_schema.specs.Rank.{IsRank}
-use Rattle.wsm_lists.specs.Rows.{AllRows}
-use Rattle.wsm_schema.specs.Replay.{on_card, fits_choice, replay_of, whole}
-use Rattle.wsm_schema.specs.declared.cards.Card.{Card}
-use Rattle.wsm_schema.specs.declared.entries.Entry.{Entry}
-use Rattle.wsm_schema.specs.declared.entries.Entry.TheVariants as entry
-use Rattle.wsm_lists.specs.declared.values.Value.{Value}
-use Rattle.wsm_schema.specs.Marks.{Facts, facts_of}
-use Rattle.wsm_schema.specs.Rules.{Spots}
-use Rattle.wsm_schema.specs.Trail.{value_below}
-use Rattle.wsm_marks.specs.Fits.{Ends, Orderly, RisesAfter, first_misfit, fits, last_position, partner_done}
-use Rattle.wsm_marks.specs.Regions.{Closed, Region, is_of, misfit_in}
-use Rattle.wsm_marks.specs.Solving.{solution}
-use Rattle.wsm_marks.specs.Timed.{Entries, Marking, Solves}
-use Rattle.wsm_marks.proofs.Cards.{on_card-same}
-use Rattle.wsm_marks.proofs.Causality.{solved_net}
-use Rattle.wsm_marks.proofs.FirstFailure.{fits-rows}
-use Rattle.wsm_marks.proofs.MarksOfTrails.{whole-fits}
-use Rattle.wsm_marks.proofs.Remark.{closed-bordered, remark}
-use Rattle.wsm_marks.proofs.Telling.{trail-ends}
+use Rattle.wsm_marks.proofs.Common.{[], ℕ, ◌&&◌, ◌∙◌, ◌∷◌, ◌≡◌, AllRows, ap, Bool, Card, card_at, cases_Bool, Closed, Ends, Entries, Entry, Facts, facts_of, false, first_misfit, fits, fits_choice, FlatModel, if◌then◌else◌, inl, inr}
+use Rattle.wsm_marks.proofs.Common.{is_loop_end, is_of, IsRank, last_position, List, Marking, misfit_in, None, on_card, Option, Orderly, partner_done, refl, Region, replay_of, RisesAfter, solution, Solves, Some, Spots, subst, suc, sym}
+use Rattle.wsm_marks.proofs.{Common.{true, Value, value_below, whole}, Cards.on_card-same, Causality.solved_net, FirstFailure.fits-rows, MarksOfTrails.whole-fits, Remark.{closed-bordered, remark}, Telling.trail-ends}
 use Rattle.wsm_marks.proofs.WholeTrails.{whole-orderly}
+use Rattle.wsm_schema.specs.declared.entries.Entry.TheVariants as entry
 
 -- such a region is closed, whatever a trail tells
 region-closed : (g1 g2 : FlatModel) (inside : ℕ → Bool) → Region g1 g2 inside → (f : Facts) → Closed g1.cards f g2.cards f inside

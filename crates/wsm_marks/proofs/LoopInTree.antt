@@ -1,18 +1,8 @@
 -- A loop in a tree: what stands before it, in it and behind it, and where the edges come from.
-use Rattle.std.proofs.Common.{◌≡◌, ℕ, Bool, true, List, [], ◌∷◌, ◌++◌, refl, ap, sym, ◌∙◌, subst, inl, inr, ◌⊎◌, Some, None, append_assoc, append-nil, false}
-use Rattle.std.proofs.lemmas.Bool.{both_ways}
-use Rattle.wsm_schema.specs.Tree.{Part, Parts, Lanes, Gate, act, gate, loop, nothing, part, no_lane, lane, and_gate, xor_gate}
-use Rattle.wsm_schema.specs.Ends.{first_node, last_of}
-use Rattle.wsm_schema.specs.declared.places.Place.{Place}
-use Rattle.wsm_schema.specs.Places.{place, part_places, parts_places, lanes_places, places, leaving, branch_tails, branch_heads, labelled, plain_end, split_kind, join_kind}
-use Rattle.wsm_schema.specs.Kinds.{is_loop_end}
-use Rattle.wsm_lists.specs.Rows.{AllRows}
-use Rattle.wsm_schema.specs.declared.cards.End.{End}
+use Rattle.wsm_marks.proofs.Common.{[], ℕ, ◌++◌, ◌∙◌, ◌∷◌, ◌≡◌, ◌⊎◌, act, AllRows, and_gate, ap, append-nil, append_assoc, Bool, both_ways, branch_heads, branch_tails, End, false, first_node, Gate, gate, inl, inr, is_loop_end, join_kind}
+use Rattle.wsm_marks.proofs.Common.{labelled, lane, Lanes, lanes_places, last_of, leaving, List, loop, no_lane, None, nothing, Part, part, part_places, Parts, parts_places, Place, place, places, plain_end, refl, rows-append, rows-parts}
+use Rattle.wsm_marks.proofs.{Common.{same_Some, Some, split_kind, subst, sym, true, xor_gate}, Cards.nodes, LoopSets.{WholeLanes, WholePart, WholeParts, lanes-each, lanes-none, part-each, part-none, parts-each, parts-none}}
 use Rattle.wsm_schema.specs.declared.cards.NodeKind.TheVariants.{LoopEnd, Start, Finish}
-use Rattle.std.proofs.lemmas.Option.{same_Some}
-use Rattle.wsm_lists.proofs.Lists.{rows-append, rows-parts}
-use Rattle.wsm_marks.proofs.Cards.{nodes}
-use Rattle.wsm_marks.proofs.LoopSets.{WholeLanes, WholePart, WholeParts, lanes-each, lanes-none, part-each, part-none, parts-each, parts-none}
 
 -- all nodes, and all sources of edges, are in a set
 abbrev pub NodesIn : (ℕ → Bool) → List Place → Type 0

@@ -1,21 +1,7 @@
 -- The nodes that a cut takes are those of the loop in the tree.
-use Rattle.std.proofs.Common.{◌≡◌, ℕ, true, false, eqb, List, [], ◌∷◌, ◌++◌, map, refl, ap, sym, ◌∙◌, inl, inr, Some, append_assoc}
-use Rattle.std.proofs.lemmas.Bool.{cases_Bool, both_ways, eqb-true, eqb-false, eq-eqb, ne_eqb}
-use Rattle.wsm_schema.specs.declared.places.Place.{Place}
-use Rattle.wsm_schema.specs.Places.{places}
-use Rattle.wsm_schema.specs.SchemaModel.{SchemaModel}
-use Rattle.wsm_schema.specs.Flat.{card_at, card_of, cards_of, loop_nodes, loop_start, loop_from, from_node, up_to_node}
-use Rattle.wsm_schema.specs.Kinds.{is_loop_end}
-use Rattle.wsm_lists.specs.Rows.{AllRows}
-use Rattle.wsm_schema.specs.Trail.{is_one_of}
-use Rattle.wsm_schema.specs.declared.cards.Card.{Card}
-use Rattle.std.proofs.lemmas.Option.{same_Some}
-use Rattle.wsm_lists.proofs.Lists.{all-rows-map}
-use Rattle.wsm_marks.specs.Schemas.{Distinct}
-use Rattle.wsm_marks.proofs.Cards.{card-nodes, node-has_card, nodes, nodes-append}
-use Rattle.wsm_marks.proofs.Lists.{one_of-middle}
-use Rattle.wsm_marks.proofs.LoopInTree.{FoundIn, HasEnd, places-find}
-use Rattle.wsm_marks.proofs.LoopOfSchema.{body_nodes, end_place, inner_apart, inner_places, l_in, pre_away, tail_apart}
+use Rattle.wsm_marks.proofs.Common.{[], ℕ, ◌++◌, ◌∙◌, ◌∷◌, ◌≡◌, all-rows-map, AllRows, ap, append_assoc, both_ways, Card, card_at, card_of, cards_of, cases_Bool, Distinct, eq-eqb, eqb, eqb-false, eqb-true, false, from_node, inl, inr}
+use Rattle.wsm_marks.proofs.{Common.{is_loop_end, is_one_of, List, loop_from, loop_nodes, loop_start, map, ne_eqb, Place, places, refl, same_Some, SchemaModel, Some, sym, true, up_to_node}, Cards.{card-nodes, node-has_card, nodes}}
+use Rattle.wsm_marks.proofs.{Cards.nodes-append, Lists.one_of-middle, LoopInTree.{FoundIn, HasEnd, places-find}, LoopOfSchema.{body_nodes, end_place, inner_apart, inner_places, l_in, pre_away, tail_apart}}
 
 -- the card of a loop's end comes from such a place
 end-place : (s : SchemaModel) (e l : ℕ) (ps : List Place) (c : Card) → card_at e (map (card_of s) ps) ≡ Some c → is_loop_end c.kind ≡ true → c.partner ≡ Some l → HasEnd l e ps

@@ -1,28 +1,10 @@
 -- A loop of a schema's tree is one that a cut may take.
-use Rattle.std.proofs.Common.{◌≡◌, ℕ, Bool, true, false, not, ◌||◌, eqb, List, [], ◌∷◌, ◌++◌, map, refl, ap, sym, ◌∙◌, subst, inl, inr, ◌⊎◌, Some}
-use Rattle.std.specs.Prelude.{filter}
-use Rattle.std.proofs.lemmas.Bool.{cases_Bool, both_ways, eqb-true, eqb-false, eq-eqb, or_cases, or_left, or_right, not-true, not_from_false}
-use Rattle.wsm_schema.specs.Tree.{Part, Parts, Lanes, act, gate, loop, nothing, part, no_lane, lane, and_gate, xor_gate}
-use Rattle.wsm_schema.specs.Ends.{first_node, last_of}
-use Rattle.wsm_schema.specs.declared.places.Place.{Place}
-use Rattle.wsm_schema.specs.Places.{place, part_places, parts_places, lanes_places, places, leaving, labelled, plain_end}
-use Rattle.wsm_schema.specs.SchemaModel.{SchemaModel}
-use Rattle.wsm_schema.specs.Flat.{card_at, card_of, cards_of}
-use Rattle.wsm_schema.specs.Kinds.{worked_on, is_loop_end}
-use Rattle.wsm_lists.specs.Rows.{AllRows}
-use Rattle.wsm_schema.specs.Trail.{is_one_of}
-use Rattle.wsm_schema.specs.declared.cards.Card.{Card}
-use Rattle.wsm_schema.specs.declared.cards.End.{End}
-use Rattle.wsm_schema.specs.declared.cards.NodeKind.{NodeKind}
+use Rattle.wsm_marks.proofs.Common.{[], ℕ, ◌++◌, ◌||◌, ◌∙◌, ◌∷◌, ◌≡◌, ◌⊎◌, act, all-rows-card_at, all-rows-map, AllRows, and_gate, ap, Bool, both_rows, both_ways, Card, card_at, card_at-node, card_of, cards_of, cases_Bool, Distinct, End}
+use Rattle.wsm_marks.proofs.Common.{eq-eqb, eqb, eqb-false, eqb-true, false, filter, first_node, FullLanes, FullPart, FullParts, gate, HasEdge, inl, Inner, inr, is_loop_end, is_one_of, labelled, lane, Lanes, lanes_places, last_of, leaving}
+use Rattle.wsm_marks.proofs.Common.{List, loop, LoopOf, map, no_lane, NodeKind, not, not-true, not_from_false, nothing, or_cases, or_left, or_right, Part, part, part_places, Parts, parts_places, Place, place, places, plain_end, refl}
+use Rattle.wsm_marks.proofs.{Common.{rows-append, rows-map, rows-parts, SchemaModel, Some, subst, sym, SyncsApart, true, worked_on, xor_gate}, Cards.{nodes, not_among, self-among}, Lists.{eqb-swap, rows-swap}, LoopInTree.{EndsIn, FoundIn}}
+use Rattle.wsm_marks.proofs.{LoopInTree.{InsIn, IsPaired, PairsIn, parts-closed}, LoopSets.WholeParts}
 use Rattle.wsm_schema.specs.declared.cards.NodeKind.TheVariants as kind
-use Rattle.wsm_lists.proofs.Lists.{all-rows-map, both_rows, rows-append, rows-map, rows-parts}
-use Rattle.wsm_schema.proofs.Rounds.{all-rows-card_at, card_at-node}
-use Rattle.wsm_marks.specs.Loops.{HasEdge, Inner, LoopOf}
-use Rattle.wsm_marks.specs.Schemas.{Distinct, FullLanes, FullPart, FullParts, SyncsApart}
-use Rattle.wsm_marks.proofs.Cards.{nodes, not_among, self-among}
-use Rattle.wsm_marks.proofs.Lists.{eqb-swap, rows-swap}
-use Rattle.wsm_marks.proofs.LoopInTree.{EndsIn, FoundIn, InsIn, IsPaired, PairsIn, parts-closed}
-use Rattle.wsm_marks.proofs.LoopSets.{WholeParts}
 
 -- ---- each place has an edge into it, and none but the first is a start
 abbrev NotStart : NodeKind → Type 0

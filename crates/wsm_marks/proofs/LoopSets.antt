@@ -1,13 +1,6 @@
 -- A set that holds whole loops and nothing else: the innermost loop round a node is in the set exactly where the node is.
-use Rattle.std.proofs.Common.{◌≡◌, ℕ, Bool, true, false, ◌||◌, eqb, refl, ap, sym, ◌∙◌, inl, inr, ◌⊎◌, Option, Some, None}
-use Rattle.std.proofs.lemmas.Bool.{cases_Bool, both_ways, eqb-true, or_cases, or_parts}
-use Rattle.wsm_lists.specs.Rows.{AllRows}
-use Rattle.wsm_schema.specs.Tree.{Part, Parts, Lanes, act, gate, loop, nothing, part, no_lane, lane}
-use Rattle.wsm_schema.specs.Ends.{first_node, last_of}
-use Rattle.wsm_schema.specs.Places.{part_places, parts_places, lanes_places, labelled, plain_end}
-use Rattle.wsm_schema.specs.Sound.{part_has, parts_have, lanes_have, part_loop, parts_loop, lanes_loop}
-use Rattle.wsm_schema.specs.declared.cards.End.{End}
-use Rattle.wsm_lists.proofs.Lists.{rows-parts}
+use Rattle.wsm_marks.proofs.Common.{ℕ, ◌||◌, ◌∙◌, ◌≡◌, ◌⊎◌, act, AllRows, ap, Bool, both_ways, cases_Bool, End, eqb, eqb-true, false, first_node, gate, inl, inr, labelled, lane, Lanes, lanes_have, lanes_loop, lanes_places, last_of, loop}
+use Rattle.wsm_marks.proofs.Common.{no_lane, None, nothing, Option, or_cases, or_parts, Part, part, part_has, part_loop, part_places, Parts, parts_have, parts_loop, parts_places, plain_end, refl, rows-parts, Some, sym, true}
 
 -- a fact of each node of a tree
 abbrev mutual

@@ -1,35 +1,11 @@
 -- The timed marks of a trail that replays whole are the solution and the facts.
-use Rattle.std.proofs.Common.{◌≡◌, ℕ, suc, ◌+◌, ◌<◌, ◌≤◌, Bool, true, false, List, [], ◌∷◌, refl, ap, sym, ◌∙◌, inl, inr, arith, Option, Some, None}
-use Rattle.std.specs.Prelude.{nat_lt, if◌then◌else◌}
-use Rattle.std.proofs.lemmas.Bool.{cases_Bool, both_ways, ltb-true, ltb-false, lt-ltb, le-ltb}
-use Rattle.wsm_schema.specs.Flat.{FlatModel, card_at}
-use Rattle.wsm_schema.specs.Kinds.{worked_on}
-use Rattle.wsm_lists.specs.Rows.{put_row}
-use Rattle.wsm_schema.specs.Rules.{Spots, spot_in, state_by, is_yes, is_no, settle}
-use Rattle.wsm_schema.specs.Replay.{after, replay_of}
-use Rattle.wsm_schema.specs.Replay.{whole, fails}
-use Rattle.wsm_schema.specs.Trail.{value_below}
-use Rattle.wsm_schema.specs.Marks.{history_from, history_of, first_at, is_up, is_out, mark_of, marks_of, position_of, is_again_of, says_something, mark_key, Facts, facts_of, list_marks}
-use Rattle.wsm_schema.specs.declared.cards.Card.{Card}
-use Rattle.wsm_schema.specs.declared.cards.NodeKind.{NodeKind}
-use Rattle.wsm_schema.specs.declared.states.Flow.{Flow}
+use Rattle.wsm_marks.proofs.Common.{[], ℕ, ◌+◌, ◌<◌, ◌∙◌, ◌∷◌, ◌≡◌, ◌≤◌, after, ap, arith, before, Bool, both_ways, Card, card_at, cases_Bool, early, Ends, Entries, Facts, facts_of, fails, false, first_at, first_misfit, fits, FlatModel}
+use Rattle.wsm_marks.proofs.Common.{Flow, Fresh, history_from, history_of, if◌then◌else◌, inl, inr, InTime, is_again_of, is_no, is_out, is_up, is_yes, IsBelow, IsRank, last_position, le-ltb, List, list_marks, lt-ltb, ltb-false, ltb-true}
+use Rattle.wsm_marks.proofs.Common.{mark_by, mark_key, mark_of, Marking, marks_of, nat_lt, NodeKind, None, Option, Orderly, position_of, put_row, Quiet, refl, replay_of, RisesAfter, says_something, settle, since, solution, Some, spot_in}
+use Rattle.wsm_marks.proofs.{Common.{Spots, State, state_by, suc, sym, Tells, Timed, Told, true, Value, value_below, verdict_of, whole, worked_on}, Cards.each_has_card, Causality.{TimedNet, solved_net, works_before}, EntrySteps.below-after}
+use Rattle.wsm_marks.proofs.{EntrySteps.{in_time-after, in_time-later, slide}, FirstFailure.{below-first, in_time-first}, Lists.fold-same, Signals.before_none, Telling.{orderly-fresh, orderly-told, trail-ends}, WholeTrails.whole-orderly}
 use Rattle.wsm_schema.specs.declared.states.Flow.TheVariants.{Yes, No}
-use Rattle.wsm_schema.specs.declared.states.State.{State}
 use Rattle.wsm_schema.specs.declared.states.State.TheVariants as state
-use Rattle.wsm_lists.specs.declared.values.Value.{Value}
-use Rattle.wsm_schema.specs.Rank.{IsRank}
-use Rattle.wsm_marks.specs.Fits.{Ends, Fresh, Orderly, Quiet, RisesAfter, Tells, Told, first_misfit, fits, last_position}
-use Rattle.wsm_marks.specs.MarkBy.{mark_by, since}
-use Rattle.wsm_marks.specs.Solving.{solution}
-use Rattle.wsm_marks.specs.Timed.{Entries, InTime, IsBelow, Marking, Timed, before, early, verdict_of}
-use Rattle.wsm_marks.proofs.Cards.{each_has_card}
-use Rattle.wsm_marks.proofs.Causality.{TimedNet, solved_net, works_before}
-use Rattle.wsm_marks.proofs.EntrySteps.{below-after, in_time-after, in_time-later, slide}
-use Rattle.wsm_marks.proofs.FirstFailure.{below-first, in_time-first}
-use Rattle.wsm_marks.proofs.Lists.{fold-same}
-use Rattle.wsm_marks.proofs.Signals.{before_none}
-use Rattle.wsm_marks.proofs.Telling.{orderly-fresh, orderly-told, trail-ends}
-use Rattle.wsm_marks.proofs.WholeTrails.{whole-orderly}
 
 -- which test of a state belongs to which flow
 abbrev pub shows : Flow → State → Bool

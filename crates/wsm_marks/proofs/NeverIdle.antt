@@ -1,40 +1,13 @@
 -- A case in which no node is activated or running is finished.
-use Rattle.std.proofs.Common.{◌≡◌, ℕ, suc, Bool, true, false, cond, List, [], ◌∷◌, map, refl, ap, sym, ◌∙◌, subst, inl, inr, arith, Option, Some, None}
-use Rattle.std.specs.Prelude.{nat_lt, is_some}
-use Rattle.std.specs.List.{list_all}
-use Rattle.std.proofs.lemmas.Bool.{cases_Bool, both_ways, lt-ltb}
-use Rattle.wsm_lists.specs.Rows.{AllRows}
-use Rattle.wsm_schema.specs.declared.places.Place.{Place}
-use Rattle.wsm_schema.specs.Ends.{first_node}
-use Rattle.wsm_schema.specs.Places.{place, places, parts_places, leaving, plain_end}
-use Rattle.wsm_schema.specs.SchemaModel.{SchemaModel}
-use Rattle.wsm_schema.specs.Flat.{flat_of, card_at, card_of, cards_of}
-use Rattle.wsm_schema.specs.Kinds.{worked_on}
-use Rattle.wsm_schema.specs.Rank.{IsRank}
-use Rattle.wsm_schema.specs.Rules.{Spots, spot_in}
-use Rattle.wsm_schema.specs.Replay.{is_in_state, replay_of, whole}
-use Rattle.wsm_schema.specs.Sound.{block_fault}
-use Rattle.wsm_schema.specs.Marks.{Facts, facts_of, is_end_of}
-use Rattle.wsm_schema.specs.declared.cards.Card.{Card}
-use Rattle.wsm_schema.specs.declared.cards.NodeKind.{NodeKind}
+use Rattle.wsm_marks.proofs.Common.{[], ℕ, ◌∙◌, ◌∷◌, ◌≡◌, all-rows-map, AllRows, ap, arith, awaited, before, block_fault, Bool, both_ways, Card, card_at, card_of, cards_of, cases_Bool, cond, early, ended_signal, Entries, eq_of, Facts}
+use Rattle.wsm_marks.proofs.Common.{facts_of, false, first_node, flat_of, flow, Idle, inl, inr, is_end_of, is_in_state, is_marked, is_some, IsRank, last_position, latest, leaving, List, list_all, lt-ltb, map, Marking, nat_lt, NodeKind}
+use Rattle.wsm_marks.proofs.Common.{None, Option, parts_places, Place, place, places, plain_end, refl, Regular, replay_of, RisesAfter, rows-parts, SchemaModel, sig_at, sig_by, sig_of, solution, Solves, Some, spot_in, Spots, subst, suc, sym}
+use Rattle.wsm_marks.proofs.{Common.{time, Timed, timed_by, true, Verdict, whole, worked_on}, BlockFlow.{Later, Sane, later-trans, node-one, node-silent, parts-flow, sig}, Causality.works_before, EntrySteps.fresh-activated}
+use Rattle.wsm_marks.proofs.{LastMarking.{WholeTrail, told-early, whole-trail}, RankInduction.{Known, rank_induction}, SaneTrails.{all-sane, whole-never_stuck}, Signals.{before-in_time, greater-lt}, SoundSchemas.sound-regular}
 use Rattle.wsm_schema.specs.declared.cards.NodeKind.TheVariants as kind
 use Rattle.wsm_schema.specs.declared.states.Flow.TheVariants.{Yes, No}
 use Rattle.wsm_schema.specs.declared.states.State.TheVariants as state
-use Rattle.wsm_schema.specs.declared.states.Verdict.{Verdict}
 use Rattle.wsm_schema.specs.declared.states.Verdict.TheVariants as verdict
-use Rattle.wsm_lists.proofs.Lists.{all-rows-map, rows-parts}
-use Rattle.wsm_marks.specs.Fits.{RisesAfter, last_position}
-use Rattle.wsm_marks.specs.Schemas.{Regular}
-use Rattle.wsm_marks.specs.Solving.{solution}
-use Rattle.wsm_marks.specs.Timed.{Entries, Idle, Marking, Solves, Timed, awaited, before, early, ended_signal, eq_of, flow, is_marked, latest, sig_at, sig_by, sig_of, time, timed_by}
-use Rattle.wsm_marks.proofs.BlockFlow.{Later, Sane, later-trans, node-one, node-silent, parts-flow, sig}
-use Rattle.wsm_marks.proofs.Causality.{works_before}
-use Rattle.wsm_marks.proofs.EntrySteps.{fresh-activated}
-use Rattle.wsm_marks.proofs.LastMarking.{WholeTrail, told-early, whole-trail}
-use Rattle.wsm_marks.proofs.RankInduction.{Known, rank_induction}
-use Rattle.wsm_marks.proofs.SaneTrails.{all-sane, whole-never_stuck}
-use Rattle.wsm_marks.proofs.Signals.{before-in_time, greater-lt}
-use Rattle.wsm_marks.proofs.SoundSchemas.{sound-regular}
 
 -- ---- all marks are from before a number that is behind all Ends
 -- whether a time is before q

@@ -1,36 +1,14 @@
 -- Where no node is activated or running, each node is completed or skipped.
-use Rattle.std.proofs.Common.{◌≡◌, ℕ, suc, Bool, true, false, cond, ◌&&◌, eqb, List, [], ◌∷◌, map, refl, ap, sym, ◌∙◌, subst, inl, inr, ◌⊎◌, Option, Some, None}
-use Rattle.std.specs.Prelude.{is_some, count_by, ◌==◌}
-use Rattle.std.specs.List.{list_all}
-use Rattle.std.proofs.lemmas.Bool.{cases_Bool, both_ways, and_parts, and_from, eqb-true, eq-eqb}
+use Rattle.wsm_marks.proofs.Common.{[], ℕ, ◌&&◌, ◌==◌, ◌∙◌, ◌∷◌, ◌≡◌, ◌⊎◌, act, all-rows-card_at, AllRows, and_from, and_gate, and_parts, ap, ApartLanes, ApartPart, ApartParts, Bool, both_rows, both_ways, branch_heads, branch_tails, Card}
+use Rattle.wsm_marks.proofs.Common.{card_at, card_of, cards_of, cases_Bool, cond, count_by, End, eq-eqb, eq_of, eqb, eqb-true, Facts, false, first_node, Flow, flow, FullLanes, FullPart, FullParts, gate, has_label, HasCard, Idle, inl, inr}
+use Rattle.wsm_marks.proofs.Common.{is_marked, is_no, is_some, is_yes, IsRank, labelled, lane, Lanes, lanes_places, last_of, leaving, List, list_all, loop, map, Marking, no_lane, NodeKind, None, nothing, Option, Part, part, part_places}
+use Rattle.wsm_marks.proofs.Common.{Parts, parts_places, Place, place, places, plain_end, refl, Regular, rows-append, rows-map, rows-parts, SchemaModel, sig_at, sig_by, sig_of, Solves, Some, subst, suc, sym, Timed, timed_by, true}
+use Rattle.wsm_marks.proofs.{Common.{worked_on, xor_gate}, BlockFlow.{LanesLater, Later, Sane, all_no, lanes-flow, no_no, node-silent, none-is, not_some, rows-later, sig, sig-is, yes_none, yes_yes}, Lists.eqb-swap, RankInduction.Known}
+use Rattle.wsm_marks.proofs.{RankInduction.rank_induction, Sources.sources-have_cards}
 use Rattle.std.proofs.lemmas.List.Sums.{length-filter}
-use Rattle.wsm_schema.specs.Tree.{Part, Parts, Lanes, act, gate, loop, nothing, part, no_lane, lane, and_gate, xor_gate}
-use Rattle.wsm_schema.specs.Ends.{first_node, last_of}
-use Rattle.wsm_schema.specs.declared.places.Place.{Place}
-use Rattle.wsm_schema.specs.Places.{place, places, part_places, parts_places, lanes_places, leaving, branch_tails, branch_heads, labelled, plain_end}
-use Rattle.wsm_schema.specs.SchemaModel.{SchemaModel}
-use Rattle.wsm_schema.specs.Flat.{card_at, card_of, cards_of}
-use Rattle.wsm_schema.specs.Kinds.{worked_on}
-use Rattle.wsm_schema.specs.Rank.{IsRank}
-use Rattle.wsm_schema.specs.Replay.{has_label}
-use Rattle.wsm_lists.specs.Rows.{AllRows}
-use Rattle.wsm_schema.specs.Rules.{is_yes, is_no}
-use Rattle.wsm_schema.specs.declared.cards.Card.{Card}
-use Rattle.wsm_schema.specs.declared.cards.End.{End}
-use Rattle.wsm_schema.specs.declared.cards.NodeKind.{NodeKind}
 use Rattle.wsm_schema.specs.declared.cards.NodeKind.TheVariants as kind
-use Rattle.wsm_schema.specs.declared.states.Flow.{Flow}
 use Rattle.wsm_schema.specs.declared.states.Flow.TheVariants.{Yes, No}
 use Rattle.wsm_schema.specs.declared.states.Verdict.TheVariants as verdict
-use Rattle.wsm_schema.specs.Marks.{Facts}
-use Rattle.wsm_lists.proofs.Lists.{both_rows, rows-append, rows-map, rows-parts}
-use Rattle.wsm_schema.proofs.Rounds.{all-rows-card_at}
-use Rattle.wsm_marks.specs.Schemas.{ApartLanes, ApartPart, ApartParts, FullLanes, FullPart, FullParts, HasCard, Regular}
-use Rattle.wsm_marks.specs.Timed.{Idle, Marking, Solves, Timed, eq_of, flow, is_marked, sig_at, sig_by, sig_of, timed_by}
-use Rattle.wsm_marks.proofs.BlockFlow.{LanesLater, Later, Sane, all_no, lanes-flow, no_no, node-silent, none-is, not_some, rows-later, sig, sig-is, yes_none, yes_yes}
-use Rattle.wsm_marks.proofs.Lists.{eqb-swap}
-use Rattle.wsm_marks.proofs.RankInduction.{Known, rank_induction}
-use Rattle.wsm_marks.proofs.Sources.{sources-have_cards}
 
 -- whether all edges are signaled
 abbrev all_marked : List Timed → Bool

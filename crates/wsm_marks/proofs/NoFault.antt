@@ -1,10 +1,6 @@
 -- What it says that no fault is found.
-use Rattle.std.proofs.Common.{◌≡◌, Bool, true, false, not, List, [], ◌∷◌, refl, Option, Some, None}
-use Rattle.std.specs.Prelude.{option_map}
+use Rattle.wsm_marks.proofs.Common.{[], ◌∷◌, ◌≡◌, AllRows, Bool, both_ways, false, first_some, List, None, not, Option, option_map, refl, Some, true, when}
 use Rattle.std.specs.Option.{option_or}
-use Rattle.std.proofs.lemmas.Bool.{both_ways}
-use Rattle.wsm_lists.specs.Rows.{AllRows}
-use Rattle.wsm_schema.specs.Sound.{first_some, when}
 
 -- of two neither
 pub no_either : {X : Type 0} (a b : Option X) → option_or a b ≡ None → (a ≡ None) × (b ≡ None)

@@ -1,13 +1,6 @@
 -- Induction along a rank.
-use Rattle.std.proofs.Common.{◌≡◌, ℕ, zero, suc, ◌<◌, true, List, ◌∷◌, ◌++◌, length, ap, ◌∙◌, subst, arith, Some, append_assoc, length-append}
-use Rattle.wsm_lists.specs.Rows.{AllRows}
-use Rattle.wsm_schema.specs.Trail.{is_one_of}
-use Rattle.wsm_schema.specs.Flat.{card_at}
-use Rattle.wsm_schema.specs.Rank.{IsRank}
-use Rattle.wsm_schema.specs.declared.cards.Card.{Card}
-use Rattle.wsm_schema.proofs.Rounds.{member-splits}
-use Rattle.wsm_lists.proofs.Lists.{all-rows-map}
-use Rattle.wsm_schema.proofs.Rounds.{all-rows-card_at, card_at-node}
+use Rattle.wsm_marks.proofs.Common.{ℕ, ◌++◌, ◌<◌, ◌∙◌, ◌∷◌, ◌≡◌, all-rows-card_at, all-rows-map, AllRows, ap, append_assoc, arith, Card, card_at, card_at-node, is_one_of, IsRank, length, length-append, List, member-splits, Some, subst, suc}
+use Rattle.wsm_marks.proofs.Common.{true, zero}
 
 -- P holds at a node, if that is one of the net
 abbrev pub Known : List Card → (ℕ → Type 0) → ℕ → Type 0

@@ -1,26 +1,9 @@
 -- Nodes that are activated or running have the values that they must read.
-use Rattle.std.proofs.Common.{◌≡◌, ℕ, suc, ◌≤◌, true, List, arith, Option, Some, None}
-use Rattle.std.specs.Prelude.{nat_lt, is_some}
-use Rattle.std.proofs.lemmas.Bool.{ltb-true, lt-ltb}
-use Rattle.wsm_lists.specs.Rows.{AllRows}
-use Rattle.wsm_schema.specs.SchemaModel.{SchemaModel}
-use Rattle.wsm_schema.specs.Flat.{flat_of, card_at, cards_of}
-use Rattle.wsm_schema.specs.Rank.{IsRank}
-use Rattle.wsm_schema.specs.Rules.{Spots, spot_in}
-use Rattle.wsm_schema.specs.Replay.{is_in_state, replay_of, whole}
-use Rattle.wsm_schema.specs.Sound.{block_fault, data_fault}
-use Rattle.wsm_schema.specs.Trail.{value_below}
-use Rattle.wsm_schema.specs.Marks.{facts_of}
-use Rattle.wsm_schema.specs.declared.cards.Card.{Card}
+use Rattle.wsm_marks.proofs.Common.{ℕ, ◌≡◌, ◌≤◌, AllRows, arith, before, block_fault, Card, card_at, cards_of, data_fault, early, Entries, facts_of, flat_of, is_in_state, is_some, IsRank, last_position, List, lt-ltb, ltb-true, nat_lt, None}
+use Rattle.wsm_marks.proofs.{Common.{Option, replay_of, RisesAfter, SchemaModel, solution, Some, spot_in, Spots, suc, true, value_below, whole}, LastMarking.{activated-ready, running-held, whole-trail}, Signals.before-later}
+use Rattle.wsm_marks.proofs.{SoundSchemas.sound-regular, SureValues.read-there}
 use Rattle.wsm_schema.specs.declared.states.Flow.TheVariants.{Yes}
 use Rattle.wsm_schema.specs.declared.states.State.TheVariants as state
-use Rattle.wsm_marks.specs.Fits.{RisesAfter, last_position}
-use Rattle.wsm_marks.specs.Solving.{solution}
-use Rattle.wsm_marks.specs.Timed.{Entries, before, early}
-use Rattle.wsm_marks.proofs.LastMarking.{activated-ready, running-held, whole-trail}
-use Rattle.wsm_marks.proofs.Signals.{before-later}
-use Rattle.wsm_marks.proofs.SoundSchemas.{sound-regular}
-use Rattle.wsm_marks.proofs.SureValues.{read-there}
 
 -- what is early stays early
 early-later : (a b : ℕ) → a ≤ b → (o : Option ℕ) → early a o ≡ true → early b o ≡ true

@@ -1,15 +1,6 @@
 -- Outside a region two solutions are one.
-use Rattle.std.proofs.Common.{◌≡◌, ℕ, Bool, false, List, refl, ap, sym, ◌∙◌, Option, Some, None}
-use Rattle.wsm_schema.specs.Flat.{card_at}
-use Rattle.wsm_schema.specs.Rank.{IsRank}
-use Rattle.wsm_lists.specs.Rows.{AllRows}
-use Rattle.wsm_schema.specs.declared.cards.Card.{Card}
-use Rattle.wsm_schema.specs.Marks.{Facts}
-use Rattle.wsm_lists.proofs.Lists.{all-rows-map, all_rows, both_rows}
-use Rattle.wsm_marks.specs.Regions.{Closed}
-use Rattle.wsm_marks.specs.Timed.{Marking, Solves, sig_at, sig_by}
-use Rattle.wsm_marks.proofs.RankInduction.{Known, rank_induction}
-use Rattle.wsm_marks.proofs.Solutions.{eq_of-same}
+use Rattle.wsm_marks.proofs.{Common.{ℕ, ◌∙◌, ◌≡◌, all-rows-map, all_rows, AllRows, ap, Bool, both_rows, Card, card_at, Closed, Facts, false, IsRank, List, Marking, None, Option, refl, sig_at, sig_by, Solves, Some, sym}, RankInduction.Known}
+use Rattle.wsm_marks.proofs.{RankInduction.rank_induction, Solutions.eq_of-same}
 
 module _ (cards1 : List Card) (f1 : Facts) (m1 : Marking) (cards2 : List Card) (f2 : Facts) (m2 : Marking) (inside : ℕ → Bool) where
   -- a source outside has one mark in both

@@ -1,24 +1,6 @@
 -- On a schema a loop whose end is running may be repeated.
-use Rattle.std.proofs.Common.{◌≡◌, ℕ, true, List, sym, subst, Some, None}
-use Rattle.std.specs.Prelude.{nat_lt}
-use Rattle.wsm_schema.specs.SchemaModel.{SchemaModel}
-use Rattle.wsm_schema.specs.Flat.{flat_of, card_at, cards_of, loop_nodes}
-use Rattle.wsm_schema.specs.Kinds.{is_loop_end}
-use Rattle.wsm_schema.specs.Rank.{IsRank}
-use Rattle.wsm_schema.specs.Rules.{Spots}
-use Rattle.wsm_lists.specs.Values.{Written}
-use Rattle.wsm_schema.specs.Replay.{replay_of}
-use Rattle.wsm_schema.specs.Replay.{whole}
-use Rattle.wsm_schema.specs.declared.cards.Card.{Card}
-use Rattle.wsm_schema.specs.Marks.{facts_of}
-use Rattle.wsm_marks.specs.Fits.{RisesAfter, last_position}
-use Rattle.wsm_marks.specs.Loops.{LoopOf}
-use Rattle.wsm_marks.specs.Schemas.{HasCard, Regular, SyncsApart}
-use Rattle.wsm_marks.specs.Timed.{Entries, early}
-use Rattle.wsm_marks.proofs.Causality.{solved_net}
-use Rattle.wsm_marks.proofs.CutTrails.{cut-whole, repeated}
-use Rattle.wsm_marks.proofs.LoopNodes.{found-of, loop_nodes-are, start_card}
-use Rattle.wsm_marks.proofs.LoopOfSchema.{loop-of}
+use Rattle.wsm_marks.proofs.Common.{ℕ, ◌≡◌, Card, card_at, cards_of, early, Entries, facts_of, flat_of, HasCard, is_loop_end, IsRank, last_position, List, loop_nodes, LoopOf, nat_lt, None, Regular, replay_of, RisesAfter, SchemaModel, Some}
+use Rattle.wsm_marks.proofs.{Common.{Spots, subst, sym, SyncsApart, true, whole, Written}, Causality.solved_net, CutTrails.{cut-whole, repeated}, LoopNodes.{found-of, loop_nodes-are, start_card}, LoopOfSchema.loop-of}
 use Rattle.wsm_marks.proofs.WholeTrails.{whole-orderly}
 
 -- each loop of a schema is one that a cut may take

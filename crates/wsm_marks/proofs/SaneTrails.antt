@@ -1,39 +1,12 @@
 -- What block flow asks of the places holds on a trail that replays whole.
-use Rattle.std.proofs.Common.{◌≡◌, ℕ, ◌≤◌, Bool, true, ◌&&◌, eqb, List, [], ◌∷◌, refl, ap, sym, ◌∙◌, subst, inl, inr, arith, Option, Some, None}
-use Rattle.std.specs.Prelude.{nat_lt, find, option_map}
-use Rattle.std.proofs.lemmas.Bool.{cases_Bool, both_ways, ltb-true, and_parts, or_cases, eqb-true}
-use Rattle.wsm_schema.specs.SchemaModel.{SchemaModel}
-use Rattle.wsm_schema.specs.Places.{places}
-use Rattle.wsm_schema.specs.Flat.{flat_of, card_at, card_of, cards_of}
-use Rattle.wsm_schema.specs.Kinds.{is_xor_split, is_loop_end, is_activity}
-use Rattle.wsm_schema.specs.Rank.{IsRank}
-use Rattle.wsm_lists.specs.Rows.{AllRows}
-use Rattle.wsm_schema.specs.Rules.{Spots}
-use Rattle.wsm_schema.specs.Replay.{replay_of, has_label, fits_choice, fits_edges}
-use Rattle.wsm_schema.specs.Replay.{whole}
-use Rattle.wsm_schema.specs.Trail.{value_below}
-use Rattle.wsm_schema.specs.Marks.{is_start_of, is_end_of, position_of, facts_of}
-use Rattle.wsm_schema.specs.declared.cards.Card.{Card}
-use Rattle.wsm_schema.specs.declared.cards.NodeKind.{NodeKind}
+use Rattle.wsm_marks.proofs.Common.{[], ℕ, ◌&&◌, ◌∙◌, ◌∷◌, ◌≡◌, ◌≤◌, all-rows-map, AllRows, and_parts, ap, arith, Bool, both_ways, Card, card_at, card_of, cards_of, cases_Bool, Distinct, early, Entries, Entry, eqb, eqb-true, facts_of, find}
+use Rattle.wsm_marks.proofs.Common.{fits, fits_choice, fits_edges, flat_of, has_label, Idle, inl, InOrder, inr, is_activity, is_end_of, is_loop_end, is_marked, is_start_of, is_xor_split, IsRank, List, ltb-true, Marking, nat_lt, NodeKind}
+use Rattle.wsm_marks.proofs.Common.{None, Option, option_map, or_cases, Orderly, places, position_of, refl, Regular, replay_of, RisesAfter, same_Some, SchemaModel, solution, Some, Spots, subst, sym, true, value_below, whole}
+use Rattle.wsm_marks.proofs.{BlockFlow.Sane, Cards.{on_card-true, placed-rows, same_card}, Causality.solved_net, EntrySteps.{ended-by, started-by}, FirstFailure.fits-rows, MarksOfTrails.whole-fits, NeverStuck.never-stuck}
+use Rattle.wsm_marks.proofs.{Signals.is_ready_mark, WholeTrails.whole-orderly}
 use Rattle.wsm_schema.specs.declared.cards.NodeKind.TheVariants as kind
-use Rattle.wsm_schema.specs.declared.entries.Entry.{Entry}
 use Rattle.wsm_schema.specs.declared.entries.Entry.TheVariants as entry
 use Rattle.wsm_schema.specs.declared.states.Flow.TheVariants.{Yes}
-use Rattle.std.proofs.lemmas.Option.{same_Some}
-use Rattle.wsm_lists.proofs.Lists.{all-rows-map}
-use Rattle.wsm_marks.specs.Fits.{InOrder, Orderly, RisesAfter, fits}
-use Rattle.wsm_marks.specs.Schemas.{Distinct, Regular}
-use Rattle.wsm_marks.specs.Solving.{solution}
-use Rattle.wsm_marks.specs.Timed.{Entries, Idle, Marking, early, is_marked}
-use Rattle.wsm_marks.proofs.BlockFlow.{Sane}
-use Rattle.wsm_marks.proofs.Cards.{on_card-true, placed-rows, same_card}
-use Rattle.wsm_marks.proofs.Causality.{solved_net}
-use Rattle.wsm_marks.proofs.EntrySteps.{ended-by, started-by}
-use Rattle.wsm_marks.proofs.FirstFailure.{fits-rows}
-use Rattle.wsm_marks.proofs.MarksOfTrails.{whole-fits}
-use Rattle.wsm_marks.proofs.NeverStuck.{never-stuck}
-use Rattle.wsm_marks.proofs.Signals.{is_ready_mark}
-use Rattle.wsm_marks.proofs.WholeTrails.{whole-orderly}
 
 -- an entry that is found has what all have
 pub found-row : (P : ℕ × Entry → Type 0) (test : Entry → Bool) (es : Entries) (d : ℕ × Entry) → AllRows P es → find (λ e. test e.1) es ≡ Some d → P d × (test d.1 ≡ true)

@@ -1,12 +1,7 @@
 -- Signals before a number, one by one and in lists.
-use Rattle.std.proofs.Common.{◌≡◌, ℕ, ◌≤◌, Bool, true, false, List, [], ◌∷◌, map, refl, sym, ◌∙◌, inl, inr, ◌⊎◌, arith, Option, Some, None}
-use Rattle.std.specs.Prelude.{nat_lt}
-use Rattle.std.specs.List.{list_all}
-use Rattle.std.proofs.lemmas.Bool.{cases_Bool, both_ways, ltb-true, ltb-false, lt-ltb, le-ltb, and_left, and_right}
-use Rattle.wsm_schema.specs.declared.states.Flow.{Flow}
+use Rattle.wsm_marks.proofs.Common.{[], ℕ, ◌∙◌, ◌∷◌, ◌≡◌, ◌≤◌, ◌⊎◌, and_left, and_right, arith, before, Bool, both_ways, cases_Bool, false, Flow, flow, greater, inl, inr, is_yes, latest, le-ltb, List, list_all, lt-ltb, ltb-false, ltb-true}
+use Rattle.wsm_marks.proofs.Common.{map, nat_lt, None, Option, refl, Some, sym, time, Timed, true}
 use Rattle.wsm_schema.specs.declared.states.Flow.TheVariants.{Yes, No}
-use Rattle.wsm_schema.specs.Rules.{is_yes}
-use Rattle.wsm_marks.specs.Timed.{Timed, before, flow, greater, latest, time}
 
 -- two that are in time have a greater one that is
 pub greater-lt : (a b q : ℕ) → nat_lt a q ≡ true → nat_lt b q ≡ true → nat_lt (greater a b) q ≡ true

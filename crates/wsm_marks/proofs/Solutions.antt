@@ -1,19 +1,7 @@
 -- The equations of a net have one solution.
-use Rattle.std.proofs.Common.{◌≡◌, ℕ, true, false, eqb, List, [], ◌∷◌, ◌++◌, map, refl, ap, sym, ◌∙◌, subst, inl, inr, Option, Some, None, append_assoc, append-nil}
-use Rattle.std.proofs.lemmas.Bool.{cases_Bool, both_ways, eqb-true, eq-eqb}
-use Rattle.wsm_lists.specs.Rows.{AllRows}
-use Rattle.wsm_schema.specs.Trail.{is_one_of}
-use Rattle.wsm_schema.specs.Flat.{card_at}
-use Rattle.wsm_schema.specs.Rank.{IsRank}
-use Rattle.wsm_schema.specs.declared.cards.Card.{Card}
-use Rattle.wsm_schema.specs.declared.cards.End.{End}
-use Rattle.wsm_schema.proofs.Rounds.{member-splits}
-use Rattle.wsm_schema.specs.Marks.{Facts}
-use Rattle.wsm_lists.proofs.Lists.{all-rows-map, map-same}
-use Rattle.wsm_marks.specs.Solving.{put_eq, solution, solve}
-use Rattle.wsm_marks.specs.Timed.{Marking, Solves, Timed, eq_at, eq_of, sig_at, sig_by}
-use Rattle.wsm_marks.proofs.Lists.{one_of-front, one_of-last}
-use Rattle.wsm_marks.proofs.RankInduction.{Known, in_rank, rank_induction}
+use Rattle.wsm_marks.proofs.Common.{[], ℕ, ◌++◌, ◌∙◌, ◌∷◌, ◌≡◌, all-rows-map, AllRows, ap, append-nil, append_assoc, both_ways, Card, card_at, cases_Bool, End, eq-eqb, eq_at, eq_of, eqb, eqb-true, Facts, false, inl, inr, is_one_of, IsRank}
+use Rattle.wsm_marks.proofs.{Common.{List, map, map-same, Marking, member-splits, None, Option, put_eq, refl, sig_at, sig_by, solution, solve, Solves, Some, subst, sym, Timed, true}, Lists.{one_of-front, one_of-last}, RankInduction.Known}
+use Rattle.wsm_marks.proofs.RankInduction.{in_rank, rank_induction}
 
 -- an equation goes by the signals alone
 pub eq_of-same : (c : Card) (g h : End → Timed) (k l : ℕ → Timed) → AllRows (λ e. g e ≡ h e) c.ins → AllRows (λ n. k n ≡ l n) c.syncs_in →

@@ -1,18 +1,6 @@
 -- Where the solution is known outside a region, a pass over the nodes of the region alone gives it.
-use Rattle.std.proofs.Common.{◌≡◌, ℕ, Bool, true, false, eqb, List, [], ◌∷◌, ◌++◌, refl, ap, sym, ◌∙◌, subst, inl, inr, ◌⊎◌, Some, append_assoc, append-nil}
-use Rattle.std.specs.Prelude.{if◌then◌else◌}
-use Rattle.std.proofs.lemmas.Bool.{cases_Bool, both_ways, eqb-true, eq-eqb}
-use Rattle.wsm_schema.specs.Flat.{card_at}
-use Rattle.wsm_schema.specs.Rank.{IsRank}
-use Rattle.wsm_schema.specs.Trail.{is_one_of}
-use Rattle.wsm_schema.specs.declared.cards.Card.{Card}
-use Rattle.wsm_schema.specs.Marks.{Facts}
-use Rattle.wsm_lists.proofs.Lists.{all-rows-map}
-use Rattle.wsm_marks.specs.Solving.{put_eq, solve_inside}
-use Rattle.wsm_marks.specs.Timed.{Marking, Solves, eq_at}
-use Rattle.wsm_marks.proofs.Lists.{one_of-last}
-use Rattle.wsm_marks.proofs.RankInduction.{Known, in_rank}
-use Rattle.wsm_marks.proofs.Solutions.{eq_at-same, put-other}
+use Rattle.wsm_marks.proofs.Common.{[], ℕ, ◌++◌, ◌∙◌, ◌∷◌, ◌≡◌, ◌⊎◌, all-rows-map, ap, append-nil, append_assoc, Bool, both_ways, Card, card_at, cases_Bool, eq-eqb, eq_at, eqb, eqb-true, Facts, false, if◌then◌else◌, inl, inr, is_one_of}
+use Rattle.wsm_marks.proofs.{Common.{IsRank, List, Marking, put_eq, refl, solve_inside, Solves, Some, subst, sym, true}, Lists.one_of-last, RankInduction.{Known, in_rank}, Solutions.{eq_at-same, put-other}}
 
 module _ (cards : List Card) (rank : List ℕ) (is : IsRank cards rank) (f : Facts) (new : Marking) (solves : Solves cards f new) (inside : ℕ → Bool) where
   -- right outside the region, and among the first nodes of the rank

@@ -1,29 +1,11 @@
 -- Each sound schema is regular.
-use Rattle.std.proofs.Common.{◌≡◌, ℕ, Bool, true, false, ◌&&◌, eqb, List, [], ◌∷◌, length, refl, ap, sym, ◌∙◌, subst, inl, inr, Option, Some, None}
-use Rattle.std.specs.Prelude.{option_map, nat_lt}
-use Rattle.std.proofs.lemmas.Bool.{cases_Bool, both_ways, eqb-true, and_left, and_right, and_parts, or_left, or_right, or_parts}
-use Rattle.wsm_lists.specs.Rows.{AllRows}
-use Rattle.wsm_schema.specs.Tree.{Part, Parts, Lanes, act, gate, loop, nothing, part, no_lane, lane}
-use Rattle.wsm_schema.specs.SchemaModel.{SchemaModel}
-use Rattle.wsm_schema.specs.Places.{places, branch_heads}
-use Rattle.wsm_schema.specs.Flat.{cards_of}
-use Rattle.wsm_schema.specs.Kinds.{is_activity}
-use Rattle.wsm_schema.specs.Replay.{has_label}
-use Rattle.wsm_schema.specs.Trail.{is_one_of}
-use Rattle.wsm_schema.specs.Sound.{when, twice, codes_of, part_block_fault, parts_block_fault, lanes_block_fault, part_has, parts_have, parts_apart, parts_loop, same_option, is_act_in, block_fault, nodes_of}
-use Rattle.wsm_schema.specs.declared.cards.Card.{Card}
-use Rattle.wsm_schema.specs.declared.places.Place.{Place}
+use Rattle.wsm_marks.proofs.Common.{[], ℕ, ◌&&◌, ◌∙◌, ◌∷◌, ◌≡◌, act, all-rows-map, AllRows, and_left, and_parts, and_right, ap, ApartLanes, ApartPart, ApartParts, block_fault, Bool, both_rows, both_ways, branch_heads, Card, cards_of}
+use Rattle.wsm_marks.proofs.Common.{cases_Bool, codes_of, Distinct, eqb, eqb-true, false, FullLanes, FullPart, FullParts, gate, has_label, HasCard, inl, inr, is_act_in, is_activity, is_one_of, lane, Lanes, lanes_block_fault, length, List}
+use Rattle.wsm_marks.proofs.Common.{loop, nat_lt, no_lane, nodes_of, None, nothing, Option, option_map, or_left, or_parts, or_right, Part, part, part_block_fault, part_has, Parts, parts_apart, parts_block_fault, parts_have, parts_loop}
+use Rattle.wsm_marks.proofs.{Common.{Place, places, refl, Regular, same_option, SchemaModel, Some, subst, sym, SyncsApart, true, twice, when}, Cards.{card-nodes, nodes}, Lists.eqb-swap, LoopInTree.FoundIn, LoopNodes.found-of}
+use Rattle.wsm_marks.proofs.{LoopNodes.loop_nodes-are, LoopOfSchema.{body_nodes, l_in, rows_by_places, tail_apart, whole_loop}, LoopSets.{holds, parts-loops}, NoFault.{no_either, no_first, no_map, no_when, not_false}}
 use Rattle.wsm_schema.specs.declared.faults.BlockFault.{BlockFault}
 use Rattle.wsm_schema.specs.declared.faults.BlockFault.TheVariants.{Twice, FewBranches, CodeTwice}
-use Rattle.wsm_lists.proofs.Lists.{all-rows-map, both_rows}
-use Rattle.wsm_marks.specs.Schemas.{ApartLanes, ApartPart, ApartParts, Distinct, FullLanes, FullPart, FullParts, HasCard, Regular, SyncsApart}
-use Rattle.wsm_marks.proofs.Cards.{card-nodes, nodes}
-use Rattle.wsm_marks.proofs.Lists.{eqb-swap}
-use Rattle.wsm_marks.proofs.LoopInTree.{FoundIn}
-use Rattle.wsm_marks.proofs.LoopNodes.{found-of, loop_nodes-are}
-use Rattle.wsm_marks.proofs.LoopOfSchema.{body_nodes, l_in, rows_by_places, tail_apart, whole_loop}
-use Rattle.wsm_marks.proofs.LoopSets.{holds, parts-loops}
-use Rattle.wsm_marks.proofs.NoFault.{no_either, no_first, no_map, no_when, not_false}
 
 -- ---- distinct numbers
 abbrev Apart : List ℕ → Type 0

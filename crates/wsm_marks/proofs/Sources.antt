@@ -1,18 +1,6 @@
 -- The edges of a regular schema come from nodes of it.
-use Rattle.std.proofs.Common.{◌≡◌, ℕ, Bool, true, eqb, List, [], ◌∷◌, inl, inr, Some}
-use Rattle.std.specs.Prelude.{filter}
-use Rattle.std.proofs.lemmas.Bool.{cases_Bool}
-use Rattle.wsm_lists.specs.Rows.{AllRows}
-use Rattle.wsm_schema.specs.SchemaModel.{SchemaModel}
-use Rattle.wsm_schema.specs.Places.{places, parts_places, plain_end}
-use Rattle.wsm_schema.specs.Flat.{card_at, card_of, cards_of}
-use Rattle.wsm_schema.specs.Trail.{is_one_of}
-use Rattle.wsm_schema.specs.declared.cards.Card.{Card}
-use Rattle.wsm_lists.proofs.Lists.{all-rows-map, rows-append, rows-map, rows-parts}
-use Rattle.wsm_schema.proofs.Rounds.{all-rows-card_at}
-use Rattle.wsm_marks.specs.Schemas.{HasCard, Regular}
-use Rattle.wsm_marks.proofs.Cards.{node-has_card, nodes, self-among}
-use Rattle.wsm_marks.proofs.LoopInTree.{parts-closed}
+use Rattle.wsm_marks.proofs.Common.{[], ℕ, ◌∷◌, ◌≡◌, all-rows-card_at, all-rows-map, AllRows, Bool, Card, card_at, card_of, cards_of, cases_Bool, eqb, filter, HasCard, inl, inr, is_one_of, List, parts_places, places, plain_end, Regular}
+use Rattle.wsm_marks.proofs.{Common.{rows-append, rows-map, rows-parts, SchemaModel, Some, true}, Cards.{node-has_card, nodes, self-among}, LoopInTree.parts-closed}
 
 -- the rows of one target
 rows-filter : {X : Type 0} (P : X → Type 0) (test : X → Bool) (xs : List X) → AllRows P xs → AllRows P (filter test xs)

@@ -1,50 +1,16 @@
 -- Where a node is ready, each element that is sure there has a value, so each value that must be read is there.
-use Rattle.std.proofs.Common.{◌≡◌, ℕ, zero, suc, ◌≤◌, Bool, true, false, cond, not, ◌||◌, ◌&&◌, List, [], ◌∷◌, map, refl, ap, sym, ◌∙◌, subst, inl, inr, ◌⊎◌, arith, Option, Some, None, length}
-use Rattle.std.specs.Prelude.{is_some, find, count_by, ◌==◌}
-use Rattle.std.specs.List.{list_all, list_any}
-use Rattle.std.specs.Fn.{iterate}
-use Rattle.std.proofs.lemmas.Bool.{cases_Bool, both_ways, ltb-true, eqb-true, and_parts, or_cases}
-use Rattle.wsm_lists.specs.Rows.{AllRows}
-use Rattle.wsm_lists.specs.Values.{value_in}
-use Rattle.wsm_schema.specs.SchemaModel.{SchemaModel}
-use Rattle.wsm_schema.specs.Flat.{flat_of, card_at, cards_of}
-use Rattle.wsm_schema.specs.Kinds.{worked_on}
-use Rattle.wsm_schema.specs.Rank.{IsRank}
-use Rattle.wsm_schema.specs.Rules.{Spots, is_yes, is_no, is_ready, is_skipped}
-use Rattle.wsm_schema.specs.Replay.{fits_edges, fits_choice, replay_of, whole}
-use Rattle.wsm_schema.specs.Marks.{Facts, facts_of, is_end_of}
-use Rattle.wsm_schema.specs.Trail.{is_one_of, value_below, written_by}
-use Rattle.wsm_schema.specs.Sound.{Sure, none_sure, sure_by, sure_behind, sure_by_syncs, sure_at, sure_of, has_one_edge, parts_bound, missing_at, writes_of, data_fault}
-use Rattle.wsm_schema.specs.declared.cards.Card.{Card}
-use Rattle.wsm_schema.specs.declared.cards.End.{End}
-use Rattle.wsm_schema.specs.declared.cards.NodeKind.{NodeKind}
+use Rattle.wsm_marks.proofs.Common.{[], ℕ, ◌&&◌, ◌==◌, ◌||◌, ◌∙◌, ◌∷◌, ◌≡◌, ◌≤◌, ◌⊎◌, all-rows-card_at, all-rows-map, AllRows, and_parts, ap, arith, awaited, before, Bool, both_ways, Card, card_at, card_at-node, cards_of, cases_Bool, cond}
+use Rattle.wsm_marks.proofs.Common.{count_by, data_fault, End, Entries, Entry, eqb-true, Facts, facts_of, false, find, fits, fits_choice, fits_edges, flat_of, Flow, flow, has_one_edge, HasCard, HasEdge, inl, inr, is_end_of, is_no}
+use Rattle.wsm_marks.proofs.Common.{is_one_of, is_ready, is_skipped, is_some, is_yes, IsRank, iterate, iterate-last, latest, length, List, list_all, list_any, ltb-true, map, Marking, missing_at, NodeKind, None, none_sure, not, Option}
+use Rattle.wsm_marks.proofs.Common.{or_cases, Orderly, parts_bound, refl, Regular, replay_of, RisesAfter, SchemaModel, sig_at, sig_by, sig_of, solution, Solves, Some, Spots, subst, suc, Sure, sure_at, sure_behind, sure_by, sure_by_syncs}
+use Rattle.wsm_marks.proofs.{Common.{sure_of, sym, time, Timed, timed_by, true, value_below, value_in, whole, worked_on, writes_of, written_by, zero}, BlockFlow.{greater-left, greater-right, not_some, sig}, BoundSources.bound-free}
+use Rattle.wsm_marks.proofs.{Cards.{on_card-true, same_card}, Causality.solved_net, FirstFailure.fits-rows, Lists.{lt-suc_self, map-map}, MarksOfTrails.whole-fits, NoFault.{no_either, no_first, no_map}, SaneTrails.{all-sane, ended-ready}}
+use Rattle.wsm_marks.proofs.{SaneTrails.{found-row, position-found}, Signals.is_ready_mark, Sources.sources-have_cards, Values.{WritersWork, card-edged, card-writes, edges-write, value-later, value-of_entry, writers-work}}
+use Rattle.wsm_marks.proofs.WholeTrails.{whole-orderly}
 use Rattle.wsm_schema.specs.declared.cards.NodeKind.TheVariants as kind
-use Rattle.wsm_schema.specs.declared.entries.Entry.{Entry}
 use Rattle.wsm_schema.specs.declared.entries.Entry.TheVariants as entry
-use Rattle.wsm_schema.specs.declared.states.Flow.{Flow}
 use Rattle.wsm_schema.specs.declared.states.Flow.TheVariants.{Yes, No}
 use Rattle.wsm_schema.specs.declared.states.Verdict.TheVariants as verdict
-use Rattle.wsm_schema.proofs.Rounds.{iterate-last}
-use Rattle.wsm_lists.proofs.Lists.{all-rows-map}
-use Rattle.wsm_schema.proofs.Rounds.{all-rows-card_at, card_at-node}
-use Rattle.wsm_marks.specs.Fits.{Orderly, RisesAfter, fits}
-use Rattle.wsm_marks.specs.Loops.{HasEdge}
-use Rattle.wsm_marks.specs.Schemas.{HasCard, Regular}
-use Rattle.wsm_marks.specs.Solving.{solution}
-use Rattle.wsm_marks.specs.Timed.{Entries, Marking, Solves, Timed, awaited, before, flow, latest, sig_at, sig_by, sig_of, time, timed_by}
-use Rattle.wsm_marks.proofs.BlockFlow.{greater-left, greater-right, not_some, sig}
-use Rattle.wsm_marks.proofs.BoundSources.{bound-free}
-use Rattle.wsm_marks.proofs.Cards.{on_card-true, same_card}
-use Rattle.wsm_marks.proofs.Causality.{solved_net}
-use Rattle.wsm_marks.proofs.FirstFailure.{fits-rows}
-use Rattle.wsm_marks.proofs.Lists.{lt-suc_self, map-map}
-use Rattle.wsm_marks.proofs.MarksOfTrails.{whole-fits}
-use Rattle.wsm_marks.proofs.NoFault.{no_either, no_first, no_map}
-use Rattle.wsm_marks.proofs.SaneTrails.{all-sane, ended-ready, found-row, position-found}
-use Rattle.wsm_marks.proofs.Signals.{is_ready_mark}
-use Rattle.wsm_marks.proofs.Sources.{sources-have_cards}
-use Rattle.wsm_marks.proofs.Values.{WritersWork, card-edged, card-writes, edges-write, value-later, value-of_entry, writers-work}
-use Rattle.wsm_marks.proofs.WholeTrails.{whole-orderly}
 
 -- the time of each signal is no later than the latest
 times-latest : {X : Type 0} (sig : X → Timed) (xs : List X) → AllRows (λ x. time (sig x) ≤ latest (map sig xs)) xs

@@ -1,21 +1,7 @@
 -- The facts of a trail are told by its entries, one at each position.
-use Rattle.std.proofs.Common.{◌≡◌, ℕ, suc, ◌<◌, ◌≤◌, Bool, true, false, ◌||◌, [], ◌∷◌, ◌++◌, refl, ap, sym, ◌∙◌, subst, inl, inr, arith, append_assoc, List}
-use Rattle.std.specs.Prelude.{nat_lt, find}
-use Rattle.std.specs.List.{list_any}
-use Rattle.std.proofs.lemmas.Bool.{cases_Bool, ltb-true, lt-ltb, le-ltb, or_parts}
-use Rattle.wsm_lists.specs.Rows.{AllRows}
-use Rattle.wsm_schema.specs.Marks.{is_start_of, is_end_of, position_of, facts_of, Facts}
-use Rattle.wsm_schema.specs.declared.entries.Entry.{Entry}
-use Rattle.wsm_schema.specs.Flat.{FlatModel}
-use Rattle.wsm_schema.specs.Trail.{value_below}
-use Rattle.wsm_schema.specs.Replay.{replay_of}
-use Rattle.std.proofs.Math.Bool.{or-false}
-use Rattle.wsm_lists.proofs.Lists.{all-rows-map}
-use Rattle.wsm_marks.specs.Fits.{Ends, Fresh, InOrder, Orderly, Quiet, RisesAfter, Tells, Told, first_misfit, last_position}
-use Rattle.wsm_marks.specs.Timed.{Entries, Marking, below, early}
-use Rattle.wsm_marks.proofs.Causality.{TimedNet}
-use Rattle.wsm_marks.proofs.FirstFailure.{replay-ends}
-use Rattle.wsm_marks.proofs.Lists.{lt-suc_self, or_none, rows-last}
+use Rattle.wsm_marks.proofs.Common.{[], ℕ, ◌++◌, ◌<◌, ◌||◌, ◌∙◌, ◌∷◌, ◌≡◌, ◌≤◌, all-rows-map, AllRows, ap, append_assoc, arith, below, Bool, cases_Bool, early, Ends, Entries, Entry, Facts, facts_of, false, find, first_misfit, FlatModel}
+use Rattle.wsm_marks.proofs.Common.{Fresh, inl, InOrder, inr, is_end_of, is_start_of, last_position, le-ltb, List, list_any, lt-ltb, ltb-true, Marking, nat_lt, or-false, or_parts, Orderly, position_of, Quiet, refl, replay_of, RisesAfter}
+use Rattle.wsm_marks.proofs.{Common.{subst, suc, sym, Tells, Told, true, value_below}, Causality.TimedNet, FirstFailure.replay-ends, Lists.{lt-suc_self, or_none, rows-last}}
 
 -- all positions below q
 abbrev pub AllBelow : ℕ → Entries → Type 0

@@ -1,15 +1,9 @@
 -- The node rule before a number is the node's equation before it.
-use Rattle.std.proofs.Common.{◌≡◌, ℕ, Bool, true, false, cond, List, map, refl, ap, sym, inl, inr, Some, None}
-use Rattle.std.specs.Prelude.{nat_lt, is_some}
-use Rattle.std.specs.List.{list_all}
-use Rattle.std.proofs.lemmas.Bool.{cases_Bool, both_ways, and_left}
-use Rattle.wsm_schema.specs.Rules.{is_yes, is_no, is_ready, is_skipped, judge_of}
-use Rattle.wsm_schema.specs.declared.cards.NodeKind.{NodeKind}
+use Rattle.wsm_marks.proofs.Common.{ℕ, ◌≡◌, and_left, ap, awaited, before, Bool, both_ways, cases_Bool, cond, eq_of, false, flow, greater, inl, inr, is_no, is_ready, is_skipped, is_some, is_yes, judge_of, latest, List, list_all, map}
+use Rattle.wsm_marks.proofs.Common.{nat_lt, NodeKind, None, refl, Some, sym, Timed, timed_by, true, Verdict, verdict_of}
 use Rattle.wsm_schema.specs.declared.cards.NodeKind.TheVariants as kind
 use Rattle.wsm_schema.specs.declared.states.Flow.TheVariants.{Yes, No}
-use Rattle.wsm_schema.specs.declared.states.Verdict.{Verdict}
 use Rattle.wsm_schema.specs.declared.states.Verdict.TheVariants as verdict
-use Rattle.wsm_marks.specs.Timed.{Timed, awaited, before, eq_of, flow, greater, latest, timed_by, verdict_of}
 use Rattle.wsm_marks.proofs.Signals.{all-late, before-in_time, before-late, before_none, greater-late_left, greater-late_right, greater-lt, map-in_time}
 
 -- the control edges in time

@@ -1,31 +1,9 @@
 -- Values that entries wrote, and which nodes write.
-use Rattle.std.proofs.Common.{◌≡◌, ℕ, ◌≤◌, Bool, true, false, ◌||◌, ◌&&◌, eqb, List, [], ◌∷◌, map, refl, ap, sym, ◌∙◌, subst, inl, inr, arith, Option, Some, None}
-use Rattle.std.specs.Prelude.{nat_lt, is_some, find, filter, if◌then◌else◌}
-use Rattle.std.specs.List.{list_any}
-use Rattle.std.proofs.lemmas.Bool.{cases_Bool, both_ways, ltb-true, lt-ltb, eqb-true, and_parts, or_cases, or_left, or_right}
-use Rattle.wsm_lists.specs.Rows.{AllRows}
-use Rattle.wsm_lists.specs.Values.{Written, value_in}
+use Rattle.wsm_marks.proofs.Common.{[], ℕ, ◌&&◌, ◌||◌, ◌∙◌, ◌∷◌, ◌≡◌, ◌≤◌, all-rows-card_at, all-rows-map, all_rows, AllRows, and_parts, ap, arith, Bool, both_ways, Card, card_at, card_at-node, card_of, cards_of, cases_Bool, data_fault}
+use Rattle.wsm_marks.proofs.Common.{Distinct, Entries, Entry, eqb, eqb-true, false, filter, find, fits_edges, HasEdge, if◌then◌else◌, inl, inr, is_one_of, is_some, is_worked_on_in, later_or, List, list_any, lt-ltb, ltb-true, map, nat_lt}
+use Rattle.wsm_marks.proofs.Common.{None, Option, or_cases, or_left, or_right, Place, places, refl, Regular, rows-map, same_Some, SchemaModel, Some, subst, sym, true, unknown, Value, value_below, value_in, worked_on, writes_of, Written}
+use Rattle.wsm_marks.proofs.{Common.written_by, Lists.eqb-swap, LoopOfSchema.places-edged, NoFault.{no_either, no_first, no_when, not_false}}
 use Rattle.wsm_lists.specs.declared.values.ElementKind.{ElementKind}
-use Rattle.wsm_lists.specs.declared.values.Value.{Value}
-use Rattle.wsm_schema.specs.SchemaModel.{SchemaModel}
-use Rattle.wsm_schema.specs.Places.{places}
-use Rattle.wsm_schema.specs.Flat.{card_at, card_of, cards_of}
-use Rattle.wsm_schema.specs.Kinds.{worked_on}
-use Rattle.wsm_schema.specs.Replay.{fits_edges}
-use Rattle.wsm_schema.specs.Trail.{is_one_of, later_or, value_below, written_by}
-use Rattle.wsm_schema.specs.Sound.{writes_of, is_worked_on_in, unknown, data_fault}
-use Rattle.wsm_schema.specs.declared.cards.Card.{Card}
-use Rattle.wsm_schema.specs.declared.entries.Entry.{Entry}
-use Rattle.wsm_schema.specs.declared.places.Place.{Place}
-use Rattle.std.proofs.lemmas.Option.{same_Some}
-use Rattle.wsm_lists.proofs.Lists.{all-rows-map, all_rows, rows-map}
-use Rattle.wsm_schema.proofs.Rounds.{all-rows-card_at, card_at-node}
-use Rattle.wsm_marks.specs.Loops.{HasEdge}
-use Rattle.wsm_marks.specs.Schemas.{Distinct, Regular}
-use Rattle.wsm_marks.specs.Timed.{Entries}
-use Rattle.wsm_marks.proofs.Lists.{eqb-swap}
-use Rattle.wsm_marks.proofs.LoopOfSchema.{places-edged}
-use Rattle.wsm_marks.proofs.NoFault.{no_either, no_first, no_when, not_false}
 
 some-later : (a b : Option Value) → is_some (later_or a b) ≡ (is_some a || is_some b)
 some-later None b = refl

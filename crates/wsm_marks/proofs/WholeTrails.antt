@@ -1,33 +1,12 @@
 -- A trail that replays whole is orderly: at most one Start and one End for each node, in that order.
-use Rattle.std.proofs.Common.{◌≡◌, ℕ, zero, suc, ◌<◌, Bool, true, false, ◌||◌, ◌&&◌, eqb, List, [], ◌∷◌, ◌++◌, length, refl, ap, sym, ◌∙◌, subst, inl, inr, arith, Option, Some, None, append_assoc}
-use Rattle.std.specs.Prelude.{if◌then◌else◌}
-use Rattle.std.specs.Fn.{iterate}
-use Rattle.std.proofs.lemmas.Bool.{cases_Bool, both_ways, ltb-true, eqb-true, eq-eqb, or_cases, or_left, and_parts}
-use Rattle.wsm_schema.specs.Flat.{FlatModel, card_at}
-use Rattle.wsm_schema.specs.Kinds.{worked_on}
-use Rattle.wsm_lists.specs.Rows.{AllRows}
-use Rattle.wsm_schema.specs.Rules.{Spots, spot, spot_in, state_by, is_begun, verdict_at, ruled, round, settle}
-use Rattle.wsm_schema.specs.Replay.{is_in_state, applicable, after, replay_from, replay_of, fits_edges, fits_choice}
-use Rattle.wsm_schema.specs.Replay.{whole, fails}
-use Rattle.wsm_schema.specs.Trail.{value_below}
-use Rattle.wsm_schema.specs.Marks.{is_start_of, is_end_of, position_of, choice_of, facts_of}
-use Rattle.wsm_schema.specs.declared.cards.Card.{Card}
-use Rattle.wsm_schema.specs.declared.cards.NodeKind.{NodeKind}
-use Rattle.wsm_schema.specs.declared.entries.Entry.{Entry}
+use Rattle.wsm_marks.proofs.Common.{[], ℕ, ◌&&◌, ◌++◌, ◌<◌, ◌||◌, ◌∙◌, ◌∷◌, ◌≡◌, after, AllRows, and_parts, ap, append_assoc, applicable, arith, below, Bool, both_ways, Card, card_at, cases_Bool, choice_of, Entries, Entry, eq-eqb, eqb}
+use Rattle.wsm_marks.proofs.Common.{eqb-true, facts_of, fails, false, fits_choice, fits_edges, FlatModel, if◌then◌else◌, inl, InOrder, inr, is_begun, is_end_of, is_in_state, is_start_of, iterate, iterate-last, keeps_rounds, KeepsBegun}
+use Rattle.wsm_marks.proofs.Common.{length, List, ltb-true, NodeKind, None, Option, or-false, or_cases, or_left, Orderly, position_of, refl, replay_from, replay_of, RisesAfter, round, ruled, settle, Some, Spot, spot, spot_in, spot_in-round}
+use Rattle.wsm_marks.proofs.{Common.{Spots, State, state_by, subst, suc, sym, true, Value, value_below, Verdict, verdict_at, whole, worked_on, zero}, Cards.{on_card-true, same_card}, Lists.{lt-suc_self, rows-last}, Telling.AllBelow}
+use Rattle.wsm_marks.proofs.Telling.{all_below-later, early-behind, find-behind, find-last, has-last, has_entry}
 use Rattle.wsm_schema.specs.declared.entries.Entry.TheVariants as entry
-use Rattle.wsm_schema.specs.declared.states.Spot.{Spot}
-use Rattle.wsm_schema.specs.declared.states.State.{State}
 use Rattle.wsm_schema.specs.declared.states.State.TheVariants as state
-use Rattle.wsm_schema.specs.declared.states.Verdict.{Verdict}
 use Rattle.wsm_schema.specs.declared.states.Verdict.TheVariants as verdict
-use Rattle.wsm_lists.specs.declared.values.Value.{Value}
-use Rattle.wsm_schema.proofs.Rounds.{iterate-last, spot_in-round, keeps_rounds, KeepsBegun}
-use Rattle.std.proofs.Math.Bool.{or-false}
-use Rattle.wsm_marks.specs.Fits.{InOrder, Orderly, RisesAfter}
-use Rattle.wsm_marks.specs.Timed.{Entries, below}
-use Rattle.wsm_marks.proofs.Cards.{on_card-true, same_card}
-use Rattle.wsm_marks.proofs.Lists.{lt-suc_self, rows-last}
-use Rattle.wsm_marks.proofs.Telling.{AllBelow, all_below-later, early-behind, find-behind, find-last, has-last, has_entry}
 
 is_activated : (s : State) → is_in_state s state.Activated ≡ true → s ≡ state.Activated
 is_activated state.Activated h = refl

@@ -1,16 +1,9 @@
 -- What a trail says, entry by entry, and which entries fit a solution.
 use Rattle.std.specs.Prelude.{◌≡◌, ℕ, Bool, true, false, ◌&&◌, ◌||◌, List, [], ◌∷◌, Option, Some, None, nat_lt, if◌then◌else◌}
-use Rattle.wsm_schema.specs.Flat.{FlatModel, card_at}
-use Rattle.wsm_schema.specs.Kinds.{is_loop_end, worked_on}
-use Rattle.wsm_schema.specs.Rules.{is_yes, Spots}
-use Rattle.wsm_lists.specs.Rows.{AllRows}
-use Rattle.wsm_schema.specs.Replay.{on_card, fits_reads, fits_edges, fits_choice, Outcome}
-use Rattle.wsm_schema.specs.Replay.{whole, fails}
-use Rattle.wsm_schema.specs.Marks.{is_start_of, is_end_of, Facts, facts_of}
-use Rattle.wsm_schema.specs.declared.cards.Card.{Card}
-use Rattle.wsm_schema.specs.declared.entries.Entry.{Entry}
+use Rattle.wsm_schema.specs.{Flat.{FlatModel, card_at}, Kinds.{is_loop_end, worked_on}, Rules.{is_yes, Spots}, Replay.{on_card, fits_reads, fits_edges, fits_choice, Outcome, whole, fails}, Marks.{is_start_of, is_end_of, Facts, facts_of}}
+use Rattle.wsm_schema.specs.{declared.cards.Card.Card, declared.entries.Entry.Entry}
+use Rattle.wsm_lists.specs.{Rows.AllRows, declared.values.Value.Value}
 use Rattle.wsm_schema.specs.declared.entries.Entry.TheVariants as entry
-use Rattle.wsm_lists.specs.declared.values.Value.{Value}
 use Rattle.wsm_marks.specs.Timed.{Entries, InTime, IsBelow, Marking, before, early}
 
 -- positions ascend

@@ -1,15 +1,9 @@
 -- The body of a loop in a net, and facts without it.
 use Rattle.std.specs.Prelude.{◌≡◌, ◌⊎◌, ℕ, Bool, true, false, List, [], ◌∷◌, filter_map, Some, None, ◌==◌}
-use Rattle.wsm_schema.specs.Flat.{card_at}
-use Rattle.wsm_schema.specs.Kinds.{worked_on, is_loop_end}
+use Rattle.wsm_schema.specs.{Flat.card_at, Kinds.{worked_on, is_loop_end}, Trail.{is_one_of, cut_entry}, declared.cards.Card.Card, declared.cards.NodeKind.NodeKind, declared.entries.Entry.Entry, Marks.Facts}
 use Rattle.wsm_lists.specs.Rows.{AllRows}
-use Rattle.wsm_schema.specs.Trail.{is_one_of, cut_entry}
-use Rattle.wsm_schema.specs.declared.cards.Card.{Card}
-use Rattle.wsm_schema.specs.declared.cards.NodeKind.{NodeKind}
 use Rattle.wsm_schema.specs.declared.cards.NodeKind.TheVariants.{Start}
-use Rattle.wsm_schema.specs.declared.entries.Entry.{Entry}
 use Rattle.wsm_schema.specs.declared.entries.Entry.TheVariants as entry
-use Rattle.wsm_schema.specs.Marks.{Facts}
 use Rattle.wsm_marks.specs.Timed.{Entries}
 
 -- each node but a start has an edge into it

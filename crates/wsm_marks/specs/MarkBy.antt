@@ -1,8 +1,6 @@
 -- The mark of a node by a solution and by what a trail tells.
 use Rattle.std.specs.Prelude.{ℕ, Option, Some, None}
-use Rattle.wsm_schema.specs.Marks.{position_of, is_again_of, facts_of}
-use Rattle.wsm_schema.specs.declared.marks.Mark.{Mark}
-use Rattle.wsm_schema.specs.declared.states.Flow.{Flow}
+use Rattle.wsm_schema.specs.{Marks.{position_of, is_again_of, facts_of}, declared.marks.Mark.Mark, declared.states.Flow.Flow}
 use Rattle.wsm_schema.specs.declared.states.Flow.TheVariants.{Yes, No}
 use Rattle.wsm_marks.specs.Timed.{Entries, Marking, Timed}
 

@@ -1,17 +1,9 @@
 -- Regions of a net: outside of them nothing differs.
 use Rattle.std.specs.Prelude.{◌≡◌, ℕ, Bool, true, false, List, [], ◌∷◌, Option, Some, None, if◌then◌else◌}
-use Rattle.wsm_lists.specs.Rows.{AllRows}
-use Rattle.wsm_lists.specs.Values.{Written}
-use Rattle.wsm_lists.specs.declared.values.Value.{Value}
-use Rattle.wsm_schema.specs.Kinds.{is_loop_end}
-use Rattle.wsm_schema.specs.Replay.{fits_edges}
-use Rattle.wsm_schema.specs.Flat.{FlatModel, card_at}
-use Rattle.wsm_schema.specs.Marks.{Facts}
-use Rattle.wsm_schema.specs.declared.cards.Card.{Card}
-use Rattle.wsm_schema.specs.declared.entries.Entry.{Entry}
+use Rattle.wsm_lists.specs.{Rows.AllRows, Values.Written, declared.values.Value.Value}
+use Rattle.wsm_schema.specs.{Kinds.is_loop_end, Replay.fits_edges, Flat.{FlatModel, card_at}, Marks.Facts, declared.cards.Card.Card, declared.entries.Entry.Entry}
 use Rattle.wsm_schema.specs.declared.entries.Entry.TheVariants as entry
-use Rattle.wsm_marks.specs.Fits.{fits}
-use Rattle.wsm_marks.specs.Timed.{Entries, Marking}
+use Rattle.wsm_marks.specs.{Fits.fits, Timed.{Entries, Marking}}
 
 -- outside the region cards and facts are the same, and no edge of the second net leads out of it
 pub record Closed (cards1 : List Card) (f1 : Facts) (cards2 : List Card) (f2 : Facts) (inside : ℕ → Bool) : Type 0 where

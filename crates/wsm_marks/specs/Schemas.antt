@@ -1,15 +1,8 @@
 -- What the lemmas ask of a schema, each a clause of a sound one.
 use Rattle.std.specs.Prelude.{◌≡◌, ℕ, true, false, List, [], ◌∷◌, Some, ◌==◌}
 use Rattle.wsm_lists.specs.Rows.{AllRows}
-use Rattle.wsm_schema.specs.Tree.{Part, Parts, Lanes, act, gate, loop, nothing, part, no_lane, lane}
-use Rattle.wsm_schema.specs.SchemaModel.{SchemaModel}
-use Rattle.wsm_schema.specs.Places.{places, branch_heads}
-use Rattle.wsm_schema.specs.Flat.{card_at, cards_of, loop_nodes}
-use Rattle.wsm_schema.specs.Kinds.{is_loop_end}
-use Rattle.wsm_schema.specs.Replay.{has_label}
-use Rattle.wsm_schema.specs.Trail.{is_one_of}
-use Rattle.wsm_schema.specs.declared.cards.Card.{Card}
-use Rattle.wsm_schema.specs.declared.places.Place.{Place}
+use Rattle.wsm_schema.specs.{Tree.{Part, Parts, Lanes, act, gate, loop, nothing, part, no_lane, lane}, SchemaModel.SchemaModel, Places.{places, branch_heads}, Flat.{card_at, cards_of, loop_nodes}, Kinds.is_loop_end, Replay.has_label}
+use Rattle.wsm_schema.specs.{Trail.is_one_of, declared.cards.Card.Card, declared.places.Place.Place}
 
 -- no two places have one node
 abbrev pub Distinct : List Place → Type 0

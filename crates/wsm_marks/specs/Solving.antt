@@ -1,8 +1,6 @@
 -- The solution of a net's equations, by one pass in the order of a rank.
 use Rattle.std.specs.Prelude.{ℕ, Bool, List, [], ◌∷◌, Option, Some, None, ◌==◌, if◌then◌else◌}
-use Rattle.wsm_schema.specs.Flat.{card_at}
-use Rattle.wsm_schema.specs.Marks.{Facts}
-use Rattle.wsm_schema.specs.declared.cards.Card.{Card}
+use Rattle.wsm_schema.specs.{Flat.card_at, Marks.Facts, declared.cards.Card.Card}
 use Rattle.wsm_marks.specs.Timed.{Marking, Timed, eq_at}
 
 -- another mark for a node

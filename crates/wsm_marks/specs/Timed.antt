@@ -1,19 +1,11 @@
 -- Timed marks of a net as the solution of one equation for each node.
 use Rattle.std.specs.Prelude.{◌≡◌, ℕ, Bool, true, false, ◌&&◌, not, List, [], ◌∷◌, map, Option, Some, None, nat_lt, if◌then◌else◌, is_some}
-use Rattle.wsm_schema.specs.Flat.{card_at}
-use Rattle.wsm_schema.specs.Kinds.{is_xor_split, worked_on}
-use Rattle.wsm_schema.specs.Rules.{is_chosen, judge_of, Spots, spot, spot_in, state_by, is_begun}
-use Rattle.wsm_schema.specs.declared.cards.Card.{Card}
-use Rattle.wsm_schema.specs.declared.cards.NodeKind.{NodeKind}
+use Rattle.wsm_schema.specs.{Flat.card_at, Kinds.{is_xor_split, worked_on}, Rules.{is_chosen, judge_of, Spots, spot, spot_in, state_by, is_begun}, declared.cards.Card.Card, declared.cards.NodeKind.NodeKind, declared.states.Flow.Flow}
+use Rattle.wsm_schema.specs.{declared.states.Spot.Spot, declared.states.Verdict.Verdict, Marks.Facts, declared.entries.Entry.Entry}
 use Rattle.wsm_schema.specs.declared.cards.NodeKind.TheVariants.{Start}
 use Rattle.wsm_schema.specs.declared.states.State.TheVariants.{Running, Completed}
-use Rattle.wsm_schema.specs.declared.states.Flow.{Flow}
 use Rattle.wsm_schema.specs.declared.states.Flow.TheVariants.{Yes, No}
-use Rattle.wsm_schema.specs.declared.states.Spot.{Spot}
-use Rattle.wsm_schema.specs.declared.states.Verdict.{Verdict}
 use Rattle.wsm_schema.specs.declared.states.Verdict.TheVariants as verdict
-use Rattle.wsm_schema.specs.Marks.{Facts}
-use Rattle.wsm_schema.specs.declared.entries.Entry.{Entry}
 
 -- entries by position
 abbrev pub Entries : Type 0

@@ -1,28 +1,10 @@
 -- Operations keep the numbers of nodes distinct.
-use Rattle.std.proofs.Common.{◌≡◌, ℕ, ◌+◌, ◌≤◌, Bool, true, false, ◌||◌, eqb, List, [], ◌∷◌, map, refl, ap, sym, ◌∙◌, subst, inl, inr, arith, Option, Some, None}
-use Rattle.std.specs.Prelude.{◌==◌, not, is_some, Result, Ok}
-use Rattle.std.specs.Option.{option_or}
-use Rattle.std.proofs.lemmas.Bool.{cases_Bool, eqb-true, eq-eqb, or_parts}
-use Rattle.wsm_schema.specs.Tree.{Part, act}
-use Rattle.wsm_schema.specs.SchemaModel.{SchemaModel}
-use Rattle.wsm_schema.specs.Kinds.{is_activity}
-use Rattle.wsm_schema.specs.Places.{place, places, parts_places, plain_end, leaving}
-use Rattle.wsm_schema.specs.Flat.{card_of, cards_of, card_at}
-use Rattle.wsm_schema.specs.Trail.{is_one_of}
-use Rattle.wsm_schema.specs.Sound.{twice, nodes_of, when}
-use Rattle.wsm_schema.specs.declared.cards.Card.{Card}
-use Rattle.wsm_schema.specs.declared.cards.NodeKind.{NodeKind}
+use Rattle.wsm_ops.proofs.Common.{[], ℕ, ◌+◌, ◌==◌, ◌||◌, ◌∙◌, ◌∷◌, ◌≡◌, ◌≤◌, act, ap, applied_from, arith, beside, Bool, by_card, Card, card_at, card_of, cards_of, cases_Bool, change, choice, effect, eq-eqb, eqb, eqb-true, false, Gap, inl}
+use Rattle.wsm_ops.proofs.Common.{inr, is_activity, is_behind, is_one_of, is_some, leaving, List, map, NodeKind, nodes_of, None, not, Ok, one_taken, Op, OpFault, Option, option_or, OpWhy, or_parts, Part, parts_places, Place, place, places}
+use Rattle.wsm_ops.proofs.Common.{plain_end, put, put_at, refl, refusal, Result, SchemaModel, Some, subst, sym, true, twice, unless_activity, unless_refused, when, without}
 use Rattle.wsm_schema.specs.declared.cards.NodeKind.TheVariants.{Start, Finish}
-use Rattle.wsm_schema.specs.declared.places.Place.{Place}
-use Rattle.wsm_ops.specs.Edit.{is_behind, put, without, change, beside, choice}
-use Rattle.wsm_ops.specs.Refusals.{one_taken, unless_activity, by_card}
-use Rattle.wsm_ops.specs.Apply.{refusal, effect, put_at, unless_refused, applied_from}
-use Rattle.wsm_ops.specs.declared.operations.Gap.{Gap}
-use Rattle.wsm_ops.specs.declared.operations.Op.{Op}
 use Rattle.wsm_ops.specs.declared.operations.Op.TheVariants as op
-use Rattle.wsm_ops.specs.declared.faults.OpWhy.{OpWhy}
 use Rattle.wsm_ops.specs.declared.faults.OpWhy.TheVariants.{WrongKind}
-use Rattle.wsm_ops.specs.declared.faults.OpFault.{OpFault}
 use Rattle.wsm_ops.proofs.Weights.{tally, total, total-append, part_weight, parts_weight, at_place, parts_total, only, named, acts, gap_node, behind_once, put_if-weight, put-weight, without-weight, without-acts, Adds, change-weight}
 
 -- the numbers of a schema's nodes are distinct

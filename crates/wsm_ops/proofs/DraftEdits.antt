@@ -1,26 +1,11 @@
 -- What an edit of its pieces makes of the schema that a draft shows.
-use Rattle.std.proofs.Common.{◌≡◌, ℕ, List, [], refl, ap, sym, ◌∙◌, subst, None}
-use Rattle.wsm_schema.specs.Tree.{act}
-use Rattle.wsm_schema.specs.SchemaModel.{SchemaModel}
-use Rattle.wsm_schema.specs.Flat.{cards_of}
-use Rattle.wsm_schema.specs.Sound.{twice}
-use Rattle.wsm_ops.specs.Edit.{new_part, without, change, beside}
-use Rattle.wsm_ops.specs.Refusals.{gap_refusal, unless_activity}
-use Rattle.wsm_ops.specs.Apply.{refusal, effect, put_at}
-use Rattle.wsm_ops.specs.Outline.{IsOutline, tree_in, schema_pieces, part_pieces, nodes_in, is_node, at_gap, behind, before, without_node, opening, closing, IsOnce}
-use Rattle.wsm_ops.specs.Putting.{put_op}
-use Rattle.wsm_ops.specs.declared.operations.Gap.{Gap}
+use Rattle.wsm_ops.proofs.Common.{[], ℕ, ◌∙◌, ◌≡◌, act, ap, at_gap, before, behind, beside, cards_of, change, closing, effect, Gap, gap_refusal, is_node, IsOnce, IsOutline, List, new_part, nodes_in, None, Op, opening, part_pieces, Piece}
+use Rattle.wsm_ops.proofs.{Common.{put_at, refl, refusal, schema_pieces, SchemaModel, subst, sym, tree_in, twice, unless_activity, without, without_node}, Distinct.{IsDistinct, first_none, step-distinct}, PieceCards.card-nodes}
+use Rattle.wsm_ops.proofs.{PieceEffects.{put-done, without-done, moved-done, wrap-done, behind-node}, OncePieces.{once-of, once-before}, Shown.{shown-distinct, outline-of, body-of}}
+use Rattle.wsm_ops.specs.{Putting.put_op, declared.insertions.New.New}
 use Rattle.wsm_ops.specs.declared.operations.Gap.TheVariants.{After}
-use Rattle.wsm_ops.specs.declared.operations.Op.{Op}
 use Rattle.wsm_ops.specs.declared.operations.Op.TheVariants as op
-use Rattle.wsm_ops.specs.declared.insertions.New.{New}
 use Rattle.wsm_ops.specs.declared.insertions.New.TheVariants as new
-use Rattle.wsm_ops.specs.declared.pieces.Piece.{Piece}
-use Rattle.wsm_ops.proofs.Distinct.{IsDistinct, first_none, step-distinct}
-use Rattle.wsm_ops.proofs.PieceCards.{card-nodes}
-use Rattle.wsm_ops.proofs.PieceEffects.{put-done, without-done, moved-done, wrap-done, behind-node}
-use Rattle.wsm_ops.proofs.OncePieces.{once-of, once-before}
-use Rattle.wsm_ops.proofs.Shown.{shown-distinct, outline-of, body-of}
 
 -- pieces that are an outline of a schema
 abbrev pub Makes : List Piece → SchemaModel → Type 0

@@ -1,13 +1,9 @@
 -- What operations do to a small schema, and what is refused.
-use Rattle.std.proofs.Common.{◌≡◌, ℕ, [], ◌∷◌, Some, None, refl, true, false}
-use Rattle.std.specs.Prelude.{Ok, Err}
-use Rattle.wsm_schema.specs.Tree.{Part, Parts, act, gate, loop, nothing, part, no_lane, lane, and_gate, xor_gate}
-use Rattle.wsm_schema.specs.SchemaModel.{SchemaModel, plain}
+use Rattle.wsm_ops.proofs.Common.{[], ℕ, ◌∷◌, ◌≡◌, act, and_gate, applied, effect, Err, false, gate, lane, loop, no_lane, None, nothing, Ok, Part, part, Parts, plain, refl, refusal, SchemaModel, Some, true, xor_gate}
 use Rattle.wsm_lists.specs.declared.values.ElementKind.TheVariants as kind
 use Rattle.wsm_ops.specs.declared.operations.Gap.TheVariants.{After, Head}
 use Rattle.wsm_ops.specs.declared.operations.Op.TheVariants as op
 use Rattle.wsm_ops.specs.declared.faults.OpWhy.TheVariants.{NoNode, NodeThere, WrongKind, SelfTarget, NoSync, SyncThere, NoEdge, EdgeThere, ElementThere}
-use Rattle.wsm_ops.specs.Apply.{refusal, effect, applied}
 
 -- activity 2, then a block with activity 5 and, beside it, a loop of activity 8, then a choice, of which the first branch is empty and
 -- two branches have code 1, then activity 13. The start is 0 and the finish is 1.

@@ -1,13 +1,7 @@
 -- Edits of one run are edits of all pieces.
-use Rattle.std.proofs.Common.{◌≡◌, ℕ, zero, suc, ◌+◌, ◌<◌, ◌≤◌, Bool, true, List, [], ◌∷◌, ◌++◌, length, take, drop, slice_get, get_or, refl, ap, sym, ◌∙◌, arith, Some, None, append_assoc, append-nil}
-use Rattle.std.specs.Prelude.{Vec, slice_set}
-use Rattle.std.specs.List.{remove}
-use Rattle.std.proofs.lemmas.Bool.{both_ways}
+use Rattle.wsm_ops.proofs.Common.{[], ℕ, ◌++◌, ◌+◌, ◌<◌, ◌∙◌, ◌∷◌, ◌≡◌, ◌≤◌, ap, append-nil, append_assoc, arith, Bool, both_ways, drop, get_or, items_at, joined, length, List, None, passes, Piece, place_at, refl, remove, slice_get}
+use Rattle.wsm_ops.proofs.{Common.{slice_set, Some, suc, sym, take, true, Vec, zero}, OnePlace.place-within}
 use Rattle.std.proofs.lemmas.Option.{same_Some}
-use Rattle.wsm_ops.specs.Places.{passes}
-use Rattle.wsm_ops.specs.Runs.{joined, items_at, place_at}
-use Rattle.wsm_ops.specs.declared.pieces.Piece.{Piece}
-use Rattle.wsm_ops.proofs.OnePlace.{place-within}
 
 -- ---- lists behind others
 none-more : (n : ℕ) → 0 + n ≡ n

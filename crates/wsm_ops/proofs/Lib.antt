@@ -1,3 +1,4 @@
+pub mod Common
 pub mod ExamplesApply
 pub mod PieceReading
 pub mod PieceEdits

@@ -1,15 +1,7 @@
 -- A place is known of each node.
-use Rattle.std.proofs.Common.{◌≡◌, ℕ, zero, suc, Bool, true, false, ◌||◌, List, [], ◌∷◌, ◌++◌, length, take, drop, drop_of_length-le, ◌≤◌, ◌<◌, ◌+◌, get_or, drop-cons, Some, arith, subst, refl, ap, sym, ◌∙◌, inl, inr, Option, None}
-use Rattle.std.specs.Prelude.{is_some, if◌then◌else◌}
-use Rattle.std.specs.List.{list_any, remove}
-use Rattle.std.proofs.lemmas.Bool.{cases_Bool, both_ways, or_left, or_right}
-use Rattle.std.proofs.lemmas.List.{take-append-drop}
-use Rattle.std.proofs.lemmas.List.Folds.{list_any-append}
-use Rattle.wsm_ops.specs.Outline.{at_gap, is_node}
-use Rattle.wsm_ops.specs.Places.{is_known, Noted, IsNoted}
+use Rattle.wsm_ops.proofs.Common.{[], ℕ, ◌++◌, ◌+◌, ◌<◌, ◌||◌, ◌∙◌, ◌∷◌, ◌≡◌, ◌≤◌, ap, arith, at_gap, Bool, both_ways, cases_Bool, drop, drop-cons, drop_of_length-le, false, get_or, if◌then◌else◌, inl, inr, is_known, is_node, is_some}
+use Rattle.wsm_ops.proofs.{Common.{IsNoted, length, List, list_any, list_any-append, None, Noted, Option, or_left, or_right, Piece, refl, remove, Some, subst, suc, sym, take, take-append-drop, true, zero}, OnePlace.node-gap}
 use Rattle.wsm_ops.specs.declared.operations.Gap.TheVariants as gap
-use Rattle.wsm_ops.specs.declared.pieces.Piece.{Piece}
-use Rattle.wsm_ops.proofs.OnePlace.{node-gap}
 
 any-same : (f g : Piece → Bool) → ((p : Piece) → f p ≡ g p) → (ps : List Piece) → list_any f ps ≡ list_any g ps
 any-same f g h [] = refl

@@ -1,18 +1,10 @@
 -- Each gap is directly behind one piece of a schema at most.
-use Rattle.std.proofs.Common.{◌≡◌, ℕ, ◌+◌, ◌≤◌, Bool, true, false, ◌&&◌, eqb, List, [], ◌∷◌, ◌++◌, length, refl, ap, sym, ◌∙◌, subst, inl, inr, arith, Some, None}
-use Rattle.std.specs.Prelude.{◌==◌, not, filter}
-use Rattle.std.proofs.lemmas.Bool.{cases_Bool, eqb-true, eq-eqb, both_ways}
-use Rattle.wsm_schema.specs.Tree.{Part, Parts, Lanes, act, gate, loop, nothing, part, no_lane, lane, and_gate, xor_gate}
-use Rattle.wsm_schema.specs.Trail.{is_one_of}
-use Rattle.wsm_schema.specs.Sound.{twice}
-use Rattle.wsm_schema.specs.SchemaModel.{SchemaModel, plain}
+use Rattle.wsm_ops.proofs.Common.{[], ℕ, ◌&&◌, ◌++◌, ◌+◌, ◌==◌, ◌∙◌, ◌∷◌, ◌≡◌, ◌≤◌, act, and_gate, ap, arith, at_gap, behind, Bool, both_ways, cases_Bool, eq-eqb, eqb, eqb-true, false, filter, Gap, gate, inl, inr, is_node, is_one_of}
+use Rattle.wsm_ops.proofs.Common.{IsOnce, IsOutline, lane, Lanes, lanes_pieces, length, List, loop, no_lane, nodes_in, None, not, nothing, Part, part, part_pieces, Parts, parts_pieces, Piece, plain, refl, schema_pieces, SchemaModel, Some}
+use Rattle.wsm_ops.proofs.{Common.{subst, sym, tree_in, true, twice, with_behind, xor_gate}, Weights.{tally, total, total-append}}
 use Rattle.wsm_schema.specs.declared.cards.NodeKind.TheVariants.{Start, Finish, AndSplit, AndJoin, XorSplit, XorJoin, LoopStart, LoopEnd}
-use Rattle.wsm_ops.specs.Outline.{part_pieces, parts_pieces, lanes_pieces, schema_pieces, at_gap, is_node, nodes_in, with_behind, behind, tree_in, IsOutline, IsOnce}
-use Rattle.wsm_ops.specs.declared.operations.Gap.{Gap}
 use Rattle.wsm_ops.specs.declared.operations.Gap.TheVariants as gap
-use Rattle.wsm_ops.specs.declared.pieces.Piece.{Piece}
 use Rattle.wsm_ops.specs.declared.pieces.Piece.TheVariants.{Node, Head}
-use Rattle.wsm_ops.proofs.Weights.{tally, total, total-append}
 
 -- ---- how often a gap is found, against its node
 abbrev heads : ℕ → ℕ → Piece → ℕ

@@ -1,16 +1,10 @@
 -- Edits of pieces at the one place that passes a test.
-use Rattle.std.proofs.Common.{◌≡◌, ℕ, zero, suc, ◌+◌, ◌<◌, ◌≤◌, Bool, true, false, List, [], ◌∷◌, ◌++◌, length, take, drop, get_or, slice_get, refl, ap, sym, ◌∙◌, subst, inl, inr, arith, Option, Some, None, append_assoc}
-use Rattle.std.specs.Prelude.{◌==◌, not, filter, position, nat_lt, if◌then◌else◌}
-use Rattle.std.specs.List.{prefix_len, remove, list_any}
-use Rattle.std.proofs.lemmas.Bool.{cases_Bool, both_ways, ltb-false, or_parts}
+use Rattle.wsm_ops.proofs.Common.{[], ℕ, ◌++◌, ◌+◌, ◌<◌, ◌==◌, ◌∙◌, ◌∷◌, ◌≡◌, ◌≤◌, all_rows, ap, append_assoc, arith, at_gap, before, behind, Bool, both_ways, cases_Bool, drop, false, filter, get_or, if◌then◌else◌, inl, inr, is_node}
+use Rattle.wsm_ops.proofs.Common.{IsOnce, IsPlace, length, List, list_any, ltb-false, nat_lt, None, not, Option, or_parts, passes, Piece, position, prefix_len, refl, remove, seat_at, seat_there, slice_get, Some, subst, suc, sym, take, true}
+use Rattle.wsm_ops.proofs.{Common.{with_before, without_node, zero}, PieceSeats.{same-flat_map, same-filter}}
 use Rattle.std.proofs.lemmas.List.Quantifiers.{position-Some}
-use Rattle.wsm_lists.proofs.Lists.{all_rows}
-use Rattle.wsm_ops.specs.Outline.{is_node, at_gap, seat_at, with_before, behind, before, without_node, IsOnce}
-use Rattle.wsm_ops.specs.Places.{passes, seat_there, IsPlace}
 use Rattle.wsm_ops.specs.declared.operations.Gap.TheVariants as gap
-use Rattle.wsm_ops.specs.declared.pieces.Piece.{Piece}
 use Rattle.wsm_ops.specs.declared.pieces.Piece.TheVariants.{Node, Head}
-use Rattle.wsm_ops.proofs.PieceSeats.{same-flat_map, same-filter}
 
 module _ (t : Piece → Bool) where
   -- ---- where none passes

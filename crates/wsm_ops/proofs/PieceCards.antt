@@ -1,25 +1,9 @@
 -- What the pieces of a schema say of its cards.
-use Rattle.std.proofs.Common.{◌≡◌, ℕ, Bool, true, false, ◌&&◌, ◌||◌, eqb, List, [], ◌∷◌, ◌++◌, map, refl, ap, sym, ◌∙◌, inl, inr, Some, None}
-use Rattle.std.specs.Prelude.{not, ◌==◌, filter, option_map, if◌then◌else◌}
-use Rattle.std.specs.List.{list_any}
-use Rattle.std.proofs.lemmas.Bool.{cases_Bool, eqb-true, both_ways}
-use Rattle.std.proofs.lemmas.List.{map-append}
-use Rattle.std.proofs.lemmas.List.Elements.{filter-append}
-use Rattle.std.proofs.lemmas.List.Folds.{list_any-append}
-use Rattle.wsm_schema.specs.Tree.{Part, Parts, Lanes, act, gate, loop, nothing, part, no_lane, lane, and_gate, xor_gate}
-use Rattle.wsm_schema.specs.Ends.{first_node, last_of}
-use Rattle.wsm_schema.specs.Places.{place, split_kind, join_kind, plain_end, labelled, leaving, branch_heads, branch_tails, part_places, parts_places, lanes_places, places}
-use Rattle.wsm_schema.specs.Flat.{card_of, cards_of, card_at}
-use Rattle.wsm_schema.specs.Sound.{twice, nodes_of}
-use Rattle.wsm_schema.specs.Trail.{is_one_of}
-use Rattle.wsm_schema.specs.SchemaModel.{SchemaModel}
-use Rattle.wsm_schema.specs.declared.cards.Card.{Card}
-use Rattle.wsm_schema.specs.declared.cards.End.{End}
-use Rattle.wsm_schema.specs.declared.places.Place.{Place}
+use Rattle.wsm_ops.proofs.Common.{[], ℕ, ◌&&◌, ◌++◌, ◌==◌, ◌||◌, ◌∙◌, ◌∷◌, ◌≡◌, act, and_gate, ap, Bool, both_ways, branch_heads, branch_tails, Card, card_at, card_of, cards_of, cases_Bool, End, eqb, eqb-true, false, filter, filter-append}
+use Rattle.wsm_ops.proofs.Common.{first_node, gate, has_branch, has_code, has_head, if◌then◌else◌, inl, inr, is_head, is_one_of, is_split, join_kind, labelled, lane, Lanes, lanes_pieces, lanes_places, last_of, leaving, List, list_any}
+use Rattle.wsm_ops.proofs.Common.{list_any-append, loop, map, map-append, no_lane, nodes_in, nodes_of, None, not, nothing, option_map, Part, part, part_pieces, part_places, Parts, parts_pieces, parts_places, Piece, Place, place, places}
+use Rattle.wsm_ops.proofs.Common.{plain_end, refl, schema_pieces, SchemaModel, seat_at, seat_of, Some, split_kind, sym, true, twice, xor_gate}
 use Rattle.wsm_schema.specs.declared.cards.NodeKind.TheVariants.{Start, Finish, AndJoin, XorJoin, LoopStart, LoopEnd}
-use Rattle.wsm_ops.specs.Refusals.{is_split, has_code}
-use Rattle.wsm_ops.specs.Outline.{part_pieces, parts_pieces, lanes_pieces, schema_pieces, is_head, has_head, seat_at, seat_of, has_branch, nodes_in}
-use Rattle.wsm_ops.specs.declared.pieces.Piece.{Piece}
 use Rattle.wsm_ops.specs.declared.pieces.Piece.TheVariants.{Node, Head}
 
 -- ---- nodes alone

@@ -1,19 +1,8 @@
 -- What edits of a tree do to its pieces.
-use Rattle.std.proofs.Common.{◌≡◌, ℕ, Bool, true, false, ◌&&◌, eqb, List, [], ◌∷◌, ◌++◌, append_assoc, append-nil, refl, ap, sym, ◌∙◌, subst, inl, inr, Some, None, Option}
-use Rattle.std.specs.Prelude.{not, ◌==◌, filter, if◌then◌else◌}
-use Rattle.std.specs.List.{flat_map}
-use Rattle.std.proofs.lemmas.Bool.{cases_Bool, eqb-true, eq-eqb, both_ways}
-use Rattle.std.proofs.lemmas.List.Concat.{flat_map-append}
-use Rattle.std.proofs.lemmas.List.Elements.{filter-append}
-use Rattle.wsm_schema.specs.Tree.{Part, Parts, Lanes, act, gate, loop, nothing, part, no_lane, lane, and_gate, xor_gate}
-use Rattle.wsm_schema.specs.Ends.{last_of}
-use Rattle.wsm_schema.specs.Trail.{is_one_of}
+use Rattle.wsm_ops.proofs.Common.{[], ℕ, ◌&&◌, ◌++◌, ◌==◌, ◌∙◌, ◌∷◌, ◌≡◌, act, and_gate, ap, append-nil, append_assoc, Bool, both_ways, cases_Bool, eq-eqb, eqb, eqb-true, false, filter, filter-append, flat_map, flat_map-append, Gap, gate}
+use Rattle.wsm_ops.proofs.Common.{head_code, if◌then◌else◌, inl, inr, is_act_of, is_behind, is_code, is_one_of, lane, Lanes, lanes_pieces, last_of, List, loop, no_lane, None, not, nothing, Option, Part, part, part_pieces, Parts}
+use Rattle.wsm_ops.proofs.Common.{parts_pieces, Piece, pieces, put, put_if, put_inside, put_lanes, refl, Some, still_wanted, subst, sym, takes_behind, true, with_behind, without, without_inside, without_lanes, xor_gate}
 use Rattle.wsm_schema.specs.declared.cards.NodeKind.TheVariants.{Start, Finish, Activity, AndSplit, AndJoin, XorSplit, XorJoin, LoopStart, LoopEnd}
-use Rattle.wsm_ops.specs.Edit.{is_behind, head_code, is_code, still_wanted, put_if, put_inside, put, put_lanes, is_act_of, without_inside, without, without_lanes}
-use Rattle.wsm_ops.specs.Refusals.{takes_behind}
-use Rattle.wsm_ops.specs.Outline.{part_pieces, parts_pieces, lanes_pieces, pieces, with_behind}
-use Rattle.wsm_ops.specs.declared.operations.Gap.{Gap}
-use Rattle.wsm_ops.specs.declared.pieces.Piece.{Piece}
 use Rattle.wsm_ops.specs.declared.pieces.Piece.TheVariants.{Node, Head}
 
 -- ---- something new at a gap

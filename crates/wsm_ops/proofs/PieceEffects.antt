@@ -1,33 +1,13 @@
 -- What operations that are not refused do to the pieces of a schema.
-use Rattle.std.proofs.Common.{◌≡◌, ℕ, Bool, true, false, eqb, List, [], ◌∷◌, ◌++◌, append-nil, refl, ap, sym, ◌∙◌, subst, inl, inr, Some, None, Option}
-use Rattle.std.specs.Prelude.{not, option_map, is_some}
-use Rattle.std.specs.List.{flat_map, list_any}
-use Rattle.std.proofs.lemmas.Bool.{cases_Bool, eqb-true, eq-eqb, both_ways, and_right, or_parts, not-false}
-use Rattle.std.proofs.lemmas.List.Concat.{flat_map-append}
-use Rattle.wsm_lists.specs.Rows.{AllRows}
-use Rattle.wsm_lists.proofs.Lists.{all_rows, all-rows-map, both_rows}
-use Rattle.wsm_schema.specs.Tree.{Part, act}
-use Rattle.wsm_schema.specs.SchemaModel.{SchemaModel}
-use Rattle.wsm_schema.specs.Kinds.{is_activity}
-use Rattle.wsm_schema.specs.Flat.{cards_of, card_at}
-use Rattle.wsm_schema.specs.Sound.{twice}
-use Rattle.wsm_schema.specs.declared.cards.Card.{Card}
-use Rattle.wsm_schema.specs.declared.cards.NodeKind.{NodeKind}
+use Rattle.wsm_ops.proofs.Common.{[], ℕ, ◌++◌, ◌∙◌, ◌∷◌, ◌≡◌, act, all-rows-map, all_rows, AllRows, and_right, ap, append-nil, at_gap, before, begins_item, behind, beside, Bool, both_rows, both_ways, by_card, Card, card_at, cards_of}
+use Rattle.wsm_ops.proofs.Common.{cases_Bool, change, closing, ends_item, ends_with, eq-eqb, eqb, eqb-true, false, flat_map, flat_map-append, Gap, gap_refusal, inl, inr, is_activity, is_code, is_node, is_some, item_refusal, List, list_any}
+use Rattle.wsm_ops.proofs.Common.{move_refusal, NodeKind, None, not, not-false, one_taken, opening, Option, option_map, or_parts, Part, part_pieces, Piece, put_at, refl, schema_pieces, SchemaModel, Seat, seat_at, seat_of, Some, subst, sym}
+use Rattle.wsm_ops.proofs.{Common.{takes_behind, true, twice, unless_activity, with_before, with_behind, without, without_node, wrong_item}, Distinct.{IsDistinct, first_none, when_none}, PieceCards.{card-seat, card-nodes}, PieceEdits.takes}
+use Rattle.wsm_ops.proofs.{PieceEdits.{putting, pieces_if, put_at-pieces, is_activity_of, kept_by, without_at-pieces}, PieceSeats.{same-flat_map, same-filter, IsSeated, all_seated, rows-filter, any-of}, PieceWraps.{begins_by, ends_by}}
+use Rattle.wsm_ops.proofs.PieceWraps.{begins, ends, wrapping, change_at-pieces, schema_two_ends}
 use Rattle.wsm_schema.specs.declared.cards.NodeKind.TheVariants.{Activity, AndSplit, AndJoin, XorSplit, XorJoin, LoopStart, LoopEnd}
-use Rattle.wsm_ops.specs.Edit.{is_code, without, change, beside}
-use Rattle.wsm_ops.specs.Refusals.{by_card, unless_activity, takes_behind, gap_refusal, begins_item, ends_item, wrong_item, item_refusal, move_refusal, one_taken}
-use Rattle.wsm_ops.specs.Apply.{put_at}
-use Rattle.wsm_ops.specs.Outline.{schema_pieces, part_pieces, is_node, at_gap, seat_at, seat_of, with_behind, with_before, behind, before, without_node, opening, closing, ends_with}
-use Rattle.wsm_ops.specs.declared.operations.Gap.{Gap}
 use Rattle.wsm_ops.specs.declared.operations.Gap.TheVariants as gap
-use Rattle.wsm_ops.specs.declared.pieces.Piece.{Piece}
 use Rattle.wsm_ops.specs.declared.pieces.Piece.TheVariants.{Node, Head}
-use Rattle.wsm_ops.specs.declared.pieces.Seat.{Seat}
-use Rattle.wsm_ops.proofs.Distinct.{IsDistinct, first_none, when_none}
-use Rattle.wsm_ops.proofs.PieceCards.{card-seat, card-nodes}
-use Rattle.wsm_ops.proofs.PieceEdits.{takes, putting, pieces_if, put_at-pieces, is_activity_of, kept_by, without_at-pieces}
-use Rattle.wsm_ops.proofs.PieceSeats.{same-flat_map, same-filter, IsSeated, all_seated, rows-filter, any-of}
-use Rattle.wsm_ops.proofs.PieceWraps.{begins_by, ends_by, begins, ends, wrapping, change_at-pieces, schema_two_ends}
 
 -- ---- a card that is there and passes a test
 abbrev pub Passes : (Card → Bool) → Option Card → Type 0

@@ -1,13 +1,8 @@
 -- A tree is read back from its pieces.
-use Rattle.std.proofs.Common.{◌≡◌, ℕ, List, [], ◌∷◌, ◌++◌, append_assoc, refl, ap, sym, ◌∙◌, Some, None}
-use Rattle.std.specs.List.{flat_map}
-use Rattle.std.proofs.lemmas.List.Concat.{flat_map-append}
-use Rattle.wsm_schema.specs.Tree.{Part, Parts, Lanes, act, gate, loop, nothing, part, no_lane, lane, and_gate, xor_gate}
-use Rattle.wsm_schema.specs.Tokens.{Token, Levels, open_gate, open_loop, a_branch, close, empty, read_token, read_tokens, part_tokens, parts_tokens, lanes_tokens, tree_of-tokens}
-use Rattle.wsm_schema.specs.Places.{join_kind}
+use Rattle.wsm_ops.proofs.Common.{[], ℕ, ◌++◌, ◌∙◌, ◌∷◌, ◌≡◌, a_branch, act, and_gate, ap, append_assoc, close, empty, flat_map, flat_map-append, gate, join_kind, lane, Lanes, lanes_pieces, lanes_tokens, Levels, List, loop, no_lane, None}
+use Rattle.wsm_ops.proofs.Common.{nothing, open_gate, open_loop, Part, part, part_pieces, part_tokens, Parts, parts_pieces, parts_tokens, Piece, pieces, read_onto, read_piece, read_pieces, read_token, read_tokens, refl, Some, sym, Token}
+use Rattle.wsm_ops.proofs.Common.{tokens_of, tree_in, tree_of-tokens, xor_gate}
 use Rattle.wsm_schema.specs.declared.cards.NodeKind.TheVariants.{Finish, LoopEnd}
-use Rattle.wsm_ops.specs.Outline.{part_pieces, parts_pieces, lanes_pieces, pieces, tokens_of, read_onto, read_piece, read_pieces, tree_in}
-use Rattle.wsm_ops.specs.declared.pieces.Piece.{Piece}
 use Rattle.wsm_ops.specs.declared.pieces.Piece.TheVariants.{Node}
 
 -- tokens in front of others

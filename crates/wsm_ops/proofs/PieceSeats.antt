@@ -1,15 +1,7 @@
 -- Pieces of which no two are one node: what is said of a node is said of each of its pieces.
-use Rattle.std.proofs.Common.{◌≡◌, ℕ, Bool, true, false, eqb, List, [], ◌∷◌, ◌++◌, refl, ap, sym, ◌∙◌, inl, inr, Some, None}
-use Rattle.std.specs.Prelude.{filter, if◌then◌else◌}
-use Rattle.std.specs.List.{flat_map, list_any}
-use Rattle.std.proofs.lemmas.Bool.{cases_Bool, eqb-true, both_ways}
-use Rattle.wsm_lists.specs.Rows.{AllRows}
-use Rattle.wsm_schema.specs.Sound.{twice}
-use Rattle.wsm_schema.specs.Trail.{is_one_of}
-use Rattle.wsm_ops.specs.Outline.{is_node, seat_at, nodes_in}
-use Rattle.wsm_ops.specs.declared.pieces.Piece.{Piece}
+use Rattle.wsm_ops.proofs.Common.{[], ℕ, ◌++◌, ◌∙◌, ◌∷◌, ◌≡◌, AllRows, ap, Bool, both_ways, cases_Bool, eqb, eqb-true, false, filter, flat_map, if◌then◌else◌, inl, inr, is_node, is_one_of, List, list_any, nodes_in, None, Piece, refl, Seat}
+use Rattle.wsm_ops.proofs.Common.{seat_at, Some, sym, true, twice}
 use Rattle.wsm_ops.specs.declared.pieces.Piece.TheVariants.{Node, Head}
-use Rattle.wsm_ops.specs.declared.pieces.Seat.{Seat}
 
 -- functions and tests that agree at each piece
 pub same-flat_map : {X Y : Type 0} (f g : X → List Y) (xs : List X) → AllRows (λ x. f x ≡ g x) xs → flat_map f xs ≡ flat_map g xs

@@ -1,18 +1,9 @@
 -- What a block round an item does to the pieces of a tree.
-use Rattle.std.proofs.Common.{◌≡◌, ℕ, Bool, true, false, ◌&&◌, ◌||◌, eqb, List, [], ◌∷◌, ◌++◌, append_assoc, append-nil, refl, ap, sym, ◌∙◌, Some, None, Option}
-use Rattle.std.specs.Prelude.{not, ◌==◌}
-use Rattle.std.specs.List.{flat_map, list_any}
-use Rattle.std.proofs.lemmas.List.Concat.{flat_map-append}
-use Rattle.std.proofs.lemmas.List.Folds.{list_any-append}
-use Rattle.wsm_schema.specs.Tree.{Part, Parts, Lanes, act, gate, loop, nothing, part, no_lane, lane, and_gate, xor_gate}
-use Rattle.wsm_schema.specs.Trail.{is_one_of}
-use Rattle.wsm_schema.specs.declared.cards.NodeKind.{NodeKind}
+use Rattle.wsm_ops.proofs.Common.{[], ℕ, ◌&&◌, ◌++◌, ◌==◌, ◌||◌, ◌∙◌, ◌∷◌, ◌≡◌, act, and_gate, ap, append-nil, append_assoc, beside, Bool, change, change_inside, change_lanes, closing, eqb, false, flat_map, flat_map-append, gate, is_code}
+use Rattle.wsm_ops.proofs.Common.{is_item, is_one_of, lane, Lanes, lanes_pieces, List, list_any, list_any-append, loop, no_lane, NodeKind, None, not, nothing, opening, Option, Part, part, part_pieces, Parts, parts_pieces, Piece, pieces}
+use Rattle.wsm_ops.proofs.{Common.{refl, Some, sym, true, wrap_if, xor_gate}, PieceEdits.pieces_if}
 use Rattle.wsm_schema.specs.declared.cards.NodeKind.TheVariants.{Start, Finish, Activity, AndSplit, AndJoin, XorSplit, XorJoin, LoopStart, LoopEnd}
-use Rattle.wsm_ops.specs.Edit.{is_code, is_item, wrap_if, change_inside, change, change_lanes, beside}
-use Rattle.wsm_ops.specs.Outline.{part_pieces, parts_pieces, lanes_pieces, pieces, opening, closing}
-use Rattle.wsm_ops.specs.declared.pieces.Piece.{Piece}
 use Rattle.wsm_ops.specs.declared.pieces.Piece.TheVariants.{Node, Head}
-use Rattle.wsm_ops.proofs.PieceEdits.{pieces_if}
 
 -- whether the item from one node to another begins with a piece, or ends with it
 abbrev pub begins_by : NodeKind → ℕ → Option ℕ → ℕ × ℕ → Bool

@@ -1,8 +1,7 @@
 -- Tables that are filled in the order of their keys.
-use Rattle.std.proofs.Common.{◌≡◌, ℕ, suc, ◌+◌, ◌<◌, true, Bool, List, [], ◌∷◌, ◌++◌, filter, drop, length, get_or, refl, ap, sym, ◌∙◌, subst, inl, inr, add-one, drop-cons, append_assoc}
-use Rattle.std.proofs.lemmas.Bool.{cases_Bool}
-use Rattle.wsm_lists.specs.Rows.{AllRows, Ascends, key_lt, put_row}
-use Rattle.wsm_lists.proofs.Lists.{rows-parts}
+use Rattle.wsm_ops.proofs.Common.{[], ℕ, ◌++◌, ◌+◌, ◌<◌, ◌∙◌, ◌∷◌, ◌≡◌, add-one, AllRows, ap, append_assoc, Ascends, Bool, cases_Bool, drop, drop-cons, get_or, inl, inr, key_lt, length, List, put_row, refl, rows-parts, subst, suc, sym}
+use Rattle.wsm_ops.proofs.Common.{true}
+use Rattle.std.proofs.Common.{filter}
 
 -- the row that comes next goes to the end
 pub put_row-next : {X : Type 0} (key : X → ℕ × ℕ) (xs ys : List X) (y : X) → Ascends key (xs ++ (y ∷ ys)) → put_row key y xs ≡ xs ++ (y ∷ [])

@@ -1,15 +1,6 @@
 -- Tests of a node's card, by what its seat says.
-use Rattle.std.proofs.Common.{◌≡◌, ℕ, Bool, List, refl, ap, ◌∙◌, Some, None, Option}
-use Rattle.std.specs.Prelude.{not, option_map}
-use Rattle.std.specs.Option.{option_or}
-use Rattle.wsm_schema.specs.Flat.{card_at}
-use Rattle.wsm_schema.specs.Sound.{when}
-use Rattle.wsm_schema.specs.declared.cards.Card.{Card}
-use Rattle.wsm_schema.specs.declared.cards.NodeKind.{NodeKind}
-use Rattle.wsm_ops.specs.Refusals.{by_card, wrong_unless, wrong_item, begins_item}
-use Rattle.wsm_ops.specs.Outline.{seat_of, ends_with}
+use Rattle.wsm_ops.proofs.Common.{ℕ, ◌∙◌, ◌≡◌, ap, begins_item, Bool, by_card, Card, card_at, ends_with, List, NodeKind, None, not, Option, option_map, option_or, refl, Seat, seat_of, Some, when, wrong_item, wrong_unless}
 use Rattle.wsm_ops.specs.declared.faults.OpWhy.TheVariants.{WrongKind}
-use Rattle.wsm_ops.specs.declared.pieces.Seat.{Seat}
 use Rattle.wsm_ops.proofs.PieceEffects.{card_at-node}
 
 pub by_seat : (test : NodeKind → Bool) (n : ℕ) (found : Option Card) (seat : Seat) → option_map seat_of found ≡ Some seat → by_card (λ c. test c.kind) n found ≡ when (not (test seat.kind)) (WrongKind n)

@@ -1,14 +1,6 @@
 -- What the outline of a draft says of its schema.
-use Rattle.std.proofs.Common.{◌≡◌, ℕ, List, [], ap, sym, ◌∙◌, None}
-use Rattle.std.specs.Prelude.{option_map}
-use Rattle.wsm_schema.specs.SchemaModel.{SchemaModel}
-use Rattle.wsm_schema.specs.Flat.{cards_of, card_at}
-use Rattle.wsm_schema.specs.Sound.{twice}
-use Rattle.wsm_ops.specs.Outline.{pieces, schema_pieces, tree_in, IsOutline, seat_at, seat_of, has_head, has_branch, nodes_in}
-use Rattle.wsm_ops.specs.declared.pieces.Piece.{Piece}
-use Rattle.wsm_ops.proofs.Distinct.{IsDistinct}
-use Rattle.wsm_ops.proofs.PieceReading.{tree_in-pieces}
-use Rattle.wsm_ops.proofs.PieceCards.{card-seat, card-nodes, head-branch}
+use Rattle.wsm_ops.proofs.Common.{[], ℕ, ◌∙◌, ◌≡◌, ap, card_at, cards_of, has_branch, has_head, IsOutline, List, nodes_in, None, option_map, Piece, pieces, schema_pieces, SchemaModel, seat_at, seat_of, sym, tree_in, twice}
+use Rattle.wsm_ops.proofs.{Distinct.IsDistinct, PieceReading.tree_in-pieces, PieceCards.{card-seat, card-nodes, head-branch}}
 
 -- the pieces of a schema with distinct nodes are an outline of it
 pub outline-of : (s : SchemaModel) (ps : List Piece) → IsDistinct s → ps ≡ schema_pieces s → IsOutline s.start s.finish ps

@@ -1,11 +1,6 @@
 -- A list of operations, one step at a time.
-use Rattle.std.proofs.Common.{◌≡◌, ℕ, ◌+◌, ◌<◌, List, [], ◌∷◌, length, drop, get_or, refl, ap, sym, ◌∙◌, subst, Option, Some, None, add-one, drop-cons, drop_of_length-le, ◌≤◌}
-use Rattle.std.specs.Prelude.{Result, Ok, Err}
-use Rattle.wsm_schema.specs.SchemaModel.{SchemaModel}
-use Rattle.wsm_ops.specs.Apply.{refusal, effect, unless_refused, applied_from, applied, IsOpFault}
-use Rattle.wsm_ops.specs.declared.operations.Op.{Op}
-use Rattle.wsm_ops.specs.declared.faults.OpWhy.{OpWhy}
-use Rattle.wsm_ops.specs.declared.faults.OpFault.{OpFault}
+use Rattle.wsm_ops.proofs.Common.{[], ℕ, ◌+◌, ◌<◌, ◌∙◌, ◌∷◌, ◌≡◌, ◌≤◌, add-one, ap, applied, applied_from, drop, drop-cons, drop_of_length-le, effect, Err, get_or, IsOpFault, length, List, None, Ok, Op, OpFault, Option, OpWhy, refl}
+use Rattle.wsm_ops.proofs.Common.{refusal, Result, SchemaModel, Some, subst, sym, unless_refused}
 use Rattle.wsm_ops.specs.declared.faults.ApplyRefusal.{ApplyRefusal}
 use Rattle.wsm_ops.specs.declared.faults.ApplyRefusal.TheVariants as apply_refusal
 

@@ -1,17 +1,9 @@
 -- Sums over the nodes of a tree, and what edits do to them.
-use Rattle.std.proofs.Common.{◌≡◌, ℕ, ◌+◌, ◌≤◌, Bool, true, false, eqb, List, [], ◌∷◌, ◌++◌, refl, inl, inr, arith, Option, Some, None}
-use Rattle.std.specs.Prelude.{◌&&◌, ◌==◌, is_some}
-use Rattle.std.proofs.lemmas.Bool.{cases_Bool}
-use Rattle.wsm_schema.specs.Tree.{Part, Parts, Lanes, Gate, act, gate, loop, nothing, part, no_lane, lane, and_gate, xor_gate}
-use Rattle.wsm_schema.specs.Ends.{first_of, last_of, first_node}
-use Rattle.wsm_schema.specs.Kinds.{is_activity}
-use Rattle.wsm_schema.specs.Places.{place, split_kind, join_kind, plain_end, labelled, branch_tails, leaving, part_places, parts_places, lanes_places}
-use Rattle.wsm_schema.specs.declared.cards.End.{End}
-use Rattle.wsm_schema.specs.declared.cards.NodeKind.{NodeKind}
+use Rattle.wsm_ops.proofs.Common.{[], ℕ, ◌++◌, ◌+◌, ◌==◌, ◌∷◌, ◌≡◌, ◌≤◌, act, and_gate, arith, Bool, branch_tails, cases_Bool, change, change_inside, change_lanes, End, eqb, false, first_node, first_of, Gap, Gate, gate, head_code, inl, inr}
+use Rattle.wsm_ops.proofs.Common.{is_act_of, is_activity, is_behind, is_code, is_item, is_some, join_kind, labelled, lane, Lanes, lanes_places, last_of, leaving, List, loop, no_lane, NodeKind, None, nothing, Option, Part, part, part_places}
+use Rattle.wsm_ops.proofs.Common.{Parts, parts_places, Place, place, plain_end, put, put_if, put_inside, put_lanes, refl, Some, split_kind, still_wanted, true, without, without_inside, without_lanes, wrap_if, xor_gate}
+use Rattle.std.specs.Prelude.{◌&&◌}
 use Rattle.wsm_schema.specs.declared.cards.NodeKind.TheVariants.{Activity, LoopStart, LoopEnd}
-use Rattle.wsm_schema.specs.declared.places.Place.{Place}
-use Rattle.wsm_ops.specs.Edit.{is_behind, head_code, is_code, still_wanted, put_if, put_inside, put, put_lanes, is_act_of, without_inside, without, without_lanes, is_item, wrap_if, change_inside, change, change_lanes}
-use Rattle.wsm_ops.specs.declared.operations.Gap.{Gap}
 use Rattle.wsm_ops.specs.declared.operations.Gap.TheVariants as gap
 
 -- so much, where a test says so

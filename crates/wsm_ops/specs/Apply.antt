@@ -1,21 +1,11 @@
 -- The meaning of operations: the first refusal, or the changed schema.
-use Rattle.std.specs.Prelude.{◌≡◌, ℕ, ◌+◌, ◌||◌, not, ◌==◌, List, [], ◌∷◌, filter, Option, Some, None, is_some, Result, Ok, Err}
-use Rattle.std.specs.Option.{option_or}
-use Rattle.wsm_lists.specs.Rows.{put_row, drop_row, row_at}
-use Rattle.wsm_lists.specs.Keys.{both, first, first_two, put_role}
-use Rattle.wsm_schema.specs.Tree.{Part, act}
-use Rattle.wsm_schema.specs.SchemaModel.{SchemaModel}
-use Rattle.wsm_schema.specs.Flat.{cards_of}
-use Rattle.wsm_schema.specs.Sound.{when}
-use Rattle.wsm_ops.specs.Edit.{is_behind, put_if, put, without, change, beside, choice}
-use Rattle.wsm_ops.specs.Refusals.{unless_activity, unless_worked_on, taken, one_taken, gap_refusal, item_refusal, move_refusal, sync_refusal}
-use Rattle.wsm_ops.specs.declared.operations.Gap.{Gap}
-use Rattle.wsm_ops.specs.declared.operations.Op.{Op}
+use Rattle.std.specs.{Prelude.{◌≡◌, ℕ, ◌+◌, ◌||◌, not, ◌==◌, List, [], ◌∷◌, filter, Option, Some, None, is_some, Result, Ok, Err}, Option.option_or}
+use Rattle.wsm_lists.specs.{Rows.{put_row, drop_row, row_at}, Keys.{both, first, first_two, put_role}}
+use Rattle.wsm_schema.specs.{Tree.{Part, act}, SchemaModel.SchemaModel, Flat.cards_of, Sound.when}
+use Rattle.wsm_ops.specs.{Edit.{is_behind, put_if, put, without, change, beside, choice}, Refusals.{unless_activity, unless_worked_on, taken, one_taken, gap_refusal, item_refusal, move_refusal, sync_refusal}, declared.operations.Gap.Gap}
+use Rattle.wsm_ops.specs.{declared.operations.Op.Op, declared.faults.OpWhy.OpWhy, declared.faults.OpFault.OpFault, declared.faults.ApplyRefusal.ApplyRefusal}
 use Rattle.wsm_ops.specs.declared.operations.Op.TheVariants as op
-use Rattle.wsm_ops.specs.declared.faults.OpWhy.{OpWhy}
 use Rattle.wsm_ops.specs.declared.faults.OpWhy.TheVariants.{NoSync, NoEdge, EdgeThere, ElementThere}
-use Rattle.wsm_ops.specs.declared.faults.OpFault.{OpFault}
-use Rattle.wsm_ops.specs.declared.faults.ApplyRefusal.{ApplyRefusal}
 use Rattle.wsm_ops.specs.declared.faults.ApplyRefusal.TheVariants as apply_refusal
 
 -- the first refusal of an operation

@@ -1,11 +1,8 @@
 -- Edits of trees.
 use Rattle.std.specs.Prelude.{ℕ, Bool, false, ◌&&◌, Option, Some, None, ◌==◌, if◌then◌else◌}
-use Rattle.wsm_schema.specs.Tree.{Part, Parts, Lanes, act, gate, loop, nothing, part, no_lane, lane, and_gate, xor_gate}
-use Rattle.wsm_schema.specs.Ends.{first_of, last_of}
-use Rattle.wsm_ops.specs.declared.operations.Gap.{Gap}
+use Rattle.wsm_schema.specs.{Tree.{Part, Parts, Lanes, act, gate, loop, nothing, part, no_lane, lane, and_gate, xor_gate}, Ends.{first_of, last_of}}
+use Rattle.wsm_ops.specs.{declared.operations.Gap.Gap, declared.insertions.New.New, declared.wraps.Wrap.Wrap}
 use Rattle.wsm_ops.specs.declared.operations.Gap.TheVariants as gap
-use Rattle.wsm_ops.specs.declared.insertions.New.{New}
-use Rattle.wsm_ops.specs.declared.wraps.Wrap.{Wrap}
 use Rattle.wsm_ops.specs.declared.insertions.New.TheVariants as new
 
 -- whether a gap is the place directly behind a node

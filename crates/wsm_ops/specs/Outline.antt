@@ -1,22 +1,10 @@
 -- A tree as the list of its pieces in document order, and what edits do to such a list.
-use Rattle.std.specs.Prelude.{◌≡◌, ℕ, ◌≤◌, Bool, true, false, ◌&&◌, ◌==◌, not, List, [], ◌∷◌, ◌++◌, filter, length, Option, Some, None, if◌then◌else◌}
-use Rattle.std.specs.List.{flat_map, list_any}
-use Rattle.wsm_schema.specs.Tree.{Part, Parts, Lanes, act, gate, loop, nothing, part, no_lane, lane, and_gate, xor_gate}
-use Rattle.wsm_schema.specs.Tokens.{Token, Levels, an_act, open_gate, open_loop, a_branch, close, empty, read_token}
-use Rattle.wsm_schema.specs.SchemaModel.{SchemaModel}
-use Rattle.wsm_schema.specs.Places.{split_kind, join_kind}
-use Rattle.wsm_schema.specs.Kinds.{is_activity}
-use Rattle.wsm_schema.specs.Trail.{is_one_of}
-use Rattle.wsm_schema.specs.Sound.{twice}
-use Rattle.wsm_schema.specs.declared.cards.Card.{Card}
-use Rattle.wsm_schema.specs.declared.cards.NodeKind.{NodeKind}
+use Rattle.std.specs.{Prelude.{◌≡◌, ℕ, ◌≤◌, Bool, true, false, ◌&&◌, ◌==◌, not, List, [], ◌∷◌, ◌++◌, filter, length, Option, Some, None, if◌then◌else◌}, List.{flat_map, list_any}}
+use Rattle.wsm_schema.specs.{Tree.{Part, Parts, Lanes, act, gate, loop, nothing, part, no_lane, lane, and_gate, xor_gate}, Tokens.{Token, Levels, an_act, open_gate, open_loop, a_branch, close, empty, read_token}, SchemaModel.SchemaModel}
+use Rattle.wsm_schema.specs.{Places.{split_kind, join_kind}, Kinds.is_activity, Trail.is_one_of, Sound.twice, declared.cards.Card.Card, declared.cards.NodeKind.NodeKind}
 use Rattle.wsm_schema.specs.declared.cards.NodeKind.TheVariants.{Start, Finish, Activity, AndSplit, AndJoin, XorSplit, XorJoin, LoopStart, LoopEnd}
-use Rattle.wsm_ops.specs.Edit.{is_behind, head_code, is_code}
-use Rattle.wsm_ops.specs.Refusals.{is_split, has_code}
-use Rattle.wsm_ops.specs.declared.operations.Gap.{Gap}
-use Rattle.wsm_ops.specs.declared.pieces.Piece.{Piece}
+use Rattle.wsm_ops.specs.{Edit.{is_behind, head_code, is_code}, Refusals.{is_split, has_code}, declared.operations.Gap.Gap, declared.pieces.Piece.Piece, declared.pieces.Seat.Seat}
 use Rattle.wsm_ops.specs.declared.pieces.Piece.TheVariants.{Node, Head}
-use Rattle.wsm_ops.specs.declared.pieces.Seat.{Seat}
 
 -- the pieces of a tree, where `seen` are the codes of the branches before these
 abbrev mutual

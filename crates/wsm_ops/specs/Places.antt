@@ -1,11 +1,6 @@
 -- Where nodes of pieces were put.
-use Rattle.std.specs.Prelude.{◌≡◌, ℕ, Bool, true, false, ◌||◌, nat_eq, List, slice_get, Option, Some, None, is_some}
-use Rattle.std.specs.List.{list_any}
-use Rattle.std.specs.HashMap.{get}
-use Rattle.wsm_ops.specs.Outline.{is_node, seat_on}
-use Rattle.wsm_ops.specs.declared.pieces.Piece.{Piece}
-use Rattle.wsm_ops.specs.declared.pieces.Seat.{Seat}
-use Rattle.wsm_ops.specs.declared.places.Places.{Places}
+use Rattle.std.specs.{Prelude.{◌≡◌, ℕ, Bool, true, false, ◌||◌, nat_eq, List, slice_get, Option, Some, None, is_some}, List.list_any, HashMap.get}
+use Rattle.wsm_ops.specs.{Outline.{is_node, seat_on}, declared.pieces.Piece.Piece, declared.pieces.Seat.Seat, declared.places.Places.Places}
 
 -- the place that is known of a node
 abbrev pub place_of : Places → ℕ → Option ℕ

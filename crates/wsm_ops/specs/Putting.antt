@@ -1,8 +1,6 @@
 -- The operations that put something new at a gap.
-use Rattle.wsm_ops.specs.declared.operations.Gap.{Gap}
-use Rattle.wsm_ops.specs.declared.operations.Op.{Op}
+use Rattle.wsm_ops.specs.{declared.operations.Gap.Gap, declared.operations.Op.Op, declared.insertions.New.New}
 use Rattle.wsm_ops.specs.declared.operations.Op.TheVariants as op
-use Rattle.wsm_ops.specs.declared.insertions.New.{New}
 use Rattle.wsm_ops.specs.declared.insertions.New.TheVariants as new
 
 -- the operation that puts it there, with no role

@@ -1,10 +1,7 @@
 -- What a reader of pieces has read.
 use Rattle.std.specs.Prelude.{map, reverse}
-use Rattle.wsm_schema.specs.Tree.{lanes}
-use Rattle.wsm_schema.specs.TreeOf.{parts_of, lanes_of}
-use Rattle.wsm_schema.specs.Tokens.{Level, Levels}
-use Rattle.wsm_ops.specs.declared.readers.Open.{Open}
-use Rattle.wsm_ops.specs.declared.readers.Reader.{Reader}
+use Rattle.wsm_schema.specs.{Tree.lanes, TreeOf.{parts_of, lanes_of}, Tokens.{Level, Levels}}
+use Rattle.wsm_ops.specs.{declared.readers.Open.Open, declared.readers.Reader.Reader}
 
 -- of one block: its items and branches stand in the reader last ones first
 abbrev pub level_of : Open → Level

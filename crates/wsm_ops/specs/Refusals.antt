@@ -1,21 +1,10 @@
 -- What speaks against an operation, by the cards of the schema.
-use Rattle.std.specs.Prelude.{ℕ, Bool, true, false, ◌&&◌, ◌||◌, not, ◌==◌, List, [], ◌∷◌, Option, Some, None, is_some, if◌then◌else◌}
-use Rattle.std.specs.Option.{option_or}
-use Rattle.std.specs.List.{list_any}
-use Rattle.wsm_lists.specs.Rows.{row_at}
-use Rattle.wsm_lists.specs.Keys.{both}
-use Rattle.wsm_schema.specs.Kinds.{worked_on, is_activity}
-use Rattle.wsm_schema.specs.Flat.{card_at}
-use Rattle.wsm_schema.specs.Trail.{is_one_of}
-use Rattle.wsm_schema.specs.Sound.{when}
-use Rattle.wsm_schema.specs.declared.cards.Card.{Card}
-use Rattle.wsm_schema.specs.declared.cards.End.{End}
-use Rattle.wsm_schema.specs.declared.cards.NodeKind.{NodeKind}
+use Rattle.std.specs.{Prelude.{ℕ, Bool, true, false, ◌&&◌, ◌||◌, not, ◌==◌, List, [], ◌∷◌, Option, Some, None, is_some, if◌then◌else◌}, Option.option_or, List.list_any}
+use Rattle.wsm_lists.specs.{Rows.row_at, Keys.both}
+use Rattle.wsm_schema.specs.{Kinds.{worked_on, is_activity}, Flat.card_at, Trail.is_one_of, Sound.when, declared.cards.Card.Card, declared.cards.End.End, declared.cards.NodeKind.NodeKind}
 use Rattle.wsm_schema.specs.declared.cards.NodeKind.TheVariants as node_kind
-use Rattle.wsm_ops.specs.Edit.{is_behind, is_code}
-use Rattle.wsm_ops.specs.declared.operations.Gap.{Gap}
+use Rattle.wsm_ops.specs.{Edit.{is_behind, is_code}, declared.operations.Gap.Gap, declared.faults.OpWhy.OpWhy}
 use Rattle.wsm_ops.specs.declared.operations.Gap.TheVariants as gap
-use Rattle.wsm_ops.specs.declared.faults.OpWhy.{OpWhy}
 use Rattle.wsm_ops.specs.declared.faults.OpWhy.TheVariants.{NoNode, NodeThere, WrongKind, SelfTarget, SyncThere}
 
 -- a node that is not there, or whose card fails a test

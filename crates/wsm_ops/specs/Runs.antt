@@ -1,9 +1,6 @@
 -- Pieces in runs, and spots in them.
-use Rattle.std.specs.Prelude.{◌≡◌, ℕ, ◌+◌, zero, suc, Bool, true, false, List, [], ◌∷◌, ◌++◌, length, take, drop, Option, Some, None, slice_get, Vec}
-use Rattle.std.specs.List.{list_any}
-use Rattle.wsm_ops.specs.Places.{passes}
-use Rattle.wsm_ops.specs.declared.pieces.Piece.{Piece}
-use Rattle.wsm_ops.specs.declared.runs.Spot.{Spot}
+use Rattle.std.specs.{Prelude.{◌≡◌, ℕ, ◌+◌, zero, suc, Bool, true, false, List, [], ◌∷◌, ◌++◌, length, take, drop, Option, Some, None, slice_get, Vec}, List.list_any}
+use Rattle.wsm_ops.specs.{Places.passes, declared.pieces.Piece.Piece, declared.runs.Spot.Spot}
 
 -- all pieces of some runs
 abbrev pub joined : {A : Type 0} → List (Vec Piece A) → List Piece

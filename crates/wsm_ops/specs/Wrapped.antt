@@ -1,9 +1,7 @@
 -- What a wrap makes of the pieces of a schema.
 use Rattle.std.specs.Prelude.{List}
-use Rattle.wsm_ops.specs.Outline.{at_gap, is_node, before, behind, opening, closing}
+use Rattle.wsm_ops.specs.{Outline.{at_gap, is_node, before, behind, opening, closing}, declared.pieces.Piece.Piece, declared.wraps.Wrap.Wrap}
 use Rattle.wsm_ops.specs.declared.operations.Gap.TheVariants.{After}
-use Rattle.wsm_ops.specs.declared.pieces.Piece.{Piece}
-use Rattle.wsm_ops.specs.declared.wraps.Wrap.{Wrap}
 
 -- with what stands before the item, or behind it, or both
 abbrev pub opened : Wrap → List Piece → List Piece

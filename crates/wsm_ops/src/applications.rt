@@ -1,7 +1,6 @@
 // Operations one after another.
 ghost use Rattle.std.specs.Prelude.{◌≡◌, ◌<◌, ◌^◌, [], ◌∷◌, length, IfOk, IfErr, None, Ok};
-ghost use Rattle.wsm_schema.specs.Flat.{cards_of};
-ghost use Rattle.wsm_schema.specs.Sound.{nodes_of, twice};
+ghost use Rattle.wsm_schema.specs.{Flat.cards_of, Sound.{nodes_of, twice}};
 ghost use Rattle.wsm_ops.specs.Apply.{applied, applied_from, IsOpFault};
 
 use crate::drafts::Draft;

@@ -1,8 +1,6 @@
 // A schema while operations change it.
-ghost use Rattle.std.specs.Prelude.{◌≡◌, [], None, IfOk};
-ghost use Rattle.std.specs.Prelude.{option_map};
-ghost use Rattle.wsm_schema.specs.Flat.{cards_of, card_at};
-ghost use Rattle.wsm_schema.specs.Sound.{nodes_of, twice};
+ghost use Rattle.std.specs.Prelude.{◌≡◌, [], None, IfOk, option_map};
+ghost use Rattle.wsm_schema.specs.{Flat.{cards_of, card_at}, Sound.{nodes_of, twice}};
 ghost use Rattle.wsm_ops.specs.Outline.{seat_of, has_branch};
 
 use crate::outlines::Outline;

@@ -1,11 +1,7 @@
 // What operations do that are not refused.
-ghost use Rattle.std.specs.Prelude.{◌≡◌, ◌||◌, ◌==◌, not, IfOk, filter};
-ghost use Rattle.std.specs.Prelude.{None};
+ghost use Rattle.std.specs.Prelude.{◌≡◌, ◌||◌, ◌==◌, not, IfOk, filter, None};
 ghost use Rattle.wsm_schema.specs.Flat.{cards_of};
-ghost use Rattle.wsm_ops.specs.Edit.{new_part, without};
-ghost use Rattle.wsm_ops.specs.Refusals.{unless_activity};
-ghost use Rattle.wsm_ops.specs.Apply.{refusal, effect, put_at, with_role};
-ghost use Rattle.wsm_ops.specs.Putting.{put_op};
+ghost use Rattle.wsm_ops.specs.{Edit.{new_part, without}, Refusals.unless_activity, Apply.{refusal, effect, put_at, with_role}, Putting.put_op};
 ghost use Rattle.wsm_ops.specs.declared.operations.Op.TheVariants as op;
 
 use crate::drafts::Draft;

@@ -1,7 +1,6 @@
 // What operations put at gaps.
 ghost use Rattle.std.specs.Prelude.{◌≡◌, IfOk};
-ghost use Rattle.wsm_ops.specs.Edit.{new_part};
-ghost use Rattle.wsm_ops.specs.Outline.{part_pieces, at_gap, behind, IsOnce};
+ghost use Rattle.wsm_ops.specs.{Edit.new_part, Outline.{part_pieces, at_gap, behind, IsOnce}};
 
 use crate::operations::Gap;
 use crate::outlines::Outline;

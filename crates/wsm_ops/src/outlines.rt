@@ -1,8 +1,6 @@
 // The pieces of a schema in document order, and edits of them.
 ghost use Rattle.std.specs.Prelude.{◌≡◌, IfOk, IsTrue};
-ghost use Rattle.wsm_ops.specs.Outline.{is_node, at_gap, seat_at, has_head, behind, before, without_node, IsOnce};
-ghost use Rattle.wsm_ops.specs.Places.{place_of, IsNoted};
-ghost use Rattle.wsm_ops.specs.Runs.{joined, IsSpot};
+ghost use Rattle.wsm_ops.specs.{Outline.{is_node, at_gap, seat_at, has_head, behind, before, without_node, IsOnce}, Places.{place_of, IsNoted}, Runs.{joined, IsSpot}};
 ghost use Rattle.wsm_ops.specs.declared.operations.Gap.TheVariants.{After};
 
 use crate::operations::Gap;

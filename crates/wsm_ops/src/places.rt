@@ -1,8 +1,6 @@
 // In which runs nodes were put, which is where to look for them first.
 ghost use Rattle.std.specs.Prelude.{◌≡◌, ℕ, Some, None, IfOk, OnOk, if◌then◌else◌};
-ghost use Rattle.wsm_ops.specs.Outline.{is_node};
-ghost use Rattle.wsm_ops.specs.Places.{place_of, Noted};
-ghost use Rattle.wsm_ops.specs.Runs.{joined};
+ghost use Rattle.wsm_ops.specs.{Outline.is_node, Places.{place_of, Noted}, Runs.joined};
 
 use crate::pieces::Piece;
 use std::alloc::Global;

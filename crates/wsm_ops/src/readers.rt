@@ -1,10 +1,7 @@
 // Trees from their pieces, which are read from the right.
 ghost use Rattle.std.specs.Prelude.{◌≡◌, [], ◌∷◌, OnOk, IfOk};
-ghost use Rattle.wsm_schema.specs.TreeOf.{part_of, parts_of, lanes_of};
-ghost use Rattle.wsm_schema.specs.Tree.{lanes, gate, loop, and_gate, xor_gate};
-ghost use Rattle.wsm_schema.specs.Tokens.{empty, outer, before, read_token, a_branch, open_gate, open_loop, close};
-ghost use Rattle.wsm_ops.specs.Outline.{node_tokens, read_onto, read_piece, tree_in};
-ghost use Rattle.wsm_ops.specs.Readings.{level_of, levels_of};
+ghost use Rattle.wsm_schema.specs.{TreeOf.{part_of, parts_of, lanes_of}, Tree.{lanes, gate, loop, and_gate, xor_gate}, Tokens.{empty, outer, before, read_token, a_branch, open_gate, open_loop, close}};
+ghost use Rattle.wsm_ops.specs.{Outline.{node_tokens, read_onto, read_piece, tree_in}, Readings.{level_of, levels_of}};
 
 use crate::pieces::Piece;
 use std::alloc::Global;

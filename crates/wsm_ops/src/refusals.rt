@@ -1,10 +1,7 @@
 // What speaks against an operation.
 ghost use Rattle.std.specs.Prelude.{◌≡◌, ◌||◌, ◌&&◌, is_some};
-ghost use Rattle.wsm_schema.specs.Kinds.{is_activity};
-ghost use Rattle.wsm_schema.specs.Sound.{when};
-ghost use Rattle.wsm_schema.specs.Flat.{cards_of, card_at};
-ghost use Rattle.wsm_ops.specs.Refusals.{unless_activity, unless_worked_on, move_refusal, sync_refusal, one_taken, takes_behind, is_split, has_code, gap_refusal, wrong_unless, begins_item, ends_item, item_refusal};
-ghost use Rattle.wsm_ops.specs.Apply.{refusal};
+ghost use Rattle.wsm_schema.specs.{Kinds.is_activity, Sound.when, Flat.{cards_of, card_at}};
+ghost use Rattle.wsm_ops.specs.{Refusals.{unless_activity, unless_worked_on, move_refusal, sync_refusal, one_taken, takes_behind, is_split, has_code, gap_refusal, wrong_unless, begins_item, ends_item, item_refusal}, Apply.refusal};
 ghost use Rattle.wsm_ops.specs.declared.faults.OpWhy.TheVariants.{NodeThere};
 
 use crate::drafts::Draft;

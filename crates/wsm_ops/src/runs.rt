@@ -1,10 +1,6 @@
 // Pieces in short runs.
-ghost use Rattle.std.specs.Prelude.{◌≡◌, ◌<◌, ◌≤◌, ◌+◌, false, length, slice_get, position, OnOk, IfOk};
-ghost use Rattle.std.specs.List.{remove};
-ghost use Rattle.std.specs.Option.{option_copied};
-ghost use Rattle.wsm_ops.specs.Outline.{at_gap, has_head};
-ghost use Rattle.wsm_ops.specs.Places.{seat_there};
-ghost use Rattle.wsm_ops.specs.Runs.{joined, items_at, place_at, with_pieces_at, IsSpot, IsSpotIn};
+ghost use Rattle.std.specs.{Prelude.{◌≡◌, ◌<◌, ◌≤◌, ◌+◌, false, length, slice_get, position, OnOk, IfOk}, List.remove, Option.option_copied};
+ghost use Rattle.wsm_ops.specs.{Outline.{at_gap, has_head}, Places.seat_there, Runs.{joined, items_at, place_at, with_pieces_at, IsSpot, IsSpotIn}};
 
 use crate::operations::Gap;
 use crate::pieces::{Piece, Seat};

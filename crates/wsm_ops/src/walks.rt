@@ -1,7 +1,6 @@
 // The pieces of a schema, by one walk through its tree.
 ghost use Rattle.std.specs.Prelude.{◌≡◌, [], ◌∷◌, ◌++◌, map, OnOk, IfOk};
-ghost use Rattle.wsm_schema.specs.TreeOf.{part_of, parts_of, lanes_of};
-ghost use Rattle.wsm_schema.specs.Tree.{lanes};
+ghost use Rattle.wsm_schema.specs.{TreeOf.{part_of, parts_of, lanes_of}, Tree.lanes};
 ghost use Rattle.wsm_ops.specs.declared.pieces.Piece.TheVariants.{Node};
 ghost use Rattle.wsm_ops.specs.Outline.{part_pieces, parts_pieces, lanes_pieces, schema_pieces};
 

@@ -1,7 +1,6 @@
 // An AND block round an item.
 ghost use Rattle.std.specs.Prelude.{◌≡◌, IfOk};
-ghost use Rattle.wsm_ops.specs.Outline.{at_gap, IsOnce};
-ghost use Rattle.wsm_ops.specs.Wrapped.{opened, wrapped, closed};
+ghost use Rattle.wsm_ops.specs.{Outline.{at_gap, IsOnce}, Wrapped.{opened, wrapped, closed}};
 ghost use Rattle.wsm_ops.specs.declared.operations.Gap.TheVariants.{After};
 
 use crate::operations::Gap;

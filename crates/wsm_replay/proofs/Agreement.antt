@@ -1,22 +1,10 @@
 -- Tables that agree are settled alike.
-use Rattle.std.proofs.Common.{◌≡◌, ℕ, Bool, true, false, cond, not, eqb, List, [], ◌∷◌, ◌++◌, map, refl, ap, sym, ◌∙◌, inl, inr, Option, Some, None}
-use Rattle.std.specs.Option.{is_some, option_or}
-use Rattle.std.proofs.lemmas.Bool.{cases_Bool, eqb-true}
-use Rattle.wsm_lists.specs.Rows.{key_eq, row_at, put_row}
-use Rattle.wsm_schema.specs.Flat.{card_at}
-use Rattle.wsm_schema.specs.Pass.{pass, ruled_from, ruled_if}
-use Rattle.wsm_schema.specs.Rank.{IsRank}
-use Rattle.wsm_schema.specs.Replay.{after}
-use Rattle.wsm_schema.specs.Rules.{Spots, spot, spot_in, by_node, source_signal, judge_of, verdict_at, state_by, is_begun, settle}
-use Rattle.wsm_schema.proofs.Rounds.{settle-is_pass, card_at-node}
-use Rattle.wsm_schema.specs.declared.cards.Card.{Card}
-use Rattle.wsm_schema.specs.declared.entries.Entry.{Entry}
+use Rattle.wsm_replay.proofs.Common.{[], ℕ, ◌++◌, ◌∙◌, ◌∷◌, ◌≡◌, after, ap, Bool, by_node, Card, card_at, card_at-node, cases_Bool, cond, Entry, eq_number, eqb, eqb-true, false, inl, inr, is_begun, is_some, IsRank, judge_of, key_eq, List}
+use Rattle.wsm_replay.proofs.Common.{map, None, not, Option, option_or, pass, put_row, refl, row_at, row_at-put, ruled_from, ruled_if, SameRows, SameSpots, settle, settle-is_pass, Some, source_signal, Spot, spot, spot_in, Spots, state_by}
+use Rattle.wsm_replay.proofs.Common.{sym, true, verdict_at}
 use Rattle.wsm_schema.specs.declared.entries.Entry.TheVariants as entry
-use Rattle.wsm_schema.specs.declared.states.Spot.{Spot}
 use Rattle.wsm_schema.specs.declared.states.State.TheVariants.{NotActivated}
 use Rattle.wsm_schema.specs.declared.states.Verdict.{Verdict}
-use Rattle.wsm_lists.proofs.ByNumber.{eq_number, row_at-put}
-use Rattle.wsm_replay.specs.SameSpots.{SameSpots, SameRows}
 use Rattle.wsm_replay.specs.SpotOf.{spot_of}
 
 -- ---- spots and rows

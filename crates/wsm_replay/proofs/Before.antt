@@ -1,14 +1,7 @@
 -- What the entries in front of an entry tell of the values before it.
-use Rattle.std.proofs.Common.{◌≡◌, ℕ, suc, ◌+◌, ◌<◌, List, [], ◌∷◌, ◌++◌, take, drop, length, get_or, ap, sym, ◌∙◌, subst, add-one, drop-cons}
-use Rattle.std.proofs.Math.Seq.{take-suc}
-use Rattle.std.proofs.lemmas.List.{take-append-drop}
-use Rattle.wsm_schema.specs.Trail.{value_below}
-use Rattle.wsm_schema.specs.declared.entries.Entry.{Entry}
-use Rattle.wsm_trail.specs.EntryAt.{value_noted}
-use Rattle.wsm_trail.specs.LastWrites.{noted_entry, noted_entries}
-use Rattle.wsm_trail.specs.TrailWithRoom.{Rises}
-use Rattle.wsm_trail.proofs.Rising.{rises-parts}
-use Rattle.wsm_trail.proofs.LastWrite.{value_before}
+use Rattle.wsm_replay.proofs.Common.{[], ℕ, ◌++◌, ◌+◌, ◌<◌, ◌∙◌, ◌∷◌, ◌≡◌, add-one, ap, drop, drop-cons, Entry, get_or, length, List, noted_entries, noted_entry, Rises, rises-parts, subst, suc, sym, take, value_before, value_below}
+use Rattle.wsm_replay.proofs.Common.{value_noted}
+use Rattle.std.proofs.{Math.Seq.take-suc, lemmas.List.take-append-drop}
 use Rattle.wsm_trail.proofs.Cutting.{noted_entries-push}
 
 split_at : (es : List (ℕ × Entry)) (i : ℕ) (e : ℕ × Entry) → i < length es → e ≡ get_or es i e → es ≡ take i es ++ e ∷ drop (suc i) es

@@ -1,9 +1,6 @@
 -- Lists of other lengths do not fit.
-use Rattle.std.proofs.Common.{◌≡◌, ◌≢◌, ℕ, Bool, false, List, [], ◌∷◌, length, refl, arith, Option}
-use Rattle.std.proofs.lemmas.Bool.{and_right}
-use Rattle.wsm_lists.specs.declared.values.Value.{Value}
+use Rattle.wsm_replay.proofs.Common.{[], ℕ, ◌∷◌, ◌≡◌, ◌≢◌, and_right, arith, Bool, false, fits_edges, fits_reads, length, List, Option, refl, Value}
 use Rattle.wsm_lists.specs.declared.values.ElementKind.{ElementKind}
-use Rattle.wsm_schema.specs.Replay.{fits_reads, fits_edges}
 
 pub fits_edges_lengths : (elements : List (ℕ × ElementKind)) (ws : List (ℕ × Value)) (ds : List ℕ) → length ws ≢ length ds → fits_edges elements ws ds ≡ false
 fits_edges_lengths elements [] [] h = absurd (h refl)

@@ -1,23 +1,8 @@
 -- A table that ascends, and has the rows of the settled net, is its marking.
-use Rattle.std.proofs.Common.{◌≡◌, ℕ, Bool, true, false, ◌||◌, ◌&&◌, eqb, List, [], ◌∷◌, ◌++◌, fold, refl, ap, sym, ◌∙◌, inl, inr, Option, Some, None}
-use Rattle.std.specs.Option.{is_some}
-use Rattle.std.proofs.lemmas.Bool.{cases_Bool, both_ways, eqb-true}
-use Rattle.wsm_lists.specs.Rows.{Ascends, row_at, put_row}
-use Rattle.wsm_lists.proofs.Ascending.{ascending-same}
-use Rattle.wsm_lists.proofs.ByNumber.{eq_number, row_at-put}
-use Rattle.wsm_lists.proofs.Rows.{ascends_put}
-use Rattle.wsm_schema.specs.Flat.{card_at}
-use Rattle.wsm_schema.specs.Pass.{pass, ruled_from, ruled_if}
-use Rattle.wsm_schema.specs.Rank.{IsRank}
-use Rattle.wsm_schema.specs.Rules.{Spots, spot_in, by_node, is_begun, settle, marking_of}
-use Rattle.wsm_schema.specs.Trail.{is_one_of}
-use Rattle.wsm_schema.proofs.Rounds.{node_of-spot_in, card_at-node, all-rows-card_at}
-use Rattle.wsm_schema.specs.declared.cards.Card.{Card}
-use Rattle.wsm_schema.specs.declared.states.Spot.{Spot}
-use Rattle.wsm_replay.specs.SameSpots.{SameRows, IsMarking}
-use Rattle.wsm_replay.proofs.Agreement.{spot_or, spot_in-row, settled-rows}
-use Rattle.wsm_replay.proofs.OneEntryMore.{marking_of-spots}
-use Rattle.wsm_replay.proofs.Replays.{marking_of-same}
+use Rattle.wsm_replay.proofs.Common.{[], ℕ, ◌&&◌, ◌++◌, ◌||◌, ◌∙◌, ◌∷◌, ◌≡◌, all-rows-card_at, ap, Ascends, Bool, both_ways, by_node, Card, card_at, card_at-node, cases_Bool, eq_number, eqb, eqb-true, false, fold, inl, inr, is_begun}
+use Rattle.wsm_replay.proofs.Common.{is_one_of, is_some, IsMarking, IsRank, List, marking_of, node_of-spot_in, None, Option, pass, put_row, refl, row_at, row_at-put, ruled_from, ruled_if, SameRows, settle, Some, Spot, spot_in, Spots, sym}
+use Rattle.wsm_replay.proofs.{Common.true, Agreement.{spot_or, spot_in-row, settled-rows}, OneEntryMore.marking_of-spots, Replays.marking_of-same}
+use Rattle.wsm_lists.proofs.{Ascending.ascending-same, Rows.ascends_put}
 
 -- whether a table has a row of the node
 abbrev has_row : ℕ → Spots → Bool

@@ -1,24 +1,8 @@
 -- The replay of a trail with one entry more.
-use Rattle.std.proofs.Common.{◌≡◌, ℕ, ◌+◌, ◌≤◌, true, false, eqb, List, [], ◌∷◌, ◌++◌, fold, refl, ap, ◌∙◌, inl, inr, ◌⊎◌, Option, arith}
-use Rattle.std.specs.Option.{is_some}
+use Rattle.wsm_replay.proofs.Common.{[], ℕ, ◌++◌, ◌+◌, ◌∙◌, ◌∷◌, ◌≡◌, ◌≤◌, ◌⊎◌, after, AllRows, ap, applicable, arith, below-append, both_ways, by_node, Card, card_at, cases_Bool, Entry, eqb, eqb-true, fails, false, FlatModel, fold, inl}
+use Rattle.wsm_replay.proofs.Common.{inr, is_some, le-ltb, List, marking_of, node_of-spot_in, Option, Outcome, put_row, refl, replay_from, replay_of, Rises, rises-le, row_at-put, SameSpots, Spot, spot_in, Spots, true, Value, value_below}
+use Rattle.wsm_replay.proofs.{Common.whole, Agreement.spot_in-rows}
 use Rattle.std.specs.Bool.{if◌then◌else◌}
-use Rattle.std.proofs.lemmas.Bool.{cases_Bool, both_ways, eqb-true, le-ltb}
-use Rattle.wsm_lists.specs.Rows.{AllRows, put_row}
-use Rattle.wsm_lists.specs.declared.values.Value.{Value}
-use Rattle.wsm_schema.specs.Flat.{FlatModel, card_at}
-use Rattle.wsm_schema.specs.Replay.{Outcome, whole, fails, applicable, after, replay_from, replay_of}
-use Rattle.wsm_schema.specs.Rules.{Spots, spot_in, by_node, marking_of}
-use Rattle.wsm_schema.specs.Trail.{value_below}
-use Rattle.wsm_schema.specs.declared.cards.Card.{Card}
-use Rattle.wsm_schema.specs.declared.entries.Entry.{Entry}
-use Rattle.wsm_schema.specs.declared.states.Spot.{Spot}
-use Rattle.wsm_trail.specs.TrailWithRoom.{Rises}
-use Rattle.wsm_schema.proofs.Rounds.{node_of-spot_in}
-use Rattle.wsm_trail.proofs.LastWrite.{below-append}
-use Rattle.wsm_lists.proofs.ByNumber.{row_at-put}
-use Rattle.wsm_trail.proofs.Rising.{rises-le}
-use Rattle.wsm_replay.specs.SameSpots.{SameSpots}
-use Rattle.wsm_replay.proofs.Agreement.{spot_in-rows}
 
 -- ---- a marking has the spots that it was made from
 

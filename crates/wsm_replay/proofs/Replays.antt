@@ -1,22 +1,12 @@
 -- A replay over tables with the same spots answers the same.
-use Rattle.std.proofs.Common.{◌≡◌, ℕ, suc, ◌+◌, ◌<◌, ◌≤◌, Bool, true, false, ◌&&◌, eqb, List, [], ◌∷◌, drop, length, get_or, refl, ap, sym, ◌∙◌, inl, inr, Option, Some, None, add-one, drop-cons, drop_of_length-le}
+use Rattle.wsm_replay.proofs.Common.{[], ℕ, ◌&&◌, ◌+◌, ◌<◌, ◌∙◌, ◌∷◌, ◌≡◌, ◌≤◌, add-one, after, AllRows, answer, ap, applicable, applicable_end, applicable_start, Bool, by_node, Card, card_at, cases_Bool, drop, drop-cons, drop_of_length-le}
+use Rattle.wsm_replay.proofs.Common.{Entry, eq-eqb, eqb, fails, false, FlatModel, get_or, inl, inr, is_in_state, IsRank, length, List, marking_of, None, on_card, Option, partner_completed, put_row, refl, replay_from, SameSpots, Some}
+use Rattle.wsm_replay.proofs.{Common.{spot_in, Spots, suc, sym, true, Value, whole}, Agreement.after-same}
 use Rattle.std.specs.List.{fold}
-use Rattle.std.proofs.lemmas.Bool.{cases_Bool, eq-eqb}
-use Rattle.wsm_lists.specs.Rows.{AllRows, put_row}
-use Rattle.wsm_lists.specs.declared.values.Value.{Value}
-use Rattle.wsm_schema.specs.Flat.{FlatModel, card_at}
 use Rattle.wsm_schema.specs.Kinds.{is_loop_end}
-use Rattle.wsm_schema.specs.Rank.{IsRank}
-use Rattle.wsm_schema.specs.Replay.{whole, fails, applicable, applicable_start, applicable_end, partner_completed, on_card, is_in_state, after, replay_from}
-use Rattle.wsm_schema.specs.Rules.{Spots, spot_in, marking_of, by_node}
-use Rattle.wsm_schema.specs.declared.cards.Card.{Card}
-use Rattle.wsm_schema.specs.declared.entries.Entry.{Entry}
 use Rattle.wsm_schema.specs.declared.entries.Entry.TheVariants as entry
 use Rattle.wsm_schema.specs.declared.states.State.TheVariants as state
-use Rattle.wsm_replay.specs.Answer.{answer}
-use Rattle.wsm_replay.specs.SameSpots.{SameSpots}
 use Rattle.wsm_replay.specs.declared.Replayed.TheVariants as replayed
-use Rattle.wsm_replay.proofs.Agreement.{after-same}
 
 -- ---- applicable entries
 

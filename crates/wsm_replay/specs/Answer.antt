@@ -1,8 +1,6 @@
 -- The answer of a replay.
 use Rattle.std.specs.Prelude.{List}
-use Rattle.wsm_schema.specs.Rules.{marking_of}
-use Rattle.wsm_schema.specs.Replay.{Outcome, whole, fails}
-use Rattle.wsm_schema.specs.declared.cards.Card.{Card}
+use Rattle.wsm_schema.specs.{Rules.marking_of, Replay.{Outcome, whole, fails}, declared.cards.Card.Card}
 use Rattle.wsm_replay.specs.declared.Replayed.{Replayed}
 use Rattle.wsm_replay.specs.declared.Replayed.TheVariants as replayed
 

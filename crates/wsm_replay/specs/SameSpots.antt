@@ -1,9 +1,7 @@
 -- Tables that agree.
 use Rattle.std.specs.Prelude.{◌≡◌, ℕ, List, Some}
 use Rattle.wsm_lists.specs.Rows.{row_at}
-use Rattle.wsm_schema.specs.Flat.{card_at}
-use Rattle.wsm_schema.specs.Rules.{Spots, spot_in, by_node, marking_of}
-use Rattle.wsm_schema.specs.declared.cards.Card.{Card}
+use Rattle.wsm_schema.specs.{Flat.card_at, Rules.{Spots, spot_in, by_node, marking_of}, declared.cards.Card.Card}
 
 -- the same spots of the cards' nodes
 abbrev pub SameSpots : List Card → Spots → Spots → Type 0

@@ -1,9 +1,7 @@
 -- The spot that an entry gives to its node.
 use Rattle.std.specs.Prelude.{Option, Some, None}
-use Rattle.wsm_schema.specs.Rules.{spot}
-use Rattle.wsm_schema.specs.declared.entries.Entry.{Entry}
+use Rattle.wsm_schema.specs.{Rules.spot, declared.entries.Entry.Entry, declared.states.Spot.Spot}
 use Rattle.wsm_schema.specs.declared.entries.Entry.TheVariants as entry
-use Rattle.wsm_schema.specs.declared.states.Spot.{Spot}
 use Rattle.wsm_schema.specs.declared.states.State.TheVariants as state
 
 abbrev pub spot_of : Entry → Option Spot

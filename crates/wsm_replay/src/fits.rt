@@ -1,6 +1,5 @@
 // Which entries are applicable.
-ghost use Rattle.std.specs.Prelude.{◌≡◌, ℕ, Option};
-ghost use Rattle.std.specs.Option.{option_copied};
+ghost use Rattle.std.specs.{Prelude.{◌≡◌, ℕ, Option}, Option.option_copied};
 ghost use Rattle.wsm_lists.specs.Values.{same_option_value};
 ghost use Rattle.wsm_schema.specs.Replay.{applicable, fits_reads, fits_edges, fits_choice, has_label, is_of_kind, partner_completed};
 ghost use Rattle.wsm_trail.specs.EntryAt.{value_noted};

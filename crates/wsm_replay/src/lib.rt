@@ -6,8 +6,7 @@ mod settling;
 mod spots;
 
 ghost use Rattle.std.specs.Prelude.{◌≡◌, IfOk};
-ghost use Rattle.wsm_schema.specs.Rank.{IsRank};
-ghost use Rattle.wsm_schema.specs.Replay.{replay_of};
+ghost use Rattle.wsm_schema.specs.{Rank.IsRank, Replay.replay_of};
 ghost use Rattle.wsm_replay.specs.Answer.{answer};
 
 use crate::fits::applicable;

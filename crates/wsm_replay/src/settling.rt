@@ -1,10 +1,6 @@
 // The settled net, by one pass in the order of a rank.
 ghost use Rattle.std.specs.Prelude.{◌≡◌, [], ◌∷◌, IfOk, OnOk, map, None};
-ghost use Rattle.wsm_schema.specs.Flat.{card_at};
-ghost use Rattle.wsm_schema.specs.Pass.{pass, ruled_from, ruled_if};
-ghost use Rattle.wsm_schema.specs.Rank.{IsRank};
-ghost use Rattle.wsm_schema.specs.Replay.{after};
-ghost use Rattle.wsm_schema.specs.Rules.{spot_in, source_signal, signal_from, sync_from, verdict_at, settle, marking_of};
+ghost use Rattle.wsm_schema.specs.{Flat.card_at, Pass.{pass, ruled_from, ruled_if}, Rank.IsRank, Replay.after, Rules.{spot_in, source_signal, signal_from, sync_from, verdict_at, settle, marking_of}};
 ghost use Rattle.wsm_replay.specs.SameSpots.{SameRows, IsMarking};
 
 use crate::spots::{spot_in, spot_of};

@@ -3,10 +3,8 @@
 
 mod marks;
 
-ghost use Rattle.std.specs.Prelude.{◌≡◌, is_some, count_by};
-ghost use Rattle.std.specs.List.{list_all};
-ghost use Rattle.wsm_schema.specs.Kinds.{worked_on};
-ghost use Rattle.wsm_schema.specs.Rules.{signal_of, judge_of, is_ready, is_skipped, is_yes, is_no, is_begun, state_by};
+ghost use Rattle.std.specs.{Prelude.{◌≡◌, is_some, count_by}, List.list_all};
+ghost use Rattle.wsm_schema.specs.{Kinds.worked_on, Rules.{signal_of, judge_of, is_ready, is_skipped, is_yes, is_no, is_begun, state_by}};
 
 pub use marks::{Changes, CountedMarks, MarkReads, Marks};
 use wsm_schema::{Card, NodeKind};

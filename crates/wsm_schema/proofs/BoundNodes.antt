@@ -1,17 +1,7 @@
 -- What the blocks round two nodes tell of whether one is bound to the other, where no node stands in two items or two branches.
-use Rattle.std.proofs.Common.{◌≡◌, ℕ, zero, suc, ◌+◌, ◌<◌, ◌≤◌, min, Bool, true, false, not, ◌&&◌, ◌||◌, eqb, List, [], ◌∷◌, length, drop, refl, ap, sym, ◌∙◌, inl, inr, arith}
-use Rattle.std.specs.Bool.{if◌then◌else◌}
-use Rattle.std.proofs.lemmas.Bool.{cases_Bool, both_ways, eqb-true, eq-eqb, ne_eqb, or_parts}
-use Rattle.wsm_schema.specs.Tree.{Part, Parts, Lanes, Gate, act, gate, loop, nothing, part, no_lane, lane, and_gate, xor_gate}
-use Rattle.wsm_schema.specs.Places.{split_kind}
-use Rattle.wsm_schema.specs.Kinds.{is_xor_split}
-use Rattle.wsm_schema.specs.SchemaModel.{SchemaModel}
-use Rattle.wsm_schema.specs.Flat.{cards_of}
-use Rattle.wsm_schema.specs.Sound.{part_has, parts_have, lanes_have, part_bound, parts_bound, lanes_bound, is_and, twice, nodes_of}
-use Rattle.wsm_schema.specs.Enclosures.{enclosure, part_round, parts_round, lanes_round, are_free, are_bound}
-use Rattle.wsm_schema.specs.declared.cards.NodeKind.{NodeKind}
-use Rattle.wsm_schema.specs.declared.enclosures.Enclosure.{Enclosure}
-use Rattle.wsm_schema.proofs.TreeNodes.{PartOnce, PartsOnce, LanesOnce}
+use Rattle.wsm_schema.proofs.Common.{[], ℕ, ◌&&◌, ◌+◌, ◌<◌, ◌||◌, ◌∙◌, ◌∷◌, ◌≡◌, ◌≤◌, act, and_gate, ap, are_bound, are_free, arith, Bool, both_ways, cards_of, cases_Bool, drop, Enclosure, enclosure, eq-eqb, eqb, eqb-true, false, Gate}
+use Rattle.wsm_schema.proofs.Common.{gate, if◌then◌else◌, inl, inr, is_and, is_xor_split, lane, Lanes, lanes_bound, lanes_have, lanes_round, length, List, loop, min, ne_eqb, no_lane, NodeKind, nodes_of, not, nothing, or_parts, Part, part}
+use Rattle.wsm_schema.proofs.{Common.{part_bound, part_has, part_round, Parts, parts_bound, parts_have, parts_round, refl, SchemaModel, split_kind, suc, sym, true, twice, xor_gate, zero}, TreeNodes.{PartOnce, PartsOnce, LanesOnce}}
 use Rattle.wsm_schema.proofs.EnclosedNodes.{HeadIn, part-head, parts-head, turned}
 
 -- ---- tests

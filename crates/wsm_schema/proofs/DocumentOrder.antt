@@ -1,19 +1,7 @@
 -- Where the numbers are distinct and sync edges go upwards, document order is a rank.
-use Rattle.std.proofs.Common.{◌≡◌, ℕ, suc, true, false, ◌||◌, eqb, List, [], ◌∷◌, ◌++◌, map, length, refl, ap, sym, ◌∙◌, subst, inl, inr, arith, Some, None, append_assoc, append-nil}
-use Rattle.std.proofs.lemmas.Bool.{eq-eqb, cases_Bool, or_left, or_right, or_parts}
-use Rattle.wsm_schema.specs.Tree.{Part, Parts, Lanes, act, gate, loop, nothing, part, no_lane, lane}
-use Rattle.wsm_schema.specs.Ends.{first_node, last_of}
-use Rattle.wsm_schema.specs.Places.{place, part_places, parts_places, lanes_places, places, leaving, branch_tails, labelled, plain_end}
-use Rattle.wsm_schema.specs.SchemaModel.{SchemaModel}
-use Rattle.wsm_lists.specs.Rows.{AllRows}
-use Rattle.wsm_schema.specs.Trail.{is_one_of}
-use Rattle.wsm_schema.specs.Flat.{card_at, card_of}
-use Rattle.wsm_schema.specs.Rank.{IsRank, Behind}
-use Rattle.wsm_schema.specs.Sound.{twice, nodes_of}
-use Rattle.wsm_lists.proofs.Lists.{all-rows-map}
-use Rattle.wsm_schema.specs.declared.cards.Card.{Card}
-use Rattle.wsm_schema.specs.declared.cards.End.{End}
-use Rattle.wsm_schema.specs.declared.places.Place.{Place}
+use Rattle.wsm_schema.proofs.Common.{[], ℕ, ◌++◌, ◌||◌, ◌∙◌, ◌∷◌, ◌≡◌, act, all-rows-map, AllRows, ap, append-nil, append_assoc, arith, Behind, branch_tails, Card, card_at, card_of, cases_Bool, End, eq-eqb, eqb, false, first_node, gate}
+use Rattle.wsm_schema.proofs.Common.{inl, inr, is_one_of, IsRank, labelled, lane, Lanes, lanes_places, last_of, leaving, length, List, loop, map, no_lane, nodes_of, None, nothing, or_left, or_parts, or_right, Part, part, part_places, Parts}
+use Rattle.wsm_schema.proofs.Common.{parts_places, Place, place, places, plain_end, refl, SchemaModel, Some, subst, suc, sym, true, twice}
 
 -- ---- members
 pub one_of-append : (n : ℕ) (xs ys : List ℕ) → is_one_of n (xs ++ ys) ≡ (is_one_of n xs || is_one_of n ys)

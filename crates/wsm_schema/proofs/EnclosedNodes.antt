@@ -1,15 +1,8 @@
 -- What the blocks round two nodes tell of them, where no node stands in two items or two branches.
-use Rattle.std.proofs.Common.{◌≡◌, ℕ, zero, suc, ◌+◌, ◌<◌, ◌≤◌, min, Bool, true, false, ◌&&◌, ◌||◌, eqb, List, [], ◌∷◌, length, drop, refl, ap, sym, ◌∙◌, inl, inr, arith, Option, Some}
-use Rattle.std.specs.Bool.{if◌then◌else◌}
-use Rattle.std.proofs.lemmas.Bool.{cases_Bool, both_ways, eqb-true, eq-eqb, ne_eqb, and_parts, and_from, and_left, and_right, or_left, or_right}
-use Rattle.wsm_schema.specs.Tree.{Part, Parts, Lanes, Gate, act, gate, loop, nothing, part, no_lane, lane, and_gate, xor_gate}
-use Rattle.wsm_schema.specs.Places.{split_kind}
-use Rattle.wsm_schema.specs.Kinds.{is_and_split, is_loop_start}
-use Rattle.wsm_schema.specs.Sound.{part_has, parts_have, lanes_have, part_apart, parts_apart, lanes_apart, part_loop, parts_loop, lanes_loop, is_and}
-use Rattle.wsm_schema.specs.Enclosures.{enclosure, part_round, parts_round, lanes_round, part_ways, innermost_loop}
-use Rattle.wsm_schema.specs.declared.cards.NodeKind.{NodeKind}
-use Rattle.wsm_schema.specs.declared.enclosures.Enclosure.{Enclosure}
-use Rattle.wsm_schema.proofs.TreeNodes.{PartOnce, PartsOnce, LanesOnce}
+use Rattle.wsm_schema.proofs.Common.{[], ℕ, ◌&&◌, ◌+◌, ◌<◌, ◌||◌, ◌∙◌, ◌∷◌, ◌≡◌, ◌≤◌, act, and_from, and_gate, and_left, and_parts, and_right, ap, arith, Bool, both_ways, cases_Bool, drop, Enclosure, enclosure, eq-eqb, eqb, eqb-true, false}
+use Rattle.wsm_schema.proofs.Common.{Gate, gate, if◌then◌else◌, inl, innermost_loop, inr, is_and, is_and_split, is_loop_start, lane, Lanes, lanes_apart, lanes_have, lanes_loop, lanes_round, length, List, loop, min, ne_eqb, no_lane}
+use Rattle.wsm_schema.proofs.Common.{NodeKind, nothing, Option, or_left, or_right, Part, part, part_apart, part_has, part_loop, part_round, part_ways, Parts, parts_apart, parts_have, parts_loop, parts_round, refl, Some, split_kind, suc}
+use Rattle.wsm_schema.proofs.{Common.{sym, true, xor_gate, zero}, TreeNodes.{PartOnce, PartsOnce, LanesOnce}}
 
 -- ---- kinds of blocks
 and-kind : (kind : Gate) → is_and kind ≡ is_and_split (split_kind kind)

@@ -1,24 +1,10 @@
 -- The walk over a tree of distinct nodes makes the blocks round each of them.
-use Rattle.std.proofs.Common.{◌≡◌, ℕ, zero, suc, ◌+◌, ◌<◌, Bool, true, false, eqb, List, [], ◌∷◌, ◌++◌, map, length, get_or, refl, ap, sym, ◌∙◌, inl, inr, arith, append_assoc, append-nil, None}
-use Rattle.std.proofs.lemmas.Bool.{cases_Bool, both_ways, eq-eqb, or_left, or_right, or_parts}
-use Rattle.std.proofs.lemmas.List.{map-append}
-use Rattle.wsm_lists.specs.Rows.{AllRows}
-use Rattle.wsm_lists.proofs.Lists.{map-same, all-rows-map}
-use Rattle.wsm_schema.specs.Trail.{is_one_of}
-use Rattle.wsm_schema.specs.Tree.{Part, Parts, Lanes, act, gate, loop, nothing, part, no_lane, lane}
-use Rattle.wsm_schema.specs.Places.{split_kind}
-use Rattle.wsm_schema.specs.SchemaModel.{SchemaModel}
-use Rattle.wsm_schema.specs.Flat.{cards_of}
-use Rattle.wsm_schema.specs.Sound.{part_has, parts_have, lanes_have, parts_apart, parts_bound, twice, nodes_of}
-use Rattle.wsm_schema.specs.Enclosures.{enclosure, part_round, parts_round, lanes_round, part_ways, are_bound, part_walk, parts_walk, lanes_walk, schema_walk}
-use Rattle.wsm_schema.specs.declared.cards.Card.{Card}
-use Rattle.wsm_schema.specs.declared.cards.NodeKind.{NodeKind}
+use Rattle.wsm_schema.proofs.Common.{[], ℕ, ◌++◌, ◌+◌, ◌<◌, ◌∙◌, ◌∷◌, ◌≡◌, act, all-rows-map, AllRows, ap, append-nil, append_assoc, are_bound, arith, Bool, both_ways, Card, cards_of, cases_Bool, Enclosure, enclosure, eq-eqb, eqb, false}
+use Rattle.wsm_schema.proofs.Common.{gate, get_or, inl, inr, is_one_of, lane, Lanes, lanes_have, lanes_round, lanes_walk, length, List, loop, map, map-append, map-same, no_lane, NodeKind, nodes_of, None, nothing, or_left, or_parts}
+use Rattle.wsm_schema.proofs.Common.{or_right, Part, part, part_has, part_round, part_walk, part_ways, Parts, parts_apart, parts_bound, parts_have, parts_round, parts_walk, refl, schema_walk, SchemaModel, split_kind, suc, sym, true, twice}
+use Rattle.wsm_schema.proofs.{Common.zero, DocumentOrder.one_of-append, BoundNodes.parts-bound, EnclosedNodes.parts-ways, TreeNodes.{part_nodes, parts_nodes, lanes_nodes, nodes-of_tree, has-part_nodes, have-parts_nodes, have-lanes_nodes}}
+use Rattle.wsm_schema.proofs.TreeNodes.{PartOnce, PartsOnce, LanesOnce, body-once}
 use Rattle.wsm_schema.specs.declared.cards.NodeKind.TheVariants.{LoopStart}
-use Rattle.wsm_schema.specs.declared.enclosures.Enclosure.{Enclosure}
-use Rattle.wsm_schema.proofs.DocumentOrder.{one_of-append}
-use Rattle.wsm_schema.proofs.BoundNodes.{parts-bound}
-use Rattle.wsm_schema.proofs.EnclosedNodes.{parts-ways}
-use Rattle.wsm_schema.proofs.TreeNodes.{part_nodes, parts_nodes, lanes_nodes, nodes-of_tree, has-part_nodes, have-parts_nodes, have-lanes_nodes, PartOnce, PartsOnce, LanesOnce, body-once}
 
 -- ---- round nodes that are not there
 pub parts-absent : (ps : Parts) (n : ℕ) → parts_have ps n ≡ false → parts_round ps n ≡ []

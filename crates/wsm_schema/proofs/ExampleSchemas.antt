@@ -1,7 +1,5 @@
 -- Small schemas that the examples compute on. In each the start is 0 and the finish is 1.
-use Rattle.std.proofs.Common.{[], ◌∷◌, false}
-use Rattle.wsm_schema.specs.Tree.{Parts, act, gate, loop, nothing, part, no_lane, lane, and_gate, xor_gate}
-use Rattle.wsm_schema.specs.SchemaModel.{SchemaModel, plain}
+use Rattle.wsm_schema.proofs.Common.{[], ◌∷◌, act, and_gate, false, gate, lane, loop, no_lane, nothing, part, Parts, plain, SchemaModel, xor_gate}
 use Rattle.wsm_lists.specs.declared.values.ElementKind.TheVariants as kind
 
 -- activity 2, then activity 3

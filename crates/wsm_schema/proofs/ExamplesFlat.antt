@@ -1,11 +1,7 @@
 -- The flat form: cards in document order, each with its edges.
-use Rattle.std.proofs.Common.{◌≡◌, [], ◌∷◌, Some, None, refl, false}
-use Rattle.wsm_schema.specs.Places.{place, labelled, plain_end, places}
-use Rattle.wsm_schema.specs.Flat.{flat_of, cards_of, card_at, kind_in, loop_nodes}
-use Rattle.wsm_schema.specs.declared.cards.Card.{Card}
+use Rattle.wsm_schema.proofs.{Common.{[], ◌∷◌, ◌≡◌, Card, card_at, cards_of, false, flat_of, kind_in, labelled, loop_nodes, None, place, places, plain_end, refl, Some}, ExampleSchemas.{skip, looped, writing_loop, waiting_for_skipped}}
 use Rattle.wsm_schema.specs.declared.cards.NodeKind.TheVariants as node
 use Rattle.wsm_lists.specs.declared.values.ElementKind.TheVariants as kind
-use Rattle.wsm_schema.proofs.ExampleSchemas.{skip, looped, writing_loop, waiting_for_skipped}
 
 -- an edge out of a split has its branch's code; a branch without items is one edge from split to join
 pub places_of_a_choice : places skip.start skip.body skip.finish ≡

@@ -1,13 +1,8 @@
 -- Timed marks, touched nodes and the pass in rank order.
-use Rattle.std.proofs.Common.{◌≡◌, ℕ, [], ◌∷◌, Option, Some, None, refl}
-use Rattle.wsm_schema.specs.Flat.{flat_of, cards_of}
-use Rattle.wsm_schema.specs.Marks.{marks_of}
-use Rattle.wsm_schema.specs.Pass.{pass}
-use Rattle.wsm_schema.specs.Rules.{spot, settle, marking_of}
+use Rattle.wsm_schema.proofs.{Common.{[], ℕ, ◌∷◌, ◌≡◌, cards_of, flat_of, marking_of, None, Option, pass, refl, settle, Some, spot}, ExampleSchemas.skip}
+use Rattle.wsm_schema.specs.{Marks.marks_of, declared.marks.Mark.Mark}
 use Rattle.wsm_schema.specs.declared.entries.Entry.TheVariants as entry
-use Rattle.wsm_schema.specs.declared.marks.Mark.{Mark}
 use Rattle.wsm_schema.specs.declared.states.State.TheVariants.{Completed}
-use Rattle.wsm_schema.proofs.ExampleSchemas.{skip}
 
 abbrev mark : Option ℕ → Option ℕ → Option ℕ → Option ℕ → Option ℕ → Mark
 mark ready skipped started ended choice = record { ready_at = ready; skipped_at = skipped; started = started; ended = ended; choice = choice; again = None }

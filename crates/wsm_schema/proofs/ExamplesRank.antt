@@ -1,10 +1,5 @@
 -- Document order as a rank.
-use Rattle.std.proofs.Common.{[], ◌∷◌, refl}
-use Rattle.wsm_schema.specs.Flat.{cards_of}
-use Rattle.wsm_schema.specs.Places.{places}
-use Rattle.wsm_schema.specs.Rank.{IsRank}
-use Rattle.wsm_schema.proofs.DocumentOrder.{places-after, cards-behind, document-order}
-use Rattle.wsm_schema.proofs.ExampleSchemas.{skip}
+use Rattle.wsm_schema.proofs.{Common.{[], ◌∷◌, cards_of, IsRank, places, refl}, DocumentOrder.{places-after, cards-behind, document-order}, ExampleSchemas.skip}
 
 -- the nodes of a choice, from the start to the finish
 pub a_rank : IsRank (cards_of skip) (0 ∷ 2 ∷ 4 ∷ 3 ∷ 5 ∷ 1 ∷ [])

@@ -1,14 +1,9 @@
 -- Which entries are applicable, and replays.
-use Rattle.std.proofs.Common.{◌≡◌, ℕ, List, [], ◌∷◌, Some, None, refl, pos}
-use Rattle.wsm_schema.specs.SchemaModel.{SchemaModel}
-use Rattle.wsm_schema.specs.Flat.{flat_of, cards_of}
-use Rattle.wsm_schema.specs.Rules.{spot, marking_of}
-use Rattle.wsm_schema.specs.Replay.{Outcome, whole, fails, replay_of}
-use Rattle.wsm_schema.specs.declared.entries.Entry.{Entry}
+use Rattle.wsm_schema.proofs.{Common.{[], ℕ, ◌∷◌, ◌≡◌, cards_of, flat_of, List, marking_of, None, pos, refl, SchemaModel, Some, spot}, ExampleSchemas.{sequence, longer, skip, looped, looped_later, writing_loop}}
+use Rattle.wsm_schema.specs.{Replay.{Outcome, whole, fails, replay_of}, declared.entries.Entry.Entry}
 use Rattle.wsm_schema.specs.declared.entries.Entry.TheVariants as entry
 use Rattle.wsm_schema.specs.declared.states.State.TheVariants.{NotActivated, Activated, Running, Completed, Skipped}
 use Rattle.wsm_lists.specs.declared.values.Value.TheVariants as value
-use Rattle.wsm_schema.proofs.ExampleSchemas.{sequence, longer, skip, looped, looped_later, writing_loop}
 
 -- the marking after a trail that replays whole, or the position at which it fails
 abbrev marked : SchemaModel → Outcome → Outcome

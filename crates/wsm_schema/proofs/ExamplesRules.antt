@@ -1,13 +1,9 @@
 -- Signals, the node rule and the settled net.
-use Rattle.std.proofs.Common.{◌≡◌, [], ◌∷◌, Some, None, refl}
-use Rattle.wsm_schema.specs.SchemaModel.{SchemaModel}
-use Rattle.wsm_schema.specs.Flat.{cards_of}
-use Rattle.wsm_schema.specs.Rules.{Spots, spot, settle, marking_of, signal_of, judge_of}
+use Rattle.wsm_schema.proofs.{Common.{[], ◌∷◌, ◌≡◌, cards_of, judge_of, marking_of, None, refl, SchemaModel, settle, signal_of, Some, spot, Spots}, ExampleSchemas.{skip, waiting_for_skipped, parallel}}
 use Rattle.wsm_schema.specs.declared.cards.NodeKind.TheVariants as node
 use Rattle.wsm_schema.specs.declared.states.Flow.TheVariants.{Yes, No}
 use Rattle.wsm_schema.specs.declared.states.State.TheVariants.{NotActivated, Activated, Running, Completed, Skipped}
 use Rattle.wsm_schema.specs.declared.states.Verdict.TheVariants as verdict
-use Rattle.wsm_schema.proofs.ExampleSchemas.{skip, waiting_for_skipped, parallel}
 
 pub a_chosen_edge : signal_of node.XorSplit Completed (Some 1) (Some 1) ≡ Some Yes
 a_chosen_edge = refl

@@ -1,8 +1,5 @@
 -- Sound schemas, and the faults of others.
-use Rattle.std.proofs.Common.{◌≡◌, ℕ, List, [], ◌∷◌, Some, None, refl, Bool, true, false, map}
-use Rattle.wsm_schema.specs.Tree.{act, gate, loop, nothing, part, no_lane, lane, and_gate, xor_gate}
-use Rattle.wsm_schema.specs.SchemaModel.{SchemaModel, plain}
-use Rattle.wsm_schema.specs.Sound.{Sound, block_fault, data_fault}
+use Rattle.wsm_schema.proofs.Common.{[], ℕ, ◌∷◌, ◌≡◌, act, and_gate, block_fault, Bool, data_fault, false, gate, lane, List, loop, map, no_lane, None, nothing, part, plain, refl, SchemaModel, Some, Sound, true, xor_gate}
 use Rattle.wsm_schema.specs.declared.faults.BlockFault.TheVariants.{Limit, Twice, FewBranches, CodeTwice, SyncEnd, SyncPlace, SyncLoop, SyncCycle}
 use Rattle.wsm_schema.specs.declared.faults.DataFault.TheVariants.{Unknown, Missing, ParallelWrite}
 use Rattle.wsm_schema.specs.declared.faults.LimitKind.TheVariants as limit

@@ -1,8 +1,6 @@
 -- The tokens of a tree, and the tree of tokens.
-use Rattle.std.proofs.Common.{◌≡◌, [], ◌∷◌, refl}
-use Rattle.wsm_schema.specs.Tree.{xor_gate}
+use Rattle.wsm_schema.proofs.{Common.{[], ◌∷◌, ◌≡◌, refl, xor_gate}, ExampleSchemas.{choice_tree, writing_loop}}
 use Rattle.wsm_schema.specs.Tokens.{tokens, tree_of, an_act, open_gate, open_loop, a_branch, close}
-use Rattle.wsm_schema.proofs.ExampleSchemas.{choice_tree, writing_loop}
 
 pub tokens_of_a_choice : tokens choice_tree ≡ open_gate xor_gate 2 3 ∷ a_branch 0 ∷ a_branch 1 ∷ an_act 4 ∷ close ∷ an_act 5 ∷ []
 tokens_of_a_choice = refl

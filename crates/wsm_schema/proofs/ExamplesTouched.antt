@@ -1,11 +1,7 @@
 -- Touched nodes and the region behind them, where activity 4 is put between activities 2 and 3.
-use Rattle.std.proofs.Common.{◌≡◌, ℕ, [], ◌∷◌, Some, None, refl, arith}
-use Rattle.wsm_schema.specs.Places.{plain_end}
-use Rattle.wsm_schema.specs.Flat.{flat_of}
+use Rattle.wsm_schema.proofs.{Common.{[], ℕ, ◌∷◌, ◌≡◌, arith, Card, flat_of, None, plain_end, refl, Some}, ExampleSchemas.{sequence, longer}}
 use Rattle.wsm_schema.specs.Touched.{Touched, card_differs, here, by_control, InRegion, in_region}
-use Rattle.wsm_schema.specs.declared.cards.Card.{Card}
 use Rattle.wsm_schema.specs.declared.cards.NodeKind.TheVariants as node
-use Rattle.wsm_schema.proofs.ExampleSchemas.{sequence, longer}
 
 no_card : (c : Card) → None ≡ Some c → ⊥
 no_card c e = cc

@@ -1,10 +1,7 @@
 -- Trails, values and the cut.
-use Rattle.std.proofs.Common.{◌≡◌, [], ◌∷◌, Some, None, refl, pos}
-use Rattle.wsm_schema.specs.Flat.{cards_of, loop_nodes}
-use Rattle.wsm_schema.specs.Trail.{TrailModel, no_trail, pushed, value_below, cut_by}
+use Rattle.wsm_schema.proofs.{Common.{[], ◌∷◌, ◌≡◌, cards_of, cut_by, loop_nodes, no_trail, None, pos, pushed, refl, Some, TrailModel, value_below}, ExampleSchemas.writing_loop}
 use Rattle.wsm_schema.specs.declared.entries.Entry.TheVariants as entry
 use Rattle.wsm_lists.specs.declared.values.Value.TheVariants as value
-use Rattle.wsm_schema.proofs.ExampleSchemas.{writing_loop}
 
 pub two_entries : pushed (entry.End 2 [] None) (pushed (entry.Start 2 9 []) no_trail) ≡ record { entries = (1, entry.Start 2 9 []) ∷ (2, entry.End 2 [] None) ∷ []; next = 3 }
 two_entries = refl

@@ -1,12 +1,7 @@
 -- Cards that are the first of their nodes.
-use Rattle.std.proofs.Common.{◌≡◌, ℕ, ◌<◌, List, [], ◌∷◌, Option, Some, None, true, false, not, get_or, nat_eq, ap, sym, ◌∙◌, arith, inl, inr}
-use Rattle.std.proofs.lemmas.Bool.{cases_Bool, eqb-true}
-use Rattle.std.specs.Option.{option_eq}
-use Rattle.std.specs.Prelude.{slice_get, option_map, length}
-use Rattle.wsm_schema.specs.Flat.{card_at}
-use Rattle.wsm_schema.specs.Groups.{SameGroups, numbered, rows_with}
-use Rattle.wsm_schema.specs.declared.cards.Card.{Card}
-use Rattle.wsm_schema.proofs.Runs.{place-numbered, card-placed}
+use Rattle.wsm_schema.proofs.Common.{[], ℕ, ◌<◌, ◌∙◌, ◌∷◌, ◌≡◌, ap, arith, Card, card_at, cases_Bool, eqb-true, false, get_or, inl, inr, List, nat_eq, None, not, numbered, Option, option_eq, option_map, rows_with, SameGroups, slice_get}
+use Rattle.wsm_schema.proofs.{Common.{Some, sym, true}, Runs.{place-numbered, card-placed}}
+use Rattle.std.specs.Prelude.{length}
 
 -- a card whose place is told of its node is the first of the node
 pub first-there : (cards : List Card) (rows : List (ℕ × ℕ)) → SameGroups (numbered 0 cards) rows → (place : ℕ) (c : Card) → slice_get cards place ≡ Some c →

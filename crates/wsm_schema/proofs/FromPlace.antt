@@ -1,9 +1,5 @@
 -- The cards from a node's first one on.
-use Rattle.std.proofs.Common.{◌≡◌, ℕ, zero, suc, ◌+◌, ◌≤◌, eqb, List, [], ◌∷◌, length, drop, map, refl, ap, sym, ◌∙◌, subst, ◌⊎◌, inl, inr, arith, Option, Some, None}
-use Rattle.std.specs.List.{position_from}
-use Rattle.std.proofs.lemmas.Bool.{cases_Bool}
-use Rattle.wsm_schema.specs.Flat.{from_node}
-use Rattle.wsm_schema.specs.declared.cards.Card.{Card}
+use Rattle.wsm_schema.proofs.Common.{[], ℕ, ◌+◌, ◌∙◌, ◌∷◌, ◌≡◌, ◌≤◌, ◌⊎◌, ap, arith, Card, cases_Bool, drop, eqb, from_node, inl, inr, length, List, map, None, Option, position_from, refl, Some, subst, suc, sym, zero}
 
 abbrev pub node_of : Card → ℕ
 node_of c = c.node

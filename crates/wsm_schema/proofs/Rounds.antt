@@ -1,20 +1,9 @@
 -- As many rounds as there are nodes come to what one pass in the order of a rank gives.
-use Rattle.std.proofs.Common.{◌≡◌, ℕ, zero, suc, ◌<◌, Bool, true, false, cond, eqb, List, [], ◌∷◌, ◌++◌, map, length, refl, ap, sym, ◌∙◌, subst, inl, inr, arith, Option, Some, None, append_assoc, length-append}
-use Rattle.std.specs.List.{list_any}
+use Rattle.wsm_schema.proofs.Common.{[], ℕ, ◌++◌, ◌<◌, ◌∙◌, ◌∷◌, ◌≡◌, all-rows-map, AllRows, ap, append_assoc, arith, Bool, both_ways, Card, card_at, cases_Bool, cond, eq-eqb, eqb, eqb-true, false, inl, inr, is_begun, is_one_of, IsRank}
+use Rattle.wsm_schema.proofs.Common.{judge_of, length, length-append, List, list_any, map, map-same, NodeKind, None, Option, pass, refl, round, ruled, ruled_from, ruled_if, settle, signal_from, Some, source_signal, spot, spot_in, Spots}
+use Rattle.wsm_schema.proofs.Common.{state_by, subst, suc, sym, sync_from, true, verdict_at, worked_on, zero}
 use Rattle.std.specs.Fn.{iterate}
-use Rattle.std.proofs.lemmas.Bool.{eqb-true, eq-eqb, cases_Bool, both_ways}
-use Rattle.wsm_lists.specs.Rows.{AllRows}
-use Rattle.wsm_lists.proofs.Lists.{map-same, all-rows-map}
-use Rattle.wsm_schema.specs.Trail.{is_one_of}
-use Rattle.wsm_schema.specs.Flat.{card_at}
-use Rattle.wsm_schema.specs.Kinds.{worked_on}
-use Rattle.wsm_schema.specs.Rank.{IsRank}
-use Rattle.wsm_schema.specs.Pass.{ruled_from, ruled_if, pass}
-use Rattle.wsm_schema.specs.Rules.{Spots, spot, spot_in, signal_from, sync_from, source_signal, verdict_at, judge_of, state_by, is_begun, ruled, round, settle}
-use Rattle.wsm_schema.specs.declared.cards.Card.{Card}
-use Rattle.wsm_schema.specs.declared.cards.NodeKind.{NodeKind}
-use Rattle.wsm_schema.specs.declared.states.Spot.{Spot}
-use Rattle.wsm_schema.specs.declared.states.Verdict.{Verdict}
+use Rattle.wsm_schema.specs.{declared.states.Spot.Spot, declared.states.Verdict.Verdict}
 use Rattle.wsm_schema.specs.declared.states.Verdict.TheVariants as verdict
 
 -- ---- lists

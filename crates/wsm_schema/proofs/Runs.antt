@@ -1,17 +1,9 @@
 -- The rows of one number, among rows in the order of their numbers, are a run.
-use Rattle.std.proofs.Common.{◌≡◌, ℕ, zero, suc, ◌+◌, ◌-◌, ◌<◌, ◌≤◌, Bool, true, false, cond, not, ◌&&◌, eqb, ltb, List, [], ◌∷◌, length, get_or, refl, ap, sym, ◌∙◌, inl, inr, ◌⊎◌, arith, take, Option, Some, None}
-use Rattle.std.specs.Prelude.{map, slice_get, option_map}
-use Rattle.std.specs.List.{filter, slice_range, position_from}
-use Rattle.std.specs.List.Sorted.{IsNonDecreasingBy, IsPartitionPoint, IsStableByKey, ties}
-use Rattle.std.specs.Ordering.{nat_cmp, is_lt}
-use Rattle.std.proofs.Math.Dec.{leb}
-use Rattle.std.proofs.lemmas.Bool.{cases_Bool, cases_order, both_ways, and_parts, eq-eqb, ne_eqb, eqb-true, eqb-false, ltb-true, ltb-false, lt-ltb, le-ltb, leb-true, leb-false}
+use Rattle.wsm_schema.proofs.Common.{[], ℕ, ◌&&◌, ◌+◌, ◌-◌, ◌<◌, ◌∙◌, ◌∷◌, ◌≡◌, ◌≤◌, ◌⊎◌, and_parts, ap, arith, Bool, both_ways, Card, card_at, cases_Bool, cases_order, cond, eq-eqb, eqb, eqb-false, eqb-true, false, filter, get_or}
+use Rattle.wsm_schema.proofs.Common.{has_number, inl, inr, is_one_of, IsEnd, IsStart, le-ltb, leb, leb-false, leb-true, length, List, lt-ltb, ltb, ltb-false, ltb-true, ne_eqb, nodes_of, None, not, numbered, Option, option_map, placed}
+use Rattle.wsm_schema.proofs.Common.{position_from, refl, reversed, rows_with, SameGroups, slice_get, slice_range, Some, starts_at, suc, sym, take, true, zero}
+use Rattle.std.specs.{Prelude.map, List.Sorted.{IsNonDecreasingBy, IsPartitionPoint, IsStableByKey, ties}, Ordering.{nat_cmp, is_lt}}
 use Rattle.std.proofs.lemmas.Option.{slice_get_within, get_or_from_slice_get, slice_get-get_or}
-use Rattle.wsm_schema.specs.Flat.{card_at}
-use Rattle.wsm_schema.specs.Trail.{is_one_of}
-use Rattle.wsm_schema.specs.Sound.{nodes_of}
-use Rattle.wsm_schema.specs.Groups.{has_number, starts_at, rows_with, SameGroups, reversed, numbered, placed, IsStart, IsEnd}
-use Rattle.wsm_schema.specs.declared.cards.Card.{Card}
 
 module _ {A : Type 0} (n : ℕ) where
   start-later : (x : ℕ × A) (xs : List (ℕ × A)) (i : ℕ) → IsStart n (x ∷ xs) (suc i) → IsStart n xs i

@@ -1,17 +1,7 @@
 -- The nodes of a tree in document order, and what it says that none stands twice.
-use Rattle.std.proofs.Common.{◌≡◌, ℕ, Bool, true, false, ◌||◌, eqb, List, [], ◌∷◌, ◌++◌, map, refl, ap, sym, ◌∙◌, subst, inl, inr, Some, None}
-use Rattle.std.proofs.lemmas.Bool.{cases_Bool, both_ways, eqb-true, eq-eqb, or_left, or_right, or_parts}
-use Rattle.std.proofs.lemmas.List.{map-append}
-use Rattle.wsm_schema.specs.Trail.{is_one_of}
-use Rattle.wsm_schema.specs.Tree.{Part, Parts, Lanes, act, gate, loop, nothing, part, no_lane, lane}
-use Rattle.wsm_schema.specs.Ends.{first_node, last_of}
-use Rattle.wsm_schema.specs.Places.{part_places, parts_places, lanes_places, places, plain_end, labelled}
-use Rattle.wsm_schema.specs.SchemaModel.{SchemaModel}
-use Rattle.wsm_schema.specs.Flat.{cards_of, card_of}
-use Rattle.wsm_schema.specs.Sound.{part_has, parts_have, lanes_have, twice, nodes_of}
-use Rattle.wsm_schema.specs.declared.cards.End.{End}
-use Rattle.wsm_schema.specs.declared.places.Place.{Place}
-use Rattle.wsm_schema.proofs.DocumentOrder.{one_of-append}
+use Rattle.wsm_schema.proofs.Common.{[], ℕ, ◌++◌, ◌||◌, ◌∙◌, ◌∷◌, ◌≡◌, act, ap, Bool, both_ways, card_of, cards_of, cases_Bool, End, eq-eqb, eqb, eqb-true, false, first_node, gate, inl, inr, is_one_of, labelled, lane, Lanes, lanes_have}
+use Rattle.wsm_schema.proofs.Common.{lanes_places, last_of, List, loop, map, map-append, no_lane, nodes_of, None, nothing, or_left, or_parts, or_right, Part, part, part_has, part_places, Parts, parts_have, parts_places, Place, places}
+use Rattle.wsm_schema.proofs.{Common.{plain_end, refl, SchemaModel, Some, subst, sym, true, twice}, DocumentOrder.one_of-append}
 
 abbrev mutual
   pub part_nodes : Part → List ℕ

@@ -1,8 +1,6 @@
 -- How cards are found by their nodes.
 use Rattle.std.specs.Prelude.{◌≡◌, ℕ, Bool, true, List, Some, slice_get}
-use Rattle.wsm_schema.specs.Flat.{card_at}
-use Rattle.wsm_schema.specs.Groups.{SameGroups, numbered}
-use Rattle.wsm_schema.specs.declared.cards.Card.{Card}
+use Rattle.wsm_schema.specs.{Flat.card_at, Groups.{SameGroups, numbered}, declared.cards.Card.Card}
 
 -- each card is the first of its node
 abbrev pub EachFirst : List Card → Type 0

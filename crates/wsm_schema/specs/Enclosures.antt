@@ -1,15 +1,8 @@
 -- The blocks round each node, and what they tell of two nodes.
-use Rattle.std.specs.Prelude.{◌≡◌, ℕ, ◌+◌, Bool, true, false, not, ◌&&◌, List, [], ◌∷◌, ◌++◌, map, Option, Some, None, ◌==◌, if◌then◌else◌}
-use Rattle.std.specs.List.{list_all}
-use Rattle.wsm_schema.specs.Tree.{Part, Parts, Lanes, act, gate, loop, nothing, part, no_lane, lane}
-use Rattle.wsm_schema.specs.Places.{split_kind}
-use Rattle.wsm_schema.specs.Kinds.{is_and_split, is_xor_split, is_loop_start}
-use Rattle.wsm_schema.specs.SchemaModel.{SchemaModel}
-use Rattle.wsm_schema.specs.Flat.{FlatModel, flat_of, cards_of}
-use Rattle.wsm_schema.specs.Sound.{part_has, parts_have, twice, nodes_of}
-use Rattle.wsm_schema.specs.declared.cards.NodeKind.{NodeKind}
+use Rattle.std.specs.{Prelude.{◌≡◌, ℕ, ◌+◌, Bool, true, false, not, ◌&&◌, List, [], ◌∷◌, ◌++◌, map, Option, Some, None, ◌==◌, if◌then◌else◌}, List.list_all}
+use Rattle.wsm_schema.specs.{Tree.{Part, Parts, Lanes, act, gate, loop, nothing, part, no_lane, lane}, Places.split_kind, Kinds.{is_and_split, is_xor_split, is_loop_start}, SchemaModel.SchemaModel, Flat.{FlatModel, flat_of, cards_of}}
+use Rattle.wsm_schema.specs.{Sound.{part_has, parts_have, twice, nodes_of}, declared.cards.NodeKind.NodeKind, declared.enclosures.Enclosure.Enclosure}
 use Rattle.wsm_schema.specs.declared.cards.NodeKind.TheVariants.{LoopStart}
-use Rattle.wsm_schema.specs.declared.enclosures.Enclosure.{Enclosure}
 
 -- a block by its first node, and a branch of it
 abbrev pub enclosure : ℕ → NodeKind → ℕ → Enclosure

@@ -1,13 +1,7 @@
 -- A schema's flat form: a card for each node, in document order, and the elements.
 use Rattle.std.specs.Prelude.{ℕ, List, [], ◌∷◌, map, filter, find, Option, Some, None, option_map, ◌==◌, if◌then◌else◌}
-use Rattle.wsm_lists.specs.Keys.{first, role_in}
-use Rattle.wsm_lists.specs.Rows.{row_at}
-use Rattle.wsm_schema.specs.Kinds.{is_loop_end}
-use Rattle.wsm_schema.specs.SchemaModel.{SchemaModel}
-use Rattle.wsm_schema.specs.Places.{places}
-use Rattle.wsm_schema.specs.declared.places.Place.{Place}
-use Rattle.wsm_schema.specs.declared.cards.Card.{Card}
-use Rattle.wsm_lists.specs.declared.values.ElementKind.{ElementKind}
+use Rattle.wsm_lists.specs.{Keys.{first, role_in}, Rows.row_at, declared.values.ElementKind.ElementKind}
+use Rattle.wsm_schema.specs.{Kinds.is_loop_end, SchemaModel.SchemaModel, Places.places, declared.places.Place.Place, declared.cards.Card.Card}
 
 -- a flat form as contracts see it
 pub record FlatModel : Type 0 where

@@ -1,6 +1,5 @@
 -- Rows grouped by their first number.
-use Rattle.std.specs.Prelude.{◌≡◌, ℕ, Bool, not, ◌&&◌, ◌+◌, ◌<◌, ◌≤◌, List, [], ◌∷◌, Option, Some, None, map, filter, slice_get, ◌==◌}
-use Rattle.std.specs.List.Sorted.{IsPartitionPoint}
+use Rattle.std.specs.{Prelude.{◌≡◌, ℕ, Bool, not, ◌&&◌, ◌+◌, ◌<◌, ◌≤◌, List, [], ◌∷◌, Option, Some, None, map, filter, slice_get, ◌==◌}, List.Sorted.IsPartitionPoint}
 use Rattle.wsm_schema.specs.declared.cards.Card.{Card}
 
 -- the rows of one number

@@ -1,15 +1,8 @@
 -- Timed marks: at which positions of a trail the facts of a node first hold.
-use Rattle.std.specs.Prelude.{ℕ, Bool, true, false, ◌||◌, List, [], ◌∷◌, Option, Some, None, is_some, find, option_map, ◌==◌, if◌then◌else◌}
-use Rattle.std.specs.List.{fold}
+use Rattle.std.specs.{Prelude.{ℕ, Bool, true, false, ◌||◌, List, [], ◌∷◌, Option, Some, None, is_some, find, option_map, ◌==◌, if◌then◌else◌}, List.fold}
 use Rattle.wsm_lists.specs.Rows.{put_row}
-use Rattle.wsm_schema.specs.Flat.{FlatModel}
-use Rattle.wsm_schema.specs.Rules.{Spots, spot_in, settle}
-use Rattle.wsm_schema.specs.Replay.{after}
-use Rattle.wsm_schema.specs.declared.cards.Card.{Card}
-use Rattle.wsm_schema.specs.declared.entries.Entry.{Entry}
+use Rattle.wsm_schema.specs.{Flat.FlatModel, Rules.{Spots, spot_in, settle}, Replay.after, declared.cards.Card.Card, declared.entries.Entry.Entry, declared.marks.Mark.Mark, declared.states.State.State}
 use Rattle.wsm_schema.specs.declared.entries.Entry.TheVariants as entry
-use Rattle.wsm_schema.specs.declared.marks.Mark.{Mark}
-use Rattle.wsm_schema.specs.declared.states.State.{State}
 use Rattle.wsm_schema.specs.declared.states.State.TheVariants as state
 
 -- the net after each position, and at position 0 before all entries

@@ -1,9 +1,6 @@
 -- One pass over a net in the order of a rank.
 use Rattle.std.specs.Prelude.{ℕ, List, [], ◌∷◌, ◌++◌, Option, Some, None, if◌then◌else◌}
-use Rattle.wsm_schema.specs.Flat.{card_at}
-use Rattle.wsm_schema.specs.Rules.{Spots, spot, spot_in, is_begun, state_by, verdict_at}
-use Rattle.wsm_schema.specs.declared.cards.Card.{Card}
-use Rattle.wsm_schema.specs.declared.states.Spot.{Spot}
+use Rattle.wsm_schema.specs.{Flat.card_at, Rules.{Spots, spot, spot_in, is_begun, state_by, verdict_at}, declared.cards.Card.Card, declared.states.Spot.Spot}
 
 -- the node rule, where `old` says which nodes were begun, and `done` what the earlier nodes are
 abbrev pub ruled_from : List Card → Spots → Spots → Card → Spot

@@ -1,9 +1,6 @@
 -- The nodes of a tree in document order, each with its control edges.
 use Rattle.std.specs.Prelude.{ℕ, List, [], ◌∷◌, ◌++◌, Option, Some, None}
-use Rattle.wsm_schema.specs.Tree.{Part, Parts, Lanes, Gate, act, gate, loop, nothing, part, no_lane, lane, and_gate, xor_gate}
-use Rattle.wsm_schema.specs.Ends.{first_node, last_of}
-use Rattle.wsm_schema.specs.declared.cards.End.{End}
-use Rattle.wsm_schema.specs.declared.places.Place.{Place}
+use Rattle.wsm_schema.specs.{Tree.{Part, Parts, Lanes, Gate, act, gate, loop, nothing, part, no_lane, lane, and_gate, xor_gate}, Ends.{first_node, last_of}, declared.cards.End.End, declared.places.Place.Place}
 use Rattle.wsm_schema.specs.declared.cards.NodeKind.{NodeKind}
 use Rattle.wsm_schema.specs.declared.cards.NodeKind.TheVariants.{Start, Finish, Activity, AndSplit, AndJoin, XorSplit, XorJoin, LoopStart, LoopEnd}
 

@@ -1,9 +1,7 @@
 -- Ranks: lists of all nodes in which each edge's source stands before its target.
 use Rattle.std.specs.Prelude.{◌≡◌, ℕ, ◌≤◌, true, false, List, [], ◌∷◌, ◌++◌, length, Some}
 use Rattle.wsm_lists.specs.Rows.{AllRows}
-use Rattle.wsm_schema.specs.Trail.{is_one_of}
-use Rattle.wsm_schema.specs.Flat.{card_at}
-use Rattle.wsm_schema.specs.declared.cards.Card.{Card}
+use Rattle.wsm_schema.specs.{Trail.is_one_of, Flat.card_at, declared.cards.Card.Card}
 
 -- every node of the cards stands there, once, and behind the sources of its edges
 pub record IsRank (cards : List Card) (rank : List ℕ) : Type 0 where

@@ -1,18 +1,10 @@
 -- Which entries are applicable, and the replay of a trail.
 use Rattle.std.specs.Prelude.{ℕ, Bool, true, false, ◌&&◌, ◌||◌, not, List, [], ◌∷◌, Option, Some, None, is_some, ◌==◌, if◌then◌else◌}
-use Rattle.wsm_schema.specs.Flat.{FlatModel, card_at, kind_in}
-use Rattle.wsm_schema.specs.Rules.{Spots, spot, spot_in, settle}
-use Rattle.wsm_schema.specs.Kinds.{is_activity, is_xor_split, is_loop_end}
-use Rattle.wsm_schema.specs.Trail.{value_below}
-use Rattle.wsm_lists.specs.Values.{Written, same_option_value, has_kind}
-use Rattle.wsm_schema.specs.declared.cards.Card.{Card}
-use Rattle.wsm_schema.specs.declared.cards.End.{End}
-use Rattle.wsm_schema.specs.declared.entries.Entry.{Entry}
+use Rattle.wsm_schema.specs.{Flat.{FlatModel, card_at, kind_in}, Rules.{Spots, spot, spot_in, settle}, Kinds.{is_activity, is_xor_split, is_loop_end}, Trail.value_below, declared.cards.Card.Card, declared.cards.End.End}
+use Rattle.wsm_schema.specs.{declared.entries.Entry.Entry, declared.states.State.State}
+use Rattle.wsm_lists.specs.{Values.{Written, same_option_value, has_kind}, declared.values.Value.Value, declared.values.ElementKind.ElementKind}
 use Rattle.wsm_schema.specs.declared.entries.Entry.TheVariants as entry
-use Rattle.wsm_schema.specs.declared.states.State.{State}
 use Rattle.wsm_schema.specs.declared.states.State.TheVariants as state
-use Rattle.wsm_lists.specs.declared.values.Value.{Value}
-use Rattle.wsm_lists.specs.declared.values.ElementKind.{ElementKind}
 
 -- whether two states are one
 abbrev pub is_in_state : State → State → Bool

@@ -1,20 +1,11 @@
 -- Signals of edges, the node rule, and the settled net.
-use Rattle.std.specs.Prelude.{ℕ, Bool, true, false, ◌&&◌, not, List, [], ◌∷◌, map, length, Option, Some, None, is_some, ◌==◌, if◌then◌else◌}
-use Rattle.std.specs.List.{list_all, count_by, fold}
-use Rattle.std.specs.Fn.{iterate}
-use Rattle.wsm_schema.specs.Flat.{card_at}
-use Rattle.wsm_schema.specs.Kinds.{is_xor_split, worked_on}
-use Rattle.wsm_schema.specs.declared.cards.Card.{Card}
-use Rattle.wsm_schema.specs.declared.cards.End.{End}
-use Rattle.wsm_schema.specs.declared.cards.NodeKind.{NodeKind}
+use Rattle.std.specs.{Prelude.{ℕ, Bool, true, false, ◌&&◌, not, List, [], ◌∷◌, map, length, Option, Some, None, is_some, ◌==◌, if◌then◌else◌}, List.{list_all, count_by, fold}, Fn.iterate}
+use Rattle.wsm_schema.specs.{Flat.card_at, Kinds.{is_xor_split, worked_on}, declared.cards.Card.Card, declared.cards.End.End, declared.cards.NodeKind.NodeKind, declared.states.State.State, declared.states.Spot.Spot}
+use Rattle.wsm_schema.specs.{declared.states.Flow.Flow, declared.states.Verdict.Verdict}
 use Rattle.wsm_schema.specs.declared.cards.NodeKind.TheVariants.{Start, XorJoin}
-use Rattle.wsm_schema.specs.declared.states.State.{State}
 use Rattle.wsm_schema.specs.declared.states.State.TheVariants.{NotActivated, Activated, Running, Completed, Skipped}
 use Rattle.wsm_lists.specs.Rows.{put_row}
-use Rattle.wsm_schema.specs.declared.states.Spot.{Spot}
-use Rattle.wsm_schema.specs.declared.states.Flow.{Flow}
 use Rattle.wsm_schema.specs.declared.states.Flow.TheVariants.{Yes, No}
-use Rattle.wsm_schema.specs.declared.states.Verdict.{Verdict}
 use Rattle.wsm_schema.specs.declared.states.Verdict.TheVariants as verdict
 
 -- whether a label was chosen; an edge with no label always is

@@ -1,8 +1,6 @@
 -- A schema as contracts see it.
-use Rattle.std.specs.Prelude.{◌≡◌, ℕ, Bool, List, [], refl}
-use Rattle.std.specs.Coded.{Coded, code_by, coded×, coded_ℕ, coded_bool, coded_list}
-use Rattle.wsm_schema.specs.Tree.{Parts}
-use Rattle.wsm_schema.specs.Tokens.{tree_code}
+use Rattle.std.specs.{Prelude.{◌≡◌, ℕ, Bool, List, [], refl}, Coded.{Coded, code_by, coded×, coded_ℕ, coded_bool, coded_list}}
+use Rattle.wsm_schema.specs.{Tree.Parts, Tokens.tree_code}
 use Rattle.wsm_lists.specs.declared.values.ElementKind.{ElementKind}
 use Rattle.wsm_lists.specs.declared.values.ElementKind.TheVariants as kind
 

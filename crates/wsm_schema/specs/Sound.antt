@@ -1,19 +1,10 @@
 -- The clauses of a sound schema, each as its first fault.
-use Rattle.std.specs.Prelude.{◌≡◌, ℕ, zero, suc, Bool, true, false, ◌&&◌, ◌||◌, not, max, List, [], ◌∷◌, map, find, flat_map, length, Option, Some, None, option_map, nat_lt, ◌==◌, if◌then◌else◌}
-use Rattle.std.specs.List.{list_all, list_any, count_by}
-use Rattle.std.specs.Option.{option_or}
-use Rattle.std.specs.Fn.{iterate}
-use Rattle.wsm_schema.specs.Tree.{Part, Parts, Lanes, Gate, act, gate, loop, nothing, part, no_lane, lane, and_gate, xor_gate}
-use Rattle.wsm_schema.specs.SchemaModel.{SchemaModel}
-use Rattle.wsm_schema.specs.Flat.{cards_of, card_at}
-use Rattle.wsm_schema.specs.Kinds.{worked_on, is_activity}
-use Rattle.wsm_schema.specs.Trail.{is_one_of}
-use Rattle.wsm_schema.specs.declared.cards.Card.{Card}
-use Rattle.wsm_schema.specs.declared.cards.NodeKind.{NodeKind}
+use Rattle.std.specs.{Prelude.{◌≡◌, ℕ, zero, suc, Bool, true, false, ◌&&◌, ◌||◌, not, max, List, [], ◌∷◌, map, find, flat_map, length, Option, Some, None, option_map, nat_lt, ◌==◌, if◌then◌else◌}, List.{list_all, list_any, count_by}}
+use Rattle.std.specs.{Option.option_or, Fn.iterate}
+use Rattle.wsm_schema.specs.{Tree.{Part, Parts, Lanes, Gate, act, gate, loop, nothing, part, no_lane, lane, and_gate, xor_gate}, SchemaModel.SchemaModel, Flat.{cards_of, card_at}, Kinds.{worked_on, is_activity}, Trail.is_one_of}
+use Rattle.wsm_schema.specs.{declared.cards.Card.Card, declared.cards.NodeKind.NodeKind, declared.faults.BlockFault.BlockFault, declared.faults.DataFault.DataFault}
 use Rattle.wsm_schema.specs.declared.cards.NodeKind.TheVariants as node_kind
-use Rattle.wsm_schema.specs.declared.faults.BlockFault.{BlockFault}
 use Rattle.wsm_schema.specs.declared.faults.BlockFault.TheVariants.{Limit, Twice, FewBranches, CodeTwice, SyncEnd, SyncPlace, SyncLoop, SyncCycle}
-use Rattle.wsm_schema.specs.declared.faults.DataFault.{DataFault}
 use Rattle.wsm_schema.specs.declared.faults.DataFault.TheVariants.{Unknown, Missing, ParallelWrite}
 use Rattle.wsm_schema.specs.declared.faults.LimitKind.TheVariants as limit
 

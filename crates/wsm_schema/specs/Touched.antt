@@ -1,7 +1,6 @@
 -- The nodes that differ between two schemas, and the region behind them.
 use Rattle.std.specs.Prelude.{◌≡◌, ◌≢◌, ℕ, List, Option, Contains, Some}
-use Rattle.wsm_schema.specs.Flat.{FlatModel, card_at, kind_in}
-use Rattle.wsm_schema.specs.declared.cards.Card.{Card}
+use Rattle.wsm_schema.specs.{Flat.{FlatModel, card_at, kind_in}, declared.cards.Card.Card}
 
 -- a node in one of them alone, or with another card, or one that writes an element of another kind
 pub data Touched (a b : FlatModel) (n : ℕ) : Type 0 where

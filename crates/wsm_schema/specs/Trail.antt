@@ -1,10 +1,8 @@
 -- Trails: entries by position, values, and the cut.
-use Rattle.std.specs.Prelude.{ℕ, ◌+◌, Bool, List, [], ◌∷◌, ◌++◌, filter_map, Option, Some, None, nat_lt, ◌==◌, if◌then◌else◌}
-use Rattle.std.specs.List.{list_any}
-use Rattle.wsm_lists.specs.Values.{Written, value_in}
+use Rattle.std.specs.{Prelude.{ℕ, ◌+◌, Bool, List, [], ◌∷◌, ◌++◌, filter_map, Option, Some, None, nat_lt, ◌==◌, if◌then◌else◌}, List.list_any}
+use Rattle.wsm_lists.specs.{Values.{Written, value_in}, declared.values.Value.Value}
 use Rattle.wsm_schema.specs.declared.entries.Entry.{Entry}
 use Rattle.wsm_schema.specs.declared.entries.Entry.TheVariants as entry
-use Rattle.wsm_lists.specs.declared.values.Value.{Value}
 
 -- entries by position, and the next position
 pub record TrailModel : Type 0 where

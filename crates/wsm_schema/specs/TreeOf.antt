@@ -1,9 +1,6 @@
 -- The tree that a value of the program stands for.
 use Rattle.std.specs.Prelude.{ℕ, List, map}
-use Rattle.wsm_schema.specs.Tree.{Part, Parts, act, gate, loop, and_gate, xor_gate, parts, lanes}
-use Rattle.wsm_schema.specs.declared.blocks.Block.{Block}
-use Rattle.wsm_schema.specs.declared.blocks.Branch.{Branch}
-use Rattle.wsm_schema.specs.declared.blocks.Block.TheOpen.{Block-F, Branch-F}
+use Rattle.wsm_schema.specs.{Tree.{Part, Parts, act, gate, loop, and_gate, xor_gate, parts, lanes}, declared.blocks.Block.Block, declared.blocks.Branch.Branch, declared.blocks.Block.TheOpen.{Block-F, Branch-F}}
 use Rattle.wsm_schema.specs.declared.blocks.Block.TheFolds.{fold-Block, fold-Branch}
 
 -- one layer of a block

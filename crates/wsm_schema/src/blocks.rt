@@ -1,10 +1,6 @@
 // The tree of blocks between start and finish.
 ghost use Rattle.std.specs.Prelude.{◌≡◌, ◌-◌, ◌^◌, min, IfOk};
-ghost use Rattle.wsm_schema.specs.Sizes.{part_size, parts_size, lanes_size};
-ghost use Rattle.wsm_schema.specs.Tree.{lanes};
-ghost use Rattle.wsm_schema.specs.TreeOf.{part_of, parts_of, lanes_of};
-ghost use Rattle.wsm_schema.specs.Ends.{first_node, first_of, last_of};
-ghost use Rattle.wsm_schema.specs.Places.{leaving};
+ghost use Rattle.wsm_schema.specs.{Sizes.{part_size, parts_size, lanes_size}, Tree.lanes, TreeOf.{part_of, parts_of, lanes_of}, Ends.{first_node, first_of, last_of}, Places.leaving};
 
 use crate::cards::End;
 use std::alloc::Global;

@@ -1,8 +1,7 @@
 // The card of a node, from the lists of its schema.
 ghost use Rattle.std.specs.Prelude.{◌≡◌, IfOk, map, filter, ◌==◌};
 ghost use Rattle.wsm_lists.specs.Keys.{role_in};
-ghost use Rattle.wsm_schema.specs.Flat.{card_of};
-ghost use Rattle.wsm_schema.specs.Groups.{reversed};
+ghost use Rattle.wsm_schema.specs.{Flat.card_of, Groups.reversed};
 
 use crate::cards::{Card, CardNumbers, CardReads};
 use crate::groups::Groups;

@@ -1,10 +1,7 @@
 // The blocks round each node, and what they tell of two nodes.
 ghost use Rattle.std.specs.Prelude.{◌≡◌, ◌<◌, ◌∷◌, [], ◌++◌, ℕ, None, length, slice_get, slice_index, IfOk, OnOk};
-ghost use Rattle.wsm_schema.specs.Flat.{flat_of, cards_of};
-ghost use Rattle.wsm_schema.specs.Sound.{twice, nodes_of, parts_apart, parts_bound, parts_loop};
-ghost use Rattle.wsm_schema.specs.Tree.{lanes};
-ghost use Rattle.wsm_schema.specs.TreeOf.{part_of, parts_of, lanes_of};
-ghost use Rattle.wsm_schema.specs.Enclosures.{enclosure, parts_round, part_ways, are_bound, are_free, innermost_loop, part_walk, parts_walk, lanes_walk, schema_walk};
+ghost use Rattle.wsm_schema.specs.{Flat.{flat_of, cards_of}, Sound.{twice, nodes_of, parts_apart, parts_bound, parts_loop}, Tree.lanes, TreeOf.{part_of, parts_of, lanes_of}, Enclosures.{enclosure, parts_round, part_ways, are_bound}};
+ghost use Rattle.wsm_schema.specs.Enclosures.{are_free, innermost_loop, part_walk, parts_walk, lanes_walk, schema_walk};
 
 use crate::blocks::{Block, Branch, nodes_in};
 use crate::cards::NodeKind;

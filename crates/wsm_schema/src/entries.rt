@@ -1,6 +1,5 @@
 // Entries of a trail.
-ghost use Rattle.std.specs.Prelude.{◌≡◌, IfOk};
-ghost use Rattle.std.specs.Option.{option_copied};
+ghost use Rattle.std.specs.{Prelude.{◌≡◌, IfOk}, Option.option_copied};
 ghost use Rattle.wsm_lists.specs.Values.{value_in};
 ghost use Rattle.wsm_schema.specs.Trail.{written_by};
 

@@ -1,7 +1,5 @@
 // Lists of which most have one item or none.
-ghost use Rattle.std.specs.Prelude.{◌≡◌, [], ◌∷◌, IfOk, IsTrue, ◌↔◌};
-ghost use Rattle.std.specs.Cmp.Lexicographic.{pointwise};
-ghost use Rattle.std.specs.Slice.Iter.{iter_rest};
+ghost use Rattle.std.specs.{Prelude.{◌≡◌, [], ◌∷◌, IfOk, IsTrue, ◌↔◌}, Cmp.Lexicographic.pointwise, Slice.Iter.iter_rest};
 
 use std::alloc::Global;
 use std::marker::Model;

@@ -1,13 +1,7 @@
 // The flat form of a schema: a card for each node, in document order.
-ghost use Rattle.std.specs.Prelude.{◌≡◌, ℕ, [], ◌∷◌, ◌++◌, true, Some, IfOk, IfSome, OnOk, map, option_map, slice_get, ◌==◌};
-ghost use Rattle.std.specs.List.{position_from};
-ghost use Rattle.std.specs.Option.{option_copied};
-ghost use Rattle.wsm_schema.specs.TreeOf.{part_of, parts_of, lanes_of};
-ghost use Rattle.wsm_schema.specs.Tree.{lanes};
-ghost use Rattle.wsm_schema.specs.Places.{part_places, parts_places, lanes_places};
-ghost use Rattle.wsm_schema.specs.Groups.{SameGroups, numbered, rows_with};
-ghost use Rattle.wsm_schema.specs.CardPlaces.{EachFirst};
-ghost use Rattle.wsm_schema.specs.Flat.{card_of, flat_of, cards_of, card_at, kind_in, loop_nodes, loop_start, up_to_node, from_node};
+ghost use Rattle.std.specs.{Prelude.{◌≡◌, ℕ, [], ◌∷◌, ◌++◌, true, Some, IfOk, IfSome, OnOk, map, option_map, slice_get, ◌==◌}, List.position_from, Option.option_copied};
+ghost use Rattle.wsm_schema.specs.{TreeOf.{part_of, parts_of, lanes_of}, Tree.lanes, Places.{part_places, parts_places, lanes_places}, Groups.{SameGroups, numbered, rows_with}, CardPlaces.EachFirst, Flat.{card_of, flat_of, cards_of}};
+ghost use Rattle.wsm_schema.specs.Flat.{card_at, kind_in, loop_nodes, loop_start, up_to_node, from_node};
 
 use crate::blocks::{Block, Branch, first_node, nodes_in};
 use crate::card_lists::Lists;

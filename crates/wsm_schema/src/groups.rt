@@ -1,7 +1,5 @@
 // Rows grouped by a number.
-ghost use Rattle.std.specs.Prelude.{◌≡◌, ◌≤◌, length, slice_get, IfOk, IfSome};
-ghost use Rattle.std.specs.Option.{option_copied};
-ghost use Rattle.std.specs.List.Sorted.{IsNonDecreasingBy};
+ghost use Rattle.std.specs.{Prelude.{◌≡◌, ◌≤◌, length, slice_get, IfOk, IfSome}, Option.option_copied, List.Sorted.IsNonDecreasingBy};
 ghost use Rattle.wsm_schema.specs.Groups.{has_number, rows_with, starts_at, SameGroups, IsStart, IsEnd};
 
 use std::marker::Model;

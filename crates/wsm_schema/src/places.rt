@@ -1,9 +1,6 @@
 // The nodes of the tree, each with the control edges into it and out of it.
 ghost use Rattle.std.specs.Prelude.{◌≡◌, [], ◌∷◌, IfOk, Some, None};
-ghost use Rattle.wsm_schema.specs.TreeOf.{parts_of, lanes_of};
-ghost use Rattle.wsm_schema.specs.Tree.{lanes};
-ghost use Rattle.wsm_schema.specs.Ends.{first_node};
-ghost use Rattle.wsm_schema.specs.Places.{place, plain_end, leaving, branch_heads, branch_tails};
+ghost use Rattle.wsm_schema.specs.{TreeOf.{parts_of, lanes_of}, Tree.lanes, Ends.first_node, Places.{place, plain_end, leaving, branch_heads, branch_tails}};
 
 use crate::blocks::{Block, Branch, first_node, leaving};
 use crate::cards::{End, Ends, NodeKind};

@@ -1,6 +1,5 @@
 // Ranks of a net's nodes.
-ghost use Rattle.std.specs.Prelude.{◌≡◌, ◌==◌, IfOk};
-ghost use Rattle.std.specs.List.{position_from};
+ghost use Rattle.std.specs.{Prelude.{◌≡◌, ◌==◌, IfOk}, List.position_from};
 ghost use Rattle.wsm_schema.specs.Groups.{placed, SameGroups};
 
 use crate::groups::Groups;

@@ -1,10 +1,7 @@
 // A schema: a tree of blocks between two nodes, and five lists.
-ghost use Rattle.std.specs.Prelude.{◌≡◌, not, OnErr, OnOk, IfOk, if◌then◌else◌};
-ghost use Rattle.std.specs.Option.{is_some};
-ghost use Rattle.wsm_lists.specs.Rows.{put_row, row_at};
-ghost use Rattle.wsm_lists.specs.Keys.{both, first, first_two, put_role};
-ghost use Rattle.wsm_schema.specs.TreeOf.{parts_of};
-ghost use Rattle.wsm_schema.specs.SchemaModel.{plain};
+ghost use Rattle.std.specs.{Prelude.{◌≡◌, not, OnErr, OnOk, IfOk, if◌then◌else◌}, Option.is_some};
+ghost use Rattle.wsm_lists.specs.{Rows.{put_row, row_at}, Keys.{both, first, first_two, put_role}};
+ghost use Rattle.wsm_schema.specs.{TreeOf.parts_of, SchemaModel.plain};
 
 use crate::blocks::{Items, copy_items};
 use std::alloc::Global;

@@ -1,19 +1,6 @@
 -- Places that are all visited in their order.
-use Rattle.std.proofs.Common.{◌≡◌, ℕ, zero, suc, ◌+◌, ◌<◌, ◌≤◌, Bool, true, false, eqb, List, [], length, get_or, refl, subst, inl, inr, arith, Option, Some, None}
-use Rattle.std.proofs.lemmas.Bool.{cases_Bool, both_ways, eq-eqb, eqb-true}
-use Rattle.wsm_lists.specs.Keys.{first}
-use Rattle.wsm_lists.specs.Rows.{put_row}
-use Rattle.wsm_schema.specs.Flat.{card_at}
-use Rattle.wsm_schema.specs.Trail.{is_one_of}
-use Rattle.wsm_schema.specs.declared.cards.Card.{Card}
-use Rattle.wsm_schema.specs.declared.marks.Mark.{Mark}
-use Rattle.wsm_walk.specs.Listed.{said, seen}
-use Rattle.wsm_walk.specs.RankPlaces.{AllBehind, Handed, rank_place}
-use Rattle.wsm_walk.specs.Walk.{Walks}
-use Rattle.wsm_walk.proofs.WalkSteps.{place-within}
-use Rattle.wsm_settle.specs.AllPlaces.{WalksOne, places_from}
-use Rattle.wsm_settle.specs.Revised.{IsRevised}
-use Rattle.wsm_settle.proofs.Visits.{walks-new, walks-none, walks-on, walks-same}
+use Rattle.wsm_settle.proofs.Common.{[], ℕ, ◌+◌, ◌<◌, ◌≡◌, ◌≤◌, AllBehind, arith, Bool, both_ways, Card, card_at, cases_Bool, eq-eqb, eqb, eqb-true, false, first, get_or, Handed, inl, inr, is_one_of, IsRevised, length, List, Mark, None}
+use Rattle.wsm_settle.proofs.{Common.{Option, place-within, places_from, put_row, rank_place, refl, said, seen, Some, subst, suc, true, Walks, WalksOne, zero}, Visits.{walks-new, walks-none, walks-on, walks-same}}
 
 pub place-among : (q p n : ℕ) → p ≤ q → q < p + n → is_one_of q (places_from p n) ≡ true
 place-among q p zero from to = absurd (omega (arith, from, to))

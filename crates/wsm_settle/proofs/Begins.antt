@@ -1,40 +1,12 @@
 -- Where a walk begins behind an event, and that it ends with the right changes and few reads.
-use Rattle.std.proofs.Common.{◌≡◌, ℕ, ◌+◌, ◌≤◌, Bool, true, eqb, List, [], ◌∷◌, ◌++◌, refl, ap, sym, ◌∙◌, subst, inl, inr, arith, Option, Some, None}
-use Rattle.std.specs.Prelude.{if◌then◌else◌}
-use Rattle.std.proofs.lemmas.Bool.{cases_Bool, both_ways, eqb-true, eq-eqb}
-use Rattle.wsm_lists.specs.ByNumber.{item_at}
-use Rattle.wsm_lists.specs.Keys.{first}
-use Rattle.wsm_lists.specs.Rows.{Ascends, put_row}
-use Rattle.wsm_lists.proofs.ByNumber.{item_at-put}
-use Rattle.wsm_lists.proofs.Rows.{ascends_put}
-use Rattle.wsm_schema.specs.Flat.{FlatModel, card_at, cards_of, loop_nodes}
-use Rattle.wsm_schema.specs.Rank.{IsRank}
-use Rattle.wsm_schema.specs.SchemaModel.{SchemaModel}
-use Rattle.wsm_schema.specs.Trail.{is_one_of}
-use Rattle.wsm_schema.specs.declared.cards.Card.{Card}
+use Rattle.wsm_settle.proofs.Common.{[], ℕ, ◌++◌, ◌+◌, ◌∙◌, ◌∷◌, ◌≡◌, ◌≤◌, ap, arith, Ascends, BehindNode, Bool, both_ways, Card, card_at, cards_of, cases_Bool, EndsRight, eq-eqb, eqb, eqb-true, first, FlatModel, freed, freed_rows, Handed}
+use Rattle.wsm_settle.proofs.Common.{if◌then◌else◌, in_rank, inl, inr, is_one_of, IsRank, item_at, leads_to, List, loop_nodes, Mark, mark_now, mark_or, NamesInside, None, Option, place-one, place-within, put_row, rank_place, reach_size}
+use Rattle.wsm_settle.proofs.Common.{reached-keeps, ReachesFew, ReadsFew, refl, Regular, repeated_by, RepeatsFew, RepeatsRight, said, SchemaModel, Some, some-one, Spent, spent-visit, spent-whole, subst, sym, trail-aim, true, visit_cost}
+use Rattle.wsm_settle.proofs.{Common.Walks, Handing.get_or-place}
+use Rattle.wsm_lists.proofs.{ByNumber.item_at-put, Rows.ascends_put}
 use Rattle.wsm_schema.specs.declared.entries.Entry.TheVariants as entry
-use Rattle.wsm_schema.specs.declared.marks.Mark.{Mark}
-use Rattle.wsm_marks.specs.Schemas.{Regular}
-use Rattle.wsm_marks.proofs.RankInduction.{in_rank}
-use Rattle.wsm_walk.specs.Current.{mark_now}
-use Rattle.wsm_walk.specs.Kept.{mark_or}
-use Rattle.wsm_walk.specs.Listed.{said}
-use Rattle.wsm_walk.specs.RankPlaces.{Handed, rank_place}
 use Rattle.wsm_walk.specs.Reached.{reached_from}
-use Rattle.wsm_walk.specs.Spent.{NamesInside, ReadsFew, Spent, reach_size, visit_cost}
-use Rattle.wsm_walk.specs.Targets.{leads_to}
-use Rattle.wsm_walk.specs.Walk.{Walks, freed}
-use Rattle.wsm_walk.proofs.Agains.{again-changes, again-stands}
-use Rattle.wsm_walk.proofs.Costs.{spent-visit, spent-whole}
-use Rattle.wsm_walk.proofs.Ends.{end-changes, end-stands, ended-card}
-use Rattle.wsm_walk.proofs.Goals.{trail-aim}
-use Rattle.wsm_walk.proofs.Reached.{reached-keeps}
-use Rattle.wsm_walk.proofs.ReachedNames.{body-reached, reached-names}
-use Rattle.wsm_walk.proofs.Stands.{some-one}
-use Rattle.wsm_walk.proofs.WalkSteps.{place-one, place-within}
-use Rattle.wsm_settle.specs.Events.{BehindNode, EndsRight, ReachesFew, RepeatsFew, RepeatsRight, repeated_by}
-use Rattle.wsm_settle.specs.Freed.{freed_rows}
-use Rattle.wsm_settle.proofs.Handing.{get_or-place}
+use Rattle.wsm_walk.proofs.{Agains.{again-changes, again-stands}, Ends.{end-changes, end-stands, ended-card}, ReachedNames.{body-reached, reached-names}}
 
 module _ (flat : FlatModel) (rank : List ℕ) (node : ℕ) where
   pub ends-right : (kept kept' : List (ℕ × Mark)) → kept' ≡ kept → (p : ℕ) (choice : Option ℕ) (m : Mark) (begun changes : List (ℕ × Option Mark)) (places : List ℕ) → m ≡ mark_or (item_at node kept) →

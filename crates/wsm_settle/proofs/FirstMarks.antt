@@ -1,34 +1,9 @@
 -- A walk from the nodes that wait for no edge finds the marks before any entry.
-use Rattle.std.proofs.Common.{◌≡◌, ℕ, eqb, Bool, true, false, ◌||◌, List, [], ◌∷◌, length, map, refl, ap, sym, ◌∙◌, subst, inl, inr, arith, Option, Some, None}
-use Rattle.std.proofs.lemmas.Bool.{cases_Bool, both_ways}
-use Rattle.std.proofs.lemmas.Option.{same_Some}
-use Rattle.wsm_lists.specs.ByNumber.{changed}
-use Rattle.wsm_schema.specs.Flat.{FlatModel, card_at, cards_of, flat_of}
+use Rattle.wsm_settle.proofs.Common.{[], ℕ, ◌||◌, ◌∙◌, ◌∷◌, ◌≡◌, ap, arith, Bool, both_ways, Card, card_at, cards_of, cases_Bool, changed, End, eq_of, eqb, facts_by, false, flat_of, FlatModel, Handed, in_rank, inl, inr, is_one_of}
+use Rattle.wsm_settle.proofs.Common.{is_opening, is_pending, IsRank, length, List, map, Mark, mark_now, marks_of, MarksRight, NodeKind, None, opens, Option, places_from, rank_place, refl, Regular, replay_of, same_Some, SchemaModel, seen}
+use Rattle.wsm_settle.proofs.{Common.{sig_at, sig_by, Some, Spots, Stands, subst, sym, time_by, Timed, times_by, told-changes, told-stands, trail-aim, true, waits_for_none, Walks, whole}, AllPlaces.all-visited}
 use Rattle.wsm_schema.specs.Kinds.{worked_on}
-use Rattle.wsm_schema.specs.Marks.{marks_of}
-use Rattle.wsm_schema.specs.Rank.{IsRank}
-use Rattle.wsm_schema.specs.Replay.{replay_of, whole}
-use Rattle.wsm_schema.specs.Rules.{Spots}
-use Rattle.wsm_schema.specs.SchemaModel.{SchemaModel}
-use Rattle.wsm_schema.specs.Trail.{is_one_of}
-use Rattle.wsm_schema.specs.declared.cards.Card.{Card}
-use Rattle.wsm_schema.specs.declared.cards.End.{End}
-use Rattle.wsm_schema.specs.declared.cards.NodeKind.{NodeKind}
 use Rattle.wsm_schema.specs.declared.cards.NodeKind.TheVariants.{Start, Finish, Activity, AndSplit, AndJoin, XorSplit, XorJoin, LoopStart, LoopEnd}
-use Rattle.wsm_schema.specs.declared.marks.Mark.{Mark}
-use Rattle.wsm_marks.specs.Schemas.{Regular}
-use Rattle.wsm_marks.specs.Timed.{Timed, eq_of, sig_at, sig_by}
-use Rattle.wsm_marks.proofs.RankInduction.{in_rank}
-use Rattle.wsm_walk.specs.Current.{mark_now}
-use Rattle.wsm_walk.specs.Listed.{seen}
-use Rattle.wsm_walk.specs.RankPlaces.{Handed, is_pending, rank_place}
-use Rattle.wsm_walk.specs.Walk.{Stands, Walks, facts_by, time_by, times_by}
-use Rattle.wsm_walk.proofs.Goals.{trail-aim}
-use Rattle.wsm_walk.proofs.Told.{told-changes, told-stands}
-use Rattle.wsm_settle.specs.AllPlaces.{places_from}
-use Rattle.wsm_settle.specs.Opening.{is_opening, opens, waits_for_none}
-use Rattle.wsm_settle.specs.Timing.{MarksRight}
-use Rattle.wsm_settle.proofs.AllPlaces.{all-visited}
 
 -- ---- before any entry no edge signals
 silent : (cards : List Card) (label : Option ℕ) (n : ℕ) → sig_at cards (facts_by (seen [] [])) (times_by (seen [] [])) label n ≡ None

@@ -1,10 +1,6 @@
 -- Places as flags.
-use Rattle.std.proofs.Common.{◌≡◌, ℕ, zero, suc, ◌+◌, ◌<◌, ◌≤◌, Bool, true, false, List, [], ◌∷◌, ◌++◌, length, take, drop, refl, ap, sym, ◌∙◌, subst, arith, All}
-use Rattle.std.specs.Prelude.{replicate, slice_set, if◌then◌else◌}
-use Rattle.std.specs.BTreeSet.{insert_key}
-use Rattle.std.specs.Ordering.{nat_cmp}
-use Rattle.std.proofs.lemmas.Bool.{eq-eqb, le-ltb, lt-ltb, ne_eqb}
-use Rattle.wsm_settle.specs.Places.{flagged}
+use Rattle.wsm_settle.proofs.Common.{[], ℕ, ◌++◌, ◌+◌, ◌<◌, ◌∙◌, ◌∷◌, ◌≡◌, ◌≤◌, All, ap, arith, Bool, drop, eq-eqb, false, flagged, if◌then◌else◌, insert_key, le-ltb, length, List, lt-ltb, nat_cmp, ne_eqb, refl, replicate, slice_set, subst}
+use Rattle.wsm_settle.proofs.Common.{suc, sym, take, true, zero}
 
 -- ---- all of a list
 one-more : (P : ℕ → Type 0) (x : ℕ) (xs : List ℕ) → P x → All P xs → All P (x ∷ xs)

@@ -1,18 +1,9 @@
 -- Places that become pending.
-use Rattle.std.proofs.Common.{◌≡◌, ◌⊎◌, ℕ, zero, suc, ◌+◌, ◌<◌, ◌≤◌, Bool, true, false, ◌||◌, eqb, List, [], ◌∷◌, add-one, drop, drop-cons, get_or, length, refl, ap, sym, ◌∙◌, subst, inl, inr, arith, Some, None}
-use Rattle.std.specs.List.{list_any, position_from}
-use Rattle.std.specs.Ordering.{match_ordering, nat_cmp}
+use Rattle.wsm_settle.proofs.Common.{[], ℕ, ◌+◌, ◌<◌, ◌||◌, ◌∙◌, ◌∷◌, ◌≡◌, ◌≤◌, ◌⊎◌, add-one, AllWithin, ap, arith, Bool, both_ways, cases_Bool, drop, drop-cons, eq-eqb, eqb, eqb-true, false, get_or, Handed, inl, inr, insert_key, is_one_of}
+use Rattle.wsm_settle.proofs.Common.{length, List, list_any, match_ordering, nat_cmp, None, or-true, place-within, position_from, rank_place, refl, same_Some, Some, some-one, subst, suc, sym, true, zero}
 use Rattle.std.specs.declared.cmp.Ordering.{Ordering}
 use Rattle.std.specs.declared.cmp.Ordering.TheVariants.{Less, Equal, Greater}
-use Rattle.std.specs.BTreeSet.{insert_key}
-use Rattle.std.proofs.lemmas.Bool.{cases_Bool, both_ways, eqb-true, eq-eqb}
 use Rattle.std.proofs.lemmas.Map.Lookups.{exact_unsigned}
-use Rattle.std.proofs.lemmas.Option.{same_Some}
-use Rattle.wsm_schema.specs.Trail.{is_one_of}
-use Rattle.wsm_walk.specs.RankPlaces.{AllWithin, Handed, rank_place}
-use Rattle.wsm_walk.proofs.Reached.{or-true}
-use Rattle.wsm_walk.proofs.Stands.{some-one}
-use Rattle.wsm_walk.proofs.WalkSteps.{place-within}
 
 drop_all : {X : Type 0} (xs : List X) (i : ℕ) → length xs ≤ i → drop i xs ≡ []
 drop_all [] zero past = refl

@@ -1,24 +1,7 @@
 -- A walk over all nodes, from what the trail tells, finds its marks; and what a replay answers tells how the trail replays.
-use Rattle.std.proofs.Common.{◌≡◌, ℕ, true, List, [], refl, ap, sym, ◌∙◌, subst, Option, Some, None}
-use Rattle.wsm_lists.specs.ByNumber.{changed}
-use Rattle.wsm_schema.specs.Flat.{FlatModel, cards_of, flat_of}
-use Rattle.wsm_schema.specs.Marks.{marks_of}
-use Rattle.wsm_schema.specs.Replay.{Outcome, fails, replay_of, whole}
-use Rattle.wsm_schema.specs.Rules.{Spots}
-use Rattle.wsm_schema.specs.Trail.{is_one_of}
-use Rattle.wsm_schema.specs.declared.cards.Card.{Card}
-use Rattle.wsm_schema.specs.declared.marks.Mark.{Mark}
-use Rattle.wsm_marks.specs.Fits.{RisesAfter}
-use Rattle.wsm_marks.specs.Timed.{Entries}
+use Rattle.wsm_settle.proofs.Common.{[], ℕ, ◌∙◌, ◌≡◌, ap, Card, cards_of, changed, Entries, failed_at, fails, flat_of, FlatModel, is_one_of, List, Mark, mark_now, marks_of, MarksRight, None, Option, Outcome, position_in, rank_place, refl}
+use Rattle.wsm_settle.proofs.Common.{replay_of, RisesAfter, Some, some-one, Spots, subst, sym, told-changes, told-stands, told_rows, trail-aim, true, Walks, whole}
 use Rattle.wsm_replay.specs.Answer.{answer}
-use Rattle.wsm_walk.specs.Current.{mark_now}
-use Rattle.wsm_walk.specs.RankPlaces.{rank_place}
-use Rattle.wsm_walk.specs.Told.{told_rows}
-use Rattle.wsm_walk.specs.Walk.{Walks}
-use Rattle.wsm_walk.proofs.Goals.{trail-aim}
-use Rattle.wsm_walk.proofs.Stands.{some-one}
-use Rattle.wsm_walk.proofs.Told.{told-changes, told-stands}
-use Rattle.wsm_settle.specs.Timing.{MarksRight, failed_at, position_in}
 
 pub marks-right : (flat : FlatModel) (rank : List ℕ) (es : Entries) → RisesAfter 0 es → (places : List ℕ) → ((k : ℕ) → is_one_of k rank ≡ true → is_one_of (rank_place k rank) places ≡ true) →
     (begun changes : List (ℕ × Option Mark)) → begun ≡ told_rows es [] → Walks flat.cards rank [] places begun [] changes → (rows : List (ℕ × Mark)) → rows ≡ changed changes [] → MarksRight flat rank es rows

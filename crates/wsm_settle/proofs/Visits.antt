@@ -1,24 +1,9 @@
 -- What a visit makes of a walk, and how visits follow one another.
-use Rattle.std.proofs.Common.{◌≡◌, ℕ, suc, ◌+◌, ◌-◌, ◌<◌, ◌≤◌, true, eqb, List, [], ◌∷◌, map, length, get_or, refl, ap, sym, ◌∙◌, subst, inl, inr, arith, Option, Some, None, All}
-use Rattle.std.proofs.lemmas.Bool.{cases_Bool, both_ways, eqb-true, eq-eqb}
+use Rattle.wsm_settle.proofs.Common.{[], ℕ, ◌+◌, ◌-◌, ◌<◌, ◌∙◌, ◌∷◌, ◌≡◌, ◌≤◌, All, AllBehind, AllWithin, ap, arith, both_ways, Card, card_at, cases_Bool, eq-eqb, eq_of, eqb, eqb-true, facts_by, first, get_or, Handed, inl, inr, is_one_of}
+use Rattle.wsm_settle.proofs.Common.{IsRevised, leads_to, length, List, map, Mark, None, Option, put_row, ReadsFew, refl, said, seen, sig_at, Some, Spends, Spent, spent-end, spent-visit, spent-whole, Stands, stands-new, stands-none}
+use Rattle.wsm_settle.proofs.Common.{stands-same, subst, suc, sym, time_by, Timed, timed_of, times_by, true, visit_cost, Walks, with_time}
 use Rattle.std.proofs.lemmas.List.Elements.{All-head, All-tail}
-use Rattle.wsm_lists.specs.Keys.{first}
-use Rattle.wsm_lists.specs.Rows.{put_row}
-use Rattle.wsm_schema.specs.Flat.{card_at}
-use Rattle.wsm_schema.specs.Trail.{is_one_of}
-use Rattle.wsm_schema.specs.declared.cards.Card.{Card}
-use Rattle.wsm_schema.specs.declared.marks.Mark.{Mark}
 use Rattle.wsm_schema.proofs.Rounds.{card_at-node}
-use Rattle.wsm_marks.specs.Timed.{Timed, eq_of, sig_at}
-use Rattle.wsm_walk.specs.Kept.{timed_of}
-use Rattle.wsm_walk.specs.Listed.{said, seen}
-use Rattle.wsm_walk.specs.RankPlaces.{AllBehind, AllWithin, Handed}
-use Rattle.wsm_walk.specs.Spent.{ReadsFew, Spends, Spent, visit_cost}
-use Rattle.wsm_walk.specs.Targets.{leads_to}
-use Rattle.wsm_walk.specs.Walk.{Stands, Walks, facts_by, time_by, times_by, with_time}
-use Rattle.wsm_walk.proofs.Costs.{spent-end, spent-visit, spent-whole}
-use Rattle.wsm_walk.proofs.Stands.{stands-new, stands-none, stands-same}
-use Rattle.wsm_settle.specs.Revised.{IsRevised}
 
 -- signals that were read one after another give the node's time
 pub equation-is : (cards : List Card) (c : Card) (kept kept' : List (ℕ × Mark)) (changes : List (ℕ × Option Mark)) (control syncs : List Timed) (timed : Timed) → timed ≡ eq_of c.kind control syncs →

@@ -1,15 +1,8 @@
 -- A node for which a control edge signals nothing yet waits.
-use Rattle.std.proofs.Common.{◌≡◌, ℕ, zero, suc, ◌<◌, Bool, true, false, List, [], ◌∷◌, map, length, get_or, refl, ap, sym, ◌∙◌, subst, inl, inr, arith, Option, Some, None}
-use Rattle.std.specs.Prelude.{is_some, option_map}
-use Rattle.std.specs.List.{list_all}
-use Rattle.std.proofs.lemmas.Bool.{both_ways, cases_Bool}
-use Rattle.wsm_schema.specs.Rules.{is_no, is_yes}
-use Rattle.wsm_schema.specs.declared.cards.End.{End}
-use Rattle.wsm_schema.specs.declared.cards.NodeKind.{NodeKind}
+use Rattle.wsm_settle.proofs.Common.{[], ℕ, ◌<◌, ◌∙◌, ◌∷◌, ◌≡◌, AllOf, ap, arith, awaited, Bool, both_ways, cases_Bool, End, eq_of, false, flow, get_or, inl, inr, is_no, is_some, is_yes, lacks, length, List, list_all, map, NodeKind, None}
+use Rattle.wsm_settle.proofs.Common.{Option, option_map, refl, Some, subst, suc, sym, Timed, true, zero}
 use Rattle.wsm_schema.specs.declared.cards.NodeKind.TheVariants.{Start, Finish, Activity, AndSplit, AndJoin, XorSplit, XorJoin, LoopStart, LoopEnd}
 use Rattle.wsm_schema.specs.declared.states.Flow.{Flow}
-use Rattle.wsm_marks.specs.Timed.{Timed, awaited, eq_of, flow}
-use Rattle.wsm_settle.specs.Signals.{AllOf, lacks}
 
 -- where one is missing, not all pass a test that a missing one fails
 some-lack : (test : Option Flow → Bool) → test None ≡ false → (xs : List Timed) → lacks xs ≡ true → list_all test (map flow xs) ≡ false

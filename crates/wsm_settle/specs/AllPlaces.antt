@@ -1,7 +1,6 @@
 -- All places of a rank, visited in their order.
 use Rattle.std.specs.Prelude.{◌≡◌, ℕ, zero, suc, ◌+◌, List, [], ◌∷◌, length, Option}
-use Rattle.wsm_schema.specs.declared.cards.Card.{Card}
-use Rattle.wsm_schema.specs.declared.marks.Mark.{Mark}
+use Rattle.wsm_schema.specs.{declared.cards.Card.Card, declared.marks.Mark.Mark}
 use Rattle.wsm_walk.specs.Walk.{Walks}
 
 -- so many places from one on

@@ -1,28 +1,13 @@
 -- Changes that make the marks of a trail those of the trail with an event, for every trail that replays whole with that event; and what may be read for them.
 use Rattle.std.specs.Prelude.{◌≡◌, ℕ, ◌+◌, ◌≤◌, true, List, [], ◌∷◌, ◌++◌, Option, Some}
-use Rattle.wsm_lists.specs.ByNumber.{changed}
-use Rattle.wsm_lists.specs.Values.{Written}
-use Rattle.wsm_lists.specs.declared.values.Value.{Value}
-use Rattle.wsm_schema.specs.Flat.{FlatModel, card_at, cards_of, flat_of, loop_nodes}
-use Rattle.wsm_schema.specs.Kinds.{is_loop_end}
-use Rattle.wsm_schema.specs.Marks.{marks_of}
-use Rattle.wsm_schema.specs.Rank.{IsRank}
-use Rattle.wsm_schema.specs.Replay.{is_in_state, replay_of, whole}
-use Rattle.wsm_schema.specs.Rules.{Spots, spot_in}
-use Rattle.wsm_schema.specs.SchemaModel.{SchemaModel}
-use Rattle.wsm_schema.specs.Trail.{is_one_of}
-use Rattle.wsm_schema.specs.declared.cards.Card.{Card}
+use Rattle.wsm_lists.specs.{ByNumber.changed, Values.Written, declared.values.Value.Value}
+use Rattle.wsm_schema.specs.{Flat.{FlatModel, card_at, cards_of, flat_of, loop_nodes}, Kinds.is_loop_end, Marks.marks_of, Rank.IsRank, Replay.{is_in_state, replay_of, whole}, Rules.{Spots, spot_in}, SchemaModel.SchemaModel, Trail.is_one_of}
+use Rattle.wsm_schema.specs.{declared.cards.Card.Card, declared.marks.Mark.Mark}
 use Rattle.wsm_schema.specs.declared.entries.Entry.TheVariants as entry
-use Rattle.wsm_schema.specs.declared.marks.Mark.{Mark}
 use Rattle.wsm_schema.specs.declared.states.State.TheVariants.{Running}
-use Rattle.wsm_marks.specs.Loops.{cut_entries}
-use Rattle.wsm_marks.specs.Schemas.{HasCard, Regular}
-use Rattle.wsm_marks.specs.Timed.{Entries}
+use Rattle.wsm_marks.specs.{Loops.cut_entries, Schemas.{HasCard, Regular}, Timed.Entries}
 use Rattle.wsm_trail.specs.Withdrawn.{without_start}
-use Rattle.wsm_walk.specs.Current.{Current}
-use Rattle.wsm_walk.specs.RankPlaces.{Handed, rank_place}
-use Rattle.wsm_walk.specs.Spent.{reach_size}
-use Rattle.wsm_walk.specs.Targets.{leads_to}
+use Rattle.wsm_walk.specs.{Current.Current, RankPlaces.{Handed, rank_place}, Spent.reach_size, Targets.leads_to}
 
 -- the Start of a node
 abbrev pub StartsRight : FlatModel → List (ℕ × Mark) → ℕ → ℕ → List (ℕ × Option Mark) → Type 0

@@ -1,10 +1,8 @@
 -- The nodes of a loop that is repeated, with nothing left of them.
 use Rattle.std.specs.Prelude.{ℕ, List, [], ◌∷◌, Option}
-use Rattle.wsm_lists.specs.Keys.{first}
-use Rattle.wsm_lists.specs.Rows.{put_row}
+use Rattle.wsm_lists.specs.{Keys.first, Rows.put_row}
 use Rattle.wsm_schema.specs.declared.marks.Mark.{Mark}
-use Rattle.wsm_walk.specs.Listed.{said}
-use Rattle.wsm_walk.specs.Walk.{freed}
+use Rattle.wsm_walk.specs.{Listed.said, Walk.freed}
 
 -- each of the nodes is freed by the repeat of e at p
 abbrev pub freed_rows : ℕ → ℕ → List ℕ → List (ℕ × Option Mark) → List (ℕ × Option Mark)

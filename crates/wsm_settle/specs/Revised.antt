@@ -1,9 +1,7 @@
 -- What a visit makes of a node's mark.
 use Rattle.std.specs.Prelude.{◌≡◌, ℕ, List, Option, Some, None}
-use Rattle.wsm_schema.specs.declared.cards.Card.{Card}
-use Rattle.wsm_schema.specs.declared.marks.Mark.{Mark}
-use Rattle.wsm_walk.specs.Kept.{timed_of}
-use Rattle.wsm_walk.specs.Walk.{time_by, with_time}
+use Rattle.wsm_schema.specs.{declared.cards.Card.Card, declared.marks.Mark.Mark}
+use Rattle.wsm_walk.specs.{Kept.timed_of, Walk.{time_by, with_time}}
 
 -- none where the node has the time of its equation over the marks as they stand, else its mark with that time
 abbrev pub IsRevised : List Card → (ℕ → Mark) → Card → Option Mark → Type 0

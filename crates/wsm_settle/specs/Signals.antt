@@ -1,8 +1,6 @@
 -- What edges signal over marks.
-use Rattle.std.specs.Prelude.{◌≡◌, ℕ, Bool, true, not, is_some, List, map, Option, Some, None}
-use Rattle.std.specs.List.{list_any}
-use Rattle.wsm_schema.specs.declared.cards.Card.{Card}
-use Rattle.wsm_schema.specs.declared.marks.Mark.{Mark}
+use Rattle.std.specs.{Prelude.{◌≡◌, ℕ, Bool, true, not, is_some, List, map, Option, Some, None}, List.list_any}
+use Rattle.wsm_schema.specs.{declared.cards.Card.Card, declared.marks.Mark.Mark}
 use Rattle.wsm_marks.specs.Timed.{Timed, awaited, sig_at}
 use Rattle.wsm_walk.specs.Walk.{facts_by, times_by}
 

@@ -1,11 +1,8 @@
 -- What is known of a node that edges leave.
 use Rattle.std.specs.Prelude.{◌≡◌, ℕ, List, Option, Some, None}
 use Rattle.wsm_marks.specs.Timed.{Timed, sig_of}
-use Rattle.wsm_schema.specs.declared.cards.Card.{Card}
-use Rattle.wsm_schema.specs.declared.cards.NodeKind.{NodeKind}
-use Rattle.wsm_schema.specs.declared.marks.Mark.{Mark}
-use Rattle.wsm_settle.specs.Signals.{signal_by}
-use Rattle.wsm_settle.specs.declared.sources.Source.{Source}
+use Rattle.wsm_schema.specs.{declared.cards.Card.Card, declared.cards.NodeKind.NodeKind, declared.marks.Mark.Mark}
+use Rattle.wsm_settle.specs.{Signals.signal_by, declared.sources.Source.Source}
 use Rattle.wsm_walk.specs.Kept.{timed_of}
 
 -- what an edge with that label signals from a node of that kind with that mark

@@ -1,14 +1,7 @@
 -- What the replay of a trail with its marks answers.
 use Rattle.std.specs.Prelude.{◌≡◌, ℕ, List, Option, Some, None}
-use Rattle.wsm_schema.specs.Flat.{FlatModel, cards_of, flat_of}
-use Rattle.wsm_schema.specs.Marks.{marks_of}
-use Rattle.wsm_schema.specs.Rank.{IsRank}
-use Rattle.wsm_schema.specs.Replay.{Outcome, fails, replay_of, whole}
-use Rattle.wsm_schema.specs.Rules.{Spots}
-use Rattle.wsm_schema.specs.SchemaModel.{SchemaModel}
-use Rattle.wsm_schema.specs.declared.marks.Mark.{Mark}
-use Rattle.wsm_marks.specs.Schemas.{Regular}
-use Rattle.wsm_marks.specs.Timed.{Entries}
+use Rattle.wsm_schema.specs.{Flat.{FlatModel, cards_of, flat_of}, Marks.marks_of, Rank.IsRank, Replay.{Outcome, fails, replay_of, whole}, Rules.Spots, SchemaModel.SchemaModel, declared.marks.Mark.Mark}
+use Rattle.wsm_marks.specs.{Schemas.Regular, Timed.Entries}
 use Rattle.wsm_replay.specs.declared.Replayed.{Replayed}
 use Rattle.wsm_replay.specs.declared.Replayed.TheVariants as replayed
 use Rattle.wsm_settle.specs.declared.timing.TimedMarks.{TimedMarks}

@@ -1,8 +1,7 @@
 // What the End of a node does to marks.
 ghost use Rattle.std.specs.Prelude.{◌≡◌, ◌+◌, ◌≤◌, [], ◌∷◌, Some, length, IfOk};
 ghost use Rattle.wsm_settle.specs.Events.{BehindNode, EndsRight, ReachesFew};
-ghost use Rattle.wsm_walk.specs.RankPlaces.{AllWithin, Handed};
-ghost use Rattle.wsm_walk.specs.Targets.{leads_to};
+ghost use Rattle.wsm_walk.specs.{RankPlaces.{AllWithin, Handed}, Targets.leads_to};
 
 use crate::overlays::{Overlay, or_blank};
 use crate::pending::hand_on;

@@ -2,8 +2,7 @@
 ghost use Rattle.std.specs.Prelude.{◌≡◌, ◌+◌, ◌≤◌, [], ◌∷◌, None, IfOk, IfSome, length, map, option_map};
 ghost use Rattle.wsm_marks.specs.Timed.{awaited, eq_of, flow, greater, latest, time, timed_by};
 ghost use Rattle.wsm_settle.specs.Signals.{AllOf, awaited_signals, signal_by};
-ghost use Rattle.wsm_walk.specs.Walk.{time_by};
-ghost use Rattle.wsm_walk.specs.Listed.{seen};
+ghost use Rattle.wsm_walk.specs.{Walk.time_by, Listed.seen};
 
 use crate::overlays::MarkRows;
 use crate::sources::{Timed, edge_signal, signal_from};

@@ -1,7 +1,5 @@
 // Places as flags: one for each place up to some number of them.
-ghost use Rattle.std.specs.Prelude.{◌≡◌, ◌+◌, ◌<◌, ◌≤◌, [], ◌∷◌, length, drop, All, IfNone, IfOk, IfSome, OnErr, OnOk};
-ghost use Rattle.std.specs.BTreeSet.{insert_key};
-ghost use Rattle.std.specs.Ordering.{nat_cmp};
+ghost use Rattle.std.specs.{Prelude.{◌≡◌, ◌+◌, ◌<◌, ◌≤◌, [], ◌∷◌, length, drop, All, IfNone, IfOk, IfSome, OnErr, OnOk}, BTreeSet.insert_key, Ordering.nat_cmp};
 ghost use Rattle.wsm_settle.specs.Places.{flagged};
 
 use std::alloc::Global;

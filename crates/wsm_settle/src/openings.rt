@@ -1,7 +1,6 @@
 // The marks before any entry.
 ghost use Rattle.std.specs.Prelude.{◌≡◌, [], IfOk, OnOk};
-ghost use Rattle.wsm_settle.specs.Opening.{is_opening, opens, waits_for_none};
-ghost use Rattle.wsm_settle.specs.Timing.{MarksRight};
+ghost use Rattle.wsm_settle.specs.{Opening.{is_opening, opens, waits_for_none}, Timing.MarksRight};
 ghost use Rattle.wsm_walk.specs.RankPlaces.{Handed};
 
 use crate::pending::hand_to;

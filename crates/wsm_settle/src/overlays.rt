@@ -1,10 +1,8 @@
 // Marks as changes have them, over marks that are kept.
-ghost use Rattle.std.specs.Prelude.{◌≡◌, ◌+◌, ◌≤◌, ℕ, List, Option};
-ghost use Rattle.std.specs.Option.{option_copied};
+ghost use Rattle.std.specs.{Prelude.{◌≡◌, ◌+◌, ◌≤◌, ℕ, List, Option}, Option.option_copied};
 ghost use Rattle.wsm_lists.specs.ByNumber.{item_at};
 ghost use Rattle.wsm_schema.specs.declared.marks.Mark.{Mark};
-ghost use Rattle.wsm_walk.specs.Kept.{mark_or};
-ghost use Rattle.wsm_walk.specs.Listed.{said, seen};
+ghost use Rattle.wsm_walk.specs.{Kept.mark_or, Listed.{said, seen}};
 
 use wsm_lists::{ByFirst, GrowingTable};
 use wsm_rules::{Mark, MarkReads};

@@ -1,10 +1,8 @@
 // How nodes become pending.
-ghost use Rattle.std.specs.Prelude.{◌≡◌, ◌==◌, ◌≤◌, ◌↔◌, IsTrue, OnOk};
-ghost use Rattle.std.specs.List.{list_any};
+ghost use Rattle.std.specs.{Prelude.{◌≡◌, ◌==◌, ◌≤◌, ◌↔◌, IsTrue, OnOk}, List.list_any};
 ghost use Rattle.wsm_schema.specs.Trail.{is_one_of};
 ghost use Rattle.wsm_settle.specs.Behind.{WasHanded, low_of};
-ghost use Rattle.wsm_walk.specs.RankPlaces.{Handed};
-ghost use Rattle.wsm_walk.specs.Targets.{leads_to};
+ghost use Rattle.wsm_walk.specs.{RankPlaces.Handed, Targets.leads_to};
 
 use crate::places::Pending;
 use wsm_lists::NoMemory;

@@ -1,7 +1,5 @@
 // The places in a rank that a walk still goes to.
-ghost use Rattle.std.specs.Prelude.{◌≡◌, ◌<◌, [], ◌∷◌, All, IfNone, IfOk, IfSome, OnErr, OnOk};
-ghost use Rattle.std.specs.BTreeSet.{insert_key};
-ghost use Rattle.std.specs.Ordering.{nat_cmp};
+ghost use Rattle.std.specs.{Prelude.{◌≡◌, ◌<◌, [], ◌∷◌, All, IfNone, IfOk, IfSome, OnErr, OnOk}, BTreeSet.insert_key, Ordering.nat_cmp};
 ghost use Rattle.wsm_settle.specs.Places.{waiting};
 
 use crate::flags::{no_flags, set_flag, take_flag};

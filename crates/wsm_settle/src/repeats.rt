@@ -1,7 +1,6 @@
 // What the repeat of a loop does to marks.
 ghost use Rattle.std.specs.Prelude.{◌≡◌, ◌≤◌, [], IfOk};
-ghost use Rattle.wsm_settle.specs.Events.{RepeatsFew, RepeatsRight};
-ghost use Rattle.wsm_settle.specs.Freed.{freed_rows};
+ghost use Rattle.wsm_settle.specs.{Events.{RepeatsFew, RepeatsRight}, Freed.freed_rows};
 ghost use Rattle.wsm_walk.specs.Walk.{freed};
 
 use crate::overlays::{Overlay, said};

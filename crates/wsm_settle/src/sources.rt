@@ -1,10 +1,8 @@
 // The nodes that edges leave, and what the edges signal.
 ghost use Rattle.std.specs.Prelude.{◌≡◌, ◌+◌, ◌≤◌};
 ghost use Rattle.wsm_marks.specs.Timed.{ended_signal, sig_of};
-ghost use Rattle.wsm_settle.specs.Signals.{signal_by};
-ghost use Rattle.wsm_settle.specs.Sources.{IsSource, KnowsSource, signal_of};
-ghost use Rattle.wsm_walk.specs.Kept.{timed_of};
-ghost use Rattle.wsm_walk.specs.Listed.{seen};
+ghost use Rattle.wsm_settle.specs.{Signals.signal_by, Sources.{IsSource, KnowsSource, signal_of}};
+ghost use Rattle.wsm_walk.specs.{Kept.timed_of, Listed.seen};
 
 use crate::overlays::{MarkRows, mark_at};
 use wsm_rules::{Flow, Mark, MarkReads, is_worked_on};

@@ -1,12 +1,9 @@
 // The marks of a whole trail.
 ghost use Rattle.std.specs.Prelude.{◌≡◌, [], Some, is_some, OnOk, IfOk, if◌then◌else◌};
 ghost use Rattle.wsm_lists.specs.ByNumber.{changed};
-ghost use Rattle.wsm_schema.specs.Rank.{IsRank};
-ghost use Rattle.wsm_schema.specs.declared.marks.Mark.{Mark};
-ghost use Rattle.wsm_schema.specs.Replay.{replay_of};
+ghost use Rattle.wsm_schema.specs.{Rank.IsRank, declared.marks.Mark.Mark, Replay.replay_of};
 ghost use Rattle.wsm_settle.specs.Timing.{IsTimed, MarksRight, failed_at, position_in};
-ghost use Rattle.wsm_walk.specs.Listed.{seen};
-ghost use Rattle.wsm_walk.specs.Told.{node_of, tell, tell_row, told_rows};
+ghost use Rattle.wsm_walk.specs.{Listed.seen, Told.{node_of, tell, tell_row, told_rows}};
 
 use crate::openings::opening_marks;
 use crate::overlays::{Overlay, or_blank};

@@ -1,12 +1,8 @@
 // A walk over the nodes behind a change, the least pending place at a time.
 ghost use Rattle.std.specs.Prelude.{◌≡◌, ◌+◌, ◌<◌, ◌≤◌, ◌∷◌, [], length, get_or, IfOk, OnOk, Some, None, if◌then◌else◌};
 ghost use Rattle.wsm_schema.specs.Flat.{card_at};
-ghost use Rattle.wsm_settle.specs.AllPlaces.{WalksOne, places_from};
-ghost use Rattle.wsm_settle.specs.Revised.{IsRevised};
-ghost use Rattle.wsm_walk.specs.Listed.{seen};
-ghost use Rattle.wsm_walk.specs.RankPlaces.{AllBehind, AllWithin};
-ghost use Rattle.wsm_walk.specs.Spent.{ReadsFew, Spends, visit_cost};
-ghost use Rattle.wsm_walk.specs.Walk.{Walks, with_time};
+ghost use Rattle.wsm_settle.specs.{AllPlaces.{WalksOne, places_from}, Revised.IsRevised};
+ghost use Rattle.wsm_walk.specs.{Listed.seen, RankPlaces.{AllBehind, AllWithin}, Spent.{ReadsFew, Spends, visit_cost}, Walk.{Walks, with_time}};
 
 use crate::equations::equation;
 use crate::overlays::{MarkRows, Overlay, mark_at, said};

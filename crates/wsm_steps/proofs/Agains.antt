@@ -1,12 +1,9 @@
 -- How often loops are repeated in a trail.
-use Rattle.std.proofs.Common.{◌≡◌, ℕ, Bool, true, false, ◌&&◌, ◌||◌, not, inl, inr, eqb, List, [], ◌∷◌, ◌++◌, filter_map, refl, ap, sym, ◌∙◌, subst, Option, Some, None}
-use Rattle.std.proofs.lemmas.Bool.{cases_Bool, both_ways, and_parts, or_cases, or_right, eqb-true}
-use Rattle.std.proofs.Math.Bool.{or-false}
+use Rattle.std.proofs.{Common.{◌≡◌, ℕ, Bool, true, false, ◌&&◌, ◌||◌, not, inl, inr, eqb, List, [], ◌∷◌, ◌++◌, filter_map, refl, ap, sym, ◌∙◌, subst, Option, Some, None}, lemmas.Bool.{cases_Bool, both_ways, and_parts, or_cases, or_right}}
+use Rattle.std.proofs.{lemmas.Bool.eqb-true, Math.Bool.or-false}
 use Rattle.wsm_lists.specs.Values.{Written}
-use Rattle.wsm_schema.specs.Trail.{is_one_of, cut_entry, wrote}
-use Rattle.wsm_schema.specs.declared.entries.Entry.{Entry}
+use Rattle.wsm_schema.specs.{Trail.{is_one_of, cut_entry, wrote}, declared.entries.Entry.Entry, Marks.is_again_of}
 use Rattle.wsm_schema.specs.declared.entries.Entry.TheVariants as entry
-use Rattle.wsm_schema.specs.Marks.{is_again_of}
 use Rattle.wsm_steps.specs.Whole.{has_again, again_once, agains_once}
 
 -- an entry that is no Again, at the end

@@ -1,12 +1,9 @@
 -- The spots of a marking.
-use Rattle.std.proofs.Common.{◌≡◌, ◌⊎◌, ℕ, Bool, true, false, eqb, List, [], ◌∷◌, fold, refl, ap, sym, ◌∙◌, subst, inl, inr, Some, None}
-use Rattle.std.proofs.lemmas.Bool.{cases_Bool}
+use Rattle.std.proofs.{Common.{◌≡◌, ◌⊎◌, ℕ, Bool, true, false, eqb, List, [], ◌∷◌, fold, refl, ap, sym, ◌∙◌, subst, inl, inr, Some, None}, lemmas.Bool.cases_Bool}
 use Rattle.wsm_lists.proofs.Rows.{all_put}
 use Rattle.wsm_lists.specs.Rows.{AllRows, put_row}
 use Rattle.wsm_schema.proofs.Rounds.{node_of-spot_in}
-use Rattle.wsm_schema.specs.Rules.{Spots, spot, spot_in, by_node, marking_of}
-use Rattle.wsm_schema.specs.declared.cards.Card.{Card}
-use Rattle.wsm_schema.specs.declared.states.Spot.{Spot}
+use Rattle.wsm_schema.specs.{Rules.{Spots, spot, spot_in, by_node, marking_of}, declared.cards.Card.Card, declared.states.Spot.Spot}
 use Rattle.wsm_schema.specs.declared.states.State.TheVariants.{NotActivated}
 
 -- each spot of a marking is that of its node in the table

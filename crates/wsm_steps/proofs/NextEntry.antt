@@ -1,19 +1,11 @@
 -- One entry more on a trail that replays whole.
-use Rattle.std.proofs.Common.{◌≡◌, ℕ, ◌+◌, ◌≤◌, Bool, true, false, ◌&&◌, ◌||◌, not, List, [], ◌∷◌, ◌++◌, map, refl, ap, sym, ◌∙◌, subst, arith, Option, Some, None, is_some, eqb, inl, inr, pos, negsuc}
-use Rattle.std.proofs.lemmas.Bool.{cases_Bool, both_ways, eq-eqb, le-leb}
-use Rattle.std.proofs.lemmas.Slice.Eq.{bytes_eq-Decides}
-use Rattle.wsm_lists.specs.Rows.{AllRows}
-use Rattle.wsm_lists.specs.Values.{Written, same_value, same_option_value}
-use Rattle.wsm_lists.specs.declared.values.ElementKind.{ElementKind}
-use Rattle.wsm_lists.specs.declared.values.Value.{Value}
+use Rattle.std.proofs.{Common.{◌≡◌, ℕ, ◌+◌, ◌≤◌, Bool, true, false, ◌&&◌, ◌||◌, not, List, [], ◌∷◌, ◌++◌, map, refl, ap, sym, ◌∙◌, subst, arith, Option, Some, None, is_some, eqb, inl, inr, pos, negsuc}, lemmas.Bool.{cases_Bool, both_ways}}
+use Rattle.std.proofs.{lemmas.Bool.{eq-eqb, le-leb}, lemmas.Slice.Eq.bytes_eq-Decides}
+use Rattle.wsm_lists.specs.{Rows.AllRows, Values.{Written, same_value, same_option_value}, declared.values.ElementKind.ElementKind, declared.values.Value.Value}
 use Rattle.wsm_lists.specs.declared.values.Value.TheVariants as value
 use Rattle.wsm_replay.proofs.OneEntryMore.{extended, replay_of-append, value-append}
-use Rattle.wsm_schema.specs.Flat.{FlatModel, card_at}
-use Rattle.wsm_schema.specs.Replay.{Outcome, whole, fails, replay_of, applicable, applicable_start, applicable_end, after, on_card, fits_reads, fits_edges, fits_choice, is_in_state}
-use Rattle.wsm_schema.specs.Rules.{Spots, spot_in}
-use Rattle.wsm_schema.specs.Trail.{value_below}
-use Rattle.wsm_schema.specs.declared.cards.Card.{Card}
-use Rattle.wsm_schema.specs.declared.entries.Entry.{Entry}
+use Rattle.wsm_schema.specs.{Flat.{FlatModel, card_at}, Replay.{Outcome, whole, fails, replay_of, applicable, applicable_start, applicable_end, after, on_card, fits_reads, fits_edges, fits_choice, is_in_state}, Rules.{Spots, spot_in}}
+use Rattle.wsm_schema.specs.{Trail.value_below, declared.cards.Card.Card, declared.entries.Entry.Entry}
 use Rattle.wsm_schema.specs.declared.entries.Entry.TheVariants as entry
 use Rattle.wsm_schema.specs.declared.states.State.TheVariants.{Activated, Running}
 use Rattle.wsm_steps.specs.Whole.{is_whole}

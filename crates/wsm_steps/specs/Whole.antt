@@ -1,9 +1,6 @@
 -- Trails that replay whole, and that repeat no loop's end twice.
-use Rattle.std.specs.Prelude.{ℕ, Bool, true, false, ◌&&◌, not, ◌==◌, List, [], ◌∷◌}
-use Rattle.std.specs.List.{list_any}
-use Rattle.wsm_schema.specs.Marks.{is_again_of}
-use Rattle.wsm_schema.specs.Replay.{Outcome, whole, fails}
-use Rattle.wsm_schema.specs.declared.entries.Entry.{Entry}
+use Rattle.std.specs.{Prelude.{ℕ, Bool, true, false, ◌&&◌, not, ◌==◌, List, [], ◌∷◌}, List.list_any}
+use Rattle.wsm_schema.specs.{Marks.is_again_of, Replay.{Outcome, whole, fails}, declared.entries.Entry.Entry}
 use Rattle.wsm_schema.specs.declared.entries.Entry.TheVariants as entry
 
 -- whether a replay failed nowhere

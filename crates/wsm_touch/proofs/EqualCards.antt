@@ -1,15 +1,7 @@
 -- The test of two cards tells whether they are one.
-use Rattle.std.proofs.Common.{◌≡◌, ℕ, Bool, true, false, ◌&&◌, refl, ap, sym, ◌∙◌, Option, Some, None, Decides, nat_eq}
-use Rattle.std.specs.Prelude.{◌==◌, if◌then◌else◌}
-use Rattle.std.specs.Bool.{beq}
-use Rattle.std.specs.Cmp.Lexicographic.{pointwise_decides, bytes_decides}
-use Rattle.std.specs.Option.{option_eq}
-use Rattle.std.proofs.lemmas.Bool.{both_ways}
-use Rattle.std.proofs.lemmas.Bool.Decides.{Decides-and, Decides-eqb, Decides-like}
-use Rattle.std.proofs.lemmas.Option.{same_Some}
-use Rattle.wsm_schema.specs.declared.cards.Card.{Card}
-use Rattle.wsm_schema.specs.declared.cards.End.{End}
-use Rattle.wsm_schema.specs.declared.cards.NodeKind.{NodeKind}
+use Rattle.std.proofs.{Common.{◌≡◌, ℕ, Bool, true, false, ◌&&◌, refl, ap, sym, ◌∙◌, Option, Some, None, Decides, nat_eq}, lemmas.Bool.both_ways, lemmas.Bool.Decides.{Decides-and, Decides-eqb, Decides-like}, lemmas.Option.same_Some}
+use Rattle.std.specs.{Prelude.{◌==◌, if◌then◌else◌}, Bool.beq, Cmp.Lexicographic.{pointwise_decides, bytes_decides}, Option.option_eq}
+use Rattle.wsm_schema.specs.{declared.cards.Card.Card, declared.cards.End.End, declared.cards.NodeKind.NodeKind}
 use Rattle.wsm_schema.specs.declared.cards.NodeKind.TheVariants as node
 use Rattle.wsm_touch.specs.SameCards.{kind_number, same_card, same_data, same_edges, same_end, same_place}
 

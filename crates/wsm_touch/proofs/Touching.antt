@@ -1,21 +1,12 @@
 -- The list of touched nodes has those that differ, and no other.
-use Rattle.std.proofs.Common.{◌≡◌, ◌≢◌, ℕ, suc, Bool, true, false, ◌&&◌, ◌||◌, not, eqb, List, [], ◌∷◌, ◌++◌, filter, refl, ap, sym, ◌∙◌, subst, inl, inr, arith, Option, Some, None, Decides}
-use Rattle.std.specs.Prelude.{is_some, Contains}
-use Rattle.std.specs.Option.{option_eq}
-use Rattle.std.proofs.lemmas.Bool.{cases_Bool, both_ways, and_parts, eq-eqb, eqb-true}
-use Rattle.std.proofs.lemmas.Option.{same_Some}
-use Rattle.wsm_lists.specs.Rows.{AllRows, key_eq, key_lt, put_row}
-use Rattle.wsm_lists.specs.declared.values.ElementKind.{ElementKind}
+use Rattle.std.proofs.{Common.{◌≡◌, ◌≢◌, ℕ, suc, Bool, true, false, ◌&&◌, ◌||◌, not, eqb, List, [], ◌∷◌, ◌++◌, filter, refl, ap, sym, ◌∙◌, subst, inl, inr, arith, Option, Some, None, Decides}, lemmas.Bool.{cases_Bool, both_ways, and_parts}}
+use Rattle.std.proofs.{lemmas.Bool.{eq-eqb, eqb-true}, lemmas.Option.same_Some}
+use Rattle.std.specs.{Prelude.{is_some, Contains}, Option.option_eq}
+use Rattle.wsm_lists.specs.{Rows.{AllRows, key_eq, key_lt, put_row}, declared.values.ElementKind.ElementKind}
 use Rattle.wsm_lists.specs.declared.values.ElementKind.TheVariants as kind
-use Rattle.wsm_lists.proofs.ByNumber.{eq_number}
-use Rattle.wsm_lists.proofs.Lists.{all-rows-map, rows-append}
-use Rattle.wsm_lists.proofs.Rows.{all_put}
-use Rattle.wsm_schema.specs.Flat.{FlatModel, card_at, kind_in}
-use Rattle.wsm_schema.specs.Touched.{Touched, card_differs, kind_differs}
-use Rattle.wsm_schema.specs.Trail.{is_one_of}
-use Rattle.wsm_schema.specs.declared.cards.Card.{Card}
-use Rattle.wsm_touch.specs.SameCards.{same_card}
-use Rattle.wsm_touch.specs.TouchedNodes.{differs, is_touched, nodes_in, number, one_kind, put_all, same_kinds, touched_nodes}
+use Rattle.wsm_lists.proofs.{ByNumber.eq_number, Lists.{all-rows-map, rows-append}, Rows.all_put}
+use Rattle.wsm_schema.specs.{Flat.{FlatModel, card_at, kind_in}, Touched.{Touched, card_differs, kind_differs}, Trail.is_one_of, declared.cards.Card.Card}
+use Rattle.wsm_touch.specs.{SameCards.same_card, TouchedNodes.{differs, is_touched, nodes_in, number, one_kind, put_all, same_kinds, touched_nodes}}
 use Rattle.wsm_touch.proofs.EqualCards.{cards-decided}
 use Rattle.wsm_walk.specs.Untouched.{Untouched}
 

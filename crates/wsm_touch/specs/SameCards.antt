@@ -1,11 +1,6 @@
 -- Whether two cards are equal, as a test that computes.
-use Rattle.std.specs.Prelude.{ℕ, Bool, ◌&&◌, ◌==◌, nat_eq}
-use Rattle.std.specs.Bool.{beq}
-use Rattle.std.specs.Cmp.Lexicographic.{pointwise}
-use Rattle.std.specs.Option.{option_eq}
-use Rattle.wsm_schema.specs.declared.cards.Card.{Card}
-use Rattle.wsm_schema.specs.declared.cards.End.{End}
-use Rattle.wsm_schema.specs.declared.cards.NodeKind.{NodeKind}
+use Rattle.std.specs.{Prelude.{ℕ, Bool, ◌&&◌, ◌==◌, nat_eq}, Bool.beq, Cmp.Lexicographic.pointwise, Option.option_eq}
+use Rattle.wsm_schema.specs.{declared.cards.Card.Card, declared.cards.End.End, declared.cards.NodeKind.NodeKind}
 use Rattle.wsm_schema.specs.declared.cards.NodeKind.TheVariants as node
 
 abbrev pub kind_number : NodeKind → ℕ

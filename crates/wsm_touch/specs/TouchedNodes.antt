@@ -1,12 +1,8 @@
 -- The nodes that differ between two schemas, as a list that computes.
-use Rattle.std.specs.Prelude.{ℕ, Bool, true, false, not, is_some, ◌&&◌, List, [], ◌∷◌, ◌++◌, filter, map, Option, Some, None}
-use Rattle.std.specs.List.{list_all}
-use Rattle.std.specs.Option.{option_eq}
-use Rattle.wsm_lists.specs.Rows.{put_row}
-use Rattle.wsm_lists.specs.declared.values.ElementKind.{ElementKind}
+use Rattle.std.specs.{Prelude.{ℕ, Bool, true, false, not, is_some, ◌&&◌, List, [], ◌∷◌, ◌++◌, filter, map, Option, Some, None}, List.list_all, Option.option_eq}
+use Rattle.wsm_lists.specs.{Rows.put_row, declared.values.ElementKind.ElementKind}
 use Rattle.wsm_lists.specs.declared.values.ElementKind.TheVariants as kind
-use Rattle.wsm_schema.specs.Flat.{FlatModel, card_at, kind_in}
-use Rattle.wsm_schema.specs.declared.cards.Card.{Card}
+use Rattle.wsm_schema.specs.{Flat.{FlatModel, card_at, kind_in}, declared.cards.Card.Card}
 use Rattle.wsm_touch.specs.SameCards.{same_card}
 
 abbrev pub one_kind : ElementKind → ElementKind → Bool

@@ -1,10 +1,7 @@
 // The nodes that differ between two schemas.
-ghost use Rattle.std.specs.Prelude.{◌≡◌, ℕ, false, not, is_some, filter, IfOk, OnOk, if◌then◌else◌};
-ghost use Rattle.std.specs.Option.{option_copied};
+ghost use Rattle.std.specs.{Prelude.{◌≡◌, ℕ, false, not, is_some, filter, IfOk, OnOk, if◌then◌else◌}, Option.option_copied};
 ghost use Rattle.wsm_lists.specs.Rows.{AllRows, Ascends, put_row};
-ghost use Rattle.wsm_schema.specs.Flat.{card_at};
-ghost use Rattle.wsm_schema.specs.Touched.{Touched};
-ghost use Rattle.wsm_schema.specs.Trail.{is_one_of};
+ghost use Rattle.wsm_schema.specs.{Flat.card_at, Touched.Touched, Trail.is_one_of};
 ghost use Rattle.wsm_touch.specs.TouchedNodes.{differs, is_touched, nodes_in, number, put_all, same_kinds, touched_nodes};
 ghost use Rattle.wsm_walk.specs.Untouched.{Untouched};
 

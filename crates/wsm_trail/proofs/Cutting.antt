@@ -1,20 +1,8 @@
 -- A cut keeps positions, and what was written at them.
-use Rattle.std.proofs.Common.{◌≡◌, ℕ, ◌+◌, ◌<◌, ◌≤◌, Bool, true, false, cond, List, [], ◌∷◌, ◌++◌, take, drop, length, get_or, set, append_assoc, Option, Some, None, refl, sym, ◌∙◌, ap, arith}
-use Rattle.std.specs.List.{SwappedAt, fold, filter_map, cons_option}
-use Rattle.std.specs.Prelude.{nat_lt}
-use Rattle.std.proofs.lemmas.Bool.{ltb-true}
-use Rattle.std.proofs.lemmas.List.{drop-set-lt, drop_more, get_or-set_same, length-set, take-set-le, take_more}
-use Rattle.wsm_lists.proofs.ByNumber.{lt_number}
-use Rattle.wsm_lists.specs.Keys.{first}
-use Rattle.wsm_lists.specs.Rows.{key_lt, rows_below}
-use Rattle.wsm_schema.specs.Trail.{cut_entry, wrote, is_one_of, written_by}
-use Rattle.wsm_lists.specs.Values.{Written}
-use Rattle.wsm_schema.specs.declared.entries.Entry.{Entry}
+use Rattle.wsm_trail.proofs.Common.{[], ℕ, ◌++◌, ◌+◌, ◌<◌, ◌∙◌, ◌∷◌, ◌≡◌, ◌≤◌, ap, append_assoc, arith, Bool, cond, cons_option, cut_entries, cut_entry, drop, drop-set-lt, drop_more, Entry, false, filter_map, first, fold, get_or}
+use Rattle.wsm_trail.proofs.Common.{get_or-set_same, is_one_of, key_lt, length, length-set, List, lt_number, ltb-true, nat_lt, None, noted, noted_entries, noted_entry, Option, refl, Rises, rows_below, set, Some, StaysBelow, SwappedAt, sym}
+use Rattle.wsm_trail.proofs.{Common.{take, take-set-le, take_more, true, Written, written_by, wrote}, Rising.rises_lower}
 use Rattle.wsm_schema.specs.declared.entries.Entry.TheVariants as entry
-use Rattle.wsm_trail.specs.Cuts.{StaysBelow, cut_entries}
-use Rattle.wsm_trail.specs.LastWrites.{noted, noted_entry, noted_entries}
-use Rattle.wsm_trail.specs.TrailWithRoom.{Rises}
-use Rattle.wsm_trail.proofs.Rising.{rises_lower}
 
 -- what may be left of an entry with these writes at a position: an entry at the position that wrote the same, or nothing where nothing was written
 abbrev KeepsWrites : ℕ → Written → Option (ℕ × Entry) → Type 0

@@ -1,21 +1,7 @@
 -- The table of last writes tells the value of each element.
-use Rattle.std.proofs.Common.{◌≡◌, ℕ, ◌+◌, ◌<◌, ◌≤◌, Bool, true, false, cond, eqb, ltb, List, [], ◌∷◌, ◌++◌, refl, ap, sym, ◌∙◌, subst, inl, inr, arith, Option, Some, None}
-use Rattle.std.specs.List.{fold}
-use Rattle.std.specs.Option.{is_some, option_or}
-use Rattle.std.proofs.lemmas.Bool.{cases_Bool, both_ways, eqb-true, eq-eqb, ne_eqb, lt-ltb, le-ltb, ltb-true}
-use Rattle.wsm_lists.specs.Keys.{first}
-use Rattle.wsm_lists.specs.Rows.{key_lt, AllRows, Ascends, put_row}
-use Rattle.wsm_lists.specs.Values.{Written, value_in}
-use Rattle.wsm_lists.specs.declared.values.Value.{Value}
-use Rattle.wsm_lists.proofs.Rows.{ascends_put}
-use Rattle.wsm_schema.specs.Trail.{written_by, later_or, value_below}
-use Rattle.wsm_schema.specs.declared.entries.Entry.{Entry}
-use Rattle.wsm_lists.specs.ByNumber.{item_at}
-use Rattle.wsm_trail.specs.EntryAt.{entry_at, entry_of, written_to, value_noted}
-use Rattle.wsm_trail.specs.LastWrites.{noted, noted_entry, noted_entries, write_of, values_at}
-use Rattle.wsm_trail.specs.TrailWithRoom.{Rises}
-use Rattle.wsm_lists.proofs.ByNumber.{item_at-put, lt_number, eq_number}
-use Rattle.wsm_trail.proofs.Rising.{rises-le}
+use Rattle.wsm_trail.proofs.Common.{[], ℕ, ◌++◌, ◌+◌, ◌<◌, ◌∙◌, ◌∷◌, ◌≡◌, ◌≤◌, AllRows, ap, arith, Ascends, ascends_put, Bool, both_ways, cases_Bool, cond, Entry, entry_at, entry_of, eq-eqb, eq_number, eqb, eqb-true, false, first, fold}
+use Rattle.wsm_trail.proofs.Common.{inl, inr, is_some, item_at, item_at-put, key_lt, later_or, le-ltb, List, lt-ltb, lt_number, ltb, ltb-true, ne_eqb, None, noted, noted_entries, noted_entry, Option, option_or, put_row, refl, Rises, Some}
+use Rattle.wsm_trail.proofs.{Common.{subst, sym, true, Value, value_below, value_in, value_noted, values_at, write_of, Written, written_by, written_to}, Rising.rises-le}
 
 -- ---- the table
 

@@ -1,26 +1,10 @@
 -- Writes that are noted late: what a push, a cut and a look at the late entries owe.
-use Rattle.std.proofs.Common.{◌≡◌, ℕ, zero, suc, ◌+◌, ◌<◌, ◌≤◌, List, [], ◌∷◌, ◌++◌, length, take, drop, refl, ap, sym, ◌∙◌, subst, arith, inl, inr, ◌⊎◌, Option, Some, None}
-use Rattle.std.proofs.Common.{take-append-drop}
-use Rattle.std.specs.Prelude.{filter, get_or, nat_lt}
-use Rattle.std.proofs.lemmas.Bool.{cases_Bool, le-ltb, lt-ltb, ltb-true, ltb-false}
-use Rattle.wsm_lists.specs.Keys.{first}
-use Rattle.wsm_lists.specs.Rows.{rows_below}
-use Rattle.wsm_lists.specs.Values.{Written, value_in}
-use Rattle.wsm_lists.specs.declared.values.Value.{Value}
-use Rattle.wsm_lists.proofs.ByNumber.{lt_number}
-use Rattle.wsm_schema.specs.Marks.{is_start_of}
-use Rattle.wsm_schema.specs.Trail.{cut_entry, is_one_of, later_or, value_below, written_by, wrote}
-use Rattle.wsm_schema.specs.declared.entries.Entry.{Entry}
+use Rattle.wsm_trail.proofs.Common.{[], ℕ, ◌++◌, ◌+◌, ◌<◌, ◌∙◌, ◌∷◌, ◌≡◌, ◌≤◌, ◌⊎◌, ap, arith, cases_Bool, cut_entries, cut_entry, drop, Entry, filter, first, inl, inr, is_one_of, is_start_of, last_written, later_or, le-ltb, length, List}
+use Rattle.wsm_trail.proofs.Common.{lt-ltb, lt_number, ltb-false, ltb-true, nat_lt, None, noted, noted_entries, noted_until, Option, refl, Rises, rows_below, Some, subst, suc, sym, take, take-append-drop, Value, value_below, value_in}
+use Rattle.wsm_trail.proofs.{Common.{value_noted, without_start, Written, written_by, wrote, zero}, Cutting.{noted_entries-cut, noted_entries-push}, LastWrite.{below-append, below-none, value_before-from}, Rising.{rises-le, rises-parts}}
+use Rattle.wsm_trail.proofs.{Rising.rises_lower, Withdrawing.noted_entries-left}
+use Rattle.std.specs.Prelude.{get_or}
 use Rattle.wsm_schema.specs.declared.entries.Entry.TheVariants as entry
-use Rattle.wsm_trail.specs.Cuts.{cut_entries}
-use Rattle.wsm_trail.specs.EntryAt.{last_written, value_noted}
-use Rattle.wsm_trail.specs.LastWrites.{noted, noted_entries, noted_until}
-use Rattle.wsm_trail.specs.TrailWithRoom.{Rises}
-use Rattle.wsm_trail.specs.Withdrawn.{without_start}
-use Rattle.wsm_trail.proofs.Cutting.{noted_entries-cut, noted_entries-push}
-use Rattle.wsm_trail.proofs.LastWrite.{below-append, below-none, value_before-from}
-use Rattle.wsm_trail.proofs.Rising.{rises-le, rises-parts, rises_lower}
-use Rattle.wsm_trail.proofs.Withdrawing.{noted_entries-left}
 
 -- ---- what is below a position
 

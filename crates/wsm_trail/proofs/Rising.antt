@@ -1,10 +1,5 @@
 -- Positions rise.
-use Rattle.std.proofs.Common.{◌≡◌, ℕ, ◌+◌, ◌<◌, ◌≤◌, true, List, [], ◌∷◌, ◌++◌, inl, arith}
-use Rattle.wsm_lists.specs.Keys.{first}
-use Rattle.wsm_lists.specs.Rows.{key_lt, AllRows, Ascends}
-use Rattle.wsm_lists.proofs.Rows.{lt_from}
-use Rattle.wsm_schema.specs.declared.entries.Entry.{Entry}
-use Rattle.wsm_trail.specs.TrailWithRoom.{Rises}
+use Rattle.wsm_trail.proofs.Common.{[], ℕ, ◌++◌, ◌+◌, ◌<◌, ◌∷◌, ◌≡◌, ◌≤◌, AllRows, arith, Ascends, Entry, first, inl, key_lt, List, lt_from, Rises, true}
 
 pub rises-le : (low high : ℕ) (es : List (ℕ × Entry)) → Rises low high es → low ≤ high
 rises-le low high [] h = h

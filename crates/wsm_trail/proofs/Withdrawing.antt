@@ -1,19 +1,8 @@
 -- A trail without the one Start of a node.
-use Rattle.std.proofs.Common.{◌≡◌, ℕ, ◌+◌, ◌≤◌, true, false, cond, List, [], ◌∷◌, ◌++◌, length, refl, sym, ◌∙◌, ap, subst, inl, inr, arith}
-use Rattle.std.proofs.Common.{◌<◌, get_or, take, drop, Some, All, take-append-drop}
-use Rattle.std.proofs.lemmas.List.{drop_more}
+use Rattle.wsm_trail.proofs.Common.{[], ℕ, ◌++◌, ◌+◌, ◌<◌, ◌∙◌, ◌∷◌, ◌≡◌, ◌≤◌, All, ap, arith, cases_Bool, cond, drop, drop_more, Entry, false, fold, get_or, inl, inr, is_start_of, IsStartPlace, length, List, noted, noted_entries}
+use Rattle.wsm_trail.proofs.{Common.{noted_entry, refl, Rises, Some, starts_of, subst, sym, take, take-append-drop, true, without_start, written_by}, Rising.rises_lower}
 use Rattle.std.proofs.lemmas.List.Elements.{All-head, All-tail}
-use Rattle.std.proofs.lemmas.Bool.{cases_Bool}
-use Rattle.std.specs.List.{fold}
-use Rattle.wsm_schema.specs.Marks.{is_start_of}
-use Rattle.wsm_schema.specs.Trail.{written_by}
-use Rattle.wsm_schema.specs.declared.entries.Entry.{Entry}
 use Rattle.wsm_schema.specs.declared.entries.Entry.TheVariants as entry
-use Rattle.wsm_trail.specs.LastWrites.{noted, noted_entry, noted_entries}
-use Rattle.wsm_trail.specs.TrailWithRoom.{Rises}
-use Rattle.wsm_trail.specs.StartPlaces.{IsStartPlace}
-use Rattle.wsm_trail.specs.Withdrawn.{starts_of, without_start}
-use Rattle.wsm_trail.proofs.Rising.{rises_lower}
 
 -- a Start writes nothing
 pub start-writes_none : (n : ℕ) (x : Entry) → is_start_of n x ≡ true → written_by x ≡ []

@@ -1,9 +1,7 @@
 -- The cut of entries in place.
-use Rattle.std.specs.Prelude.{◌≡◌, ℕ, Bool, true, List, Some, None, nat_lt, if◌then◌else◌}
-use Rattle.std.specs.List.{filter_map}
+use Rattle.std.specs.{Prelude.{◌≡◌, ℕ, Bool, true, List, Some, None, nat_lt, if◌then◌else◌}, List.filter_map}
 use Rattle.wsm_lists.specs.Rows.{AllRows}
-use Rattle.wsm_schema.specs.Trail.{cut_entry}
-use Rattle.wsm_schema.specs.declared.entries.Entry.{Entry}
+use Rattle.wsm_schema.specs.{Trail.cut_entry, declared.entries.Entry.Entry}
 
 -- the cut drops the entry, or leaves it as `new`, at any position
 abbrev pub Cuts : List ℕ → Entry → Bool → Entry → Type 0

@@ -1,10 +1,7 @@
 -- The entry at a position, and what entries wrote.
 use Rattle.std.specs.Prelude.{ℕ, List, [], ◌∷◌, Option, Some, None}
-use Rattle.wsm_lists.specs.ByNumber.{item_at}
-use Rattle.wsm_lists.specs.Values.{value_in}
-use Rattle.wsm_lists.specs.declared.values.Value.{Value}
-use Rattle.wsm_schema.specs.Trail.{later_or, written_by}
-use Rattle.wsm_schema.specs.declared.entries.Entry.{Entry}
+use Rattle.wsm_lists.specs.{ByNumber.item_at, Values.value_in, declared.values.Value.Value}
+use Rattle.wsm_schema.specs.{Trail.{later_or, written_by}, declared.entries.Entry.Entry}
 
 abbrev pub entry_at : ℕ → List (ℕ × Entry) → Option Entry
 entry_at position entries = item_at position entries

@@ -1,12 +1,7 @@
 -- For each element that was written, the position of its last write, ascending by element.
-use Rattle.std.specs.Prelude.{ℕ, List, [], ◌∷◌, ◌++◌, Option, Some, None, filter, nat_lt}
-use Rattle.std.specs.List.{fold}
-use Rattle.wsm_lists.specs.Keys.{first}
-use Rattle.wsm_lists.specs.Rows.{put_row}
-use Rattle.wsm_lists.specs.Values.{Written}
-use Rattle.wsm_lists.specs.declared.values.Value.{Value}
-use Rattle.wsm_schema.specs.Trail.{written_by}
-use Rattle.wsm_schema.specs.declared.entries.Entry.{Entry}
+use Rattle.std.specs.{Prelude.{ℕ, List, [], ◌∷◌, ◌++◌, Option, Some, None, filter, nat_lt}, List.fold}
+use Rattle.wsm_lists.specs.{Keys.first, Rows.put_row, Values.Written, declared.values.Value.Value}
+use Rattle.wsm_schema.specs.{Trail.written_by, declared.entries.Entry.Entry}
 use Rattle.wsm_trail.specs.EntryAt.{entry_at, written_to}
 
 -- rows, with the room that is reserved for more of them

@@ -1,7 +1,6 @@
 -- Where a Start of a node stands in a trail.
 use Rattle.std.specs.Prelude.{◌≡◌, ℕ, true, List, [], ◌∷◌, ◌++◌, length, take, drop, Option, Some, None, ◌+◌, ◌<◌}
-use Rattle.wsm_schema.specs.Marks.{is_start_of}
-use Rattle.wsm_schema.specs.declared.entries.Entry.{Entry}
+use Rattle.wsm_schema.specs.{Marks.is_start_of, declared.entries.Entry.Entry}
 use Rattle.wsm_trail.specs.Withdrawn.{starts_of}
 
 -- a list is its front, an entry and the rest

@@ -1,7 +1,6 @@
 -- A trail, with the room that is reserved for what comes.
 use Rattle.std.specs.Prelude.{ℕ, ◌+◌, ◌≤◌, List, [], ◌∷◌}
-use Rattle.wsm_schema.specs.Trail.{TrailModel}
-use Rattle.wsm_schema.specs.declared.entries.Entry.{Entry}
+use Rattle.wsm_schema.specs.{Trail.TrailModel, declared.entries.Entry.Entry}
 
 -- how many entries may come before memory is taken
 pub record TrailWithRoom : Type 0 where

@@ -1,8 +1,6 @@
 -- A trail without the Start of a node that is given back.
 use Rattle.std.specs.Prelude.{ℕ, not, List, filter}
-use Rattle.wsm_schema.specs.Marks.{is_start_of}
-use Rattle.wsm_schema.specs.Trail.{TrailModel}
-use Rattle.wsm_schema.specs.declared.entries.Entry.{Entry}
+use Rattle.wsm_schema.specs.{Marks.is_start_of, Trail.TrailModel, declared.entries.Entry.Entry}
 
 abbrev pub starts_of : ℕ → List (ℕ × Entry) → List (ℕ × Entry)
 starts_of n es = filter (λ e. is_start_of n e.1) es

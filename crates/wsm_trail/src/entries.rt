@@ -1,6 +1,5 @@
 // Entries in a row: what they wrote, and copies of them.
-ghost use Rattle.std.specs.Prelude.{◌≡◌, drop, IfOk};
-ghost use Rattle.std.specs.Option.{option_copied};
+ghost use Rattle.std.specs.{Prelude.{◌≡◌, drop, IfOk}, Option.option_copied};
 ghost use Rattle.wsm_schema.specs.Trail.{written_by};
 ghost use Rattle.wsm_trail.specs.EntryAt.{last_written};
 

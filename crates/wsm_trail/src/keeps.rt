@@ -1,14 +1,8 @@
 // Trails that are kept.
-ghost use Rattle.std.specs.Prelude.{◌≡◌, ℕ, ◌+◌, ◌<◌, ◌≤◌, ◌^◌, OnOk, IfOk, length};
-ghost use Rattle.std.specs.Option.{option_copied};
-ghost use Rattle.wsm_lists.specs.Keys.{first};
-ghost use Rattle.wsm_lists.specs.Rows.{Ascends};
-ghost use Rattle.wsm_lists.specs.Values.{value_in};
+ghost use Rattle.std.specs.{Prelude.{◌≡◌, ℕ, ◌+◌, ◌<◌, ◌≤◌, ◌^◌, OnOk, IfOk, length}, Option.option_copied};
+ghost use Rattle.wsm_lists.specs.{Keys.first, Rows.Ascends, Values.value_in};
 ghost use Rattle.wsm_schema.specs.Trail.{pushed, value_below, cut_by};
-ghost use Rattle.wsm_trail.specs.Cuts.{StaysBelow};
-ghost use Rattle.wsm_trail.specs.LastWrites.{noted_entries, values_at};
-ghost use Rattle.wsm_trail.specs.TrailWithRoom.{Rises};
-ghost use Rattle.wsm_trail.specs.Withdrawn.{starts_of, withdrawn};
+ghost use Rattle.wsm_trail.specs.{Cuts.StaysBelow, LastWrites.{noted_entries, values_at}, TrailWithRoom.Rises, Withdrawn.{starts_of, withdrawn}};
 
 use crate::reads::TrailReads;
 use crate::trails::Trail;

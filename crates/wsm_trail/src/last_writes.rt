@@ -1,10 +1,6 @@
 // Where each element was written last.
-ghost use Rattle.std.specs.Prelude.{◌≡◌, ◌+◌, ◌≤◌, ◌<◌, [], length, vec_len, vec_capacity, OnOk, OnErr, IfOk};
-ghost use Rattle.std.specs.List.{insert};
-ghost use Rattle.std.specs.Option.{is_some};
-ghost use Rattle.wsm_lists.specs.Keys.{first};
-ghost use Rattle.wsm_lists.specs.Rows.{put_row, Ascends};
-ghost use Rattle.wsm_lists.specs.ByNumber.{item_at};
+ghost use Rattle.std.specs.{Prelude.{◌≡◌, ◌+◌, ◌≤◌, ◌<◌, [], length, vec_len, vec_capacity, OnOk, OnErr, IfOk}, List.insert, Option.is_some};
+ghost use Rattle.wsm_lists.specs.{Keys.first, Rows.{put_row, Ascends}, ByNumber.item_at};
 ghost use Rattle.wsm_trail.specs.LastWrites.{noted, noted_entry};
 
 use crate::entries::written_by;

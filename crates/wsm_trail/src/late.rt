@@ -1,7 +1,6 @@
 // Writes that are noted late: when room is reserved, and not when they are pushed.
 ghost use Rattle.std.specs.Prelude.{◌≡◌, ◌≤◌, OnOk};
-ghost use Rattle.wsm_trail.specs.LastWrites.{noted_entries, noted_until};
-ghost use Rattle.wsm_trail.specs.TrailWithRoom.{Rises};
+ghost use Rattle.wsm_trail.specs.{LastWrites.{noted_entries, noted_until}, TrailWithRoom.Rises};
 
 use crate::last_writes::LastWrites;
 use crate::lookups::place_of;

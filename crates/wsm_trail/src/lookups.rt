@@ -1,9 +1,6 @@
 // Rows that ascend by a number in front of each.
-ghost use Rattle.std.specs.Prelude.{◌≡◌, length, slice_get};
-ghost use Rattle.std.specs.Option.{option_copied};
-ghost use Rattle.wsm_lists.specs.Keys.{first};
-ghost use Rattle.wsm_lists.specs.Rows.{Ascends, rows_below};
-ghost use Rattle.wsm_lists.specs.ByNumber.{item_at};
+ghost use Rattle.std.specs.{Prelude.{◌≡◌, length, slice_get}, Option.option_copied};
+ghost use Rattle.wsm_lists.specs.{Keys.first, Rows.{Ascends, rows_below}, ByNumber.item_at};
 
 /// How many rows have a smaller number, by a binary search.
 pub fn place_of<T>(rows: &[(u32, T)], number: u32) -> usize

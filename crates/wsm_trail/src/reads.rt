@@ -1,12 +1,8 @@
 // Trails of which the reads are counted.
-ghost use Rattle.std.specs.Prelude.{◌≡◌, ℕ, ◌+◌, ◌≤◌, []};
-ghost use Rattle.std.specs.Borrow.{sem};
-ghost use Rattle.std.specs.Io.BufRead.{Rests};
-ghost use Rattle.std.specs.Option.{option_copied};
+ghost use Rattle.std.specs.{Prelude.{◌≡◌, ℕ, ◌+◌, ◌≤◌, []}, Borrow.sem, Io.BufRead.Rests, Option.option_copied};
 ghost use Rattle.wsm_schema.specs.Trail.{TrailModel};
-ghost use Rattle.wsm_trail.specs.EntryAt.{entry_at};
+ghost use Rattle.wsm_trail.specs.{EntryAt.entry_at, contracts.reads.CountedTrail.the_row};
 ghost use mir.Syntax.{named};
-ghost use Rattle.wsm_trail.specs.contracts.reads.CountedTrail.{the_row};
 
 use crate::trails::Trail;
 use std::sync::ledger::Ledger;

@@ -1,15 +1,8 @@
 // Trails.
-ghost use Rattle.std.specs.Prelude.{◌≡◌, ◌+◌, ◌<◌, ◌≤◌, ◌^◌, ℕ, [], ◌++◌, ◌↔◌, IsTrue, length, OnOk, IfOk};
-ghost use Rattle.std.specs.Option.{option_copied};
-ghost use Rattle.wsm_lists.specs.Keys.{first};
-ghost use Rattle.wsm_lists.specs.Rows.{Ascends};
-ghost use Rattle.wsm_lists.specs.Values.{value_in};
+ghost use Rattle.std.specs.{Prelude.{◌≡◌, ◌+◌, ◌<◌, ◌≤◌, ◌^◌, ℕ, [], ◌++◌, ◌↔◌, IsTrue, length, OnOk, IfOk}, Option.option_copied};
+ghost use Rattle.wsm_lists.specs.{Keys.first, Rows.Ascends, Values.value_in};
 ghost use Rattle.wsm_schema.specs.Trail.{no_trail, pushed, value_below, cut_by};
-ghost use Rattle.wsm_trail.specs.Cuts.{StaysBelow};
-ghost use Rattle.wsm_trail.specs.EntryAt.{entry_at, written_to};
-ghost use Rattle.wsm_trail.specs.LastWrites.{noted_entries, values_at, write_of};
-ghost use Rattle.wsm_trail.specs.TrailWithRoom.{Rises};
-ghost use Rattle.wsm_trail.specs.Withdrawn.{starts_of, withdrawn};
+ghost use Rattle.wsm_trail.specs.{Cuts.StaysBelow, EntryAt.{entry_at, written_to}, LastWrites.{noted_entries, values_at, write_of}, TrailWithRoom.Rises, Withdrawn.{starts_of, withdrawn}};
 
 use crate::cuts::cut_behind;
 use crate::entries::{copy_entries, last_written};

@@ -1,28 +1,8 @@
 -- Local re-marking: the region's pass gives the new marks, and the least misfit of its nodes is where the replay fails.
-use Rattle.std.proofs.Common.{◌≡◌, ℕ, suc, Bool, false, not, List, map, refl, subst, Some}
-use Rattle.wsm_schema.specs.Flat.{card_at, cards_of, flat_of}
-use Rattle.wsm_schema.specs.Marks.{Facts, facts_of}
-use Rattle.wsm_schema.specs.Rank.{IsRank}
-use Rattle.wsm_schema.specs.Replay.{replay_of, whole}
-use Rattle.wsm_schema.specs.Rules.{Spots}
-use Rattle.wsm_schema.specs.SchemaModel.{SchemaModel}
-use Rattle.wsm_schema.specs.Trail.{is_one_of, value_below}
-use Rattle.wsm_schema.specs.declared.cards.Card.{Card}
-use Rattle.wsm_marks.specs.Fits.{Ends, RisesAfter, fits, last_position}
-use Rattle.wsm_marks.specs.Regions.{Closed, Region}
-use Rattle.wsm_marks.specs.Schemas.{Regular}
-use Rattle.wsm_marks.specs.Solving.{solution, solve_inside}
-use Rattle.wsm_marks.specs.Timed.{Entries, Marking}
-use Rattle.wsm_marks.proofs.LocalMisfit.{replay-local}
-use Rattle.wsm_marks.proofs.Remark.{closed-bordered, remark}
-use Rattle.wsm_marks.proofs.Solutions.{solution-solves}
-use Rattle.wsm_marks.proofs.SolvedInside.{solve_inside-is}
-use Rattle.wsm_marks.proofs.WholeTrails.{whole-orderly}
-use Rattle.wsm_walk.specs.FirstBad.{least}
-use Rattle.wsm_walk.specs.Reached.{reached_from}
-use Rattle.wsm_walk.specs.Untouched.{Untouched}
-use Rattle.wsm_walk.proofs.RegionMisfit.{node_bad, region-misfit}
-use Rattle.wsm_walk.proofs.Regions.{region-of}
+use Rattle.wsm_walk.proofs.Common.{ℕ, ◌≡◌, Bool, Card, card_at, cards_of, Closed, closed-bordered, Ends, Entries, Facts, facts_of, false, fits, flat_of, is_one_of, IsRank, last_position, least, List, map, Marking, not, reached_from, refl}
+use Rattle.wsm_walk.proofs.{Common.{Region, Regular, remark, replay_of, RisesAfter, SchemaModel, solution, solution-solves, solve_inside, Some, Spots, subst, suc, Untouched, value_below, whole, whole-orderly}, RegionMisfit.node_bad}
+use Rattle.wsm_walk.proofs.{RegionMisfit.region-misfit, Regions.region-of}
+use Rattle.wsm_marks.proofs.{LocalMisfit.replay-local, SolvedInside.solve_inside-is}
 
 module _ (s1 s2 : SchemaModel) (regular : Regular s2) (rank1 rank2 : List ℕ) (is1 : IsRank (cards_of s1) rank1) (is2 : IsRank (cards_of s2) rank2) (seeds : List ℕ)
     (untouched : (n : ℕ) → is_one_of n seeds ≡ false → Untouched (flat_of s1) (flat_of s2) n) (es : Entries) (t : Spots) (rises : RisesAfter 0 es) (is_whole : replay_of (flat_of s1) es ≡ whole t) where

@@ -1,54 +1,14 @@
 -- The marks of a trail whose loop is repeated, and where a walk for it begins.
-use Rattle.std.proofs.Common.{◌≡◌, ◌⊎◌, ℕ, suc, ◌+◌, true, false, eqb, List, [], ◌∷◌, map, refl, ap, sym, ◌∙◌, subst, inl, inr, arith, Option, Some, None}
-use Rattle.std.specs.Prelude.{find, nat_lt, option_map, if◌then◌else◌}
-use Rattle.std.proofs.lemmas.Bool.{cases_Bool, both_ways, eqb-true, eq-eqb, lt-ltb}
-use Rattle.wsm_lists.specs.ByNumber.{changed, item_after, item_at}
-use Rattle.wsm_lists.specs.Keys.{first}
-use Rattle.wsm_lists.specs.Rows.{Ascends}
-use Rattle.wsm_lists.specs.Values.{Written}
-use Rattle.wsm_lists.proofs.Lists.{all-rows-map}
-use Rattle.wsm_schema.specs.Flat.{card_at, cards_of, flat_of, from_node, loop_nodes, up_to_node}
-use Rattle.wsm_schema.specs.Kinds.{is_loop_end, worked_on}
-use Rattle.wsm_schema.specs.Marks.{choice_of, facts_of, is_again_of, is_end_of, marks_of, position_of}
-use Rattle.wsm_schema.specs.Replay.{is_in_state, replay_of, whole}
-use Rattle.wsm_schema.specs.Rules.{Spots, is_yes, spot_in}
-use Rattle.wsm_schema.specs.SchemaModel.{SchemaModel}
-use Rattle.wsm_schema.specs.Trail.{is_one_of}
-use Rattle.wsm_schema.specs.declared.cards.Card.{Card}
-use Rattle.wsm_schema.specs.declared.entries.Entry.{Entry}
+use Rattle.wsm_walk.proofs.Common.{[], ℕ, ◌+◌, ◌∙◌, ◌∷◌, ◌≡◌, ◌⊎◌, all-rows-map, ap, arith, Ascends, both_ways, Card, card_at, cards_of, cases_Bool, changed, choice_of, Cleared, Current, cut_entries, early, Entries, Entry, eq-eqb}
+use Rattle.wsm_walk.proofs.Common.{eq_of-same, eqb, eqb-swap, eqb-true, facts_by, facts_of, false, find, find-last, first, flat_of, flow, freed, from_node, HasCard, if◌then◌else◌, in_rank, inl, inr, is_again_of, is_end_of, is_in_state}
+use Rattle.wsm_walk.proofs.Common.{is_loop_end, is_one_of, is_pending, is_ready_mark, is_yes, item_after, item_at, last_position, List, loop-of_schema, loop_nodes, LoopOf, lt-ltb, map, Mark, mark_now, mark_or, marks_of, nat_lt, None}
+use Rattle.wsm_walk.proofs.Common.{Option, option_map, position_of, refl, repeat-whole, replay_of, Rises, RisesAfter, running-held, said, SchemaModel, seen, sig_at, sig_by, solution, solved_net, Some, spot_in, Spots, Stands, subst, suc}
+use Rattle.wsm_walk.proofs.{Common.{sym, Timed, timed_of, times_by, true, untimed, up_to_node, whole, whole-orderly, whole-trail, with_time, worked_on, Written}, CutAgains.{again-inside, again-outside, find-after}, Goals.trail-aim}
+use Rattle.wsm_walk.proofs.{Kept.timed_of-by, Listed.said-mark, OneMore.{changes-right, kept-item, kept-mark, rises-after}, Stands.{some-one, stands-say}, Walk.signal-same}
 use Rattle.wsm_schema.specs.declared.entries.Entry.TheVariants as entry
-use Rattle.wsm_schema.specs.declared.marks.Mark.{Mark}
 use Rattle.wsm_schema.specs.declared.states.Flow.TheVariants.{Yes, No}
 use Rattle.wsm_schema.specs.declared.states.State.TheVariants.{Running}
-use Rattle.wsm_marks.specs.Fits.{RisesAfter, last_position}
-use Rattle.wsm_marks.specs.Loops.{Cleared, LoopOf, cut_entries}
-use Rattle.wsm_marks.specs.Schemas.{HasCard}
-use Rattle.wsm_marks.specs.Solving.{solution}
-use Rattle.wsm_marks.specs.Timed.{Entries, Timed, early, flow, sig_at, sig_by}
-use Rattle.wsm_marks.proofs.Causality.{solved_net}
-use Rattle.wsm_marks.proofs.CutTrails.{cleared, orderly-cut, repeated}
-use Rattle.wsm_marks.proofs.Lists.{eqb-swap}
-use Rattle.wsm_marks.proofs.LastMarking.{running-held, whole-trail}
-use Rattle.wsm_marks.proofs.RankInduction.{in_rank}
-use Rattle.wsm_marks.proofs.Repeats.{loop-of_schema, repeat-whole}
-use Rattle.wsm_marks.proofs.ReadyValues.{running-begun}
-use Rattle.wsm_marks.proofs.Signals.{is_ready_mark}
-use Rattle.wsm_marks.proofs.Solutions.{eq_of-same}
-use Rattle.wsm_marks.proofs.Telling.{find-last}
-use Rattle.wsm_marks.proofs.WholeTrails.{whole-orderly}
-use Rattle.wsm_trail.specs.TrailWithRoom.{Rises}
-use Rattle.wsm_walk.specs.Current.{Current, mark_now}
-use Rattle.wsm_walk.specs.Kept.{mark_or, timed_of}
-use Rattle.wsm_walk.specs.Listed.{said, seen}
-use Rattle.wsm_walk.specs.RankPlaces.{is_pending}
-use Rattle.wsm_walk.specs.Walk.{Stands, facts_by, freed, times_by, untimed, with_time}
-use Rattle.wsm_walk.proofs.CutAgains.{again-inside, again-outside, find-after}
-use Rattle.wsm_walk.proofs.Goals.{trail-aim}
-use Rattle.wsm_walk.proofs.Kept.{timed_of-by}
-use Rattle.wsm_walk.proofs.Listed.{said-mark}
-use Rattle.wsm_walk.proofs.OneMore.{changes-right, kept-item, kept-mark, rises-after}
-use Rattle.wsm_walk.proofs.Stands.{some-one, stands-say}
-use Rattle.wsm_walk.proofs.Walk.{signal-same}
+use Rattle.wsm_marks.proofs.{CutTrails.{cleared, orderly-cut, repeated}, ReadyValues.running-begun}
 
 -- positions that rise end below the next
 last-below : (low p : ℕ) (es : Entries) → Rises (low + 1) p es → nat_lt (last_position low es) p ≡ true

@@ -1,18 +1,6 @@
 -- How many reads a walk along a rank has made.
-use Rattle.std.proofs.Common.{◌≡◌, ◌⊎◌, ℕ, ◌+◌, ◌<◌, ◌≤◌, Bool, true, eqb, List, [], ◌∷◌, ◌++◌, length, refl, ap, sym, ◌∙◌, subst, inl, inr, arith, Option, Some, None, length-append}
-use Rattle.std.specs.Prelude.{get_or}
-use Rattle.std.proofs.lemmas.Bool.{cases_Bool, eq-eqb}
-use Rattle.wsm_schema.specs.Flat.{card_at}
-use Rattle.wsm_schema.specs.Rank.{IsRank}
-use Rattle.wsm_schema.specs.Trail.{is_one_of}
-use Rattle.wsm_schema.specs.declared.cards.Card.{Card}
-use Rattle.wsm_marks.proofs.RankInduction.{in_rank}
-use Rattle.wsm_walk.specs.RankPlaces.{AllBehind, Named, rank_place}
-use Rattle.wsm_walk.specs.Reached.{edges_into, reach_cost}
-use Rattle.wsm_walk.specs.Spent.{NamesInside, Spent, visit_cost}
-use Rattle.wsm_walk.specs.Targets.{leads_to}
-use Rattle.wsm_walk.proofs.Stands.{append_one}
-use Rattle.wsm_walk.proofs.WalkSteps.{passed-to, place-behind, place-one}
+use Rattle.wsm_walk.proofs.Common.{[], ℕ, ◌++◌, ◌+◌, ◌<◌, ◌∙◌, ◌∷◌, ◌≡◌, ◌≤◌, ◌⊎◌, AllBehind, ap, arith, Bool, Card, card_at, cases_Bool, edges_into, eq-eqb, eqb, get_or, in_rank, inl, inr, is_one_of, IsRank, leads_to, length}
+use Rattle.wsm_walk.proofs.{Common.{length-append, List, Named, NamesInside, None, Option, rank_place, reach_cost, refl, Some, Spent, subst, sym, true, visit_cost}, Stands.append_one, WalkSteps.{passed-to, place-behind, place-one}}
 
 module _ (cards : List Card) (inside : ℕ → Bool) where
   pub cost-append : (ns ms : List ℕ) → reach_cost cards inside (ns ++ ms) ≡ reach_cost cards inside ns + reach_cost cards inside ms

@@ -1,13 +1,7 @@
 -- Which Agains a cut leaves.
-use Rattle.std.proofs.Common.{◌≡◌, ℕ, Bool, true, false, eqb, List, [], ◌∷◌, ◌++◌, refl, ap, sym, ◌∙◌, inl, inr, Option, Some, None}
-use Rattle.std.specs.Prelude.{find, if◌then◌else◌}
-use Rattle.std.proofs.lemmas.Bool.{cases_Bool, both_ways, eqb-true}
-use Rattle.wsm_schema.specs.Marks.{is_again_of}
-use Rattle.wsm_schema.specs.Trail.{is_one_of}
-use Rattle.wsm_schema.specs.declared.entries.Entry.{Entry}
+use Rattle.wsm_walk.proofs.Common.{[], ℕ, ◌++◌, ◌∙◌, ◌∷◌, ◌≡◌, ap, Bool, both_ways, cases_Bool, cut_entries, Entries, Entry, eqb, eqb-true, false, find, if◌then◌else◌, inl, inr, is_again_of, is_one_of, List, None, Option, refl, Some, sym}
+use Rattle.wsm_walk.proofs.Common.{true}
 use Rattle.wsm_schema.specs.declared.entries.Entry.TheVariants as entry
-use Rattle.wsm_marks.specs.Loops.{cut_entries}
-use Rattle.wsm_marks.specs.Timed.{Entries}
 
 abbrev again_in : ℕ → Entries → Option (ℕ × Entry)
 again_in n es = find (λ x. is_again_of n x.1) es

@@ -1,38 +1,10 @@
 -- The marks of a trail with an End behind it, and where a walk for it begins.
-use Rattle.std.proofs.Common.{◌≡◌, ◌⊎◌, ℕ, ◌+◌, ◌≤◌, false, eqb, ltb, List, [], ◌∷◌, ◌++◌, refl, ap, sym, ◌∙◌, subst, inl, inr, arith, Option, Some, None}
-use Rattle.std.proofs.lemmas.Bool.{cases_Bool, both_ways, eqb-true, eq-eqb, ltb-true, ltb-false}
-use Rattle.wsm_lists.specs.ByNumber.{changed, item_at}
-use Rattle.wsm_lists.proofs.Lists.{all-rows-map}
-use Rattle.wsm_lists.specs.Values.{Written}
-use Rattle.wsm_schema.specs.Flat.{card_at, cards_of, flat_of}
-use Rattle.wsm_schema.specs.Marks.{choice_of, facts_of, is_again_of, is_end_of, is_start_of, marks_of}
-use Rattle.wsm_schema.specs.Replay.{replay_of, whole}
-use Rattle.wsm_schema.specs.Rules.{Spots}
-use Rattle.wsm_schema.specs.SchemaModel.{SchemaModel}
-use Rattle.wsm_schema.specs.declared.cards.Card.{Card}
-use Rattle.wsm_schema.specs.declared.entries.Entry.TheVariants as entry
-use Rattle.wsm_schema.specs.declared.marks.Mark.{Mark}
-use Rattle.wsm_marks.specs.Fits.{InOrder}
-use Rattle.wsm_marks.specs.Schemas.{HasCard}
-use Rattle.wsm_marks.specs.Solving.{solution}
-use Rattle.wsm_marks.specs.Timed.{Entries}
-use Rattle.wsm_marks.proofs.Cards.{on_card-true}
-use Rattle.wsm_marks.proofs.RankInduction.{in_rank}
-use Rattle.wsm_marks.proofs.LastMarking.{WholeTrail, whole-trail}
-use Rattle.wsm_marks.proofs.Telling.{find-last}
-use Rattle.wsm_walk.specs.Current.{Current, mark_now}
-use Rattle.wsm_walk.specs.Kept.{mark_or, timed_of}
-use Rattle.wsm_walk.specs.Listed.{said, seen}
-use Rattle.wsm_walk.specs.RankPlaces.{Handed, is_pending, rank_place}
-use Rattle.wsm_walk.specs.Targets.{leads_to}
-use Rattle.wsm_walk.specs.Walk.{NoEdgeFrom, Stands, untimed, with_time}
-use Rattle.wsm_walk.proofs.Goals.{trail-aim}
-use Rattle.wsm_walk.proofs.Kept.{timed_of-by}
-use Rattle.wsm_walk.proofs.OneMore.{changes-right, kept-item, kept-mark, last-row, position-last, rises-last, says-ended}
-use Rattle.wsm_walk.proofs.Stands.{some-one, stands-say}
-use Rattle.wsm_walk.proofs.Targets.{no-lead}
-use Rattle.wsm_walk.proofs.Walk.{equation-same}
+use Rattle.wsm_walk.proofs.Common.{[], ℕ, ◌++◌, ◌+◌, ◌∙◌, ◌∷◌, ◌≡◌, ◌≤◌, ◌⊎◌, all-rows-map, ap, arith, both_ways, Card, card_at, cards_of, cases_Bool, changed, choice_of, Current, Entries, eq-eqb, eqb, eqb-true, facts_of, false, find-last}
+use Rattle.wsm_walk.proofs.Common.{flat_of, Handed, HasCard, in_rank, inl, InOrder, inr, is_again_of, is_end_of, is_pending, is_start_of, item_at, leads_to, List, ltb, ltb-false, ltb-true, Mark, mark_now, mark_or, marks_of, NoEdgeFrom}
+use Rattle.wsm_walk.proofs.Common.{None, on_card-true, Option, rank_place, refl, replay_of, said, SchemaModel, seen, solution, Some, Spots, Stands, subst, sym, timed_of, untimed, whole, whole-trail, WholeTrail, with_time, Written}
+use Rattle.wsm_walk.proofs.{Goals.trail-aim, Kept.timed_of-by, OneMore.{changes-right, kept-item, kept-mark, last-row, position-last, rises-last, says-ended}, Stands.{some-one, stands-say}, Targets.no-lead, Walk.equation-same}
 use Rattle.wsm_walk.proofs.WalkSteps.{no-edge_back}
+use Rattle.wsm_schema.specs.declared.entries.Entry.TheVariants as entry
 
 before-or : (a b : ℕ) → (a ≤ b) ⊎ (b + 1 ≤ a)
 before-or a b = elim (cases_Bool (ltb b a)) [ inl less ↦ let l = ltb-true b a less in inr (omega (arith, l)) | inr other ↦ let l = ltb-false b a other in inl (omega (arith, l)) ]

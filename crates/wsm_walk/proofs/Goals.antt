@@ -1,17 +1,5 @@
 -- The marks of a trail are what a walk may aim at.
-use Rattle.std.proofs.Common.{◌≡◌, ℕ, List, ap, sym, ◌∙◌}
-use Rattle.wsm_lists.proofs.Lists.{all_rows}
-use Rattle.wsm_schema.specs.Flat.{cards_of}
-use Rattle.wsm_schema.specs.Marks.{facts_of}
-use Rattle.wsm_schema.specs.Rank.{IsRank}
-use Rattle.wsm_schema.specs.SchemaModel.{SchemaModel}
-use Rattle.wsm_marks.specs.Schemas.{Regular}
-use Rattle.wsm_marks.specs.Solving.{solution}
-use Rattle.wsm_marks.specs.Timed.{Entries}
-use Rattle.wsm_marks.proofs.Solutions.{eq_at-same, solution-solves}
-use Rattle.wsm_walk.specs.Current.{mark_now}
-use Rattle.wsm_walk.specs.Walk.{Aim, times_by, with_time}
-use Rattle.wsm_walk.proofs.Kept.{timed_of-by}
+use Rattle.wsm_walk.proofs.{Common.{ℕ, ◌∙◌, ◌≡◌, Aim, all_rows, ap, cards_of, Entries, eq_at-same, facts_of, IsRank, List, mark_now, Regular, SchemaModel, solution, solution-solves, sym, times_by, with_time}, Kept.timed_of-by}
 use Rattle.wsm_walk.proofs.Targets.{no-lead}
 
 pub trail-aim : (s : SchemaModel) → Regular s → (rank : List ℕ) → IsRank (cards_of s) rank → (es : Entries) → Aim (cards_of s) rank (mark_now s rank es)

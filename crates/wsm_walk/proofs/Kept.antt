@@ -1,19 +1,7 @@
 -- A table of marks, looked up by node.
-use Rattle.std.proofs.Common.{◌≡◌, ℕ, Bool, true, false, ◌||◌, eqb, List, [], ◌∷◌, refl, ap, sym, ◌∙◌, inl, inr, Option, Some, None}
-use Rattle.std.specs.Prelude.{if◌then◌else◌, is_some}
-use Rattle.std.specs.List.{fold}
-use Rattle.std.proofs.lemmas.Bool.{cases_Bool, both_ways, eqb-true}
-use Rattle.wsm_lists.specs.ByNumber.{item_at}
-use Rattle.wsm_lists.specs.Rows.{put_row}
-use Rattle.wsm_lists.proofs.ByNumber.{item_at-put}
-use Rattle.wsm_schema.specs.Flat.{card_at}
-use Rattle.wsm_schema.specs.Marks.{list_marks, mark_key, says_something}
-use Rattle.wsm_schema.specs.declared.cards.Card.{Card}
-use Rattle.wsm_schema.specs.declared.marks.Mark.{Mark}
+use Rattle.wsm_walk.proofs.Common.{[], ℕ, ◌||◌, ◌∙◌, ◌∷◌, ◌≡◌, ap, Bool, both_ways, Card, card_at, cases_Bool, Entries, eqb, eqb-true, false, fold, if◌then◌else◌, inl, inr, is_some, item_at, item_at-put, List, list_marks, Mark, mark_by}
+use Rattle.wsm_walk.proofs.Common.{mark_key, mark_or, Marking, no_mark, None, Option, put_row, refl, says_something, since, Some, sym, Timed, timed_from, timed_of, true}
 use Rattle.wsm_schema.specs.declared.states.Flow.TheVariants.{Yes, No}
-use Rattle.wsm_marks.specs.MarkBy.{mark_by, since}
-use Rattle.wsm_marks.specs.Timed.{Entries, Marking, Timed}
-use Rattle.wsm_walk.specs.Kept.{mark_or, no_mark, timed_from, timed_of}
 
 -- a mark of a solution tells that solution
 pub timed_from-since : (x : Timed) → timed_from (since Yes x) (since No x) ≡ x

@@ -1,37 +1,12 @@
 -- What kept marks tell of a case: the spot of each node, and the Start of a node that was started.
-use Rattle.std.proofs.Common.{◌≡◌, ℕ, suc, ◌≤◌, Bool, true, [], ◌∷◌, List, refl, ap, sym, ◌∙◌, inl, inr, arith, Option, Some, None}
-use Rattle.std.specs.Prelude.{find, nat_lt}
-use Rattle.std.proofs.lemmas.Bool.{cases_Bool, ltb-true, lt-ltb}
-use Rattle.wsm_lists.specs.ByNumber.{item_at}
-use Rattle.wsm_schema.specs.Flat.{card_at, cards_of, flat_of}
-use Rattle.wsm_schema.specs.Marks.{facts_of, first_at, history_from, is_out, is_start_of, is_up, mark_of, position_of}
-use Rattle.wsm_schema.specs.Replay.{after}
-use Rattle.wsm_schema.specs.Rules.{Spots, settle, spot, spot_in}
-use Rattle.wsm_schema.specs.SchemaModel.{SchemaModel}
-use Rattle.wsm_schema.specs.declared.cards.Card.{Card}
-use Rattle.wsm_schema.specs.declared.entries.Entry.{Entry}
-use Rattle.wsm_schema.specs.declared.marks.Mark.{Mark}
+use Rattle.wsm_walk.proofs.Common.{[], ℕ, ◌∙◌, ◌∷◌, ◌≡◌, ◌≤◌, after, ap, arith, before, before-in_time, Bool, Card, card_at, cards_of, cases_Bool, Current, Entries, Entry, entry_at, facts_of, find, first_at, flat_of, flow, history_from}
+use Rattle.wsm_walk.proofs.Common.{inl, inr, is_out, is_start_of, is_up, item_at, last_position, List, listed, lt-ltb, ltb-true, Mark, mark_by, mark_now, mark_of, mark_or, mark_spot, marks-are, nat_lt, None, Option, position_of, refl}
+use Rattle.wsm_walk.proofs.{Common.{RisesAfter, SchemaModel, settle, since, solution, Some, spot, spot_in, Spots, suc, sym, time, Timed, true, whole-trail, WholeTrail}, FoundAt.found-entry, MarkStates.spot-by_mark, OneMore.kept-item}
+use Rattle.wsm_walk.proofs.{OneMore.{kept-mark, rises-after}, Stands.some-one, Told.untold}
 use Rattle.wsm_schema.specs.declared.states.Flow.TheVariants.{Yes, No}
 use Rattle.wsm_schema.specs.declared.states.State.{State}
 use Rattle.wsm_schema.specs.declared.states.State.TheVariants.{NotActivated}
-use Rattle.wsm_marks.specs.Fits.{RisesAfter, last_position}
-use Rattle.wsm_marks.specs.MarkBy.{mark_by, since}
-use Rattle.wsm_marks.specs.Solving.{solution}
-use Rattle.wsm_marks.specs.Timed.{Entries, Timed, before, flow, time}
-use Rattle.wsm_marks.proofs.LastMarking.{WholeTrail, whole-trail}
-use Rattle.wsm_marks.proofs.MarksOfTrails.{marks-are}
 use Rattle.wsm_marks.proofs.SaneTrails.{position-found}
-use Rattle.wsm_marks.proofs.Signals.{before-in_time}
-use Rattle.wsm_trail.specs.EntryAt.{entry_at}
-use Rattle.wsm_walk.specs.Current.{Current, mark_now}
-use Rattle.wsm_walk.specs.Kept.{mark_or}
-use Rattle.wsm_walk.specs.Listed.{listed}
-use Rattle.wsm_walk.specs.MarkStates.{mark_spot}
-use Rattle.wsm_walk.proofs.FoundAt.{found-entry}
-use Rattle.wsm_walk.proofs.MarkStates.{spot-by_mark}
-use Rattle.wsm_walk.proofs.OneMore.{kept-item, kept-mark, rises-after}
-use Rattle.wsm_walk.proofs.Stands.{some-one}
-use Rattle.wsm_walk.proofs.Told.{untold}
 
 -- the last position is not before any other
 last-above : (last : ℕ) (es : Entries) → RisesAfter last es → last ≤ last_position last es

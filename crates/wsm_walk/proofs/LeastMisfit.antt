@@ -1,16 +1,6 @@
 -- The first misfit along a trail is the least position over the nodes of the region.
-use Rattle.std.proofs.Common.{◌≡◌, ℕ, ◌<◌, ◌≤◌, Bool, true, false, ◌&&◌, ◌||◌, not, List, [], ◌∷◌, map, refl, ap, ◌∙◌, inl, inr, arith, Option, Some, None}
-use Rattle.std.specs.Prelude.{find}
-use Rattle.std.specs.List.{list_any}
-use Rattle.std.proofs.lemmas.Bool.{cases_Bool, ltb-true, lt-ltb, le-ltb}
-use Rattle.wsm_schema.specs.Flat.{FlatModel}
-use Rattle.wsm_schema.specs.Marks.{Facts}
-use Rattle.wsm_schema.specs.declared.entries.Entry.{Entry}
-use Rattle.wsm_lists.specs.declared.values.Value.{Value}
-use Rattle.wsm_marks.specs.Fits.{RisesAfter, fits}
-use Rattle.wsm_marks.specs.Regions.{is_of, misfit_in}
-use Rattle.wsm_marks.specs.Timed.{Entries, Marking}
-use Rattle.wsm_walk.specs.FirstBad.{AtMostOne, bad_at, first_bad, least, lesser}
+use Rattle.wsm_walk.proofs.Common.{[], ℕ, ◌&&◌, ◌<◌, ◌||◌, ◌∙◌, ◌∷◌, ◌≡◌, ◌≤◌, ap, arith, AtMostOne, bad_at, Bool, cases_Bool, Entries, Entry, Facts, false, find, first_bad, fits, FlatModel, inl, inr, is_of, le-ltb, least, lesser, List}
+use Rattle.wsm_walk.proofs.Common.{list_any, lt-ltb, ltb-true, map, Marking, misfit_in, None, not, Option, refl, RisesAfter, Some, true, Value}
 
 -- the first misfit of a region is the first bad entry
 pub misfit-bad : (inside : ℕ → Bool) (g : FlatModel) (f : Facts) (m : Marking) (value : ℕ → ℕ → Option Value) (es : Entries) →

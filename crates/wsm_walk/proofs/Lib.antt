@@ -1,3 +1,4 @@
+pub mod Common
 pub mod Reached
 pub mod Costs
 pub mod Walk

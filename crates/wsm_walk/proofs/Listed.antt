@@ -1,20 +1,6 @@
 -- The table of all marks holds, of each node of the net, its mark where that says something; and what changes make of it.
-use Rattle.std.proofs.Common.{◌≡◌, ℕ, true, false, eqb, List, [], ◌∷◌, refl, ap, sym, ◌∙◌, inl, inr, Option, Some, None}
-use Rattle.std.specs.Prelude.{if◌then◌else◌}
-use Rattle.std.specs.List.{fold}
-use Rattle.std.proofs.lemmas.Bool.{cases_Bool, eqb-true}
-use Rattle.wsm_lists.specs.ByNumber.{changed, item_after, item_at}
-use Rattle.wsm_lists.specs.Keys.{first}
-use Rattle.wsm_lists.specs.Rows.{Ascends, put_row}
-use Rattle.wsm_lists.proofs.ByNumber.{ascends-changed, item_at-changed, item_at-put, items-same}
-use Rattle.wsm_lists.proofs.Rows.{ascends_put}
-use Rattle.wsm_schema.specs.Flat.{card_at}
-use Rattle.wsm_schema.specs.Marks.{list_marks, mark_key, says_something}
-use Rattle.wsm_schema.specs.declared.cards.Card.{Card}
-use Rattle.wsm_schema.specs.declared.marks.Mark.{Mark}
-use Rattle.wsm_walk.specs.Kept.{mark_or}
-use Rattle.wsm_walk.specs.Listed.{listed, said}
-use Rattle.wsm_walk.proofs.Kept.{silent-none}
+use Rattle.wsm_walk.proofs.Common.{[], ℕ, ◌∙◌, ◌∷◌, ◌≡◌, ap, Ascends, ascends-changed, ascends_put, Card, card_at, cases_Bool, changed, eqb, eqb-true, false, first, fold, if◌then◌else◌, inl, inr, item_after, item_at, item_at-changed}
+use Rattle.wsm_walk.proofs.{Common.{item_at-put, items-same, List, list_marks, listed, Mark, mark_key, mark_or, None, Option, put_row, refl, said, says_something, Some, sym, true}, Kept.silent-none}
 
 -- what is said of a mark is that mark
 pub said-mark : (m : Mark) → mark_or (said m) ≡ m

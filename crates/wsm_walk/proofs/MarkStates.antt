@@ -1,19 +1,6 @@
 -- At the end of a trail that replays whole a node's spot is told by its mark.
-use Rattle.std.proofs.Common.{◌≡◌, ℕ, suc, Bool, List, refl, Option, Some, None}
-use Rattle.std.specs.Prelude.{is_some}
-use Rattle.wsm_schema.specs.Flat.{card_at, cards_of}
-use Rattle.wsm_schema.specs.Marks.{facts_of, is_end_of, is_start_of, position_of}
-use Rattle.wsm_schema.specs.Rules.{Spots, spot_in}
-use Rattle.wsm_schema.specs.SchemaModel.{SchemaModel}
-use Rattle.wsm_schema.specs.declared.cards.Card.{Card}
-use Rattle.wsm_schema.specs.declared.entries.Entry.{Entry}
-use Rattle.wsm_marks.specs.Fits.{RisesAfter, last_position}
-use Rattle.wsm_marks.specs.MarkBy.{mark_by}
-use Rattle.wsm_marks.specs.Solving.{solution}
-use Rattle.wsm_marks.specs.Timed.{Entries, before, early, flow}
-use Rattle.wsm_marks.proofs.LastMarking.{WholeTrail, told-early}
-use Rattle.wsm_walk.specs.MarkStates.{mark_spot}
-use Rattle.wsm_walk.proofs.Kept.{timed_of-by}
+use Rattle.wsm_walk.proofs.Common.{ℕ, ◌≡◌, before, Bool, Card, card_at, cards_of, early, Entries, Entry, facts_of, flow, is_end_of, is_some, is_start_of, last_position, List, mark_by, mark_spot, None, Option, position_of, refl, RisesAfter}
+use Rattle.wsm_walk.proofs.{Common.{SchemaModel, solution, Some, spot_in, Spots, suc, told-early, WholeTrail}, Kept.timed_of-by}
 
 -- behind the last position what is told is early
 told : (test : Entry → Bool) (es : Entries) → RisesAfter 0 es → early (suc (last_position 0 es)) (position_of test es) ≡ is_some (position_of test es)

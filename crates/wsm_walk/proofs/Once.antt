@@ -1,14 +1,7 @@
 -- In an orderly trail each node has at most one Start and one End.
-use Rattle.std.proofs.Common.{◌≡◌, ℕ, ◌<◌, Bool, true, List, [], ◌∷◌, refl, ap, sym, ◌∙◌, subst, inl, inr, arith, Option, Some, None}
-use Rattle.std.specs.Prelude.{find}
-use Rattle.std.proofs.lemmas.Bool.{cases_Bool, both_ways, eqb-true, ltb-true}
-use Rattle.wsm_lists.specs.Rows.{AllRows}
-use Rattle.wsm_schema.specs.Marks.{Facts, facts_of, is_end_of, is_start_of}
-use Rattle.wsm_schema.specs.declared.entries.Entry.{Entry}
+use Rattle.wsm_walk.proofs.Common.{[], ℕ, ◌<◌, ◌∙◌, ◌∷◌, ◌≡◌, AllRows, ap, arith, AtMostOne, Bool, both_ways, cases_Bool, Entries, Entry, eqb-true, Facts, facts_of, find, inl, InOrder, inr, is_end_of, is_start_of, List, ltb-true, None}
+use Rattle.wsm_walk.proofs.Common.{Option, Orderly, refl, RisesAfter, Some, subst, sym, true}
 use Rattle.wsm_schema.specs.declared.entries.Entry.TheVariants as entry
-use Rattle.wsm_marks.specs.Fits.{InOrder, Orderly, RisesAfter}
-use Rattle.wsm_marks.specs.Timed.{Entries}
-use Rattle.wsm_walk.specs.FirstBad.{AtMostOne}
 
 -- each entry that passes stands at one position
 abbrev AllAt : (Entry → Bool) → Option ℕ → Entries → Type 0

@@ -1,38 +1,10 @@
 -- The marks of a trail with one entry more.
-use Rattle.std.proofs.Common.{◌≡◌, ℕ, ◌+◌, Bool, true, false, eqb, List, [], ◌∷◌, ◌++◌, refl, ap, sym, ◌∙◌, inl, inr, arith, Option, Some, None}
-use Rattle.std.specs.Prelude.{is_some, option_map}
-use Rattle.std.proofs.lemmas.Bool.{cases_Bool, eqb-true, lt-ltb}
-use Rattle.wsm_lists.specs.ByNumber.{changed, item_after, item_at}
-use Rattle.wsm_lists.specs.Keys.{first}
-use Rattle.wsm_lists.specs.Rows.{AllRows, Ascends}
-use Rattle.wsm_lists.proofs.Lists.{rows-parts}
-use Rattle.wsm_schema.specs.Flat.{card_at, cards_of, flat_of}
-use Rattle.wsm_schema.specs.Marks.{choice_of, facts_of, is_again_of, is_end_of, is_start_of, marks_of, position_of, says_something}
-use Rattle.wsm_schema.specs.Replay.{replay_of, whole}
-use Rattle.wsm_schema.specs.Rules.{Spots}
-use Rattle.wsm_schema.specs.SchemaModel.{SchemaModel}
-use Rattle.wsm_schema.specs.declared.cards.Card.{Card}
-use Rattle.wsm_schema.specs.declared.entries.Entry.{Entry}
+use Rattle.wsm_walk.proofs.Common.{[], ℕ, ◌++◌, ◌+◌, ◌∙◌, ◌∷◌, ◌≡◌, AllRows, ap, arith, Ascends, Bool, Card, card_at, cards_of, cases_Bool, changed, choice_of, Current, Entries, Entry, eqb, eqb-true, facts_of, false, find-last, first}
+use Rattle.wsm_walk.proofs.Common.{flat_of, HasCard, inl, InOrder, inr, is_again_of, is_end_of, is_some, is_start_of, item_after, item_at, List, listed, lt-ltb, Mark, mark_now, mark_or, marks_of, None, on_card-true, Option, option_map}
+use Rattle.wsm_walk.proofs.Common.{position_of, refl, replay_of, Rises, RisesAfter, rows-parts, said, says_something, SchemaModel, since, solution, solution-solves, Some, Spots, starts-change_none, sym, true, Value, whole, whole-marks}
+use Rattle.wsm_walk.proofs.{Common.{whole-trail, WholeTrail}, Listed.{changes-list, listed-item, said-mark}}
 use Rattle.wsm_schema.specs.declared.entries.Entry.TheVariants as entry
-use Rattle.wsm_schema.specs.declared.marks.Mark.{Mark}
-use Rattle.wsm_lists.specs.declared.values.Value.{Value}
-use Rattle.wsm_trail.specs.TrailWithRoom.{Rises}
-use Rattle.wsm_marks.specs.Fits.{InOrder, RisesAfter}
-use Rattle.wsm_marks.specs.Schemas.{HasCard}
-use Rattle.wsm_marks.specs.Solving.{solution}
-use Rattle.wsm_marks.specs.Timed.{Entries}
-use Rattle.wsm_marks.specs.MarkBy.{since}
 use Rattle.wsm_schema.specs.declared.states.Flow.TheVariants.{Yes, No}
-use Rattle.wsm_marks.proofs.Cards.{on_card-true}
-use Rattle.wsm_marks.proofs.LastMarking.{WholeTrail, whole-trail}
-use Rattle.wsm_marks.proofs.MarksOfTrails.{whole-marks}
-use Rattle.wsm_marks.proofs.Remark.{starts-change_none}
-use Rattle.wsm_marks.proofs.Solutions.{solution-solves}
-use Rattle.wsm_marks.proofs.Telling.{find-last}
-use Rattle.wsm_walk.specs.Current.{Current, mark_now}
-use Rattle.wsm_walk.specs.Kept.{mark_or}
-use Rattle.wsm_walk.specs.Listed.{listed, said}
-use Rattle.wsm_walk.proofs.Listed.{changes-list, listed-item, said-mark}
 
 -- positions that rise, with a later one behind them
 pub rises-last : (low p : ℕ) (e : Entry) (es : Entries) → Rises (low + 1) p es → RisesAfter low (es ++ (p, e) ∷ [])

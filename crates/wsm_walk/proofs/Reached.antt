@@ -1,19 +1,7 @@
 -- The nodes that some nodes reach: closed along edges, and no more than what is reached.
-use Rattle.std.proofs.Common.{◌≡◌, ℕ, Bool, true, false, ◌||◌, eqb, List, [], ◌∷◌, ◌++◌, refl, ap, sym, ◌∙◌, subst, inl, inr, ◌⊎◌, Option, Some, None, append_assoc, zero, suc, arith, Contains}
-use Rattle.std.specs.Prelude.{if◌then◌else◌}
-use Rattle.std.specs.List.{list_any}
-use Rattle.std.proofs.lemmas.Bool.{cases_Bool, both_ways, eqb-true, eq-eqb}
-use Rattle.wsm_lists.specs.Rows.{AllRows}
-use Rattle.wsm_lists.proofs.Lists.{both_rows}
-use Rattle.wsm_schema.specs.Flat.{card_at}
-use Rattle.wsm_schema.specs.Rank.{IsRank}
+use Rattle.wsm_walk.proofs.Common.{[], ℕ, ◌++◌, ◌||◌, ◌∙◌, ◌∷◌, ◌≡◌, ◌⊎◌, AllRows, ap, append_assoc, arith, Bool, both_rows, both_ways, Card, card_at, cases_Bool, Contains, eq-eqb, eqb, eqb-true, false, if◌then◌else◌, in_rank, inl, inr}
+use Rattle.wsm_walk.proofs.Common.{is_entered, is_one_of, IsRank, List, list_any, member-splits, None, one_of-front, Option, reached_from, refl, Some, subst, suc, sym, true, zero}
 use Rattle.wsm_schema.specs.Touched.{Reaches, here, by_control, by_sync}
-use Rattle.wsm_schema.specs.Trail.{is_one_of}
-use Rattle.wsm_schema.specs.declared.cards.Card.{Card}
-use Rattle.wsm_schema.proofs.Rounds.{member-splits}
-use Rattle.wsm_marks.proofs.Lists.{one_of-front}
-use Rattle.wsm_marks.proofs.RankInduction.{in_rank}
-use Rattle.wsm_walk.specs.Reached.{is_entered, reached_from}
 
 -- what is inside stays inside
 pub reached-keeps : (cards : List Card) (ns inside : List ℕ) (n : ℕ) → is_one_of n inside ≡ true → is_one_of n (reached_from cards ns inside) ≡ true

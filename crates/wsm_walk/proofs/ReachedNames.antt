@@ -1,26 +1,7 @@
 -- What is reached: whatever the cards of reached nodes name, and each node of a loop from its start.
-use Rattle.std.proofs.Common.{◌≡◌, ℕ, Bool, true, false, eqb, List, [], ◌∷◌, refl, sym, subst, inl, inr, Some}
-use Rattle.std.specs.Prelude.{◌==◌}
-use Rattle.std.specs.List.{list_any}
-use Rattle.std.proofs.lemmas.Bool.{cases_Bool, both_ways, eqb-true, eq-eqb}
-use Rattle.wsm_lists.specs.Rows.{AllRows}
-use Rattle.wsm_schema.specs.Flat.{card_at, cards_of, loop_nodes}
-use Rattle.wsm_schema.specs.Kinds.{is_loop_end}
-use Rattle.wsm_schema.specs.Rank.{IsRank}
-use Rattle.wsm_schema.specs.SchemaModel.{SchemaModel}
-use Rattle.wsm_schema.specs.Trail.{is_one_of}
-use Rattle.wsm_schema.specs.declared.cards.Card.{Card}
-use Rattle.wsm_schema.specs.declared.cards.End.{End}
-use Rattle.wsm_marks.specs.Loops.{LoopOf}
-use Rattle.wsm_marks.specs.Schemas.{HasCard, Regular}
-use Rattle.wsm_marks.proofs.RankInduction.{Known, rank_induction}
-use Rattle.wsm_marks.proofs.Repeats.{loop-of_schema}
-use Rattle.wsm_marks.proofs.Sources.{sources-have_cards}
-use Rattle.wsm_walk.specs.Reached.{reached_from}
-use Rattle.wsm_walk.specs.Spent.{NamesInside}
-use Rattle.wsm_walk.proofs.Reached.{any-member, or-true, reached-closed, reached-keeps, rows-member}
-use Rattle.wsm_walk.proofs.Regions.{first-row}
-use Rattle.wsm_walk.proofs.Targets.{lead-enters}
+use Rattle.wsm_walk.proofs.Common.{[], ℕ, ◌==◌, ◌∷◌, ◌≡◌, AllRows, Bool, both_ways, Card, card_at, cards_of, cases_Bool, End, eq-eqb, eqb, eqb-true, false, HasCard, inl, inr, is_loop_end, is_one_of, IsRank, Known, List, list_any}
+use Rattle.wsm_walk.proofs.{Common.{loop-of_schema, loop_nodes, LoopOf, NamesInside, rank_induction, reached_from, refl, Regular, SchemaModel, Some, sources-have_cards, subst, sym, true}, Reached.{any-member, or-true, reached-closed}}
+use Rattle.wsm_walk.proofs.{Reached.{reached-keeps, rows-member}, Regions.first-row, Targets.lead-enters}
 
 module _ (s : SchemaModel) (regular : Regular s) (rank : List ℕ) (is : IsRank (cards_of s) rank) where
   module _ (seeds : List ℕ) where

@@ -1,21 +1,8 @@
 -- The first misfit of a region: the least over its nodes, each by its Start, its End and its Again alone.
-use Rattle.std.proofs.Common.{◌≡◌, ℕ, Bool, true, false, ◌&&◌, ◌||◌, not, eqb, List, [], ◌∷◌, map, refl, ap, sym, ◌∙◌, inl, inr, Option, Some}
-use Rattle.std.specs.Prelude.{find, if◌then◌else◌}
-use Rattle.std.specs.List.{list_any}
-use Rattle.std.proofs.lemmas.Bool.{cases_Bool, both_ways, eqb-true, eq-eqb}
-use Rattle.wsm_lists.specs.declared.values.Value.{Value}
-use Rattle.wsm_schema.specs.Flat.{FlatModel}
-use Rattle.wsm_schema.specs.Marks.{Facts, is_again_of, is_end_of, is_start_of}
-use Rattle.wsm_schema.specs.Trail.{is_one_of}
-use Rattle.wsm_schema.specs.declared.entries.Entry.{Entry}
+use Rattle.wsm_walk.proofs.Common.{[], ℕ, ◌&&◌, ◌||◌, ◌∙◌, ◌∷◌, ◌≡◌, ap, bad_at, Bool, both_ways, cases_Bool, Entries, Entry, eq-eqb, eqb, eqb-true, Facts, false, find, first_bad, fits, FlatModel, if◌then◌else◌, inl, inr, is_again_of}
+use Rattle.wsm_walk.proofs.{Common.{is_end_of, is_of, is_one_of, is_start_of, least, lesser, List, list_any, map, Marking, misfit_in, not, Option, Orderly, refl, Some, sym, true, Value}, LeastMisfit.{Steady, bad-any, bad-first, bad-found}}
+use Rattle.wsm_walk.proofs.{LeastMisfit.{bad-or, misfit-bad}, Once.{ends-once, starts-once}, SteadyAgains.steady-agains}
 use Rattle.wsm_schema.specs.declared.entries.Entry.TheVariants as entry
-use Rattle.wsm_marks.specs.Fits.{Orderly, fits}
-use Rattle.wsm_marks.specs.Regions.{is_of, misfit_in}
-use Rattle.wsm_marks.specs.Timed.{Entries, Marking}
-use Rattle.wsm_walk.specs.FirstBad.{bad_at, first_bad, least, lesser}
-use Rattle.wsm_walk.proofs.LeastMisfit.{Steady, bad-any, bad-first, bad-found, bad-or, misfit-bad}
-use Rattle.wsm_walk.proofs.Once.{ends-once, starts-once}
-use Rattle.wsm_walk.proofs.SteadyAgains.{steady-agains}
 
 -- tests that agree find one entry
 bad-same : (s t : ℕ × Entry → Bool) → ((e : ℕ × Entry) → s e ≡ t e) → (es : Entries) → first_bad s es ≡ first_bad t es

@@ -1,28 +1,9 @@
 -- The nodes that touched nodes reach are a region of local re-marking.
-use Rattle.std.proofs.Common.{◌≡◌, ℕ, Bool, true, false, ◌&&◌, eqb, List, [], ◌∷◌, refl, ap, ◌∙◌, subst, inl, inr, Some}
-use Rattle.std.proofs.lemmas.Bool.{cases_Bool, both_ways, eqb-true}
-use Rattle.wsm_lists.specs.Rows.{AllRows}
-use Rattle.wsm_lists.specs.Values.{Written}
-use Rattle.wsm_lists.specs.declared.values.ElementKind.{ElementKind}
-use Rattle.wsm_schema.specs.Flat.{card_at, cards_of, flat_of, kind_in, loop_nodes}
-use Rattle.wsm_schema.specs.Kinds.{is_loop_end}
-use Rattle.wsm_schema.specs.Rank.{IsRank}
-use Rattle.wsm_schema.specs.Replay.{fits_edges, is_of_kind}
-use Rattle.wsm_schema.specs.SchemaModel.{SchemaModel}
-use Rattle.wsm_schema.specs.Trail.{is_one_of}
-use Rattle.wsm_schema.specs.declared.cards.Card.{Card}
-use Rattle.wsm_schema.specs.declared.cards.End.{End}
+use Rattle.wsm_walk.proofs.Common.{[], ℕ, ◌&&◌, ◌∙◌, ◌∷◌, ◌≡◌, AllRows, ap, Bool, both_ways, Card, card_at, cards_of, cases_Bool, ElementKind, End, eqb, eqb-true, false, fits_edges, flat_of, HasCard, inl, Inner, inr, is_loop_end}
+use Rattle.wsm_walk.proofs.Common.{is_of_kind, is_one_of, IsRank, kind_in, Known, List, loop-of_schema, loop_nodes, LoopOf, rank_induction, reached_from, refl, Region, Regular, SchemaModel, Some, sources-have_cards, subst, true, Untouched}
+use Rattle.wsm_walk.proofs.{Common.Written, Reached.{reached-closed, reached-keeps}}
 use Rattle.wsm_schema.specs.declared.cards.NodeKind.{NodeKind}
 use Rattle.wsm_schema.specs.declared.cards.NodeKind.TheVariants.{Start}
-use Rattle.wsm_marks.specs.Loops.{Inner, LoopOf}
-use Rattle.wsm_marks.specs.Regions.{Region}
-use Rattle.wsm_marks.specs.Schemas.{HasCard, Regular}
-use Rattle.wsm_marks.proofs.RankInduction.{Known, rank_induction}
-use Rattle.wsm_marks.proofs.Repeats.{loop-of_schema}
-use Rattle.wsm_marks.proofs.Sources.{sources-have_cards}
-use Rattle.wsm_walk.specs.Reached.{reached_from}
-use Rattle.wsm_walk.specs.Untouched.{Untouched}
-use Rattle.wsm_walk.proofs.Reached.{reached-closed, reached-keeps}
 
 -- writes to elements of the same kinds fit alike
 pub kinds-fit : (elements1 elements2 : List (ℕ × ElementKind)) (ws : Written) (ds : List ℕ) → AllRows (λ d. kind_in d elements1 ≡ kind_in d elements2) ds → fits_edges elements1 ws ds ≡ fits_edges elements2 ws ds

@@ -1,26 +1,8 @@
 -- A walk over kept marks: it goes on, visits a node, and ends with the new marks.
-use Rattle.std.proofs.Common.{◌≡◌, ℕ, ◌+◌, ◌<◌, ◌≤◌, true, false, eqb, List, [], ◌∷◌, ◌++◌, length, refl, ap, sym, ◌∙◌, subst, inl, inr, arith, Option, Some, None, append_assoc, append-nil, length-append}
-use Rattle.std.specs.Prelude.{get_or}
-use Rattle.std.proofs.lemmas.Bool.{cases_Bool, both_ways, eqb-true, eq-eqb}
-use Rattle.wsm_lists.specs.ByNumber.{item_after, item_at}
-use Rattle.wsm_lists.specs.Keys.{first}
-use Rattle.wsm_lists.specs.Rows.{Ascends, put_row}
-use Rattle.wsm_lists.proofs.Lists.{all_rows}
-use Rattle.wsm_lists.proofs.ByNumber.{item_at-put}
-use Rattle.wsm_lists.proofs.Rows.{ascends_put}
-use Rattle.wsm_schema.specs.Flat.{card_at}
-use Rattle.wsm_schema.specs.Trail.{is_one_of}
-use Rattle.wsm_schema.specs.declared.cards.Card.{Card}
-use Rattle.wsm_schema.specs.declared.marks.Mark.{Mark}
-use Rattle.wsm_marks.proofs.RankInduction.{in_rank}
-use Rattle.wsm_walk.specs.Kept.{mark_or, timed_of}
-use Rattle.wsm_walk.specs.Listed.{listed, said, seen}
-use Rattle.wsm_walk.specs.RankPlaces.{AllBehind, Handed, is_pending, rank_place}
-use Rattle.wsm_walk.specs.Targets.{leads_to}
-use Rattle.wsm_walk.specs.Walk.{Aim, SaysOf, Stands, Walked, time_by, with_time}
-use Rattle.wsm_walk.proofs.Listed.{said-mark}
-use Rattle.wsm_walk.proofs.Walk.{same-mark, walk-ends, walk-on, walk-over, walk-visit}
-use Rattle.wsm_walk.proofs.WalkSteps.{fewer-places, idle-between, passed-to, place-from}
+use Rattle.wsm_walk.proofs.Common.{[], ℕ, ◌++◌, ◌+◌, ◌<◌, ◌∙◌, ◌∷◌, ◌≡◌, ◌≤◌, Aim, all_rows, AllBehind, ap, append-nil, append_assoc, arith, Ascends, ascends_put, both_ways, Card, card_at, cases_Bool, eq-eqb, eqb, eqb-true, false, first}
+use Rattle.wsm_walk.proofs.Common.{get_or, Handed, in_rank, inl, inr, is_one_of, is_pending, item_after, item_at, item_at-put, leads_to, length, length-append, List, listed, Mark, mark_or, None, Option, put_row, rank_place, refl, said}
+use Rattle.wsm_walk.proofs.{Common.{SaysOf, seen, Some, Stands, subst, sym, time_by, timed_of, true, Walked, with_time}, Listed.said-mark, Walk.{same-mark, walk-ends, walk-on, walk-over, walk-visit}, WalkSteps.{fewer-places, idle-between}}
+use Rattle.wsm_walk.proofs.WalkSteps.{passed-to, place-from}
 
 -- what is there is one
 pub some-one : {X : Type 0} (a b : X) → Some a ≡ Some b → a ≡ b

@@ -1,19 +1,7 @@
 -- A repeat that fits at one position fits at each later one.
-use Rattle.std.proofs.Common.{◌≡◌, ℕ, ◌<◌, Bool, true, false, ◌&&◌, not, refl, ap, sym, ◌∙◌, subst, inl, inr, arith, Option, Some, None}
-use Rattle.std.specs.Prelude.{if◌then◌else◌, nat_lt}
-use Rattle.std.proofs.lemmas.Bool.{and_parts, both_ways, cases_Bool, eqb-true, lt-ltb, ltb-true}
-use Rattle.wsm_lists.specs.declared.values.Value.{Value}
-use Rattle.wsm_schema.specs.Flat.{FlatModel, card_at}
-use Rattle.wsm_schema.specs.Kinds.{is_loop_end, worked_on}
-use Rattle.wsm_schema.specs.Marks.{Facts, is_again_of}
-use Rattle.wsm_schema.specs.Replay.{on_card}
-use Rattle.wsm_schema.specs.Rules.{is_yes}
-use Rattle.wsm_schema.specs.declared.cards.Card.{Card}
-use Rattle.wsm_schema.specs.declared.entries.Entry.{Entry}
+use Rattle.wsm_walk.proofs.Common.{ℕ, ◌&&◌, ◌<◌, ◌∙◌, ◌≡◌, and_parts, ap, arith, before, Bool, both_ways, Card, card_at, cases_Bool, early, Entry, eqb-true, Facts, false, fits, FlatModel, flow, if◌then◌else◌, inl, inr, is_again_of}
+use Rattle.wsm_walk.proofs.{Common.{is_loop_end, is_yes, lt-ltb, ltb-true, Marking, nat_lt, None, not, on_card, Option, partner_done, refl, Some, subst, sym, time, Timed, true, Value, worked_on}, LeastMisfit.Steady}
 use Rattle.wsm_schema.specs.declared.entries.Entry.TheVariants as entry
-use Rattle.wsm_marks.specs.Fits.{fits, partner_done}
-use Rattle.wsm_marks.specs.Timed.{Marking, Timed, before, early, flow, time}
-use Rattle.wsm_walk.proofs.LeastMisfit.{Steady}
 
 true-not : (b : Bool) → not b ≡ false → b ≡ true
 true-not true h = refl

@@ -1,24 +1,9 @@
 -- Each edge into a node stands in its source's card.
-use Rattle.std.proofs.Common.{◌≡◌, ℕ, Bool, true, false, ◌||◌, eqb, List, [], ◌∷◌, map, refl, ap, sym, ◌∙◌, subst, inl, inr, Some}
-use Rattle.std.specs.Prelude.{filter, ◌==◌}
-use Rattle.std.specs.List.{list_any}
-use Rattle.std.proofs.lemmas.Bool.{cases_Bool, both_ways, eqb-true, eq-eqb}
-use Rattle.wsm_lists.specs.Rows.{AllRows}
-use Rattle.wsm_lists.proofs.Lists.{all-rows-map, all_rows, rows-append, rows-map, rows-parts}
-use Rattle.wsm_schema.specs.Ends.{first_node, first_of, last_of}
-use Rattle.wsm_schema.specs.Flat.{card_at, card_of, cards_of}
-use Rattle.wsm_schema.specs.Places.{branch_heads, branch_tails, labelled, lanes_places, leaving, part_places, parts_places, places, plain_end}
-use Rattle.wsm_schema.specs.SchemaModel.{SchemaModel}
-use Rattle.wsm_schema.specs.Tree.{Lanes, Part, Parts, act, gate, lane, loop, no_lane, nothing, part}
-use Rattle.wsm_schema.specs.declared.cards.Card.{Card}
-use Rattle.wsm_schema.specs.declared.cards.End.{End}
-use Rattle.wsm_schema.specs.declared.places.Place.{Place}
-use Rattle.wsm_schema.proofs.Rounds.{all-rows-card_at, card_at-node}
-use Rattle.wsm_marks.specs.Schemas.{Regular}
-use Rattle.wsm_marks.proofs.Cards.{placed-rows, same_card}
-use Rattle.wsm_walk.specs.Targets.{Leads, leads_to}
-use Rattle.wsm_walk.specs.Walk.{NoEdgeFrom}
-use Rattle.wsm_walk.proofs.Reached.{any-member, or-true, rows-member}
+use Rattle.wsm_walk.proofs.Common.{[], ℕ, ◌==◌, ◌||◌, ◌∙◌, ◌∷◌, ◌≡◌, all-rows-card_at, all-rows-map, all_rows, AllRows, ap, Bool, both_ways, Card, card_at, card_at-node, card_of, cards_of, cases_Bool, End, eq-eqb, eqb, eqb-true, false}
+use Rattle.wsm_walk.proofs.{Common.{filter, inl, inr, Leads, leads_to, List, list_any, map, NoEdgeFrom, placed-rows, refl, Regular, rows-append, rows-map, rows-parts, same_card, SchemaModel, Some, subst, sym, true}, Reached.any-member}
+use Rattle.wsm_walk.proofs.Reached.{or-true, rows-member}
+use Rattle.wsm_schema.specs.{Ends.{first_node, first_of, last_of}, Places.{branch_heads, branch_tails, labelled, lanes_places, leaving, part_places, parts_places, places, plain_end}, Tree.{Lanes, Part, Parts, act, gate, lane, loop}}
+use Rattle.wsm_schema.specs.{Tree.{no_lane, nothing, part}, declared.places.Place.Place}
 
 module _ (R : ℕ → ℕ → Type 0) where
   -- the edges out of a place, and those into it, are of the relation

@@ -1,42 +1,11 @@
 -- What entries tell, one after another, is what the trail tells; and a walk over all nodes from there on ends with its marks.
-use Rattle.std.proofs.Common.{◌≡◌, ℕ, Bool, true, false, ◌||◌, eqb, List, [], ◌∷◌, refl, ap, sym, ◌∙◌, subst, inl, inr, arith, Option, Some, None}
-use Rattle.std.specs.Prelude.{find, is_some, if◌then◌else◌}
+use Rattle.wsm_walk.proofs.Common.{[], ℕ, ◌||◌, ◌∙◌, ◌∷◌, ◌≡◌, AllRows, ap, arith, Ascends, ascends_put, Bool, both_ways, Card, card_at, cards_of, cases_Bool, changed, choice_of, Entries, Entry, eqb, eqb-true, Facts, facts_of, false, find}
+use Rattle.wsm_walk.proofs.Common.{first, fits, flat_of, FlatModel, HasCard, if◌then◌else◌, in_rank, inl, inr, is_again_of, is_end_of, is_one_of, is_some, is_start_of, IsRank, item_after, item_at, item_at-put, List, list_marks, listed}
+use Rattle.wsm_walk.proofs.Common.{Mark, mark_now, mark_or, Marking, marks_of, no_mark, None, on_card-true, Option, or_left, or_right, position_of, rank_place, refl, Regular, replay_of, RisesAfter, says_something, SaysOf, SchemaModel, seen}
+use Rattle.wsm_walk.proofs.{Common.{solution, Some, Spots, Stands, subst, sym, true, Value, value_below, whole, whole-marks, whole-trail, WholeTrail}, Goals.trail-aim, Listed.changes-list, Stands.{some-one, stands-say}}
 use Rattle.std.specs.Option.{option_or}
-use Rattle.std.proofs.lemmas.Bool.{cases_Bool, both_ways, eqb-true, or_left, or_right}
-use Rattle.wsm_lists.specs.ByNumber.{changed, item_after, item_at}
-use Rattle.wsm_lists.specs.Keys.{first}
-use Rattle.wsm_lists.specs.Rows.{AllRows, Ascends}
-use Rattle.wsm_lists.specs.declared.values.Value.{Value}
-use Rattle.wsm_lists.proofs.ByNumber.{item_at-put}
-use Rattle.wsm_lists.proofs.Rows.{ascends_put}
-use Rattle.wsm_schema.specs.Flat.{FlatModel, card_at, cards_of, flat_of}
-use Rattle.wsm_schema.specs.Marks.{Facts, choice_of, facts_of, is_again_of, is_end_of, is_start_of, list_marks, marks_of, position_of, says_something}
-use Rattle.wsm_schema.specs.Rank.{IsRank}
-use Rattle.wsm_schema.specs.Replay.{replay_of, whole}
-use Rattle.wsm_schema.specs.Rules.{Spots}
-use Rattle.wsm_schema.specs.SchemaModel.{SchemaModel}
-use Rattle.wsm_schema.specs.Trail.{is_one_of, value_below}
-use Rattle.wsm_schema.specs.declared.cards.Card.{Card}
-use Rattle.wsm_schema.specs.declared.entries.Entry.{Entry}
 use Rattle.wsm_schema.specs.declared.entries.Entry.TheVariants as entry
-use Rattle.wsm_schema.specs.declared.marks.Mark.{Mark}
-use Rattle.wsm_marks.specs.Fits.{RisesAfter, fits}
-use Rattle.wsm_marks.specs.Schemas.{HasCard, Regular}
-use Rattle.wsm_marks.specs.Solving.{solution}
-use Rattle.wsm_marks.specs.Timed.{Entries, Marking}
-use Rattle.wsm_marks.proofs.Cards.{on_card-true}
-use Rattle.wsm_marks.proofs.LastMarking.{WholeTrail, whole-trail}
-use Rattle.wsm_marks.proofs.MarksOfTrails.{whole-marks}
-use Rattle.wsm_marks.proofs.RankInduction.{in_rank}
-use Rattle.wsm_walk.specs.Current.{mark_now}
-use Rattle.wsm_walk.specs.Kept.{mark_or, no_mark}
-use Rattle.wsm_walk.specs.Listed.{listed, seen}
-use Rattle.wsm_walk.specs.RankPlaces.{rank_place}
 use Rattle.wsm_walk.specs.Told.{node_of, tell, tell_row, told, told_rows}
-use Rattle.wsm_walk.specs.Walk.{SaysOf, Stands}
-use Rattle.wsm_walk.proofs.Goals.{trail-aim}
-use Rattle.wsm_walk.proofs.Listed.{changes-list}
-use Rattle.wsm_walk.proofs.Stands.{some-one, stands-say}
 
 -- ---- what a mark has is not told anew
 abbrev chosen : Option ℕ → Option ℕ → Option (ℕ × Entry) → Option ℕ

@@ -1,13 +1,7 @@
 -- What fits a node's old card fits its new one, told by both cards and the recorded reads alone.
-use Rattle.std.proofs.Common.{◌≡◌, ℕ, Bool, true, false, ◌&&◌, ◌||◌, not, eqb, List, [], ◌∷◌, refl, ap, sym, ◌∙◌, subst, inl, inr, Option, Some, None}
-use Rattle.std.specs.Prelude.{is_some}
-use Rattle.std.proofs.lemmas.Bool.{cases_Bool, both_ways, eqb-true}
-use Rattle.wsm_schema.specs.Flat.{kind_in}
-use Rattle.wsm_schema.specs.Replay.{fits_edges, fits_reads, is_of_kind}
-use Rattle.wsm_lists.specs.Values.{Written, same_option_value}
-use Rattle.wsm_lists.specs.declared.values.ElementKind.{ElementKind}
+use Rattle.wsm_walk.proofs.Common.{[], ℕ, ◌&&◌, ◌||◌, ◌∙◌, ◌∷◌, ◌≡◌, ap, Bool, both_ways, cases_Bool, ElementKind, eqb, eqb-true, false, fits_edges, fits_reads, inl, inr, is_of_kind, is_some, kind_in, List, None, not, Option, refl}
+use Rattle.wsm_walk.proofs.Common.{same_option_value, Some, subst, sym, true, Value, Written}
 use Rattle.wsm_lists.specs.declared.values.ElementKind.TheVariants as kind
-use Rattle.wsm_lists.specs.declared.values.Value.{Value}
 use Rattle.wsm_lists.specs.declared.values.Value.TheVariants as value
 use Rattle.wsm_walk.specs.Touches.{edges_fit, reads_fit, same_kind}
 

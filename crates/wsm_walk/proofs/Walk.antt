@@ -1,18 +1,6 @@
 -- A walk in rank order that stops where nothing changes ends with the marks that meet all equations.
-use Rattle.std.proofs.Common.{◌≡◌, ℕ, Bool, true, false, eqb, List, [], ◌∷◌, ◌++◌, refl, ap, sym, ◌∙◌, subst, inl, inr, Option, Some, None, append_assoc, append-nil}
-use Rattle.std.proofs.lemmas.Bool.{cases_Bool, both_ways, eqb-true, eq-eqb}
-use Rattle.wsm_lists.specs.Rows.{AllRows}
-use Rattle.wsm_lists.proofs.Lists.{all-rows-map}
-use Rattle.wsm_schema.specs.Flat.{card_at}
-use Rattle.wsm_schema.specs.Trail.{is_one_of}
-use Rattle.wsm_schema.specs.declared.cards.Card.{Card}
-use Rattle.wsm_schema.specs.declared.marks.Mark.{Mark}
-use Rattle.wsm_marks.specs.Timed.{sig_at, sig_by}
-use Rattle.wsm_marks.proofs.Lists.{one_of-front, one_of-last, one_of-middle}
-use Rattle.wsm_marks.proofs.RankInduction.{Known, in_rank}
-use Rattle.wsm_marks.proofs.Solutions.{eq_of-same}
-use Rattle.wsm_walk.specs.Kept.{timed_of}
-use Rattle.wsm_walk.specs.Walk.{Aim, NoEdgeFrom, Walked, facts_by, time_by, times_by, untimed, with_time}
+use Rattle.wsm_walk.proofs.Common.{[], ℕ, ◌++◌, ◌∙◌, ◌∷◌, ◌≡◌, Aim, all-rows-map, AllRows, ap, append-nil, append_assoc, Bool, both_ways, Card, card_at, cases_Bool, eq-eqb, eq_of-same, eqb, eqb-true, facts_by, false, in_rank, inl, inr}
+use Rattle.wsm_walk.proofs.Common.{is_one_of, Known, List, Mark, NoEdgeFrom, None, one_of-front, one_of-last, one_of-middle, Option, refl, sig_at, sig_by, Some, subst, sym, time_by, timed_of, times_by, true, untimed, Walked, with_time}
 
 -- what an edge signals goes by its source's mark
 pub signal-same : (cards : List Card) (a b : ℕ → Mark) (label : Option ℕ) (n : ℕ) → ((c : Card) → card_at n cards ≡ Some c → a n ≡ b n) →

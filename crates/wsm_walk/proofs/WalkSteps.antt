@@ -1,18 +1,7 @@
 -- The steps of a walk that takes the least pending place at a time.
-use Rattle.std.proofs.Common.{◌≡◌, ℕ, zero, suc, ◌+◌, ◌-◌, ◌<◌, ◌≤◌, true, false, eqb, List, [], ◌∷◌, ◌++◌, length, refl, ap, sym, ◌∙◌, subst, inl, inr, arith, Some, append_assoc, length-append}
-use Rattle.std.specs.Prelude.{get_or}
-use Rattle.std.proofs.lemmas.Bool.{cases_Bool, both_ways, eqb-true, eq-eqb}
+use Rattle.wsm_walk.proofs.Common.{[], ℕ, ◌++◌, ◌+◌, ◌-◌, ◌<◌, ◌∙◌, ◌∷◌, ◌≡◌, ◌≤◌, all-rows-map, AllBehind, AllRows, ap, append_assoc, arith, both_ways, Card, card_at, cases_Bool, eq-eqb, eqb, eqb-true, false, get_or, in_rank, inl, inr}
+use Rattle.wsm_walk.proofs.Common.{is_one_of, is_pending, IsRank, length, length-append, List, member-splits, NoEdgeFrom, rank_place, refl, Some, subst, suc, sym, true, zero}
 use Rattle.std.proofs.lemmas.List.{get_or_at}
-use Rattle.wsm_lists.specs.Rows.{AllRows}
-use Rattle.wsm_lists.proofs.Lists.{all-rows-map}
-use Rattle.wsm_schema.specs.Flat.{card_at}
-use Rattle.wsm_schema.specs.Rank.{IsRank}
-use Rattle.wsm_schema.specs.Trail.{is_one_of}
-use Rattle.wsm_schema.specs.declared.cards.Card.{Card}
-use Rattle.wsm_schema.proofs.Rounds.{member-splits}
-use Rattle.wsm_marks.proofs.RankInduction.{in_rank}
-use Rattle.wsm_walk.specs.RankPlaces.{AllBehind, is_pending, rank_place}
-use Rattle.wsm_walk.specs.Walk.{NoEdgeFrom}
 
 -- a node that does not stand in front stands behind all of that
 pub place-behind : (front rest : List ℕ) (n : ℕ) → is_one_of n front ≡ false → rank_place n (front ++ (n ∷ rest)) ≡ length front

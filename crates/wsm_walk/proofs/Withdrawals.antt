@@ -1,27 +1,9 @@
 -- The marks of a trail from which the Start of a running node was taken.
-use Rattle.std.proofs.Common.{◌≡◌, ℕ, Bool, true, false, eqb, List, [], ◌∷◌, refl, ap, sym, ◌∙◌, inl, inr, Option, Some, None}
-use Rattle.std.specs.Prelude.{is_some}
-use Rattle.std.proofs.lemmas.Bool.{cases_Bool, eqb-true}
-use Rattle.wsm_lists.specs.ByNumber.{changed, item_at}
-use Rattle.wsm_schema.specs.Flat.{card_at, cards_of, flat_of}
-use Rattle.wsm_schema.specs.Marks.{facts_of, marks_of, says_something}
-use Rattle.wsm_schema.specs.Replay.{is_in_state, replay_of, whole}
-use Rattle.wsm_schema.specs.Rules.{Spots, spot_in}
-use Rattle.wsm_schema.specs.SchemaModel.{SchemaModel}
-use Rattle.wsm_schema.specs.declared.cards.Card.{Card}
-use Rattle.wsm_schema.specs.declared.marks.Mark.{Mark}
+use Rattle.wsm_walk.proofs.Common.{[], ℕ, ◌∙◌, ◌∷◌, ◌≡◌, ap, Bool, Card, card_at, cards_of, cases_Bool, changed, Current, Entries, eqb, eqb-true, facts_of, false, flat_of, inl, inr, is_in_state, is_ready_mark, is_some, item_at, List}
+use Rattle.wsm_walk.proofs.Common.{listed, Mark, mark_now, mark_or, marks_of, None, Option, refl, replay_of, running-held, said, says_something, SchemaModel, since, Some, spot_in, Spots, sym, Timed, true, whole, whole-trail, WholeTrail}
+use Rattle.wsm_walk.proofs.{Common.without_start, WithdrawnTrails.{again-same, choice-same, ended-same, rises-without, solution-without, started-none, started-same, withdrawn-whole}, OneMore.{changes-right, kept-mark, rises-after}}
 use Rattle.wsm_schema.specs.declared.states.Flow.TheVariants.{Yes, No}
 use Rattle.wsm_schema.specs.declared.states.State.TheVariants.{Running}
-use Rattle.wsm_marks.specs.MarkBy.{since}
-use Rattle.wsm_marks.specs.Timed.{Entries, Timed}
-use Rattle.wsm_marks.proofs.LastMarking.{WholeTrail, running-held, whole-trail}
-use Rattle.wsm_marks.proofs.Signals.{is_ready_mark}
-use Rattle.wsm_trail.specs.Withdrawn.{without_start}
-use Rattle.wsm_walk.proofs.WithdrawnTrails.{again-same, choice-same, ended-same, rises-without, solution-without, started-none, started-same, withdrawn-whole}
-use Rattle.wsm_walk.specs.Current.{Current, mark_now}
-use Rattle.wsm_walk.specs.Kept.{mark_or}
-use Rattle.wsm_walk.specs.Listed.{listed, said}
-use Rattle.wsm_walk.proofs.OneMore.{changes-right, kept-mark, rises-after}
 
 -- a mark that was ready says something without its start
 says-ready : (m : Mark) → is_some m.ready_at ≡ true → says_something (record m { started = None }) ≡ true

@@ -1,31 +1,10 @@
 -- Where a node is running, the trail without its Start replays whole, and its marks are the same but for that Start.
-use Rattle.std.proofs.Common.{◌≡◌, ℕ, suc, ◌<◌, Bool, true, false, not, eqb, List, [], ◌∷◌, refl, ap, sym, ◌∙◌, subst, inl, inr, arith, Option, Some, None}
-use Rattle.std.specs.Prelude.{nat_lt, find, option_map, if◌then◌else◌}
-use Rattle.std.proofs.lemmas.Bool.{cases_Bool, both_ways, ltb-true, lt-ltb, eqb-true, eq-eqb}
-use Rattle.wsm_lists.specs.Rows.{AllRows}
-use Rattle.wsm_lists.specs.Values.{value_in}
-use Rattle.wsm_lists.specs.declared.values.Value.{Value}
-use Rattle.wsm_schema.specs.Flat.{FlatModel, card_at}
-use Rattle.wsm_schema.specs.Kinds.{is_loop_end}
-use Rattle.wsm_schema.specs.Rank.{IsRank}
-use Rattle.wsm_schema.specs.Rules.{Spots}
-use Rattle.wsm_schema.specs.Replay.{replay_of, whole}
-use Rattle.wsm_schema.specs.Trail.{value_below, later_or, written_by}
-use Rattle.wsm_schema.specs.Marks.{is_start_of, is_end_of, is_again_of, choice_of, position_of, Facts, facts_of}
-use Rattle.wsm_schema.specs.declared.cards.Card.{Card}
-use Rattle.wsm_schema.specs.declared.entries.Entry.{Entry}
+use Rattle.wsm_walk.proofs.Common.{[], ℕ, ◌<◌, ◌∙◌, ◌∷◌, ◌≡◌, AllRows, ap, arith, before, Bool, both_ways, Card, card_at, cases_Bool, choice_of, early, Ends, Entries, Entry, eq-eqb, eqb, eqb-true, Facts, facts_of, false, find, first_misfit}
+use Rattle.wsm_walk.proofs.Common.{fits, FlatModel, if◌then◌else◌, inl, InOrder, inr, is_again_of, is_end_of, is_loop_end, is_start_of, IsRank, last_position, later_or, List, lt-ltb, ltb-true, Marking, nat_lt, None, not, on_card-same}
+use Rattle.wsm_walk.proofs.Common.{Option, option_map, Orderly, partner_done, position_of, refl, replay_of, RisesAfter, solution, solved_net, Some, Spots, starts-change_none, subst, suc, sym, TimedNet, trail-ends, true, Value, value_below}
+use Rattle.wsm_walk.proofs.Common.{value_in, whole, whole-fits, whole-orderly, without_start, written_by}
 use Rattle.wsm_schema.specs.declared.entries.Entry.TheVariants as entry
-use Rattle.wsm_marks.specs.Fits.{Ends, InOrder, Orderly, RisesAfter, first_misfit, fits, last_position, partner_done}
-use Rattle.wsm_marks.specs.Solving.{solution}
-use Rattle.wsm_marks.specs.Timed.{Entries, Marking, before, early}
-use Rattle.wsm_marks.proofs.Cards.{on_card-same}
-use Rattle.wsm_marks.proofs.Causality.{TimedNet, solved_net}
 use Rattle.wsm_marks.proofs.FirstFailure.{fits-rows, rows-fit}
-use Rattle.wsm_marks.proofs.MarksOfTrails.{whole-fits}
-use Rattle.wsm_marks.proofs.Remark.{starts-change_none}
-use Rattle.wsm_marks.proofs.Telling.{trail-ends}
-use Rattle.wsm_marks.proofs.WholeTrails.{whole-orderly}
-use Rattle.wsm_trail.specs.Withdrawn.{without_start}
 use Rattle.wsm_trail.proofs.Withdrawing.{start-writes_none}
 
 -- a Start is neither an End nor an Again

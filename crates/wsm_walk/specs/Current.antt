@@ -1,17 +1,8 @@
 -- A trail that replays whole below a position, with its marks.
 use Rattle.std.specs.Prelude.{◌≡◌, ℕ, List}
-use Rattle.wsm_schema.specs.Flat.{cards_of, flat_of}
-use Rattle.wsm_schema.specs.Marks.{facts_of, marks_of}
-use Rattle.wsm_schema.specs.Rank.{IsRank}
-use Rattle.wsm_schema.specs.Replay.{replay_of, whole}
-use Rattle.wsm_schema.specs.Rules.{Spots}
-use Rattle.wsm_schema.specs.SchemaModel.{SchemaModel}
-use Rattle.wsm_schema.specs.declared.marks.Mark.{Mark}
+use Rattle.wsm_schema.specs.{Flat.{cards_of, flat_of}, Marks.{facts_of, marks_of}, Rank.IsRank, Replay.{replay_of, whole}, Rules.Spots, SchemaModel.SchemaModel, declared.marks.Mark.Mark}
 use Rattle.wsm_trail.specs.TrailWithRoom.{Rises}
-use Rattle.wsm_marks.specs.MarkBy.{mark_by}
-use Rattle.wsm_marks.specs.Schemas.{Regular}
-use Rattle.wsm_marks.specs.Solving.{solution}
-use Rattle.wsm_marks.specs.Timed.{Entries}
+use Rattle.wsm_marks.specs.{MarkBy.mark_by, Schemas.Regular, Solving.solution, Timed.Entries}
 
 -- a regular schema with a rank, a trail that replays whole on it, at rising positions below p, and its marks
 pub record Current (s : SchemaModel) (rank : List ℕ) (es : Entries) (p : ℕ) (rows : List (ℕ × Mark)) : Type 0 where

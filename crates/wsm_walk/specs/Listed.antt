@@ -1,9 +1,7 @@
 -- What a table of marks holds of a node.
 use Rattle.std.specs.Prelude.{ℕ, List, Option, Some, None, if◌then◌else◌}
 use Rattle.wsm_lists.specs.ByNumber.{item_after, item_at}
-use Rattle.wsm_schema.specs.Marks.{says_something}
-use Rattle.wsm_schema.specs.declared.cards.Card.{Card}
-use Rattle.wsm_schema.specs.declared.marks.Mark.{Mark}
+use Rattle.wsm_schema.specs.{Marks.says_something, declared.cards.Card.Card, declared.marks.Mark.Mark}
 use Rattle.wsm_walk.specs.Kept.{mark_or}
 
 -- a mark stands in the table where it says something

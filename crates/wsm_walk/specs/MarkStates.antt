@@ -1,9 +1,6 @@
 -- The state and the choice of a node, by its kind and its mark.
 use Rattle.std.specs.Prelude.{None, ℕ, is_some, if◌then◌else◌}
-use Rattle.wsm_schema.specs.Rules.{spot, state_by}
-use Rattle.wsm_schema.specs.declared.cards.NodeKind.{NodeKind}
-use Rattle.wsm_schema.specs.declared.marks.Mark.{Mark}
-use Rattle.wsm_schema.specs.declared.states.Spot.{Spot}
+use Rattle.wsm_schema.specs.{Rules.{spot, state_by}, declared.cards.NodeKind.NodeKind, declared.marks.Mark.Mark, declared.states.Spot.Spot}
 use Rattle.wsm_schema.specs.declared.states.State.TheVariants.{Running, Completed}
 use Rattle.wsm_marks.specs.Timed.{flow, verdict_of}
 use Rattle.wsm_walk.specs.Kept.{timed_of}

@@ -1,12 +1,7 @@
 -- How many marks a walk along a rank may have read.
 use Rattle.std.specs.Prelude.{◌≡◌, ◌≤◌, ◌+◌, ◌++◌, ℕ, Bool, true, List, [], ◌∷◌, length, Option, Some, None}
-use Rattle.wsm_schema.specs.Flat.{card_at}
-use Rattle.wsm_schema.specs.Rank.{IsRank}
-use Rattle.wsm_schema.specs.Trail.{is_one_of}
-use Rattle.wsm_schema.specs.declared.cards.Card.{Card}
-use Rattle.wsm_walk.specs.RankPlaces.{is_pending}
-use Rattle.wsm_walk.specs.Reached.{edges_into, reach_cost, reached_from}
-use Rattle.wsm_walk.specs.Targets.{leads_to}
+use Rattle.wsm_schema.specs.{Flat.card_at, Rank.IsRank, Trail.is_one_of, declared.cards.Card.Card}
+use Rattle.wsm_walk.specs.{RankPlaces.is_pending, Reached.{edges_into, reach_cost, reached_from}, Targets.leads_to}
 
 -- a visit reads the mark of its node, and one for each edge into it
 abbrev pub visit_cost : Option Card → ℕ

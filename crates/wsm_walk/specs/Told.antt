@@ -1,12 +1,8 @@
 -- What entries tell of their nodes, beside the times.
-use Rattle.std.specs.Prelude.{ℕ, List, [], ◌∷◌, Option, Some, None, is_some, if◌then◌else◌}
-use Rattle.std.specs.Option.{option_or}
-use Rattle.wsm_lists.specs.Keys.{first}
-use Rattle.wsm_lists.specs.Rows.{put_row}
-use Rattle.wsm_schema.specs.Marks.{facts_of, is_again_of, position_of}
-use Rattle.wsm_schema.specs.declared.entries.Entry.{Entry}
+use Rattle.std.specs.{Prelude.{ℕ, List, [], ◌∷◌, Option, Some, None, is_some, if◌then◌else◌}, Option.option_or}
+use Rattle.wsm_lists.specs.{Keys.first, Rows.put_row}
+use Rattle.wsm_schema.specs.{Marks.{facts_of, is_again_of, position_of}, declared.entries.Entry.Entry, declared.marks.Mark.Mark}
 use Rattle.wsm_schema.specs.declared.entries.Entry.TheVariants as entry
-use Rattle.wsm_schema.specs.declared.marks.Mark.{Mark}
 use Rattle.wsm_marks.specs.Timed.{Entries}
 use Rattle.wsm_walk.specs.Listed.{seen}
 

@@ -1,7 +1,6 @@
 use Rattle.std.proofs.Common.{◌≡◌, drop, fold}
 use Rattle.case_writes.specs.Writes.{by_element}
-use Rattle.wsm_lists.specs.Keys.{first}
-use Rattle.wsm_lists.specs.Rows.{put_row}
+use Rattle.wsm_lists.specs.{Keys.first, Rows.put_row}
 use Rattle.case_writes.proofs.by_element.Given as goal
 
 abbrev pub invariant-loop-write : goal.invariant-loop-write

@@ -1,8 +1,6 @@
-use Rattle.std.proofs.Common.{[], ◌∷◌, ◌++◌, refl, sym, ◌∙◌, subst, arith}
+use Rattle.std.proofs.{Common.{[], ◌∷◌, ◌++◌, refl, sym, ◌∙◌, subst, arith}, lemmas.List.{append-nil, length-set}}
 use Rattle.std.specs.Option.{IsSome}
-use Rattle.std.proofs.lemmas.List.{append-nil, length-set}
-use Rattle.turn_batch.proofs.Lists.{appended_more}
-use Rattle.turn_batch.proofs.Takings.{none_taken, next_answered, one_more_taken, all_taken}
+use Rattle.turn_batch.proofs.{Lists.appended_more, Takings.{none_taken, next_answered, one_more_taken, all_taken}}
 use Rattle.turn_batch.proofs.take_answers.Goals as goal
 
 pub loop-pass-init : goal.loop-pass-init

@@ -1,14 +1,5 @@
-use Rattle.std.proofs.Common.{◌≡◌, None, sym, ◌∙◌, ap, subst}
-use Rattle.std.specs.Prelude.{IfOk, IfErr}
-use Rattle.wsm_schema.specs.Flat.{cards_of}
-use Rattle.wsm_schema.specs.Sound.{nodes_of, control_edges}
-use Rattle.wsm_schema.specs.SchemaModel.{SchemaModel}
-use Rattle.wsm_block.specs.Clauses.{cycle_in, cycle_fault}
-use Rattle.wsm_block.specs.Order.{EndAmong, IsOrder}
-use Rattle.wsm_block.specs.Refusals.{IsBlockFault}
-use Rattle.wsm_block.proofs.FirstFault.{nodes-distinct, ends-there}
-use Rattle.wsm_block.proofs.DocumentStart.{document-start}
-use Rattle.wsm_block.proofs.RanksOfSchemas.{if-both, order-rank_of}
+use Rattle.wsm_block.proofs.{Common.{◌∙◌, ◌≡◌, ap, cards_of, control_edges, cycle_fault, cycle_in, EndAmong, IfErr, IfOk, IsBlockFault, IsOrder, nodes_of, None, SchemaModel, subst, sym}, FirstFault.{nodes-distinct, ends-there}}
+use Rattle.wsm_block.proofs.{DocumentStart.document-start, RanksOfSchemas.{if-both, order-rank_of}}
 use Rattle.wsm_block.proofs.rank_of.Goals as goal
 
 pub grown_rank-requires-clause-order : goal.grown_rank-requires-clause-order

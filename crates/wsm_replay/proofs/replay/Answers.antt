@@ -1,15 +1,6 @@
-use Rattle.std.proofs.Common.{◌≡◌, true, false, [], ap, sym, ◌∙◌, arith, subst}
-use Rattle.wsm_schema.specs.Replay.{after, applicable, replay_from}
-use Rattle.wsm_schema.specs.Rules.{settle, marking_of}
-use Rattle.wsm_schema.specs.Trail.{value_below}
-use Rattle.wsm_trail.specs.LastWrites.{noted_entry}
-use Rattle.wsm_replay.specs.Answer.{answer}
-use Rattle.wsm_replay.specs.SameSpots.{SameSpots, IsMarking}
+use Rattle.wsm_replay.proofs.{Common.{[], ◌∙◌, ◌≡◌, after, answer, ap, applicable, arith, false, IsMarking, marking_of, noted_entry, replay_from, SameSpots, settle, subst, sym, true, value_below}, Before.{values_told, noted_next}}
+use Rattle.wsm_replay.proofs.{Markings.marking_of-twice, OneEntryMore.marking_of-spots, Replays.{replay_from-same, replay_goes_on, replay_stops, replay_ends}}
 use Rattle.wsm_replay.specs.declared.Replayed.TheVariants as replayed
-use Rattle.wsm_replay.proofs.Before.{values_told, noted_next}
-use Rattle.wsm_replay.proofs.Markings.{marking_of-twice}
-use Rattle.wsm_replay.proofs.OneEntryMore.{marking_of-spots}
-use Rattle.wsm_replay.proofs.Replays.{replay_from-same, replay_goes_on, replay_stops, replay_ends}
 use Rattle.wsm_replay.proofs.replay.Goals as goal
 
 pub loop-position-init : goal.loop-position-init

@@ -1,9 +1,4 @@
-use Rattle.std.proofs.Common.{◌≡◌, take, drop}
-use Rattle.wsm_schema.specs.Trail.{value_below}
-use Rattle.wsm_schema.specs.Replay.{replay_from, replay_of}
-use Rattle.wsm_trail.specs.LastWrites.{noted_entries}
-use Rattle.wsm_replay.specs.Answer.{answer}
-use Rattle.wsm_replay.specs.SameSpots.{IsMarking}
+use Rattle.wsm_replay.proofs.Common.{◌≡◌, answer, drop, IsMarking, noted_entries, replay_from, replay_of, take, value_below}
 use Rattle.wsm_replay.proofs.replay.Given as goal
 
 abbrev pub invariant-loop-position : goal.invariant-loop-position

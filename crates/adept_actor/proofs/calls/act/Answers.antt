@@ -1,9 +1,5 @@
-use Rattle.std.proofs.Common.{Ok, Err, sym, ◌∙◌, subst}
-use Rattle.adept_actor.proofs.Acts.{acts-fault, create-acts, start-acts, withdraw-acts, end-acts, change-acts, install-acts, migrate-acts, migrate-fails}
+use Rattle.adept_actor.proofs.{Common.{◌∙◌, Acts, CanAct, desk_view, Err, LeavesOthers, Ok, subst, sym}, Acts.{acts-fault, create-acts, start-acts, withdraw-acts, end-acts, change-acts, install-acts, migrate-acts, migrate-fails}}
 use Rattle.adept_actor.proofs.Leaving.{create-leaves, start-leaves, withdraw-leaves, end-leaves, change-leaves, install-leaves, migrate-leaves}
-use Rattle.adept_actor.specs.Others.{LeavesOthers}
-use Rattle.adept_actor.specs.Work.{Acts, CanAct}
-use Rattle.adept_server.specs.Desks.{desk_view}
 use Rattle.file_model.specs.declared.files.Act.TheVariants as act
 use Rattle.adept_actor.proofs.calls.act.Goals as goal
 

@@ -1,6 +1,5 @@
-use Rattle.std.proofs.Common.{◌≡◌, length}
+use Rattle.adept_actor.proofs.Common.{◌≡◌, first_fault, length}
 use Rattle.std.specs.Vec.Iter.{into_iter_items, into_iter_len}
-use Rattle.adept_actor.specs.Work.{first_fault}
 use Rattle.adept_actor.proofs.calls.first_fault.Given as goal
 
 abbrev pub invariant-loop-answer : goal.invariant-loop-answer

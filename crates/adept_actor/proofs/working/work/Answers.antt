@@ -1,11 +1,5 @@
-use Rattle.std.proofs.Common.{◌≡◌, ◌+◌, [], ◌∷◌, drop, drop_of_length-le, length, ap, sym, ◌∙◌, subst, arith}
-use Rattle.adept_actor.proofs.Acts.{Leads, leads-over, leads-on, leads-begun, leads-end, works-fault, work-still}
-use Rattle.adept_actor.proofs.Leaving.{leaves-then, line-leaves}
-use Rattle.adept_actor.specs.Others.{IsUnnamedCase, IsUnnamedKind, LeavesUnnamed}
-use Rattle.adept_actor.specs.Work.{CanWork}
-use Rattle.adept_server.specs.Desks.{IsDeskOf, desk_view}
-use Rattle.legal_run.proofs.Places.{cut-at}
-use Rattle.adept_actor.proofs.working.work.Goals.{then-line-number+in_ok-work_line, else-line-number}
+use Rattle.adept_actor.proofs.{Common.{[], ◌+◌, ◌∙◌, ◌∷◌, ◌≡◌, ap, arith, CanWork, cut-at, desk_view, drop, drop_of_length-le, IsDeskOf, IsUnnamedCase, IsUnnamedKind, LeavesUnnamed, length, subst, sym}, Acts.{Leads, leads-over, leads-on}}
+use Rattle.adept_actor.proofs.{Acts.{leads-begun, leads-end, works-fault, work-still}, Leaving.{leaves-then, line-leaves}, working.work.Goals.{then-line-number+in_ok-work_line, else-line-number}}
 use Rattle.adept_actor.proofs.working.work.Goals as goal
 
 pub returns-in_err-work_line-clause-worked : goal.returns-in_err-work_line-clause-worked

@@ -1,8 +1,4 @@
-use Rattle.std.proofs.Common.{drop}
-use Rattle.adept_actor.proofs.Acts.{Leads}
-use Rattle.adept_actor.specs.Others.{LeavesUnnamed}
-use Rattle.adept_actor.specs.Work.{CanWork}
-use Rattle.adept_server.specs.Desks.{IsDeskOf, desk_view}
+use Rattle.adept_actor.proofs.{Common.{CanWork, desk_view, drop, IsDeskOf, LeavesUnnamed}, Acts.Leads}
 use Rattle.adept_actor.proofs.working.work.Given as goal
 
 abbrev pub invariant-loop-line : goal.invariant-loop-line

@@ -1,6 +1,5 @@
 use Rattle.std.proofs.Common.{[], true, append-nil}
-use Rattle.adept_io.proofs.HandedOn.{handed_on}
-use Rattle.adept_io.proofs.Sent.{gives_then}
+use Rattle.adept_io.proofs.{HandedOn.handed_on, Sent.gives_then}
 use Rattle.adept_io.proofs.gathering.gather.Goals as goal
 
 pub returns-clause-gives : goal.returns-clause-gives

@@ -1,5 +1,4 @@
-use Rattle.adept_io.proofs.Sent.{AppendsPrefix-take}
-use Rattle.adept_io.proofs.Taken.{OnErr-from}
+use Rattle.adept_io.proofs.{Sent.AppendsPrefix-take, Taken.OnErr-from}
 use Rattle.adept_io.proofs.writing.write_all.Goals as goal
 
 pub returns-clause-part : goal.returns-clause-part

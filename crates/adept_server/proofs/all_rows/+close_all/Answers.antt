@@ -1,10 +1,5 @@
-use Rattle.std.proofs.Common.{◌≡◌, [], ◌∷◌, ◌++◌, rules, arith, refl, sym, ap, ◌∙◌, subst}
-use Rattle.std.specs.Vec.Iter.{into_iter_items}
-use Rattle.std.specs.List.{AllZip}
-use Rattle.std.proofs.lemmas.List.{nil_from_length}
-use Rattle.turn_rows.specs.Rows.{CanClose, IsClosedAs, views}
-use Rattle.adept_server.proofs.RowsJoined.{first_row_all}
-use Rattle.adept_server.proofs.RowsClosed.{none_closed, room_in_first, rows_closed}
+use Rattle.adept_server.proofs.{Common.{[], ◌++◌, ◌∙◌, ◌∷◌, ◌≡◌, AllZip, ap, arith, CanClose, into_iter_items, IsClosedAs, nil_from_length, refl, rules, subst, sym, views}, RowsJoined.first_row_all, RowsClosed.{none_closed, room_in_first}}
+use Rattle.adept_server.proofs.RowsClosed.{rows_closed}
 use Rattle.adept_server.proofs.all_rows.+close_all.Goals as goal
 
 pub returns-in_default : goal.returns-in_default

@@ -1,4 +1,4 @@
-use Rattle.std.proofs.Common.{length}
+use Rattle.adept_server.proofs.Common.{length}
 use Rattle.adept_server.proofs.all_rows.+close_all.Given as goal
 
 abbrev pub decreases-close_all : goal.decreases-close_all

@@ -1,9 +1,5 @@
-use Rattle.std.proofs.Common.{◌≡◌, ◌∷◌, rules, refl, subst}
-use Rattle.std.specs.Vec.Iter.{into_iter_items}
-use Rattle.adept_server.specs.Vecs.{RowJoined}
+use Rattle.adept_server.proofs.{Common.{◌∷◌, ◌≡◌, CanJoin, into_iter_items, refl, RowJoined, rules, subst}, RowsJoined.{first_row_all, none_joined, rows_joined}}
 use Rattle.adept_server.proofs.all_rows.+join_all.Goals as goal
-use Rattle.adept_server.proofs.RowsJoined.{first_row_all, none_joined, rows_joined}
-use Rattle.turn_rows.specs.Rows.{CanJoin}
 
 pub returns-in_default : goal.returns-in_default
 returns-in_default g t c =

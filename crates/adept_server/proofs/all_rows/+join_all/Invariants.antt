@@ -1,4 +1,4 @@
-use Rattle.std.proofs.Common.{length}
+use Rattle.adept_server.proofs.Common.{length}
 use Rattle.adept_server.proofs.all_rows.+join_all.Given as goal
 
 abbrev pub decreases-join_all : goal.decreases-join_all

@@ -1,7 +1,5 @@
-use Rattle.std.proofs.Common.{◌≡◌, ◌∷◌, rules, refl, subst}
-use Rattle.adept_server.specs.Vecs.{RowMet}
+use Rattle.adept_server.proofs.{Common.{◌∷◌, ◌≡◌, refl, RowMet, rules, subst}, RowsMet.{none_met, rows_met}}
 use Rattle.adept_server.proofs.all_rows.+meet_all.Goals as goal
-use Rattle.adept_server.proofs.RowsMet.{none_met, rows_met}
 
 pub returns-in_default : goal.returns-in_default
 returns-in_default g t c =

@@ -1,8 +1,5 @@
-use Rattle.std.proofs.Common.{◌≡◌, ◌∷◌, rules, refl, sym, subst}
-use Rattle.adept_server.specs.Vecs.{RowMet}
-use Rattle.turn_rows.specs.Rows.{AreLevel, views}
+use Rattle.adept_server.proofs.{Common.{◌∷◌, ◌≡◌, AreLevel, refl, RowMet, rules, subst, sym, views}, RowsMet.{legal_first, level_first, level_rest, none_met, rows_met}}
 use Rattle.adept_server.proofs.all_rows.+meet_all_called.Goals as goal
-use Rattle.adept_server.proofs.RowsMet.{legal_first, level_first, level_rest, none_met, rows_met}
 
 pub returns-in_default : goal.returns-in_default
 returns-in_default g t c =

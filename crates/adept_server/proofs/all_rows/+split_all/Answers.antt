@@ -1,9 +1,5 @@
-use Rattle.std.proofs.Common.{◌≡◌, ◌∷◌, rules, refl, subst}
-use Rattle.adept_server.specs.Vecs.{RowSplit}
+use Rattle.adept_server.proofs.{Common.{◌∷◌, ◌≡◌, CanSplit, refl, RowSplit, rules, subst}, RowsJoined.first_row_all, RowsSplit.{none_split, rows_split}}
 use Rattle.adept_server.proofs.all_rows.+split_all.Goals as goal
-use Rattle.adept_server.proofs.RowsJoined.{first_row_all}
-use Rattle.adept_server.proofs.RowsSplit.{none_split, rows_split}
-use Rattle.turn_rows.specs.Rows.{CanSplit}
 
 pub returns-in_default : goal.returns-in_default
 returns-in_default g t c =

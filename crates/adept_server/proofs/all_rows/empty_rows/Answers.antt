@@ -1,6 +1,4 @@
-use Rattle.std.proofs.Common.{◌+◌, ◌<◌, length, take, ◌∙◌, sym, subst, arith}
-use Rattle.adept_server.specs.Rooms.{HaveRoomFor}
-use Rattle.adept_server.proofs.RowsClosed.{no_room_needed, one_more_room, room_for_all}
+use Rattle.adept_server.proofs.{Common.{◌+◌, ◌<◌, ◌∙◌, arith, HaveRoomFor, length, subst, sym, take}, RowsClosed.{no_room_needed, one_more_room, room_for_all}}
 use Rattle.adept_server.proofs.all_rows.empty_rows.Goals as goal
 
 pub loop-row-init : goal.loop-row-init

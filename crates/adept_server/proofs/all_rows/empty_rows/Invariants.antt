@@ -1,5 +1,4 @@
-use Rattle.std.proofs.Common.{◌+◌, ◌-◌, ◌≤◌, length, take, vec_len, vec_capacity}
-use Rattle.adept_server.specs.Rooms.{HaveRoomFor}
+use Rattle.adept_server.proofs.Common.{◌+◌, ◌-◌, ◌≤◌, HaveRoomFor, length, take, vec_capacity, vec_len}
 use Rattle.adept_server.proofs.all_rows.empty_rows.Given as goal
 
 abbrev pub invariant-loop-row : goal.invariant-loop-row

@@ -1,9 +1,4 @@
-use Rattle.std.proofs.Common.{◌∙◌, All, sym, subst}
-use Rattle.std.proofs.lemmas.List.{with_items_is}
-use Rattle.adept_server.specs.Vecs.{RowJoined}
-use Rattle.turn_batch.specs.Batch.{AreOf}
-use Rattle.turn_rows.specs.Rows.{CanJoin, views}
-use Rattle.adept_server.proofs.RowsJoined.{joined_in_vecs}
+use Rattle.adept_server.proofs.{Common.{◌∙◌, All, AreOf, CanJoin, RowJoined, subst, sym, views, with_items_is}, RowsJoined.joined_in_vecs}
 use Rattle.adept_server.proofs.all_rows.join_row_in.Goals as goal
 
 pub join_row-requires-clause-cells : goal.join_row-requires-clause-cells

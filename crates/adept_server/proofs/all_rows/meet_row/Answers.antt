@@ -1,8 +1,4 @@
-use Rattle.std.proofs.Common.{◌∙◌, sym, subst}
-use Rattle.std.proofs.lemmas.List.{with_items_is}
-use Rattle.adept_server.specs.Vecs.{RowMet}
-use Rattle.turn_batch.specs.Batch.{AreOf}
-use Rattle.adept_server.proofs.RowsMet.{met_in_vecs, met_before}
+use Rattle.adept_server.proofs.{Common.{◌∙◌, AreOf, RowMet, subst, sym, with_items_is}, RowsMet.{met_in_vecs, met_before}}
 use Rattle.adept_server.proofs.all_rows.meet_row.Goals as goal
 
 pub meet_rows-requires-clause-cells : goal.meet_rows-requires-clause-cells

@@ -1,8 +1,4 @@
-use Rattle.std.proofs.Common.{◌∙◌, sym, subst}
-use Rattle.std.proofs.lemmas.List.{with_items_is}
-use Rattle.adept_server.specs.Vecs.{RowMet}
-use Rattle.turn_batch.specs.Batch.{AreOf}
-use Rattle.adept_server.proofs.RowsMet.{level_before, legal_before, met_in_vecs, met_before}
+use Rattle.adept_server.proofs.{Common.{◌∙◌, AreOf, RowMet, subst, sym, with_items_is}, RowsMet.{level_before, legal_before, met_in_vecs, met_before}}
 use Rattle.adept_server.proofs.all_rows.meet_row_called.Goals as goal
 
 pub meet_called-requires-clause-cells : goal.meet_called-requires-clause-cells

@@ -1,9 +1,4 @@
-use Rattle.std.proofs.Common.{◌≡◌, [], ◌++◌, ◌∙◌, All, length, sym, subst, ap, arith}
-use Rattle.std.proofs.lemmas.List.{with_items_is, nil_from_length}
-use Rattle.adept_server.specs.Vecs.{RowSplit}
-use Rattle.turn_batch.specs.Batch.{AreOf}
-use Rattle.turn_rows.specs.Rows.{CanSplit, views}
-use Rattle.adept_server.proofs.RowsSplit.{split_in_vecs}
+use Rattle.adept_server.proofs.{Common.{[], ◌++◌, ◌∙◌, ◌≡◌, All, ap, AreOf, arith, CanSplit, length, nil_from_length, RowSplit, subst, sym, views, with_items_is}, RowsSplit.split_in_vecs}
 use Rattle.adept_server.proofs.all_rows.split_row.Goals as goal
 
 pub split_into-requires-clause-cells : goal.split_into-requires-clause-cells

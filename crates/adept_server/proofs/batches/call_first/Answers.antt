@@ -1,7 +1,4 @@
-use Rattle.std.proofs.Common.{◌≤◌, min, length, sym, ap, ◌∙◌, arith}
-use Rattle.std.proofs.lemmas.List.{length-take-le}
-use Rattle.adept_server.proofs.Fronts.{front-of, front-put, first_called, others-stay}
-use Rattle.turn_batch.proofs.Calls.{length-passes}
+use Rattle.adept_server.proofs.{Common.{◌∙◌, ◌≤◌, ap, arith, length, length-passes, length-take-le, min, sym}, Fronts.{front-of, front-put, first_called, others-stay}}
 use Rattle.adept_server.proofs.batches.call_first.Goals as goal
 
 pub slice_bounds-all-end-2 : goal.slice_bounds-all-end-2

@@ -1,6 +1,4 @@
-use Rattle.std.proofs.Common.{◌+◌, length, ap, ◌∙◌, arith}
-use Rattle.std.proofs.lemmas.List.{length_push}
-use Rattle.adept_server.proofs.Noted.{none-lowered, raised-more}
+use Rattle.adept_server.proofs.{Common.{◌+◌, ◌∙◌, ap, arith, length, length_push}, Noted.{none-lowered, raised-more}}
 use Rattle.adept_server.proofs.call_flags.raised_rows.Goals as goal
 
 pub loop-row-init : goal.loop-row-init

@@ -1,6 +1,4 @@
-use Rattle.std.proofs.Common.{◌≡◌, ◌+◌, ◌-◌, ◌≤◌, length, vec_len, vec_capacity}
-use Rattle.adept_server.specs.Noting.{NoneLowered}
-use Rattle.adept_server.specs.Vecs.{lists_of}
+use Rattle.adept_server.proofs.Common.{◌+◌, ◌-◌, ◌≡◌, ◌≤◌, length, lists_of, NoneLowered, vec_capacity, vec_len}
 use Rattle.adept_server.proofs.call_flags.raised_rows.Given as goal
 
 abbrev pub invariant-loop-row : goal.invariant-loop-row

@@ -1,4 +1,4 @@
-use Rattle.std.proofs.Common.{length}
+use Rattle.adept_server.proofs.Common.{length}
 use Rattle.adept_server.proofs.flags.+raise_all.Given as goal
 
 abbrev pub decreases-raise_all : goal.decreases-raise_all

@@ -1,7 +1,4 @@
-use Rattle.std.proofs.Common.{map, ap, arith, rules}
-use Rattle.adept_server.proofs.Called.{of_rest}
-use Rattle.adept_server.proofs.Looks.{first_looked, opened_rest}
-use Rattle.turn_cell.specs.Passes.{view_of}
+use Rattle.adept_server.proofs.{Common.{ap, arith, map, rules, view_of}, Called.of_rest, Looks.{first_looked, opened_rest}}
 use Rattle.adept_server.proofs.offering.+look_row.Goals as goal
 
 pub returns-in_err-look_at-clause-looked : goal.returns-in_err-look_at-clause-looked

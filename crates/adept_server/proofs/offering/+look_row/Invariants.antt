@@ -1,4 +1,4 @@
-use Rattle.std.proofs.Common.{length}
+use Rattle.adept_server.proofs.Common.{length}
 use Rattle.adept_server.proofs.offering.+look_row.Given as goal
 
 abbrev pub decreases-look_row : goal.decreases-look_row

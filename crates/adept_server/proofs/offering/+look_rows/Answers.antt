@@ -1,6 +1,4 @@
-use Rattle.std.proofs.Common.{map, ap}
-use Rattle.adept_server.proofs.Looks.{no_row_looked, first_row_looked}
-use Rattle.turn_cell.specs.Passes.{view_of}
+use Rattle.adept_server.proofs.{Common.{ap, map, view_of}, Looks.{no_row_looked, first_row_looked}}
 use Rattle.adept_server.proofs.offering.+look_rows.Goals as goal
 
 pub returns-in_err-look_type-clause-looked : goal.returns-in_err-look_type-clause-looked

@@ -1,6 +1,5 @@
-use Rattle.std.proofs.Crossing.{crosses}
+use Rattle.adept_server.proofs.{Common.crosses, Sent.{case-send, case-sync, event-send, event-sync}}
 use denote.Param.Send.{sendable}
-use Rattle.adept_server.proofs.Sent.{case-send, case-sync, event-send, event-sync}
 use Rattle.adept_server.proofs.offering.look_at.Goals as goal
 
 pub look-requires-send-M : goal.look-requires-send-M

@@ -1,8 +1,4 @@
-use Rattle.std.proofs.Common.{◌≡◌, ◌++◌, OnOk, map, sym, ◌∙◌, subst}
-use Rattle.std.proofs.lemmas.List.{with_items_is}
-use Rattle.adept_server.specs.Offering.{EachLooked, row_offers}
-use Rattle.turn_batch.specs.Batch.{AreOf}
-use Rattle.turn_cell.specs.Passes.{view_of}
+use Rattle.adept_server.proofs.Common.{◌++◌, ◌∙◌, ◌≡◌, AreOf, EachLooked, map, OnOk, row_offers, subst, sym, view_of, with_items_is}
 use Rattle.adept_server.proofs.offering.look_type.Goals as goal
 
 pub returns-clause-cells : goal.returns-clause-cells

@@ -1,10 +1,5 @@
-use Rattle.std.proofs.Common.{◌≡◌, ◌<◌, length, slice_index_or, Some, slice_get, sym, arith, rules, refl, subst}
-use Rattle.std.proofs.lemmas.Option.{slice_get_read, slice_get-get_or}
-use Rattle.turn_batch.proofs.Calls.{length-passes, pass_at}
-use Rattle.turn_cell.specs.Passes.{view_of}
+use Rattle.adept_server.proofs.Common.{◌<◌, ◌≡◌, arith, HasRoom, IfErr-weaker, length, length-passes, pass_at, refl, rules, slice_get, slice_get-get_or, slice_get_read, slice_index_or, Some, subst, sym, view_of}
 use Rattle.adept_server.proofs.Called.{passes-of_set, called_once, calls_one, set-view}
-use Rattle.adept_server.specs.Calling.{HasRoom}
-use Rattle.std.proofs.lemmas.Result.{IfErr-weaker}
 use Rattle.adept_server.proofs.one_call.call_at.Goals as goal
 
 pub bounds-cells-index : goal.bounds-cells-index

@@ -1,9 +1,4 @@
-use Rattle.std.proofs.Common.{◌<◌, length, get_or, subst, arith}
-use Rattle.std.proofs.lemmas.List.{take_all}
-use Rattle.std.proofs.lemmas.List.Sums.{sum_by_more}
-use Rattle.adept_server.specs.Firsts.{AreFirstsOf}
-use Rattle.adept_server.specs.Vecs.{row_views}
-use Rattle.adept_server.proofs.Founding.{none_opened, one_more_opened, read_any}
+use Rattle.adept_server.proofs.{Common.{◌<◌, AreFirstsOf, arith, get_or, length, row_views, subst, sum_by_more, take_all}, Founding.{none_opened, one_more_opened, read_any}}
 use Rattle.adept_server.proofs.opening.open_all_cases.Goals as goal
 
 pub loop-type_no-init : goal.loop-type_no-init

@@ -1,7 +1,5 @@
-use Rattle.std.proofs.Common.{◌≡◌, ◌+◌, ◌-◌, ◌≤◌, length, take, vec_len, vec_capacity}
+use Rattle.adept_server.proofs.Common.{◌+◌, ◌-◌, ◌≡◌, ◌≤◌, AreFirstsOf, AreVecsOf, length, row_views, take, vec_capacity, vec_len}
 use Rattle.std.specs.List.{sum}
-use Rattle.adept_server.specs.Firsts.{AreFirstsOf}
-use Rattle.adept_server.specs.Vecs.{AreVecsOf, row_views}
 use Rattle.adept_server.proofs.opening.open_all_cases.Given as goal
 
 abbrev pub invariant-loop-type_no : goal.invariant-loop-type_no

@@ -1,15 +1,6 @@
-use Rattle.std.proofs.Common.{◌≡◌, ◌+◌, ◌≤◌, length, ap, ◌∙◌, arith}
-use Rattle.std.proofs.lemmas.List.{length_push}
-use Rattle.std.proofs.lemmas.Result.{IfOk-weaker}
-use Rattle.case_core.specs.CaseModel.{not_created}
-use Rattle.case_core.specs.Instances.{CountedCase, uncounted}
-use Rattle.turn_rows.specs.Rows.{AreOpened, views}
+use Rattle.adept_server.proofs.{Common.{◌+◌, ◌∙◌, ◌≡◌, ◌≤◌, ap, AreFirstCases, AreOpened, arith, CountedCase, crosses, IfOk-weaker, length, length_push, MAX_OPENING_AGE, not_created, uncounted, views}, Founding.{cases_opened, made_all}}
+use Rattle.adept_server.proofs.{Founding.{none_made, one_made}, Sent.{case-send, case-sync, event-send, event-sync}}
 use Rattle.case_core.specs.Ages.{age}
-use Rattle.turn_cell.specs.declared.limits.TheConstants.{MAX_OPENING_AGE}
-use Rattle.adept_server.specs.Firsts.{AreFirstCases}
-use Rattle.adept_server.proofs.Founding.{cases_opened, made_all, none_made, one_made}
-use Rattle.adept_server.proofs.Sent.{case-send, case-sync, event-send, event-sync}
-use Rattle.std.proofs.Crossing.{crosses}
 use denote.Param.Send.{sendable}
 use Rattle.adept_server.proofs.opening.open_cases.Goals as goal
 

@@ -1,7 +1,4 @@
-use Rattle.std.proofs.Common.{◌≡◌, ◌+◌, ◌-◌, ◌≤◌, length, vec_len, vec_capacity}
-use Rattle.case_core.specs.CaseModel.{not_created}
-use Rattle.case_core.specs.Instances.{uncounted}
-use Rattle.adept_server.proofs.Founding.{AreMade}
+use Rattle.adept_server.proofs.{Common.{◌+◌, ◌-◌, ◌≡◌, ◌≤◌, length, not_created, uncounted, vec_capacity, vec_len}, Founding.AreMade}
 use Rattle.adept_server.proofs.opening.open_cases.Given as goal
 
 abbrev pub invariant-loop-place : goal.invariant-loop-place

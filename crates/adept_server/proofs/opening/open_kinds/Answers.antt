@@ -1,12 +1,4 @@
-use Rattle.std.proofs.Common.{◌≡◌, ◌+◌, length, ap, ◌∙◌, arith}
-use Rattle.std.proofs.lemmas.List.{length_push}
-use Rattle.std.proofs.lemmas.Result.{IfOk-weaker}
-use Rattle.type_core.specs.KindModel.{not_defined}
-use Rattle.turn_rows.specs.Rows.{AreOpened, views}
-use Rattle.adept_server.specs.Firsts.{AreFirstKinds}
-use Rattle.adept_server.proofs.Founding.{kinds_opened, none_made, one_made}
-use Rattle.adept_server.proofs.Sent.{version-send, version-sync}
-use Rattle.std.proofs.Crossing.{crosses}
+use Rattle.adept_server.proofs.{Common.{◌+◌, ◌∙◌, ◌≡◌, ap, AreFirstKinds, AreOpened, arith, crosses, IfOk-weaker, length, length_push, not_defined, views}, Founding.{kinds_opened, none_made, one_made}, Sent.{version-send, version-sync}}
 use denote.Param.Send.{sendable}
 use Rattle.adept_server.proofs.opening.open_kinds.Goals as goal
 

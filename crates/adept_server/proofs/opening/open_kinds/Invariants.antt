@@ -1,6 +1,4 @@
-use Rattle.std.proofs.Common.{◌≡◌, ◌+◌, ◌-◌, ◌≤◌, length, vec_len, vec_capacity}
-use Rattle.type_core.specs.KindModel.{not_defined}
-use Rattle.adept_server.proofs.Founding.{AreMade}
+use Rattle.adept_server.proofs.{Common.{◌+◌, ◌-◌, ◌≡◌, ◌≤◌, length, not_defined, vec_capacity, vec_len}, Founding.AreMade}
 use Rattle.adept_server.proofs.opening.open_kinds.Given as goal
 
 abbrev pub invariant-loop-type_no : goal.invariant-loop-type_no

@@ -1,5 +1,4 @@
-use Rattle.std.proofs.Common.{◌≡◌, sym, subst}
-use Rattle.std.proofs.lemmas.Result.{IfOk-weaker}
+use Rattle.std.proofs.{Common.{◌≡◌, sym, subst}, lemmas.Result.IfOk-weaker}
 use Rattle.legal_run.proofs.Serial.{serial-legal}
 use Rattle.adept_top.proofs.working.played.Goals as goal
 use Rattle.legal_run.specs.Legal.{Legal}

@@ -1,5 +1,4 @@
-use Rattle.std.proofs.Common.{◌≡◌, ◌++◌, drop}
-use Rattle.case_audit.proofs.Common.{asked_by, asked_in, left_by, told_versions}
+use Rattle.case_audit.proofs.Common.{◌++◌, ◌≡◌, asked_by, asked_in, drop, left_by, told_versions}
 use Rattle.case_audit.proofs.asked.asked_lines.Given as goal
 
 abbrev pub invariant-loop-line : goal.invariant-loop-line

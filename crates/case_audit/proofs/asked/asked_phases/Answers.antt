@@ -1,6 +1,4 @@
-use Rattle.std.proofs.Common.{◌++◌, ◌∷◌, [], ap, ◌∙◌}
-use Rattle.case_audit.proofs.Common.{all_told, asked_by, asked_in, left_by, map-append, script_by, script_of, told_versions}
-use Rattle.case_audit.proofs.Telling.{script-asked, script-end, script-step}
+use Rattle.case_audit.proofs.{Common.{[], ◌++◌, ◌∙◌, ◌∷◌, all_told, ap, asked_by, asked_in, left_by, map-append, script_by, script_of, told_versions}, Telling.{script-asked, script-end, script-step}}
 use Rattle.case_audit.proofs.asked.asked_phases.Goals as goal
 
 pub loop-lines-preserved : goal.loop-lines-preserved

@@ -1,5 +1,4 @@
-use Rattle.std.proofs.Common.{◌≡◌, ◌++◌, drop}
-use Rattle.case_audit.proofs.Common.{script_by, script_of, told_versions}
+use Rattle.case_audit.proofs.Common.{◌++◌, ◌≡◌, drop, script_by, script_of, told_versions}
 use Rattle.case_audit.proofs.asked.asked_phases.Given as goal
 
 abbrev pub invariant-loop-lines : goal.invariant-loop-lines

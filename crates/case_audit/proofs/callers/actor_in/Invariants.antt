@@ -1,5 +1,4 @@
-use Rattle.std.proofs.Common.{◌≡◌, ◌+◌, drop}
-use Rattle.case_audit.proofs.Common.{named_from}
+use Rattle.case_audit.proofs.Common.{◌+◌, ◌≡◌, drop, named_from}
 use Rattle.case_audit.proofs.callers.actor_in.Given as goal
 
 abbrev pub invariant-loop-actor : goal.invariant-loop-actor

@@ -1,5 +1,4 @@
-use Rattle.std.proofs.Common.{Option, None, Some, ◌∙◌, MatchOption}
-use Rattle.case_audit.proofs.Names.{no-word, word-then}
+use Rattle.case_audit.proofs.{Common.{◌∙◌, MatchOption, None, Option, Some}, Names.{no-word, word-then}}
 use Rattle.case_audit.proofs.callers.begins_with_word.Goals as goal
 
 pub returns-in-None : goal.returns-in-None

@@ -1,6 +1,4 @@
-use Rattle.std.proofs.Common.{◌≡◌, true, false, drop, length, sym, ap, ◌∙◌, subst, codes, decimal}
-use Rattle.case_audit.proofs.Common.{begins, named_from}
-use Rattle.case_audit.proofs.Names.{no-number, no-space, shows-named}
+use Rattle.case_audit.proofs.{Common.{◌∙◌, ◌≡◌, ap, begins, codes, decimal, drop, false, length, named_from, subst, sym, true}, Names.{no-number, no-space, shows-named}}
 use Rattle.case_audit.proofs.callers.caller_in.Goals as goal
 
 pub returns-in_err-behind : goal.returns-in_err-behind

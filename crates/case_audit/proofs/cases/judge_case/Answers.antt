@@ -1,6 +1,4 @@
-use Rattle.std.proofs.Common.{subst}
-use Rattle.case_audit.proofs.Common.{case_head, case_journal, end_text, FollowedBy, Follows}
-use Rattle.case_audit.proofs.CaseParts.{case-right, end-wrong, head-wrong, journal-wrong}
+use Rattle.case_audit.proofs.{Common.{case_head, case_journal, end_text, FollowedBy, Follows, subst}, CaseParts.{case-right, end-wrong, head-wrong, journal-wrong}}
 use Rattle.case_audit.proofs.cases.judge_case.Goals as goal
 
 pub returns-then-not-branch : goal.returns-then-not-branch

@@ -1,6 +1,5 @@
-use Rattle.std.proofs.Common.{◌≡◌, ◌+◌, ◌++◌, List, length, refl, sym, ap, ◌∙◌, subst, arith}
-use Rattle.case_audit.proofs.Common.{AllRows, Asked, asked_in, calls_in, case-stopped, case-whole, CaseEntry, CaseModel, cases, ClosedCase, CountedCase, GrowsTo, InPhases, IsModest, IsSteady, owed_of, phase-on, phase-stops, PhaseJudged, phases-begun, phases-whole, steady-begun, StopsAt, uncalled}
-use Rattle.case_audit.proofs.OwedPhases.{phase-at, phase-end, row-at}
+use Rattle.case_audit.proofs.Common.{◌++◌, ◌+◌, ◌∙◌, ◌≡◌, AllRows, ap, arith, Asked, asked_in, calls_in, case-stopped, case-whole, CaseEntry, CaseModel, cases, ClosedCase, CountedCase, GrowsTo, InPhases, IsModest, IsSteady, length, List}
+use Rattle.case_audit.proofs.{Common.{owed_of, phase-on, phase-stops, PhaseJudged, phases-begun, phases-whole, refl, steady-begun, StopsAt, subst, sym, uncalled}, OwedPhases.{phase-at, phase-end, row-at}}
 use Rattle.case_audit.proofs.cases.judge_journal.Goals as goal
 
 abbrev made_of : CaseModel → List CaseEntry → ClosedCase

@@ -1,5 +1,4 @@
-use Rattle.std.proofs.Common.{◌+◌, ◌≤◌, drop, length}
-use Rattle.case_audit.proofs.Common.{cases, how_many, InPhases, IsSteady, owed_of}
+use Rattle.case_audit.proofs.Common.{◌+◌, ◌≤◌, cases, drop, how_many, InPhases, IsSteady, length, owed_of}
 use Rattle.case_audit.proofs.cases.judge_journal.Given as goal
 
 abbrev pub invariant-loop-phase : goal.invariant-loop-phase

@@ -1,6 +1,5 @@
-use Rattle.std.proofs.Common.{◌≡◌, None, Some, sym, ap, ◌∙◌, subst, arith, rules}
-use Rattle.case_audit.proofs.Common.{asked_of, case-light, case_reply, cases, cases-readable, entry, left_of, line-judged, line-writes, LineJudged, one_taken, queues_of, steady-on, without-call, without-event}
-use Rattle.case_audit.proofs.Exits.{on-both, on-good, shown-modest, shows-in}
+use Rattle.case_audit.proofs.Common.{◌∙◌, ◌≡◌, ap, arith, asked_of, case-light, case_reply, cases, cases-readable, entry, left_of, line-judged, line-writes, LineJudged, None, one_taken, queues_of, rules, Some, steady-on, subst, sym}
+use Rattle.case_audit.proofs.{Common.{without-call, without-event}, Exits.{on-both, on-good, shown-modest, shows-in}}
 use Rattle.script_run.specs.CaseEnds.{CaseEnd}
 use Rattle.case_audit.proofs.cases.judge_line.Goals as goal
 

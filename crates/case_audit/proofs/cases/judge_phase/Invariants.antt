@@ -1,5 +1,4 @@
-use Rattle.std.proofs.Common.{◌+◌, ◌≤◌, length}
-use Rattle.case_audit.proofs.Common.{AllRows, asked_in, cases, InPhase, IsModest, IsSteady, queues_of}
+use Rattle.case_audit.proofs.Common.{◌+◌, ◌≤◌, AllRows, asked_in, cases, InPhase, IsModest, IsSteady, length, queues_of}
 use Rattle.case_audit.proofs.cases.judge_phase.Given as goal
 
 abbrev pub invariant-loop-judged : goal.invariant-loop-judged

@@ -1,6 +1,4 @@
-use Rattle.std.proofs.Common.{◌≡◌, ◌+◌, suc, false, length, sym, ap, ◌∙◌, arith, if◌then◌else◌}
-use Rattle.case_audit.proofs.Common.{begins_report, file_length}
-use Rattle.case_audit.proofs.FileLengths.{line-and-rest, line-length}
+use Rattle.case_audit.proofs.{Common.{◌+◌, ◌∙◌, ◌≡◌, ap, arith, begins_report, false, file_length, if◌then◌else◌, length, suc, sym}, FileLengths.{line-and-rest, line-length}}
 use Rattle.case_audit.proofs.dividing.file_length.Goals as goal
 
 pub loop-line-preserved : goal.loop-line-preserved

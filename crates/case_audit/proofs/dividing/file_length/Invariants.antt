@@ -1,5 +1,4 @@
-use Rattle.std.proofs.Common.{◌≡◌, ◌+◌, length}
-use Rattle.case_audit.proofs.Common.{file_length}
+use Rattle.case_audit.proofs.Common.{◌+◌, ◌≡◌, file_length, length}
 use Rattle.case_audit.proofs.dividing.file_length.Given as goal
 
 abbrev pub invariant-loop-line : goal.invariant-loop-line

@@ -1,6 +1,4 @@
-use Rattle.std.proofs.Common.{◌≡◌, Err, length, true, sym, ap, ◌∙◌, subst, arith}
-use Rattle.case_audit.proofs.Common.{file, is_too_long, IsRefused, IsVerdict, IsVerdictOn, report_part, Tells, TellsBytes, TellsReport}
-use Rattle.case_audit.proofs.AuditEnds.{not-too-long, refused-how, tells-on}
+use Rattle.case_audit.proofs.{Common.{◌∙◌, ◌≡◌, ap, arith, Err, file, is_too_long, IsRefused, IsVerdict, IsVerdictOn, length, report_part, subst, sym, Tells, TellsBytes, TellsReport, true}, AuditEnds.{not-too-long, refused-how, tells-on}}
 use Rattle.case_audit.proofs.inputs.audit_bytes.Goals as goal
 
 pub returns-in-Ok : goal.returns-in-Ok

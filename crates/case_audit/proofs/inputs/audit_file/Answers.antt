@@ -1,6 +1,4 @@
-use Rattle.std.proofs.Common.{◌≡◌, sym, subst}
-use Rattle.case_audit.proofs.Common.{IsVerdict}
-use Rattle.case_audit.proofs.AuditEnds.{tells-on}
+use Rattle.case_audit.proofs.{Common.{◌≡◌, IsVerdict, subst, sym}, AuditEnds.tells-on}
 use Rattle.case_audit.proofs.inputs.audit_file.Goals as goal
 
 pub returns-in-Ok : goal.returns-in-Ok

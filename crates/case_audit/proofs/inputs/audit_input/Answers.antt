@@ -1,6 +1,4 @@
-use Rattle.std.proofs.Common.{Err, refl, sym, ap, ◌∙◌, subst}
-use Rattle.case_audit.proofs.Common.{TellsBytes}
-use Rattle.case_audit.proofs.AuditEnds.{overlong-ends, read-ends}
+use Rattle.case_audit.proofs.{Common.{◌∙◌, ap, Err, refl, subst, sym, TellsBytes}, AuditEnds.{overlong-ends, read-ends}}
 use Rattle.case_audit.proofs.inputs.audit_input.Goals as goal
 
 pub returns-in-Ok : goal.returns-in-Ok

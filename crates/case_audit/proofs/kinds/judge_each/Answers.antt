@@ -1,6 +1,4 @@
-use Rattle.std.proofs.Common.{◌≡◌, ◌+◌, ◌<◌, [], length, sym, ap, subst, arith}
-use Rattle.case_audit.proofs.Common.{Follows, InKinds, kind_reader, row-begun, row-on, row-read, row-stops, telling}
-use Rattle.case_audit.proofs.KindsOwed.{kind-modest, kind-owes, kinds-many, small-at, type-at}
+use Rattle.case_audit.proofs.{Common.{[], ◌+◌, ◌<◌, ◌≡◌, ap, arith, Follows, InKinds, kind_reader, length, row-begun, row-on, row-read, row-stops, subst, sym, telling}, KindsOwed.{kind-modest, kind-owes, kinds-many, small-at, type-at}}
 use Rattle.case_audit.proofs.kinds.judge_each.Goals as goal
 
 pub loop-index-init : goal.loop-index-init

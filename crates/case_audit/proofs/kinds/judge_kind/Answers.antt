@@ -1,7 +1,5 @@
-use Rattle.std.proofs.Common.{◌+◌, refl, sym, subst, ◌++◌}
-use Rattle.case_audit.proofs.Common.{AllRows, asked_in, calls_in, defined_line, FollowedBy, InPhases, IsModest, kinds, owed_lines, owed_of, phase-on, phase-stops, PhaseJudged, phases-begun, phases-whole, type_head}
-use Rattle.case_audit.proofs.KindParts.{front-wrong, journal-wrong, kind-right}
-use Rattle.case_audit.proofs.OwedPhases.{phase-at, phase-end, row-at}
+use Rattle.case_audit.proofs.Common.{◌++◌, ◌+◌, AllRows, asked_in, calls_in, defined_line, FollowedBy, InPhases, IsModest, kinds, owed_lines, owed_of, phase-on, phase-stops, PhaseJudged, phases-begun, phases-whole, refl, subst, sym}
+use Rattle.case_audit.proofs.{Common.type_head, KindParts.{front-wrong, journal-wrong, kind-right}, OwedPhases.{phase-at, phase-end, row-at}}
 use Rattle.case_audit.proofs.kinds.judge_kind.Goals as goal
 
 pub returns-then-not-branch : goal.returns-then-not-branch

@@ -1,5 +1,4 @@
-use Rattle.std.proofs.Common.{◌≡◌, None, Some, sym, ◌∙◌, subst, arith, rules}
-use Rattle.case_audit.proofs.Common.{asked_of, kind-light, kinds, kinds-readable, left_of, line-judged, LineJudged, one_taken, queues_of, without-call, without-event}
+use Rattle.case_audit.proofs.Common.{◌∙◌, ◌≡◌, arith, asked_of, kind-light, kinds, kinds-readable, left_of, line-judged, LineJudged, None, one_taken, queues_of, rules, Some, subst, sym, without-call, without-event}
 use Rattle.case_audit.proofs.Exits.{on-good, shown-modest, shows-in}
 use Rattle.case_audit.proofs.kinds.judge_line.Goals as goal
 

@@ -1,6 +1,5 @@
-use Rattle.std.proofs.Common.{◌≡◌, ◌<◌, length, refl, sym, ap, ◌∙◌, subst, arith}
-use Rattle.case_audit.proofs.Common.{actor_of, all_turns, AreTurns, asked_in, asked_of, InPhase, IsModest, kinds, length-map, line-on, line-stops, LineJudged, phase-begun, phase-whole, queues_of, turns-rows}
-use Rattle.case_audit.proofs.AllTurns.{all-turns}
+use Rattle.case_audit.proofs.Common.{◌<◌, ◌∙◌, ◌≡◌, actor_of, all_turns, ap, AreTurns, arith, asked_in, asked_of, InPhase, IsModest, kinds, length, length-map, line-on, line-stops, LineJudged, phase-begun, phase-whole, queues_of, refl}
+use Rattle.case_audit.proofs.{Common.{subst, sym, turns-rows}, AllTurns.all-turns}
 use Rattle.case_audit.proofs.kinds.judge_phase.Goals as goal
 
 pub loop-judged-init : goal.loop-judged-init

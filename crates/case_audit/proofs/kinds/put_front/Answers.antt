@@ -1,5 +1,4 @@
-use Rattle.std.proofs.Common.{true}
-use Rattle.case_audit.proofs.Common.{gives_then, type_head}
+use Rattle.case_audit.proofs.Common.{gives_then, true, type_head}
 use Rattle.case_audit.proofs.kinds.put_front.Goals as goal
 
 pub returns : goal.returns

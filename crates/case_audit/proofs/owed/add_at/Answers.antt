@@ -1,6 +1,4 @@
-use Rattle.std.proofs.Common.{◌<◌, length, refl, arith}
-use Rattle.case_audit.proofs.Common.{asked_of, numbered_of, on_ok_weaker, with_line}
-use Rattle.case_audit.proofs.Changes.{item-changed}
+use Rattle.case_audit.proofs.{Common.{◌<◌, arith, asked_of, length, numbered_of, on_ok_weaker, refl, with_line}, Changes.item-changed}
 use Rattle.case_audit.proofs.owed.add_at.Goals as goal
 
 pub returns-in-Some : goal.returns-in-Some

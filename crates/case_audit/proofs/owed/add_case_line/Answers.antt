@@ -1,6 +1,4 @@
-use Rattle.std.proofs.Common.{ap, sym, ◌∙◌}
-use Rattle.case_audit.proofs.Common.{asked_of, case_among, changed_where, each_among, numbers, on_ok_weaker, with_line}
-use Rattle.case_audit.proofs.Cells.{none-called, one-called}
+use Rattle.case_audit.proofs.{Common.{◌∙◌, ap, asked_of, case_among, changed_where, each_among, numbers, on_ok_weaker, sym, with_line}, Cells.{none-called, one-called}}
 use Rattle.case_audit.proofs.owed.add_case_line.Goals as goal
 
 pub returns-in_default-case : goal.returns-in_default-case

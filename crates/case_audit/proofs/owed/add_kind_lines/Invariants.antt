@@ -1,5 +1,4 @@
-use Rattle.std.proofs.Common.{◌≡◌, drop, fold}
-use Rattle.case_audit.proofs.Common.{asked_in, kind_put, numbers}
+use Rattle.case_audit.proofs.Common.{◌≡◌, asked_in, drop, fold, kind_put, numbers}
 use Rattle.case_audit.proofs.owed.add_kind_lines.Given as goal
 
 abbrev pub invariant-loop-call : goal.invariant-loop-call

@@ -1,7 +1,4 @@
-use Rattle.std.proofs.Common.{ap, sym, ◌∙◌, take, if◌then◌else◌}
-use Rattle.case_audit.proofs.Common.{asked_of, changed_at, is_among, numbers, put_where, with_line}
-use Rattle.case_audit.proofs.Sharing.{put-more}
-use Rattle.case_audit.proofs.owed.add_to_each.Goals.{then-is_among+in_ok-add_at, else-is_among}
+use Rattle.case_audit.proofs.{Common.{◌∙◌, ap, asked_of, changed_at, if◌then◌else◌, is_among, numbers, put_where, sym, take, with_line}, Sharing.put-more, owed.add_to_each.Goals.{then-is_among+in_ok-add_at, else-is_among}}
 use Rattle.case_audit.proofs.owed.add_to_each.Goals as goal
 
 pub loop-place-preserved : goal.loop-place-preserved

@@ -1,5 +1,4 @@
-use Rattle.std.proofs.Common.{◌≡◌, take}
-use Rattle.case_audit.proofs.Common.{asked_of, is_among, numbers, put_where, with_line}
+use Rattle.case_audit.proofs.Common.{◌≡◌, asked_of, is_among, numbers, put_where, take, with_line}
 use Rattle.case_audit.proofs.owed.add_to_each.Given as goal
 
 abbrev pub invariant-loop-place : goal.invariant-loop-place

@@ -1,5 +1,4 @@
-use Rattle.std.proofs.Common.{◌≡◌, [], replicate}
-use Rattle.case_audit.proofs.Common.{numbers}
+use Rattle.case_audit.proofs.Common.{[], ◌≡◌, numbers, replicate}
 use Rattle.case_audit.proofs.owed.nothing_owed.Given as goal
 
 abbrev pub invariant-loop-made : goal.invariant-loop-made

@@ -1,8 +1,4 @@
-use Rattle.std.proofs.Common.{[], take, fold, sym, ap, ◌∙◌, replicate}
-use Rattle.case_audit.proofs.Common.{asked_in, calls_decl, case_put, given, numbers, script_of}
-use Rattle.case_audit.proofs.Cells.{cases-more}
-use Rattle.case_audit.proofs.Changes.{nothing-each}
-use Rattle.case_audit.proofs.Scripts.{script-length, script-more}
+use Rattle.case_audit.proofs.{Common.{[], ◌∙◌, ap, asked_in, calls_decl, case_put, fold, given, numbers, replicate, script_of, sym, take}, Cells.cases-more, Changes.nothing-each, Scripts.{script-length, script-more}}
 use Rattle.case_audit.proofs.owed.owed_cases.Goals as goal
 
 pub loop-phase-init : goal.loop-phase-init

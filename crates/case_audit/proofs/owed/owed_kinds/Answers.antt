@@ -1,8 +1,5 @@
-use Rattle.std.proofs.Common.{[], take, fold, sym, ap, ◌∙◌, replicate}
-use Rattle.case_audit.proofs.Common.{asked_in, calls_number, given, kind_put, length-range_with_len, range_with_len, script_of}
-use Rattle.case_audit.proofs.Cells.{kinds-more}
-use Rattle.case_audit.proofs.Changes.{nothing-each}
-use Rattle.case_audit.proofs.Scripts.{script-length, script-more}
+use Rattle.case_audit.proofs.{Common.{[], ◌∙◌, ap, asked_in, calls_number, fold, given, kind_put, length-range_with_len, range_with_len, replicate, script_of, sym, take}, Cells.kinds-more, Changes.nothing-each, Scripts.script-length}
+use Rattle.case_audit.proofs.Scripts.{script-more}
 use Rattle.case_audit.proofs.owed.owed_kinds.Goals as goal
 
 pub loop-phase-init : goal.loop-phase-init

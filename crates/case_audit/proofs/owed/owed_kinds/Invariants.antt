@@ -1,5 +1,4 @@
-use Rattle.std.proofs.Common.{◌≡◌, take}
-use Rattle.case_audit.proofs.Common.{calls_number, given, numbers, range_with_len, script_of}
+use Rattle.case_audit.proofs.Common.{◌≡◌, calls_number, given, numbers, range_with_len, script_of, take}
 use Rattle.case_audit.proofs.owed.owed_kinds.Given as goal
 
 abbrev pub invariant-loop-phase : goal.invariant-loop-phase

@@ -1,9 +1,5 @@
-use Rattle.std.proofs.Common.{◌+◌, eqb-true, length, Some, sym, ap, ◌∙◌, subst, arith}
-use Rattle.case_audit.proofs.Common.{Followed, IsFirstWrong, IsJudged, IsReport, left_of, nil_from_length}
-use Rattle.audit_facts.proofs.Auditable.{file-auditable}
-use Rattle.case_audit.proofs.FirstLines.{feeds-taken, legal-whole, some-left, wrong-behind, wrong-stopped}
-use Rattle.case_audit.proofs.reports.audit.Goals.{else-stands-via-then-stands+else-is_at_end, else-stands-via-else-stands}
-use Rattle.file_facts.proofs.Workable.{file-workable}
+use Rattle.case_audit.proofs.{Common.{◌+◌, ◌∙◌, ap, arith, eqb-true, file-auditable, file-workable, Followed, IsFirstWrong, IsJudged, IsReport, left_of, length, nil_from_length, Some, subst, sym}, FirstLines.{feeds-taken, legal-whole}}
+use Rattle.case_audit.proofs.{FirstLines.{some-left, wrong-behind, wrong-stopped}, reports.audit.Goals.{else-stands-via-then-stands+else-is_at_end, else-stands-via-else-stands}}
 use Rattle.case_audit.proofs.reports.audit.Goals as goal
 
 pub judge_report-requires-clause-workable : goal.judge_report-requires-clause-workable

@@ -1,6 +1,5 @@
-use Rattle.std.proofs.Common.{◌++◌, List, None, Some, sym, ap, ◌∙◌, subst}
-use Rattle.case_audit.proofs.Common.{ClosedKind, IsModestScript, asked_phases, case_totals, cases_reader, few-asked, file-modest, first_line, FollowedBy, Follows, IfOk-weaker, kinds_reader, migration_totals, script_of, telling}
-use Rattle.case_audit.proofs.ReportParts.{cases-wrong, first-wrong, followed-as, kinds-wrong, totals-judged}
+use Rattle.case_audit.proofs.Common.{◌++◌, ◌∙◌, ap, asked_phases, case_totals, cases_reader, ClosedKind, few-asked, file-modest, first_line, FollowedBy, Follows, IfOk-weaker, IsModestScript, kinds_reader, List, migration_totals, None}
+use Rattle.case_audit.proofs.{Common.{script_of, Some, subst, sym, telling}, ReportParts.{cases-wrong, first-wrong, followed-as, kinds-wrong, totals-judged}}
 use Rattle.case_audit.proofs.reports.judge_report.Goals as goal
 
 pub returns-then-not-branch : goal.returns-then-not-branch

@@ -1,5 +1,4 @@
-use Rattle.std.proofs.Common.{true}
-use Rattle.case_audit.proofs.Common.{case_totals, gives_then, migration_totals}
+use Rattle.case_audit.proofs.Common.{case_totals, gives_then, migration_totals, true}
 use Rattle.case_audit.proofs.reports.put_totals.Goals as goal
 
 pub returns : goal.returns

@@ -1,9 +1,7 @@
-use Rattle.std.proofs.Common.{◌≡◌, ◌-◌, ◌∙◌, sym, ap, subst, arith}
-use Rattle.case_audit.proofs.Common.{AllZip, crosses, frees, range_with_len}
+use Rattle.case_audit.proofs.Common.{◌-◌, ◌∙◌, ◌≡◌, AllZip, ap, arith, crosses, frees, range_with_len, subst, sym}
 use denote.Param.Send.{sendable}
 use Rattle.rayon.specs.Numbers.{nat_range}
-use Rattle.rayon.proofs.ListFacts.{IfOk-then}
-use Rattle.rayon.proofs.ToStd.{nat_range-All}
+use Rattle.rayon.proofs.{ListFacts.IfOk-then, ToStd.nat_range-All}
 use Rattle.case_audit.proofs.sections.each_below.Goals as goal
 
 -- one line for each `Send` and `Sync`, the allocator, and then what the work requires at each number of the range

@@ -1,4 +1,4 @@
-use Rattle.std.proofs.Common.{◌≡◌, ◌≤◌, length}
+use Rattle.case_audit.proofs.Common.{◌≡◌, ◌≤◌, length}
 use Rattle.case_audit.proofs.sections.guessed_starts.Given as goal
 
 abbrev pub invariant-loop-case : goal.invariant-loop-case

@@ -1,5 +1,4 @@
-use Rattle.std.proofs.Common.{◌≡◌, suc, ◌+◌, ◌<◌, [], ◌∷◌, ◌++◌, length, length-append, slice_get, Some, Ok, refl, sym, ap, ◌∙◌, subst, arith}
-use Rattle.case_audit.proofs.Common.{case_reader, InCases, IsCaseAt, IsSection, row-begun, row-read}
+use Rattle.case_audit.proofs.Common.{[], ◌++◌, ◌+◌, ◌<◌, ◌∙◌, ◌∷◌, ◌≡◌, ap, arith, case_reader, InCases, IsCaseAt, IsSection, length, length-append, Ok, refl, row-begun, row-read, slice_get, Some, subst, suc, sym}
 use Rattle.case_audit.proofs.CaseSections.{sections-on, sections-stop}
 use Rattle.case_audit.proofs.sections.join_sections.Goals as goal
 

@@ -1,6 +1,5 @@
-use Rattle.std.proofs.Common.{◌≡◌, ℕ, ◌+◌, List, length, slice_get, Some, Ok}
+use Rattle.case_audit.proofs.Common.{ℕ, ◌+◌, ◌≡◌, Asked, calls_decl, given, InCases, IsSection, length, List, numbers, Ok, Section, slice_get, Some}
 use Rattle.std.specs.Vec.Iter.{into_iter_items, into_iter_len}
-use Rattle.case_audit.proofs.Common.{Asked, calls_decl, given, InCases, IsSection, numbers, Section}
 use Rattle.case_audit.proofs.sections.join_sections.Given as goal
 
 abbrev pub invariant-loop-section : goal.invariant-loop-section

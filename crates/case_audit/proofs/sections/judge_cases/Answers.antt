@@ -1,7 +1,4 @@
-use Rattle.std.proofs.Common.{◌≡◌, length, sym, ap, ◌∙◌, subst}
-use Rattle.case_audit.proofs.Common.{AreOwed, AreSections, calls_decl, given, numbers, script_of}
-use Rattle.case_audit.proofs.OwedOf.{owed-many}
-use Rattle.case_audit.proofs.CaseSections.{are-owed}
+use Rattle.case_audit.proofs.{Common.{◌∙◌, ◌≡◌, ap, AreOwed, AreSections, calls_decl, given, length, numbers, script_of, subst, sym}, OwedOf.owed-many, CaseSections.are-owed}
 use Rattle.case_audit.proofs.sections.judge_cases.Goals as goal
 
 pub judge_sections-requires-clause-owed : goal.judge_sections-requires-clause-owed

@@ -1,7 +1,4 @@
-use Rattle.std.proofs.Common.{◌≡◌, ℕ, Ok, length, get_or, ap, ◌∙◌, subst, arith}
-use Rattle.case_audit.proofs.Common.{Followed, IsCaseAt, IsModestOwed}
-use Rattle.case_audit.proofs.CaseSections.{followed-is, judged-at, text-stays}
-use Rattle.case_audit.proofs.OwedPhases.{row-at}
+use Rattle.case_audit.proofs.{Common.{ℕ, ◌∙◌, ◌≡◌, ap, arith, Followed, get_or, IsCaseAt, IsModestOwed, length, Ok, subst}, CaseSections.{followed-is, judged-at, text-stays}, OwedPhases.row-at}
 use Rattle.case_audit.proofs.sections.judge_section.Goals as goal
 
 pub judge_case-requires-clause-modest : goal.judge_case-requires-clause-modest

@@ -1,8 +1,5 @@
-use Rattle.std.proofs.Common.{subst, IfOk}
-use Rattle.case_audit.proofs.Common.{AllZip, crosses, IfOk-weaker, IsSection, range_with_len}
+use Rattle.case_audit.proofs.{Common.{AllZip, crosses, IfOk, IfOk-weaker, IsSection, range_with_len, subst}, CaseSections.sections-zipped, Sent.{file-sync, line-sync, section-send, version-sync}}
 use denote.Param.Send.{sendable}
-use Rattle.case_audit.proofs.CaseSections.{sections-zipped}
-use Rattle.case_audit.proofs.Sent.{file-sync, line-sync, section-send, version-sync}
 use Rattle.case_audit.proofs.sections.judge_sections.Goals as goal
 
 pub each_below-requires-send-T : goal.each_below-requires-send-T

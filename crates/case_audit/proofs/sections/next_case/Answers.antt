@@ -1,7 +1,4 @@
-use Rattle.std.proofs.Common.{◌≡◌, get_or, subst, arith}
-use Rattle.case_audit.proofs.Common.{IsModestOwed}
-use Rattle.case_audit.proofs.CaseSections.{judged-at, text-stays}
-use Rattle.case_audit.proofs.OwedPhases.{row-at}
+use Rattle.case_audit.proofs.{Common.{◌≡◌, arith, get_or, IsModestOwed, subst}, CaseSections.{judged-at, text-stays}, OwedPhases.row-at}
 use Rattle.case_audit.proofs.sections.next_case.Goals as goal
 
 pub judge_case-requires-clause-modest : goal.judge_case-requires-clause-modest

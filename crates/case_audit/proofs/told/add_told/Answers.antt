@@ -1,6 +1,4 @@
-use Rattle.std.proofs.Common.{◌≡◌, ◌<◌, ◌++◌, ◌∷◌, [], length, map, Some, refl, sym, ap, ◌∙◌, arith}
-use Rattle.case_audit.proofs.Common.{deques_of, map-append, told_by, with_version}
-use Rattle.case_audit.proofs.Changes.{queue-changed}
+use Rattle.case_audit.proofs.{Common.{[], ◌++◌, ◌<◌, ◌∙◌, ◌∷◌, ◌≡◌, ap, arith, deques_of, length, map, map-append, refl, Some, sym, told_by, with_version}, Changes.queue-changed}
 use Rattle.case_audit.proofs.told.add_told.Goals as goal
 
 pub returns-in_ok-push_back-in-Some : goal.returns-in_ok-push_back-in-Some

@@ -1,5 +1,4 @@
-use Rattle.std.proofs.Common.{◌≡◌, ◌+◌, [], replicate}
-use Rattle.case_audit.proofs.Common.{deques_of}
+use Rattle.case_audit.proofs.Common.{[], ◌+◌, ◌≡◌, deques_of, replicate}
 use Rattle.case_audit.proofs.told.nothing_told.Given as goal
 
 abbrev pub invariant-loop-made : goal.invariant-loop-made

@@ -1,5 +1,4 @@
-use Rattle.std.proofs.Common.{◌≡◌, drop, fold}
-use Rattle.case_audit.proofs.Common.{deques_of, journal_told, with_told}
+use Rattle.case_audit.proofs.Common.{◌≡◌, deques_of, drop, fold, journal_told, with_told}
 use Rattle.case_audit.proofs.told.told_by.Given as goal
 
 abbrev pub invariant-loop-entry : goal.invariant-loop-entry

@@ -1,5 +1,4 @@
-use Rattle.std.proofs.Common.{◌≡◌, ◌++◌, drop, flat_map}
-use Rattle.wsm_sound.specs.Versions.{ops_after}
+use Rattle.case_core.proofs.Common.{◌++◌, ◌≡◌, drop, flat_map, ops_after}
 use Rattle.case_core.proofs.changes.ops_after.Given as goal
 
 abbrev pub invariant-loop-i : goal.invariant-loop-i

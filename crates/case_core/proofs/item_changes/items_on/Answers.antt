@@ -1,11 +1,4 @@
-use Rattle.std.proofs.Common.{◌≡◌, ℕ, List, [], None, drop, drop_of_length-le, ap, sym, ◌∙◌, subst, arith}
-use Rattle.case_core.specs.KeptItems.{item_for, with_item}
-use Rattle.case_core.proofs.ItemLoops.{Held, held-first, item-next, unmarked-none}
-use Rattle.wsm_items.specs.declared.work_items.Item.{Item}
-use Rattle.wsm_lists.specs.ByNumber.{item_at}
-use Rattle.wsm_schema.specs.Flat.{cards_of}
-use Rattle.wsm_schema.specs.declared.entries.Entry.{Entry}
-use Rattle.wsm_schema.specs.declared.marks.Mark.{Mark}
+use Rattle.case_core.proofs.{Common.{[], ℕ, ◌∙◌, ◌≡◌, ap, arith, cards_of, drop, drop_of_length-le, Entry, Item, item_at, item_for, List, Mark, None, subst, sym, with_item}, ItemLoops.{Held, held-first, item-next, unmarked-none}}
 use Rattle.case_core.proofs.item_changes.items_on.Goals as goal
 
 pub loop-row-init : goal.loop-row-init

@@ -1,8 +1,4 @@
-use Rattle.std.proofs.Common.{ℕ, [], None, drop}
-use Rattle.case_core.specs.KeptItems.{item_for}
-use Rattle.case_core.proofs.ItemLoops.{Held}
-use Rattle.wsm_lists.specs.ByNumber.{item_at}
-use Rattle.wsm_schema.specs.Flat.{cards_of}
+use Rattle.case_core.proofs.{Common.{[], ℕ, cards_of, drop, item_at, item_for, None}, ItemLoops.Held}
 use Rattle.case_core.proofs.item_changes.items_on.Given as goal
 
 abbrev pub invariant-loop-row : goal.invariant-loop-row

@@ -1,14 +1,5 @@
-use Rattle.std.proofs.Common.{◌≡◌, ℕ, ◌+◌, Option, None, List, ◌∷◌, drop, get_or, length, ap, sym, subst, arith}
-use Rattle.std.specs.Option.{option_copied}
-use Rattle.std.proofs.lemmas.List.{drop_more}
+use Rattle.case_core.proofs.Common.{ℕ, ◌+◌, ◌∷◌, ◌≡◌, ap, arith, Ascends, ascends-change, cards_of, drop, drop_more, first, get_or, IsOfNode, item_at, length, List, Mark, None, Option, option_copied, subst, sym}
 use Rattle.case_core.proofs.ItemLoops.{of-held, renew-next}
-use Rattle.wsm_items.specs.WorkItems.{IsOfNode}
-use Rattle.wsm_lists.specs.ByNumber.{item_at}
-use Rattle.wsm_lists.specs.Keys.{first}
-use Rattle.wsm_lists.specs.Rows.{Ascends}
-use Rattle.wsm_lists.proofs.ByNumber.{ascends-change}
-use Rattle.wsm_schema.specs.Flat.{cards_of}
-use Rattle.wsm_schema.specs.declared.marks.Mark.{Mark}
 use Rattle.case_core.proofs.item_changes.renew_items.Goals as goal
 
 pub renew_item-requires-clause-node : goal.renew_item-requires-clause-node

@@ -1,10 +1,4 @@
-use Rattle.std.proofs.Common.{ℕ, ◌≤◌, drop, length}
-use Rattle.std.specs.Option.{option_copied}
-use Rattle.case_core.proofs.ItemLoops.{Held, renewed}
-use Rattle.wsm_lists.specs.ByNumber.{item_at}
-use Rattle.wsm_lists.specs.Keys.{first}
-use Rattle.wsm_lists.specs.Rows.{Ascends}
-use Rattle.wsm_schema.specs.Flat.{cards_of}
+use Rattle.case_core.proofs.{Common.{ℕ, ◌≤◌, Ascends, cards_of, drop, first, item_at, length, option_copied}, ItemLoops.{Held, renewed}}
 use Rattle.case_core.proofs.item_changes.renew_items.Given as goal
 
 abbrev pub invariant-loop-change : goal.invariant-loop-change

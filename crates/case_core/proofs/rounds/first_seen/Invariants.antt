@@ -1,5 +1,4 @@
-use Rattle.std.proofs.Common.{◌≡◌, ◌+◌, ◌≤◌, drop}
-use Rattle.case_core.specs.Rounds.{first_seen}
+use Rattle.case_core.proofs.Common.{◌+◌, ◌≡◌, ◌≤◌, drop, first_seen}
 use Rattle.case_core.proofs.rounds.first_seen.Given as goal
 
 abbrev pub invariant-loop-node : goal.invariant-loop-node

@@ -1,7 +1,4 @@
-use Rattle.std.proofs.lemmas.Result.{IfOk-weaker}
-use Rattle.case_core.specs.Remarks.{IsTimedOn}
-use Rattle.case_core.proofs.Marked.{timed-on}
-use Rattle.wsm_settle.specs.Timing.{IsTimed}
+use Rattle.case_core.proofs.{Common.{IfOk-weaker, IsTimed, IsTimedOn}, Marked.timed-on}
 use Rattle.case_core.proofs.timing.timed_on.Goals as goal
 
 pub returns-clause-marks : goal.returns-clause-marks

@@ -1,12 +1,5 @@
-use Rattle.std.proofs.Common.{◌≤◌, ◌^◌, length}
-use Rattle.std.proofs.lemmas.Result.{IfErr-weaker, IfOk-at_ok, on_ok_weaker}
-use Rattle.case_keep.proofs.Outcomes.{fault-is, second-faults, second-full, stored-list}
-use Rattle.case_keep.proofs.Stepped.{run-again}
+use Rattle.case_keep.proofs.{Common.{◌^◌, ◌≤◌, calls, HoldsRun, IfErr-weaker, IfOk-at_ok, IsPlayFault, IsStored, length, on_ok_weaker, payloads, Tells}, Outcomes.{fault-is, second-faults, second-full, stored-list}, Stepped.run-again}
 use Rattle.case_keep.proofs.playing.play_file.Goals as goal
-use Rattle.case_keep.specs.Playing.{HoldsRun, IsPlayFault}
-use Rattle.store_calls.specs.Calls.{calls, payloads}
-use Rattle.store_keep.specs.Keeping.{IsStored}
-use Rattle.store_keep.specs.Refusals.{Tells}
 
 pub returns-in-Ok-clause-run : goal.returns-in-Ok-clause-run
 returns-in-Ok-clause-run g c =

@@ -1,5 +1,4 @@
-use Rattle.std.proofs.Common.{◌≡◌, ◌⊎◌, ◌∙◌, Err, ap, subst}
-use Rattle.case_keep.proofs.Stepped.{is-unwritten}
+use Rattle.case_keep.proofs.{Common.{◌∙◌, ◌≡◌, ◌⊎◌, ap, Err, subst}, Stepped.is-unwritten}
 use Rattle.case_keep.proofs.playing.play_over.Goals as goal
 
 pub returns-in-Err-clause-run : goal.returns-in-Err-clause-run

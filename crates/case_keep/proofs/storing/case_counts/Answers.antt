@@ -1,8 +1,5 @@
-use Rattle.std.proofs.Common.{◌≡◌, ◌<◌, arith, length}
-use Rattle.case_keep.proofs.Stepped.{counts-next}
+use Rattle.case_keep.proofs.{Common.{◌<◌, ◌≡◌, arith, case_counts, cases_of_type, length}, Stepped.counts-next}
 use Rattle.case_keep.proofs.storing.case_counts.Goals as goal
-use Rattle.file_model.specs.CaseCounts.{cases_of_type}
-use Rattle.store_runs.specs.Stored.{case_counts}
 
 pub loop-type_no-preserved : goal.loop-type_no-preserved
 loop-type_no-preserved c =

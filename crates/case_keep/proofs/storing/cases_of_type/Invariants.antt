@@ -1,5 +1,4 @@
-use Rattle.std.proofs.Common.{◌≡◌, ◌≤◌, take}
-use Rattle.file_model.specs.CaseCounts.{cases_of_type}
+use Rattle.case_keep.proofs.Common.{◌≡◌, ◌≤◌, cases_of_type, take}
 use Rattle.case_keep.proofs.storing.cases_of_type.Given as goal
 
 abbrev pub invariant-loop-case : goal.invariant-loop-case

@@ -1,12 +1,6 @@
-use Rattle.std.proofs.Common.{◌∙◌, [], ap, subst, sym}
-use Rattle.case_keep.proofs.Stepped.{few-cases, opened, part-disk, untouched}
+use Rattle.case_keep.proofs.{Common.{[], ◌∙◌, ap, disk_refused, HoldsBeginning, IsStore, LeavesOnly, payloads, subst, sym}, Stepped.{few-cases, opened, part-disk, untouched}}
 use Rattle.case_keep.proofs.storing.open_over.Goals as goal
 use Rattle.case_store.proofs.Empty.{empty-store}
-use Rattle.case_store.specs.Damage.{disk_refused}
-use Rattle.case_store.specs.Standing.{IsStore}
-use Rattle.store_calls.specs.Calls.{payloads}
-use Rattle.store_disk.specs.Disk.{LeavesOnly}
-use Rattle.store_keep.specs.Keeping.{HoldsBeginning}
 
 pub open-requires : goal.open-requires
 open-requires g c = few-cases c.args.file.now c.requires.workable c.deref.result.now (c.deref.ensures.value ∙ c.in-Ok.ensures.counts)

@@ -1,10 +1,5 @@
-use Rattle.std.proofs.Common.{◌≡◌, ◌∙◌, subst, sym}
-use Rattle.std.proofs.lemmas.Result.{on_ok_weaker}
-use Rattle.case_keep.proofs.Stepped.{none-stepped, same-run}
+use Rattle.case_keep.proofs.{Common.{◌∙◌, ◌≡◌, AreKnown, calls, fresh, IsStore, on_ok_weaker, payloads, starts_of, subst, sym}, Stepped.{none-stepped, same-run}}
 use Rattle.case_keep.proofs.storing.step_calls_of.Goals as goal
-use Rattle.case_store.specs.Folding.{fresh, starts_of}
-use Rattle.case_store.specs.Standing.{AreKnown, IsStore}
-use Rattle.store_calls.specs.Calls.{calls, payloads}
 use Rattle.store_runs.proofs.Known.{file-calls}
 
 pub returns-in_err-told-clause-any_moment : goal.returns-in_err-told-clause-any_moment

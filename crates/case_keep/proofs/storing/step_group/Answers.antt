@@ -1,10 +1,7 @@
-use Rattle.std.proofs.Common.{◌≡◌, ◌+◌, ◌-◌, ◌++◌, ◌∙◌, Err, ap, arith, drop, length, length-drop, subst, sym, take}
-use Rattle.std.proofs.lemmas.List.{length-take}
+use Rattle.case_keep.proofs.Common.{◌++◌, ◌+◌, ◌-◌, ◌∙◌, ◌≡◌, AddsFirst, ap, arith, drop, Err, IsStore, length, length-drop, length-take, Overflows, subst, sym, take}
 use Rattle.case_keep.proofs.Stepped.{group-moments, phase, phase-first, phase-fits, phase-known, phase-over, phase-within, step-full}
 use Rattle.case_keep.proofs.storing.step_group.Goals as goal
-use Rattle.case_store.specs.Standing.{AddsFirst, IsStore}
 use Rattle.case_store.specs.declared.refusals.StoreFault.TheVariants as store_fault
-use Rattle.store_room.specs.Room.{Overflows}
 
 pub step_first-requires : goal.step_first-requires
 step_first-requires g c κs within =

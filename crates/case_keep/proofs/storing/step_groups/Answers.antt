@@ -1,7 +1,5 @@
-use Rattle.std.proofs.Common.{arith, map, refl}
-use Rattle.case_keep.proofs.Stepped.{none-stepped}
+use Rattle.case_keep.proofs.{Common.{arith, map, payload_of, refl}, Stepped.none-stepped}
 use Rattle.case_keep.proofs.storing.step_groups.Goals as goal
-use Rattle.store_room.specs.Room.{payload_of}
 
 pub loop-stored-init : goal.loop-stored-init
 loop-stored-init g c =

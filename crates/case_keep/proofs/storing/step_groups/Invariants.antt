@@ -1,9 +1,5 @@
-use Rattle.std.proofs.Common.{◌≡◌, ◌-◌, ◌≤◌, ◌^◌, [], false, length, map, take}
+use Rattle.case_keep.proofs.Common.{[], ◌-◌, ◌^◌, ◌≡◌, ◌≤◌, false, HoldsBeginning, IsStore, LeavesOnly, length, map, Overflows, payload_of, take}
 use Rattle.case_keep.proofs.storing.step_groups.Given as goal
-use Rattle.case_store.specs.Standing.{IsStore}
-use Rattle.store_disk.specs.Disk.{LeavesOnly}
-use Rattle.store_keep.specs.Keeping.{HoldsBeginning}
-use Rattle.store_room.specs.Room.{Overflows, payload_of}
 
 abbrev pub ghost-step_group : goal.ghost-step_group
 ghost-step_group g a = record { counts = g.counts; records = take a.stored a.calls.now }

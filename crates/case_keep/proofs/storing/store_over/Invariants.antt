@@ -1,4 +1,4 @@
-use Rattle.store_runs.specs.Stored.{case_counts}
+use Rattle.case_keep.proofs.Common.{case_counts}
 use Rattle.case_keep.proofs.storing.store_over.Given as goal
 
 abbrev pub ghost-step_calls_of : goal.ghost-step_calls_of

@@ -1,6 +1,5 @@
-use Rattle.std.proofs.Common.{ap}
+use Rattle.case_store.proofs.{Common.ap, Cells.cases-next}
 use Rattle.case_core.specs.Instances.{CountedCase}
-use Rattle.case_store.proofs.Cells.{cases-next}
 use Rattle.case_store.proofs.held.add_cases.Goals as goal
 
 pub loop-preserved : goal.loop-preserved

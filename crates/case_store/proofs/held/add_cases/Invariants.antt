@@ -1,6 +1,4 @@
-use Rattle.std.proofs.Common.{◌≡◌, ◌-◌, ◌++◌, []}
-use Rattle.std.specs.Prelude.{replicate}
-use Rattle.case_core.specs.CaseModel.{not_created}
+use Rattle.case_store.proofs.Common.{[], ◌++◌, ◌-◌, ◌≡◌, not_created, replicate}
 use Rattle.case_store.proofs.held.add_cases.Given as goal
 
 abbrev pub invariant-loop : goal.invariant-loop

@@ -1,5 +1,4 @@
-use Rattle.std.proofs.Common.{◌≡◌, ◌++◌, drop}
-use Rattle.case_store.specs.Folding.{fresh_kinds}
+use Rattle.case_store.proofs.Common.{◌++◌, ◌≡◌, drop, fresh_kinds}
 use Rattle.case_store.proofs.held.fresh_kinds.Given as goal
 
 abbrev pub invariant-loop-type_no : goal.invariant-loop-type_no

@@ -1,6 +1,4 @@
-use Rattle.std.proofs.Common.{◌≡◌, ◌+◌, ◌++◌, drop}
-use Rattle.std.specs.Prelude.{sum}
-use Rattle.case_store.specs.Folding.{starts_from}
+use Rattle.case_store.proofs.Common.{◌++◌, ◌+◌, ◌≡◌, drop, starts_from, sum}
 use Rattle.case_store.proofs.held.starts_of.Given as goal
 
 abbrev pub invariant-loop-count : goal.invariant-loop-count

@@ -1,10 +1,5 @@
-use Rattle.std.proofs.Common.{◌≤◌, ◌∙◌, ◌^◌, false, length, subst, sym}
+use Rattle.case_store.proofs.{Common.{◌^◌, ◌∙◌, ◌≤◌, false, IsSettled, length, Opens, refused, Says, subst, sym}, Folds.{fresh-fold, fresh-old, gate-there, opens, says}}
 use Rattle.std.proofs.lemmas.Result.{err_from_is_err_and}
-use Rattle.case_store.proofs.Folds.{fresh-fold, fresh-old, gate-there, opens, says}
-use Rattle.case_store.specs.Damage.{Says}
-use Rattle.case_store.specs.Faults.{refused}
-use Rattle.case_store.specs.Standing.{Opens}
-use Rattle.store_disk.specs.Disk.{IsSettled}
 use Rattle.case_store.proofs.stores.read_cells.Goals as goal
 
 pub take_all-requires : goal.take_all-requires

@@ -1,18 +1,6 @@
-use Rattle.std.proofs.Common.{◌≡◌, ◌+◌, ◌-◌, ◌<◌, List, map, length, get_or, Vec, Global, vec_len, ℕ, Some, slice_get, sym, ap, ◌∙◌, arith}
-use Rattle.std.proofs.lemmas.List.{get_or-map, length-map, map-set}
-use Rattle.std.proofs.lemmas.Option.{slice_get-get_or, same_Some}
+use Rattle.crew_run.proofs.Common.{ℕ, ◌+◌, ◌-◌, ◌<◌, ◌∙◌, ◌≡◌, ap, AreCounts, arith, CaseDecl, CaseModel, Closed, closed_case, CountedCase, Event, File, get_or, get_or-map, Global, length, length-map, List, map, map-set, Reply, same_Some}
+use Rattle.crew_run.proofs.{Common.{slice_get, slice_get-get_or, Some, sym, Vec, vec_len, View}, RowsEmptied.{all_emptied, none_emptied, one_more_emptied, row_length, row_there}}
 use Rattle.std.proofs.lemmas.Simd.{map-map}
-use Rattle.case_core.specs.CaseModel.{CaseModel}
-use Rattle.case_core.specs.Instances.{CountedCase}
-use Rattle.case_core.specs.declared.events.Event.{Event}
-use Rattle.case_core.specs.declared.replies.Reply.{Reply}
-use Rattle.case_core.specs.declared.views.View.{View}
-use Rattle.crew_run.proofs.RowsEmptied.{all_emptied, none_emptied, one_more_emptied, row_length, row_there}
-use Rattle.crew_run.specs.CaseCounts.{AreCounts}
-use Rattle.crew_run.specs.Closing.{closed_case}
-use Rattle.file_model.specs.declared.files.CaseDecl.{CaseDecl}
-use Rattle.file_model.specs.declared.files.File.{File}
-use Rattle.turn_cell.specs.declared.journal.Closed.{Closed}
 use Rattle.crew_run.proofs.closing.closed_cases.Goals as goal
 
 abbrev Row : Type 0

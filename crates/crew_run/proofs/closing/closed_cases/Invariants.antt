@@ -1,6 +1,4 @@
-use Rattle.std.proofs.Common.{◌+◌, ◌≤◌, map, vec_len, vec_capacity}
-use Rattle.crew_run.proofs.RowsEmptied.{EmptiedTo}
-use Rattle.crew_run.specs.Closing.{closed_case}
+use Rattle.crew_run.proofs.{Common.{◌+◌, ◌≤◌, closed_case, map, vec_capacity, vec_len}, RowsEmptied.EmptiedTo}
 use Rattle.crew_run.proofs.closing.closed_cases.Given as goal
 
 abbrev pub invariant-loop-index : goal.invariant-loop-index

@@ -1,6 +1,4 @@
-use Rattle.std.proofs.Common.{length, refl, sym, ap, ◌∙◌, arith}
-use Rattle.std.specs.Vec.Iter.{into_iter_items}
-use Rattle.std.proofs.lemmas.List.{nil_from_length}
+use Rattle.crew_run.proofs.Common.{◌∙◌, ap, arith, into_iter_items, length, nil_from_length, refl, sym}
 use Rattle.crew_run.proofs.closing.dismiss.Goals as goal
 
 pub loop-worker-init : goal.loop-worker-init

@@ -1,8 +1,4 @@
-use Rattle.std.proofs.Common.{◌≡◌, ◌+◌, ◌≤◌, length}
-use Rattle.std.specs.Vec.Iter.{into_iter_items, into_iter_len}
-use Rattle.adept_server.specs.Desks.{IsDeskOf, desk_view}
-use Rattle.crew_run.specs.Desks.{all_joined}
-use Rattle.wsm_lists.specs.Rows.{AllRows}
+use Rattle.crew_run.proofs.Common.{◌+◌, ◌≡◌, ◌≤◌, all_joined, AllRows, desk_view, into_iter_items, into_iter_len, IsDeskOf, length}
 use Rattle.crew_run.proofs.closing.dismiss.Given as goal
 
 abbrev pub invariant-loop-worker : goal.invariant-loop-worker

@@ -1,5 +1,4 @@
-use Rattle.std.proofs.lemmas.Slice.Zip.{AllZip-long}
-use Rattle.crew_run.proofs.SideBySide.{zip-both}
+use Rattle.crew_run.proofs.{Common.AllZip-long, SideBySide.zip-both}
 use Rattle.crew_run.proofs.closing.run_of.Goals as goal
 
 pub returns : goal.returns

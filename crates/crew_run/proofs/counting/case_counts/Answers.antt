@@ -1,7 +1,4 @@
-use Rattle.std.proofs.Common.{◌≡◌, ◌<◌, get_or, replicate, length, ap, ◌∙◌, arith}
-use Rattle.std.proofs.lemmas.List.{get_or_default}
-use Rattle.crew_run.proofs.CasePlaces.{typed_at}
-use Rattle.crew_run.proofs.CasesCounted.{none_counted, one_more_counted}
+use Rattle.crew_run.proofs.{Common.{◌<◌, ◌∙◌, ◌≡◌, ap, arith, get_or, get_or_default, length, replicate}, CasePlaces.typed_at, CasesCounted.{none_counted, one_more_counted}}
 use Rattle.crew_run.proofs.counting.case_counts.Goals as goal
 
 pub loop-decl-init : goal.loop-decl-init

@@ -1,5 +1,4 @@
-use Rattle.std.proofs.Common.{length}
-use Rattle.crew_run.proofs.CasesCounted.{CountedUpTo}
+use Rattle.crew_run.proofs.{Common.length, CasesCounted.CountedUpTo}
 use Rattle.crew_run.proofs.counting.case_counts.Given as goal
 
 abbrev pub invariant-loop-decl : goal.invariant-loop-decl

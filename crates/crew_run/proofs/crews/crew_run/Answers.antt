@@ -1,15 +1,5 @@
-use Rattle.std.proofs.Common.{◌≡◌, ◌+◌, ◌∙◌, length, map, ap, arith, slice_get, subst, sym, Some}
-use Rattle.std.proofs.lemmas.List.{length-map, with_items_is}
-use Rattle.std.proofs.lemmas.Result.{IfOk-weaker}
-use Rattle.adept_server.specs.Desks.{IsDeskOf, desk_view}
-use Rattle.crew_run.proofs.DesksCanWork.{shape-of}
-use Rattle.crew_run.proofs.RunEnds.{has-taken, legal-of, never-overfull}
-use Rattle.crew_run.proofs.SideBySide.{all-of}
-use Rattle.crew_run.specs.CaseCounts.{AreCounts}
-use Rattle.crew_run.specs.Crew.{AreHired}
-use Rattle.crew_run.specs.Desks.{all_joined}
-use Rattle.crew_run.specs.declared.workers.Worker.{Worker}
-use Rattle.wsm_lists.specs.Rows.{AllRows}
+use Rattle.crew_run.proofs.{Common.{◌+◌, ◌∙◌, ◌≡◌, all_joined, AllRows, ap, AreCounts, AreHired, arith, desk_view, IfOk-weaker, IsDeskOf, length, length-map, map, slice_get, Some, subst, sym, with_items_is, Worker}, DesksCanWork.shape-of}
+use Rattle.crew_run.proofs.{RunEnds.{has-taken, legal-of, never-overfull}, SideBySide.all-of}
 use Rattle.crew_run.proofs.crews.crew_run.Goals as goal
 
 pub hire-requires-clause-idle : goal.hire-requires-clause-idle

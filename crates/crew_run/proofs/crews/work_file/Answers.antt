@@ -1,13 +1,5 @@
-use Rattle.std.proofs.Common.{◌≡◌, ◌∙◌, [], length, ap, subst}
-use Rattle.adept_server.specs.Desks.{IsDeskOf, desk_view}
-use Rattle.adept_server.specs.Noting.{AreLevelDesks}
-use Rattle.crew_run.proofs.CrewAlong.{begun, few-none}
-use Rattle.crew_run.proofs.DesksCanWork.{knows-heard}
-use Rattle.crew_run.proofs.DesksMeet.{all-level, heard-is-more}
-use Rattle.crew_run.proofs.FullSeen.{if_err-same, many-seen}
-use Rattle.crew_run.proofs.SideBySide.{all-of}
-use Rattle.crew_run.specs.Crew.{Defines, KnowsTypes}
-use Rattle.crew_run.specs.Phases.{IsAlong, IsOverfull}
+use Rattle.crew_run.proofs.{Common.{[], ◌∙◌, ◌≡◌, ap, AreLevelDesks, Defines, desk_view, IsAlong, IsDeskOf, IsOverfull, KnowsTypes, length, subst}, CrewAlong.{begun, few-none}, DesksCanWork.knows-heard, DesksMeet.{all-level, heard-is-more}}
+use Rattle.crew_run.proofs.{FullSeen.{if_err-same, many-seen}, SideBySide.all-of}
 use Rattle.turn_cell.specs.declared.faults.CallFault.TheVariants as fault
 use Rattle.crew_run.proofs.crews.work_file.Goals as goal
 

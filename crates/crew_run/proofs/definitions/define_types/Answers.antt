@@ -1,11 +1,5 @@
-use Rattle.std.proofs.Common.{◌≡◌, Err, IsErrAnd, Ok, OnOk, Result, arith, get_or, length}
-use Rattle.std.proofs.lemmas.Option.{slice_get-get_or}
-use Rattle.adept_server.specs.Desks.{desk_view}
-use Rattle.crew_run.proofs.FullSeen.{called-full, if_err-same}
-use Rattle.crew_run.proofs.TypesDefined.{defines-no_more, defines-none, defines-one, knows-more}
-use Rattle.crew_run.specs.Crew.{SeesMany}
-use Rattle.file_facts.proofs.Cases.{row-at}
-use Rattle.file_facts.specs.Facts.{IsSound}
+use Rattle.crew_run.proofs.{Common.{◌≡◌, arith, desk_view, Err, get_or, IsErrAnd, IsSound, length, Ok, OnOk, Result, row-at, SeesMany, slice_get-get_or}, FullSeen.{called-full, if_err-same}, TypesDefined.{defines-no_more, defines-none}}
+use Rattle.crew_run.proofs.TypesDefined.{defines-one, knows-more}
 use Rattle.turn_cell.specs.declared.faults.CallFault.TheVariants as fault
 use Rattle.crew_run.proofs.definitions.define_types.Goals as goal
 

@@ -1,5 +1,4 @@
-use Rattle.adept_server.specs.Desks.{IsDeskOf, desk_view}
-use Rattle.crew_run.specs.Crew.{Defines, KnowsTypes}
+use Rattle.crew_run.proofs.Common.{Defines, desk_view, IsDeskOf, KnowsTypes}
 use Rattle.crew_run.proofs.definitions.define_types.Given as goal
 
 abbrev pub invariant-loop-type_no : goal.invariant-loop-type_no

@@ -1,8 +1,4 @@
-use Rattle.std.proofs.Common.{◌≡◌, ◌+◌, ◌∙◌, ap, arith, length, subst, sym}
-use Rattle.std.proofs.lemmas.List.{length_push}
-use Rattle.adept_server.specs.Desks.{desk_view}
-use Rattle.crew_run.proofs.Hired.{hired-push, parent-shape}
-use Rattle.crew_run.specs.Crew.{AreHired}
+use Rattle.crew_run.proofs.{Common.{◌+◌, ◌∙◌, ◌≡◌, ap, AreHired, arith, desk_view, length, length_push, subst, sym}, Hired.{hired-push, parent-shape}}
 use Rattle.crew_run.proofs.hiring.hire.Goals as goal
 
 pub desk-requires-clause-few : goal.desk-requires-clause-few

@@ -1,7 +1,4 @@
-use Rattle.std.proofs.Common.{◌≡◌, length}
-use Rattle.adept_server.specs.Desks.{desk_view}
-use Rattle.crew_run.specs.Crew.{AreHired}
-use Rattle.crew_run.specs.Desks.{HasShapeOf}
+use Rattle.crew_run.proofs.Common.{◌≡◌, AreHired, desk_view, HasShapeOf, length}
 use Rattle.crew_run.proofs.hiring.hire.Given as goal
 
 abbrev pub invariant-loop : goal.invariant-loop

@@ -1,11 +1,5 @@
-use Rattle.std.proofs.Common.{◌≡◌, ◌+◌, ◌-◌, ◌<◌, ℕ, ◌∷◌, [], drop, drop_of_length-le, get_or, length, ap, refl, ◌∙◌, subst, arith}
-use Rattle.std.proofs.Math.ListN.{length-set}
-use Rattle.crew_run.proofs.LineByLine.{IsAmong, crew-first, crew-last, crew-next, row-next}
-use Rattle.crew_run.proofs.LineByLine.{roles-at}
-use Rattle.crew_run.specs.Phases.{TakesLine}
-use Rattle.crew_run.specs.declared.workers.Worker.{Worker}
-use Rattle.file_facts.specs.Facts.{IsKnown}
-use Rattle.legal_run.proofs.Places.{cut-at}
+use Rattle.crew_run.proofs.{Common.{[], ℕ, ◌+◌, ◌-◌, ◌<◌, ◌∙◌, ◌∷◌, ◌≡◌, ap, arith, cut-at, drop, drop_of_length-le, get_or, IsKnown, length, length-set, refl, subst, TakesLine, Worker}, LineByLine.{IsAmong, crew-first, crew-last}}
+use Rattle.crew_run.proofs.LineByLine.{crew-next, row-next, roles-at}
 use Rattle.crew_run.proofs.in_order.work_in_order.Goals as goal
 
 pub loop-line-init : goal.loop-line-init

@@ -1,6 +1,4 @@
-use Rattle.std.proofs.Common.{◌≡◌, ◌<◌, ℕ, drop, get_or, length}
-use Rattle.crew_run.proofs.LineByLine.{IsAmong}
-use Rattle.crew_run.specs.declared.workers.Worker.{Worker}
+use Rattle.crew_run.proofs.{Common.{ℕ, ◌<◌, ◌≡◌, drop, get_or, length, Worker}, LineByLine.IsAmong}
 use Rattle.crew_run.proofs.in_order.work_in_order.Given as goal
 
 abbrev pub invariant-loop-line : goal.invariant-loop-line

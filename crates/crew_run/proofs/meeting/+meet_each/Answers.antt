@@ -1,12 +1,5 @@
-use Rattle.std.proofs.Common.{◌∷◌, ◌∙◌, arith, refl, subst, sym}
-use Rattle.std.specs.List.{AllZip}
-use Rattle.adept_server.specs.Desks.{IsDeskOf, desk_view}
-use Rattle.adept_server.specs.Noting.{AreLevelDesks}
-use Rattle.adept_server.specs.Opening.{SeesMore}
+use Rattle.crew_run.proofs.Common.{◌∙◌, ◌∷◌, all-rows-map, AllRows, AllZip, AreLevelDesks, arith, desk_view, HasMet, IsDeskOf, refl, SeesMore, subst, sym}
 use Rattle.crew_run.proofs.DesksMeet.{desk-heard_more, desk-heard_nothing, first-calm, level-back, level-then, pair-of, same-is-seen, same-level, same-stays, seen-stays, seen-then}
-use Rattle.crew_run.specs.Crew.{HasMet}
-use Rattle.wsm_lists.proofs.Lists.{all-rows-map}
-use Rattle.wsm_lists.specs.Rows.{AllRows}
 use Rattle.crew_run.proofs.meeting.+meet_each.Goals as goal
 
 pub returns-in_default-clause-first : goal.returns-in_default-clause-first

@@ -1,4 +1,4 @@
-use Rattle.std.proofs.Common.{length}
+use Rattle.crew_run.proofs.Common.{length}
 use Rattle.crew_run.proofs.meeting.+meet_each.Given as goal
 
 abbrev pub decreases-meet_each : goal.decreases-meet_each

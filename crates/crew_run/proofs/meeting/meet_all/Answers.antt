@@ -1,13 +1,4 @@
-use Rattle.std.proofs.Common.{◌∙◌}
-use Rattle.adept_server.proofs.Zips.{beside}
-use Rattle.adept_server.specs.Desks.{IsDeskOf, desk_view}
-use Rattle.adept_server.specs.Noting.{AreLevelDesks}
-use Rattle.adept_server.specs.Opening.{SeesMore}
-use Rattle.crew_run.proofs.DesksMeet.{desk-heard_more}
-use Rattle.crew_run.proofs.SideBySide.{zip-both, zip-second}
-use Rattle.crew_run.specs.Crew.{HasMet}
-use Rattle.crew_run.specs.Desks.{DeskSame}
-use Rattle.file_facts.proofs.Cases.{row-at}
+use Rattle.crew_run.proofs.{Common.{◌∙◌, AreLevelDesks, beside, desk_view, DeskSame, HasMet, IsDeskOf, row-at, SeesMore}, DesksMeet.desk-heard_more, SideBySide.{zip-both, zip-second}}
 use Rattle.crew_run.proofs.meeting.meet_all.Goals as goal
 
 pub meet_each-requires-2-clause-crew : goal.meet_each-requires-2-clause-crew

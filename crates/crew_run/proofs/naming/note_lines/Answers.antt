@@ -1,7 +1,5 @@
-use Rattle.std.proofs.Common.{◌≡◌, ◌+◌, ◌++◌, [], ◌∷◌, false, length, take, take_all, ap, sym, ◌∙◌, subst, arith}
-use Rattle.adept_actor.specs.Others.{IsUnnamedCase, IsUnnamedKind, names_case, names_kind}
-use Rattle.crew_run.proofs.SideBySide.{took-at}
-use Rattle.wsm_lists.proofs.Lists.{rows-append}
+use Rattle.crew_run.proofs.{Common.{[], ◌++◌, ◌+◌, ◌∙◌, ◌∷◌, ◌≡◌, ap, arith, false, IsUnnamedCase, IsUnnamedKind, length, names_case, names_kind, rows-append, subst, sym, take}, SideBySide.took-at}
+use Rattle.std.proofs.Common.{take_all}
 use Rattle.crew_run.proofs.naming.note_lines.Goals as goal
 
 pub loop-line-init : goal.loop-line-init

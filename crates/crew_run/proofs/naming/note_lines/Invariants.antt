@@ -1,7 +1,4 @@
-use Rattle.std.proofs.Common.{◌≡◌, ℕ, take}
-use Rattle.adept_actor.specs.Others.{IsUnnamedCase, IsUnnamedKind}
-use Rattle.adept_server.specs.Noting.{IsCalmCase, IsCalmKind, rows_of}
-use Rattle.wsm_sound.specs.declared.versions.CaseId.{CaseId}
+use Rattle.crew_run.proofs.Common.{ℕ, ◌≡◌, CaseId, IsCalmCase, IsCalmKind, IsUnnamedCase, IsUnnamedKind, rows_of, take}
 use Rattle.crew_run.proofs.naming.note_lines.Given as goal
 
 abbrev pub invariant-loop-line : goal.invariant-loop-line

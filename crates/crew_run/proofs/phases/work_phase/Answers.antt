@@ -1,10 +1,5 @@
-use Rattle.std.proofs.Common.{◌+◌, ◌∙◌, arith, get_or, length}
-use Rattle.std.proofs.lemmas.Option.{slice_get-get_or}
-use Rattle.std.proofs.lemmas.Result.{IfErr-weaker, on_ok_weaker}
-use Rattle.adept_server.specs.Desks.{desk_view}
-use Rattle.crew_run.proofs.DesksCanWork.{can-work, knows-same, shape-of}
-use Rattle.crew_run.proofs.DesksMeet.{beside-shape}
-use Rattle.crew_run.proofs.PhaseWorked.{crew-behind, full-behind, no-fault, phase-worked, worked-desks, worked-level}
+use Rattle.crew_run.proofs.{Common.{◌+◌, ◌∙◌, arith, desk_view, get_or, IfErr-weaker, length, on_ok_weaker, slice_get-get_or}, DesksCanWork.{can-work, knows-same, shape-of}, DesksMeet.beside-shape, PhaseWorked.{crew-behind, full-behind}}
+use Rattle.crew_run.proofs.PhaseWorked.{no-fault, phase-worked, worked-desks, worked-level}
 use Rattle.crew_run.proofs.phases.work_phase.Goals as goal
 
 pub work_lines-requires-clause-ready : goal.work_lines-requires-clause-ready

@@ -1,11 +1,6 @@
-use Rattle.std.proofs.Common.{◌≡◌, ◌+◌, ◌∙◌, ◌∷◌, ◌++◌, [], ap, arith, length, subst, sym, take, take_all}
-use Rattle.adept_server.specs.Desks.{desk_view}
-use Rattle.crew_run.proofs.CrewAlong.{along-then, few-none, few-then, traces-push}
-use Rattle.crew_run.proofs.DesksCanWork.{knows-heard}
-use Rattle.crew_run.proofs.FullSeen.{if_err-same}
-use Rattle.crew_run.proofs.SideBySide.{took-at}
-use Rattle.crew_run.specs.Phases.{IsOverfull}
-use Rattle.legal_run.specs.Legal.{AreTraces}
+use Rattle.crew_run.proofs.{Common.{[], ◌++◌, ◌+◌, ◌∙◌, ◌∷◌, ◌≡◌, ap, AreTraces, arith, desk_view, IsOverfull, length, subst, sym, take}, CrewAlong.{along-then, few-none, few-then, traces-push}, DesksCanWork.knows-heard}
+use Rattle.crew_run.proofs.{FullSeen.if_err-same, SideBySide.took-at}
+use Rattle.std.proofs.Common.{take_all}
 use Rattle.turn_cell.specs.declared.faults.CallFault.TheVariants as fault
 use Rattle.crew_run.proofs.phases.work_phases.Goals as goal
 

@@ -1,9 +1,4 @@
-use Rattle.std.proofs.Common.{List, length, take}
-use Rattle.adept_server.specs.Desks.{desk_view}
-use Rattle.adept_server.specs.Noting.{IsCalledOf}
-use Rattle.crew_run.specs.Crew.{IsCrew, KnowsTypes}
-use Rattle.crew_run.specs.Phases.{AreFew, IsAlong}
-use Rattle.legal_run.specs.Legal.{AreTraces, Trace}
+use Rattle.crew_run.proofs.Common.{AreFew, AreTraces, desk_view, IsAlong, IsCalledOf, IsCrew, KnowsTypes, length, List, take, Trace}
 use Rattle.crew_run.proofs.phases.work_phases.Given as goal
 
 abbrev pub invariant-loop-lines : goal.invariant-loop-lines

@@ -1,13 +1,8 @@
-use Rattle.std.proofs.Common.{get_or, subst}
-use Rattle.std.proofs.Crossing.{crosses}
+use Rattle.crew_run.proofs.Common.{case-send, case-sync, crosses, desk_view, event-send, event-sync, get_or, HasWorked, HasWorkedLines, IsDeskOf, LeavesUnnamed, subst}
 use denote.Param.Send.{IsSync, sendable}
 use denote.Param.{param}
-use Rattle.adept_server.proofs.Sent.{case-send, case-sync, event-send, event-sync}
-use Rattle.adept_actor.specs.Others.{LeavesUnnamed}
-use Rattle.adept_server.specs.Desks.{IsDeskOf, desk_view}
 use Rattle.case_core.proofs.replies.Reply.TheSendSync as reply
 use Rattle.crew_run.proofs.Sent.{closed-sync, kind-send, kind-sync, kind_event-send, kind_event-sync, kind_reply-send, kind_reply-sync, line-sync, schema-sync, worker-send}
-use Rattle.crew_run.specs.Phases.{HasWorked, HasWorkedLines}
 use Rattle.turn_cell.proofs.cell.Cell.TheSendSync as cell
 use Rattle.crew_run.proofs.phases.work_side_by_side.Goals as goal
 

@@ -1,7 +1,6 @@
 use Rattle.std.proofs.Common.{◌≡◌, ◌++◌, map, drop, option_map}
 use Rattle.file_words.specs.Shown.{shown}
-use Rattle.file_forms.specs.DeclarationForms.{roles}
-use Rattle.file_forms.specs.Shown.{shown_role}
+use Rattle.file_forms.specs.{DeclarationForms.roles, Shown.shown_role}
 use Rattle.file_forms.proofs.declarations.roles.Given as goal
 
 abbrev pub invariant-loop-word : goal.invariant-loop-word

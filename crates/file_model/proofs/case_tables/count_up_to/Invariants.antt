@@ -1,5 +1,4 @@
-use Rattle.std.proofs.Common.{◌≡◌, ◌+◌, ◌-◌, ℕ, length}
-use Rattle.std.specs.Prelude.{slice_index}
+use Rattle.file_model.proofs.Common.{ℕ, ◌+◌, ◌-◌, ◌≡◌, length, slice_index}
 use Rattle.file_model.proofs.case_tables.count_up_to.Given as goal
 
 abbrev pub invariant-loop-counts : goal.invariant-loop-counts

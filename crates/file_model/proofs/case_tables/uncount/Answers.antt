@@ -1,7 +1,4 @@
-use Rattle.std.proofs.Common.{◌≡◌, ◌-◌, ◌∙◌, arith}
-use Rattle.std.proofs.lemmas.Grind.{get_or_default_zero}
-use Rattle.std.specs.Prelude.{get_or, slice_index}
-use Rattle.file_model.proofs.CountedCases.{front_counted, front_within}
+use Rattle.file_model.proofs.{Common.{◌-◌, ◌∙◌, ◌≡◌, arith, get_or, get_or_default_zero, slice_index}, CountedCases.{front_counted, front_within}}
 use Rattle.file_model.proofs.case_tables.uncount.Goals as goal
 
 pub index_mut-requires : goal.index_mut-requires

@@ -1,5 +1,4 @@
-use Rattle.std.proofs.Common.{◌≤◌, length, min, take}
-use Rattle.file_model.specs.CaseCounts.{AreCounted}
+use Rattle.file_model.proofs.Common.{◌≤◌, AreCounted, length, min, take}
 use Rattle.file_model.proofs.case_tables.uncount.Given as goal
 
 abbrev pub invariant-loop-left : goal.invariant-loop-left

@@ -1,10 +1,7 @@
 use Rattle.std.proofs.Common.{◌≡◌, ◌≤◌, ◌+◌, ◌++◌, length, map, drop}
 use Rattle.wsm_lists.specs.Rows.{AllRows}
-use Rattle.file_forms.specs.NamesInForms.{RoleHas}
-use Rattle.file_forms.specs.Shown.{shown_role}
-use Rattle.file_model.specs.Declaring.{role_numbers, with_roles}
-use Rattle.file_model.specs.Room.{HasRoom, count_of_names}
-use Rattle.file_model.specs.ShortForms.{IsShort}
+use Rattle.file_forms.specs.{NamesInForms.RoleHas, Shown.shown_role}
+use Rattle.file_model.specs.{Declaring.{role_numbers, with_roles}, Room.{HasRoom, count_of_names}, ShortForms.IsShort}
 use Rattle.file_state.proofs.contents.role_numbers.Given as goal
 
 abbrev pub invariant-loop-role : goal.invariant-loop-role

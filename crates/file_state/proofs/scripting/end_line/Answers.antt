@@ -1,7 +1,6 @@
 use Rattle.std.proofs.Common.{rules, ◌≡◌, map, subst, sym, IfErr}
 use Rattle.file_words.specs.Shown.{shown_pair}
-use Rattle.file_model.specs.Outcomes.{Stops}
-use Rattle.file_model.specs.Scripting.{numbered, with_elements}
+use Rattle.file_model.specs.{Outcomes.Stops, Scripting.{numbered, with_elements}}
 use Rattle.file_state.proofs.EndLines.{end_acted}
 use Rattle.file_state.proofs.scripting.end_line.Goals as goal
 

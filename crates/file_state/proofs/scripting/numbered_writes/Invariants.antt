@@ -1,9 +1,7 @@
 use Rattle.std.proofs.Common.{◌≡◌, ◌++◌, length, map, drop}
 use Rattle.wsm_lists.specs.Rows.{AllRows}
-use Rattle.file_model.specs.Room.{HasRoom}
-use Rattle.file_model.specs.ShortForms.{IsShortWrite}
+use Rattle.file_model.specs.{Room.HasRoom, ShortForms.IsShortWrite, Scripting.{with_elements, numbered}}
 use Rattle.file_words.specs.Shown.{shown_pair}
-use Rattle.file_model.specs.Scripting.{with_elements, numbered}
 use Rattle.file_state.proofs.scripting.numbered_writes.Given as goal
 
 abbrev pub invariant-loop-word : goal.invariant-loop-word

@@ -1,9 +1,7 @@
 use Rattle.std.proofs.Common.{sym, subst}
 use Rattle.std.specs.Prelude.{IfErr}
-use Rattle.file_forms.specs.Shown.{shown_type_line}
-use Rattle.file_forms.specs.declared.type_lines.TypeLine.{TypeLine}
-use Rattle.file_model.specs.Outcomes.{Stops}
-use Rattle.file_model.specs.Typing.{typed}
+use Rattle.file_forms.specs.{Shown.shown_type_line, declared.type_lines.TypeLine.TypeLine}
+use Rattle.file_model.specs.{Outcomes.Stops, Typing.typed}
 use Rattle.file_state.proofs.typing.put_line.Goals as goal
 
 pub returns-in-Sync-clause-refused : goal.returns-in-Sync-clause-refused

@@ -1,21 +1,8 @@
-use Rattle.std.proofs.Common.{rules, ◌≡◌, ◌≢◌, ◌≤◌, ◌*◌, length, false, Ok, ap, sym, subst, ◌∙◌, arith}
-use Rattle.std.proofs.lemmas.List.{length-map}
-use Rattle.std.specs.Borrow.{Bor}
-use Rattle.file_words.specs.Lines.{Bytes, front_line, lines_of, one_left, without_return}
-use Rattle.file_words.specs.Shown.{shown}
-use Rattle.file_words.specs.Words.{is_skipped, words_of}
-use Rattle.file_model.specs.Steps.{at_place}
-use Rattle.file_model.specs.declared.refusals.FileRefusal.{FileRefusal}
+use Rattle.file_units.proofs.Common.{◌*◌, ◌∙◌, ◌≡◌, ◌≢◌, ◌≤◌, ap, arith, at_place, Bor, Bytes, false, FileRefusal, front_line, Grows, is_skipped, IsHeld, length, length-map, lines_of, Ok, one_left, rules, SaysSome, settled, shown, subst}
+use Rattle.file_units.proofs.{Common.{sym, unit_read, unit_step, without_return, words_of}, LineRoom.words_take, Ending.{ended-held, ended-read, ended-says, on-err, on-ok, some-words}, Inside.{refused-inside, step-inside, step-names}}
+use Rattle.file_units.proofs.SaidLines.{said-left}
 use Rattle.file_model.specs.declared.refusals.FileRefusal.TheVariants as reader
 use Rattle.file_model.specs.declared.states.Section.TheVariants as section
-use Rattle.file_units.proofs.LineRoom.{words_take}
-use Rattle.file_units.specs.Facts.{IsHeld}
-use Rattle.file_units.specs.Growing.{Grows}
-use Rattle.file_units.specs.Taking.{SaysSome}
-use Rattle.file_units.specs.Units.{settled, unit_read, unit_step}
-use Rattle.file_units.proofs.Ending.{ended-held, ended-read, ended-says, on-err, on-ok, some-words}
-use Rattle.file_units.proofs.Inside.{refused-inside, step-inside, step-names}
-use Rattle.file_units.proofs.SaidLines.{said-left}
 use Rattle.file_units.proofs.reading.read_unit.Goals as goal
 
 pub unit_step-requires-clause-room : goal.unit_step-requires-clause-room

@@ -1,8 +1,4 @@
-use Rattle.std.proofs.Common.{◌≡◌, ◌≤◌, ◌+◌, ◌*◌, length, Ok}
-use Rattle.file_model.specs.Room.{count_of_names}
-use Rattle.file_model.specs.Steps.{at_place}
-use Rattle.file_units.specs.Units.{lines_read, said, unit_read}
-use Rattle.file_units.proofs.Inside.{Inside}
+use Rattle.file_units.proofs.{Common.{◌*◌, ◌+◌, ◌≡◌, ◌≤◌, at_place, count_of_names, length, lines_read, Ok, said, unit_read}, Inside.Inside}
 use Rattle.file_units.proofs.reading.read_unit.Given as goal
 
 abbrev pub invariant-loop-line : goal.invariant-loop-line

@@ -1,8 +1,4 @@
-use Rattle.std.proofs.Common.{rules, ◌≡◌, List, [], ◌∷◌, ◌++◌, length, Some, None, subst, sym, ◌∙◌}
-use Rattle.std.specs.Prelude.{slice_get}
-use Rattle.file_model.specs.declared.files.CaseDecl.{CaseDecl}
-use Rattle.file_units.specs.Growing.{Begins}
-use Rattle.file_units.proofs.Mirror.{begins-all, begins-next}
+use Rattle.file_units.proofs.{Common.{[], ◌++◌, ◌∙◌, ◌∷◌, ◌≡◌, Begins, CaseDecl, length, List, None, rules, slice_get, Some, subst, sym}, Mirror.{begins-all, begins-next}}
 use Rattle.file_units.proofs.shown.add_cases.Goals as goal
 
 pub loop-decl-preserved : goal.loop-decl-preserved

@@ -1,8 +1,4 @@
-use Rattle.std.proofs.Common.{rules, ◌≡◌, List, [], ◌∷◌, ◌++◌, length, Some, None, subst, sym, ◌∙◌}
-use Rattle.std.specs.Prelude.{slice_get}
-use Rattle.file_model.specs.declared.files.TypeDecl.{TypeDecl}
-use Rattle.file_units.specs.Growing.{Begins}
-use Rattle.file_units.proofs.Mirror.{begins-all, begins-next}
+use Rattle.file_units.proofs.{Common.{[], ◌++◌, ◌∙◌, ◌∷◌, ◌≡◌, Begins, length, List, None, rules, slice_get, Some, subst, sym, TypeDecl}, Mirror.{begins-all, begins-next}}
 use Rattle.file_units.proofs.shown.add_types.Goals as goal
 
 pub loop-decl-preserved : goal.loop-decl-preserved

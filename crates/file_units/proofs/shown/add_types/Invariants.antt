@@ -1,5 +1,4 @@
-use Rattle.std.proofs.Common.{◌-◌, length}
-use Rattle.file_units.specs.Growing.{Begins}
+use Rattle.file_units.proofs.Common.{◌-◌, Begins, length}
 use Rattle.file_units.proofs.shown.add_types.Given as goal
 
 abbrev pub invariant-loop-decl : goal.invariant-loop-decl

@@ -1,6 +1,5 @@
 use Rattle.std.proofs.Common.{◌≡◌, drop}
-use Rattle.file_words.specs.Lengths.{first_long}
-use Rattle.file_words.specs.Shown.{shown}
+use Rattle.file_words.specs.{Lengths.first_long, Shown.shown}
 use Rattle.file_words.proofs.lengths.first_long.Given as goal
 
 abbrev pub invariant-loop-word : goal.invariant-loop-word

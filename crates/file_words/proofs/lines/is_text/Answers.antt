@@ -1,7 +1,5 @@
-use Rattle.std.proofs.Common.{sym, inl, inr}
+use Rattle.std.proofs.{Common.{sym, inl, inr}, lemmas.Bool.cases_Bool, lemmas.Str.{is_utf8-from_IsUtf8, IsUtf8-from_is_utf8}}
 use Rattle.std.specs.Str.{is_utf8}
-use Rattle.std.proofs.lemmas.Bool.{cases_Bool}
-use Rattle.std.proofs.lemmas.Str.{is_utf8-from_IsUtf8, IsUtf8-from_is_utf8}
 use Rattle.file_words.proofs.lines.is_text.Goals as goal
 
 pub returns-in-Ok : goal.returns-in-Ok

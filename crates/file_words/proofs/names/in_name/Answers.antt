@@ -1,9 +1,7 @@
 -- The table is held against the definition at each of the 256 bytes, by computing.
-use Rattle.std.proofs.Common.{◌≡◌, ℕ, zero, suc, ◌<◌, Bool, true, false, ◌&&◌, not, nat_eq, get_or, List, refl, arith, inl, inr}
+use Rattle.std.proofs.{Common.{◌≡◌, ℕ, zero, suc, ◌<◌, Bool, true, false, ◌&&◌, not, nat_eq, get_or, List, refl, arith, inl, inr}, lemmas.Bool.cases_eq}
 use Rattle.std.specs.Bool.{beq}
-use Rattle.std.proofs.lemmas.Bool.{cases_eq}
-use Rattle.file_words.specs.declared.names.TheConstants.{IN_NAMES}
-use Rattle.file_words.specs.Names.{in_name}
+use Rattle.file_words.specs.{declared.names.TheConstants.IN_NAMES, Names.in_name}
 use Rattle.file_words.proofs.names.in_name.Goals as goal
 
 -- the two tests agree below n

@@ -1,7 +1,6 @@
 use Rattle.std.proofs.Common.{◌≡◌, ◌<◌, ◌^◌, drop, true}
 use Rattle.std.specs.List.{list_all}
-use Rattle.file_words.specs.Names.{is_digit}
-use Rattle.file_words.specs.Numbers.{value_from}
+use Rattle.file_words.specs.{Names.is_digit, Numbers.value_from}
 use Rattle.file_words.proofs.numbers.value.Given as goal
 
 abbrev pub invariant-loop-digit : goal.invariant-loop-digit

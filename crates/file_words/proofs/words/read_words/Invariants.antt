@@ -1,6 +1,5 @@
 use Rattle.std.proofs.Common.{◌≡◌, ◌++◌, length}
-use Rattle.file_words.specs.Words.{words_of}
-use Rattle.file_words.specs.Shown.{shown}
+use Rattle.file_words.specs.{Words.words_of, Shown.shown}
 use Rattle.file_words.proofs.words.read_words.Given as goal
 
 abbrev pub invariant-loop-word : goal.invariant-loop-word

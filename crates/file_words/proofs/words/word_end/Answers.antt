@@ -1,8 +1,7 @@
 use Rattle.std.proofs.Common.{◌≡◌, ◌∙◌, sym, arith}
 use Rattle.file_words.specs.Words.{bare_end}
-use Rattle.file_words.proofs.WordSplits.{bare_first, bare_whole}
+use Rattle.file_words.proofs.{WordSplits.{bare_first, bare_whole}, words.word_end.Goals.{else-front-line-via-then-front-line+else-line-front-eq34, else-front-line-via-else-front-line}}
 use Rattle.file_words.proofs.words.word_end.Goals as goal
-use Rattle.file_words.proofs.words.word_end.Goals.{else-front-line-via-then-front-line+else-line-front-eq34, else-front-line-via-else-front-line}
 
 pub returns-then-line-front-eq34-clause-end : goal.returns-then-line-front-eq34-clause-end
 returns-then-line-front-eq34-clause-end c = c.quoted_end.ensures.end ∙ rw c.bare_end-front.ensures.end (bare_first c.args.line.now)

@@ -1,6 +1,5 @@
 use Rattle.std.proofs.Common.{◌≡◌, drop}
-use Rattle.std.specs.List.{position_from}
-use Rattle.std.specs.Map.{lookup}
+use Rattle.std.specs.{List.position_from, Map.lookup}
 use Rattle.line_calls.specs.Places.{is_key}
 use Rattle.wsm_sound.specs.declared.versions.CaseId.{CaseId}
 use Rattle.line_calls.proofs.scripts.places_of.Given as goal

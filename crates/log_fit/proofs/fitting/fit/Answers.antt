@@ -1,5 +1,4 @@
-use Rattle.std.proofs.Common.{◌≡◌, ◌≤◌, ◌+◌, ◌∙◌, suc, length, sym, ap, arith}
-use Rattle.log_records.specs.Records.{records_of}
+use Rattle.log_fit.proofs.Common.{◌+◌, ◌∙◌, ◌≡◌, ◌≤◌, ap, arith, length, records_of, suc, sym}
 use Rattle.log_records.proofs.Counts.{few_records}
 use Rattle.log_fit.proofs.fitting.fit.Goals as goal
 

@@ -1,8 +1,5 @@
-use Rattle.std.proofs.Common.{◌≡◌, ◌≤◌, ◌+◌, ◌∙◌, suc, length, sym, ap, refl, true, false, Some, Ok, rules, arith, ◌∷◌}
-use Rattle.file_names.specs.Names.{noted}
+use Rattle.log_fit.proofs.{Common.{◌+◌, ◌∙◌, ◌∷◌, ◌≡◌, ◌≤◌, ap, arith, false, length, noted, Ok, record_of, refl, rules, Some, suc, sym, true}, Telling.{crowded, ended, even, few, few_cases, moved, start}}
 use Rattle.csv.specs.Records.{fields_of}
-use Rattle.log_fit.proofs.Telling.{crowded, ended, even, few, few_cases, moved, start}
-use Rattle.log_records.specs.Forms.{record_of}
 use Rattle.log_fit.proofs.fitting.fit_behind.Goals as goal
 
 pub loop-row-init : goal.loop-row-init

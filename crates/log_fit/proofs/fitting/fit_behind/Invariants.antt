@@ -1,7 +1,5 @@
-use Rattle.std.proofs.Common.{[], length, ◌+◌, ◌≤◌}
-use Rattle.log_fit.proofs.Telling.{IsReached}
+use Rattle.log_fit.proofs.{Common.{[], ◌+◌, ◌≤◌, length, told_from}, Telling.IsReached}
 use Rattle.log_fit.proofs.fitting.fit_behind.Given as goal
-use Rattle.log_records.specs.Told.{told_from}
 
 abbrev pub invariant-loop-row : goal.invariant-loop-row
 invariant-loop-row l = record {

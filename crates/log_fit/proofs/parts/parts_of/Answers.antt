@@ -1,8 +1,4 @@
-use Rattle.std.proofs.Common.{◌≡◌, true, false, rules}
-use Rattle.std.specs.Prelude.{codes}
-use Rattle.file_words.specs.Lines.{front_line, lines_of, without_return}
-use Rattle.file_words.specs.Words.{is}
-use Rattle.log_fit.proofs.Parting.{found, passed}
+use Rattle.log_fit.proofs.{Common.{◌≡◌, codes, false, front_line, is, lines_of, rules, true, without_return}, Parting.{found, passed}}
 use Rattle.log_fit.proofs.parts.parts_of.Goals as goal
 
 pub returns-then-eq-clause-parts : goal.returns-then-eq-clause-parts

@@ -1,5 +1,4 @@
-use Rattle.std.proofs.Common.{length}
-use Rattle.log_fit.proofs.Parting.{IsBehind}
+use Rattle.log_fit.proofs.{Common.length, Parting.IsBehind}
 use Rattle.log_fit.proofs.parts.parts_of.Given as goal
 
 abbrev pub invariant-loop-line : goal.invariant-loop-line

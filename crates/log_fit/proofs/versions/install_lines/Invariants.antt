@@ -1,5 +1,4 @@
-use Rattle.std.proofs.Common.{◌≡◌, drop}
-use Rattle.log_fit.specs.Versions.{installed_lines}
+use Rattle.log_fit.proofs.Common.{◌≡◌, drop, installed_lines}
 use Rattle.log_fit.proofs.versions.install_lines.Given as goal
 
 abbrev pub invariant-loop-line : goal.invariant-loop-line

@@ -1,5 +1,4 @@
-use Rattle.std.proofs.Common.{◌≡◌, drop, fold}
-use Rattle.log_fit.specs.Versions.{installed_lines, kind_of}
+use Rattle.log_fit.proofs.Common.{◌≡◌, drop, fold, installed_lines, kind_of}
 use Rattle.log_fit.proofs.versions.kind_of.Given as goal
 
 abbrev pub invariant-loop-lines : goal.invariant-loop-lines

@@ -1,4 +1,4 @@
-use Rattle.std.proofs.Common.{◌∙◌}
+use Rattle.log_fit.proofs.Common.{◌∙◌}
 use Rattle.file_names.proofs.Noted.{found_place}
 use Rattle.log_fit.proofs.versions.place_of_type.Goals as goal
 

@@ -1,6 +1,4 @@
-use Rattle.std.proofs.Common.{◌≡◌, Some, rules}
-use Rattle.std.specs.Prelude.{slice_get}
-use Rattle.log_fit.proofs.SmallTypes.{small_at}
+use Rattle.log_fit.proofs.{Common.{◌≡◌, rules, slice_get, Some}, SmallTypes.small_at}
 use Rattle.log_fit.proofs.versions.version_of.Goals as goal
 
 pub kind_of-requires-clause-small : goal.kind_of-requires-clause-small

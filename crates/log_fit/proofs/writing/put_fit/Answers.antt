@@ -1,8 +1,5 @@
-use Rattle.std.proofs.Common.{◌≡◌, ap, decimal}
+use Rattle.log_fit.proofs.Common.{◌≡◌, ap, decimal, gives_as, gives_then, next_text}
 use Rattle.std.specs.Option.{option_copied}
-use Rattle.adept_io.proofs.Sent.{gives_then}
-use Rattle.log_fit.specs.Table.{next_text}
-use Rattle.report_words.proofs.Rows.{gives_as}
 use Rattle.log_fit.proofs.writing.put_fit.Goals as goal
 
 pub returns : goal.returns

@@ -1,5 +1,4 @@
-use Rattle.log_fit.specs.Table.{fit_line}
-use Rattle.report_words.proofs.Rows.{gives_item}
+use Rattle.log_fit.proofs.Common.{fit_line, gives_item}
 use Rattle.log_fit.proofs.writing.put_fits.Goals as goal
 
 pub loop-fit-preserved : goal.loop-fit-preserved

@@ -1,7 +1,4 @@
-use Rattle.std.proofs.Common.{take}
-use Rattle.std.specs.List.{flat_map}
-use Rattle.adept_io.specs.Written.{Gives}
-use Rattle.log_fit.specs.Table.{fit_line}
+use Rattle.log_fit.proofs.Common.{fit_line, flat_map, Gives, take}
 use Rattle.log_fit.proofs.writing.put_fits.Given as goal
 
 abbrev pub invariant-loop-fit : goal.invariant-loop-fit

@@ -1,6 +1,4 @@
-use Rattle.std.proofs.Common.{◌≡◌, ap, decimal}
-use Rattle.adept_io.proofs.Sent.{gives_then}
-use Rattle.report_words.proofs.Rows.{gives_as}
+use Rattle.log_fit.proofs.Common.{◌≡◌, ap, decimal, gives_as, gives_then}
 use Rattle.log_fit.proofs.writing.put_holder.Goals as goal
 
 pub returns : goal.returns

@@ -1,4 +1,4 @@
-use Rattle.std.proofs.Common.{Ok, ap, sym, ◌∙◌}
+use Rattle.process_text.proofs.Common.{◌∙◌, ap, Ok, sym}
 use Rattle.file_model.proofs.Bounds.{file-bounded}
 use Rattle.process_text.proofs.reading.read_file_up_to.Goals as goal
 

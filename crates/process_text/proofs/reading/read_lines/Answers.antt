@@ -1,12 +1,6 @@
-use Rattle.std.proofs.Common.{rules, ◌≡◌, length, ap, ◌∙◌, arith}
-use Rattle.std.proofs.lemmas.List.{length-map}
-use Rattle.std.specs.Borrow.{Bor}
-use Rattle.file_words.specs.Lines.{Bytes, front_line, lines_of, without_return}
-use Rattle.file_words.specs.Shown.{shown}
-use Rattle.file_words.specs.Words.{words_of}
-use Rattle.process_text.proofs.LineRoom.{step_adds, words_take}
-use Rattle.process_text.proofs.reading.read_lines.Goals as goal
+use Rattle.process_text.proofs.{Common.{◌∙◌, ◌≡◌, ap, arith, Bor, Bytes, front_line, length, length-map, lines_of, rules, shown, without_return, words_of}, LineRoom.{step_adds, words_take}}
 use Rattle.process_text.proofs.reading.read_lines.Goals.{then-not-is_skipped+in-Ok, else-not-is_skipped}
+use Rattle.process_text.proofs.reading.read_lines.Goals as goal
 
 -- what was read before has room for the line, and the line for its names
 pub loop-line-preserved : goal.loop-line-preserved

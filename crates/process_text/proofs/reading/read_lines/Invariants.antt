@@ -1,8 +1,4 @@
-use Rattle.std.proofs.Common.{◌≡◌, ◌≤◌, ◌+◌, ◌*◌, length, Ok}
-use Rattle.file_model.specs.Room.{count_of_names}
-use Rattle.file_words.specs.Lines.{lines_of}
-use Rattle.file_model.specs.Steps.{at_place}
-use Rattle.file_model.specs.Reading.{read_from, file_up_to}
+use Rattle.process_text.proofs.Common.{◌*◌, ◌+◌, ◌≡◌, ◌≤◌, at_place, count_of_names, file_up_to, length, lines_of, Ok, read_from}
 use Rattle.process_text.proofs.reading.read_lines.Given as goal
 
 abbrev pub invariant-loop-line : goal.invariant-loop-line

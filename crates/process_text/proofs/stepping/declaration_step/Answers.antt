@@ -1,7 +1,4 @@
-use Rattle.std.proofs.Common.{◌≡◌, Ok, sym, subst}
-use Rattle.std.specs.Prelude.{IfOk, IfErr}
-use Rattle.file_model.specs.Outcomes.{Stops}
-use Rattle.file_model.specs.Steps.{Step, at_place}
+use Rattle.process_text.proofs.Common.{◌≡◌, at_place, IfErr, IfOk, Ok, Step, Stops, subst, sym}
 use Rattle.file_model.specs.Declaring.{declared}
 use Rattle.process_text.proofs.stepping.declaration_step.Goals as goal
 

@@ -1,8 +1,4 @@
-use Rattle.std.proofs.Common.{◌≡◌, Ok, sym, subst}
-use Rattle.std.specs.Prelude.{IfOk, IfErr}
-use Rattle.file_model.specs.Outcomes.{Stops}
-use Rattle.file_model.specs.Steps.{Step, at_place}
-use Rattle.file_model.specs.Typing.{typed}
+use Rattle.process_text.proofs.Common.{◌≡◌, at_place, IfErr, IfOk, Ok, Step, Stops, subst, sym, typed}
 use Rattle.process_text.proofs.stepping.type_step.Goals as goal
 
 pub returns-in-Ok-clause-ok : goal.returns-in-Ok-clause-ok

@@ -1,10 +1,8 @@
-use Rattle.std.proofs.Common.{◌≡◌, Ok, IfOk, rules}
-use Rattle.std.proofs.lemmas.Result.{IfOk-weaker}
-use Rattle.file_model.specs.Reading.{file_up_to}
+use Rattle.process_text.proofs.Common.{◌≡◌, file_up_to, Ok, rules}
+use Rattle.std.proofs.{Common.IfOk, lemmas.Result.IfOk-weaker}
 use Rattle.file_model.specs.declared.files.File.{File}
 use Rattle.file_facts.specs.Facts.{IsWorkable, MigratesAll}
-use Rattle.file_facts.proofs.Migrates.{file-moves}
-use Rattle.file_facts.proofs.Workable.{file_up_to-workable}
+use Rattle.file_facts.proofs.{Migrates.file-moves, Workable.file_up_to-workable}
 use Rattle.process_text.proofs.workable.read_workable_up_to.Goals as goal
 
 pub returns-clause-workable : goal.returns-clause-workable

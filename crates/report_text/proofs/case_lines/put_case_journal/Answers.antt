@@ -1,5 +1,4 @@
-use Rattle.report_text.specs.Journals.{case_line}
-use Rattle.report_text.proofs.NumberedRows.{gives_line}
+use Rattle.report_text.proofs.{Common.case_line, NumberedRows.gives_line}
 use Rattle.report_text.proofs.case_lines.put_case_journal.Goals as goal
 
 pub loop-i-preserved : goal.loop-i-preserved

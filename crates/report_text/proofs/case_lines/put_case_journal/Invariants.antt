@@ -1,6 +1,4 @@
-use Rattle.std.proofs.Common.{take}
-use Rattle.adept_io.specs.Written.{Gives}
-use Rattle.report_text.specs.Journals.{numbered, case_line}
+use Rattle.report_text.proofs.Common.{case_line, Gives, numbered, take}
 use Rattle.report_text.proofs.case_lines.put_case_journal.Given as goal
 
 abbrev pub invariant-loop-i : goal.invariant-loop-i

@@ -1,4 +1,4 @@
-use Rattle.adept_io.proofs.Sent.{gives_then}
+use Rattle.report_text.proofs.Common.{gives_then}
 use Rattle.report_text.proofs.case_lines.put_case_line.Goals as goal
 
 pub returns : goal.returns

@@ -1,7 +1,4 @@
-use Rattle.std.proofs.Common.{take}
-use Rattle.std.specs.List.{flat_map}
-use Rattle.adept_io.specs.Written.{Gives}
-use Rattle.report_words.specs.Words.{listed_element}
+use Rattle.report_text.proofs.Common.{flat_map, Gives, listed_element, take}
 use Rattle.report_text.proofs.case_lines.put_elements.Given as goal
 
 abbrev pub invariant-loop-element : goal.invariant-loop-element

@@ -1,8 +1,4 @@
-use Rattle.std.proofs.Common.{ap}
-use Rattle.std.specs.List.{flat_map}
-use Rattle.adept_io.proofs.Sent.{gives_then}
-use Rattle.report_words.specs.Words.{assigned}
-use Rattle.report_words.proofs.Rows.{gives_as}
+use Rattle.report_text.proofs.Common.{ap, assigned, flat_map, gives_as, gives_then}
 use Rattle.report_text.proofs.case_lines.put_end.Goals as goal
 
 pub returns : goal.returns

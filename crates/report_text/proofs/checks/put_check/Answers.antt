@@ -1,8 +1,4 @@
-use Rattle.std.proofs.Common.{ap}
-use Rattle.std.specs.List.{flat_map}
-use Rattle.adept_io.proofs.Sent.{gives_then}
-use Rattle.report_text.specs.Check.{sound_line, verdict_line}
-use Rattle.report_words.proofs.Rows.{gives_as}
+use Rattle.report_text.proofs.Common.{ap, flat_map, gives_as, gives_then, sound_line, verdict_line}
 use Rattle.report_text.proofs.checks.put_check.Goals as goal
 
 pub returns : goal.returns

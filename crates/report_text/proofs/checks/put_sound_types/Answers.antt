@@ -1,5 +1,4 @@
-use Rattle.report_text.specs.Check.{sound_line}
-use Rattle.report_words.proofs.Rows.{gives_item}
+use Rattle.report_text.proofs.Common.{gives_item, sound_line}
 use Rattle.report_text.proofs.checks.put_sound_types.Goals as goal
 
 pub loop-decl-preserved : goal.loop-decl-preserved

@@ -1,7 +1,4 @@
-use Rattle.std.proofs.Common.{take}
-use Rattle.std.specs.List.{flat_map}
-use Rattle.adept_io.specs.Written.{Gives}
-use Rattle.report_text.specs.Check.{sound_line}
+use Rattle.report_text.proofs.Common.{flat_map, Gives, sound_line, take}
 use Rattle.report_text.proofs.checks.put_sound_types.Given as goal
 
 abbrev pub invariant-loop-decl : goal.invariant-loop-decl

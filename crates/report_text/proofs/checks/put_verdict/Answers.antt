@@ -1,4 +1,4 @@
-use Rattle.adept_io.proofs.Sent.{gives_then}
+use Rattle.report_text.proofs.Common.{gives_then}
 use Rattle.report_text.proofs.checks.put_verdict.Goals as goal
 
 pub returns : goal.returns

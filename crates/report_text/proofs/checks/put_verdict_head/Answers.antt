@@ -1,6 +1,4 @@
-use Rattle.std.proofs.Common.{◌≡◌, ap, decimal}
-use Rattle.adept_io.proofs.Sent.{gives_then}
-use Rattle.report_words.proofs.Rows.{gives_as}
+use Rattle.report_text.proofs.Common.{◌≡◌, ap, decimal, gives_as, gives_then}
 use Rattle.report_text.proofs.checks.put_verdict_head.Goals as goal
 
 pub returns : goal.returns

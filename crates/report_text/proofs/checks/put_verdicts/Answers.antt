@@ -1,5 +1,4 @@
-use Rattle.report_text.specs.Check.{verdict_line}
-use Rattle.report_words.proofs.Rows.{gives_item}
+use Rattle.report_text.proofs.Common.{gives_item, verdict_line}
 use Rattle.report_text.proofs.checks.put_verdicts.Goals as goal
 
 pub loop-verdict-preserved : goal.loop-verdict-preserved

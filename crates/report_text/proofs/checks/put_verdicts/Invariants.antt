@@ -1,7 +1,4 @@
-use Rattle.std.proofs.Common.{take}
-use Rattle.std.specs.List.{flat_map}
-use Rattle.adept_io.specs.Written.{Gives}
-use Rattle.report_text.specs.Check.{verdict_line}
+use Rattle.report_text.proofs.Common.{flat_map, Gives, take, verdict_line}
 use Rattle.report_text.proofs.checks.put_verdicts.Given as goal
 
 abbrev pub invariant-loop-verdict : goal.invariant-loop-verdict

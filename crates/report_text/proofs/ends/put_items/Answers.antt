@@ -1,7 +1,4 @@
-use Rattle.std.proofs.Common.{ℕ}
-use Rattle.report_text.specs.Ends.{item_text}
-use Rattle.report_words.proofs.Rows.{gives_row}
-use Rattle.wsm_items.specs.declared.work_items.Item.{Item}
+use Rattle.report_text.proofs.Common.{ℕ, gives_row, Item, item_text}
 use Rattle.report_text.proofs.ends.put_items.Goals as goal
 
 pub loop-row-preserved : goal.loop-row-preserved

@@ -1,7 +1,4 @@
-use Rattle.std.proofs.Common.{take}
-use Rattle.std.specs.List.{flat_map}
-use Rattle.adept_io.specs.Written.{Gives}
-use Rattle.report_text.specs.Ends.{item_text}
+use Rattle.report_text.proofs.Common.{flat_map, Gives, item_text, take}
 use Rattle.report_text.proofs.ends.put_items.Given as goal
 
 abbrev pub invariant-loop-row : goal.invariant-loop-row

@@ -1,12 +1,7 @@
-use Rattle.std.proofs.Common.{◌≡◌, ℕ, List, [], ◌∷◌, ◌++◌, codes, refl, ap, ◌∙◌, subst}
-use Rattle.std.specs.List.{flat_map}
-use Rattle.adept_io.proofs.Sent.{gives_then}
-use Rattle.adept_io.specs.Written.{Gives}
+use Rattle.report_text.proofs.Common.{[], ℕ, ◌++◌, ◌∙◌, ◌∷◌, ◌≡◌, ap, Bytes, flat_map, Gives, gives_then, Item, item_text, List, subst}
+use Rattle.std.proofs.Common.{codes, refl}
 use Rattle.case_core.specs.Shown.{items_of}
-use Rattle.file_words.specs.Lines.{Bytes}
-use Rattle.report_text.specs.Ends.{item_text}
 use Rattle.wsm_items.specs.WorkItems.{items_in}
-use Rattle.wsm_items.specs.declared.work_items.Item.{Item}
 use Rattle.report_text.proofs.ends.put_items_line.Goals as goal
 
 -- what a function writes of rows is what it writes of their items

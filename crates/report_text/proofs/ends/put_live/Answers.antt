@@ -1,4 +1,4 @@
-use Rattle.adept_io.proofs.Sent.{gives_then}
+use Rattle.report_text.proofs.Common.{gives_then}
 use Rattle.report_text.proofs.ends.put_live.Goals as goal
 
 pub returns : goal.returns

@@ -1,11 +1,7 @@
-use Rattle.std.proofs.Common.{◌≡◌, List, ◌++◌, codes, subst}
-use Rattle.std.specs.List.{flat_map}
-use Rattle.adept_io.proofs.Sent.{gives_then}
-use Rattle.adept_io.specs.Written.{Gives}
-use Rattle.report_text.specs.Ends.{mark_text}
+use Rattle.report_text.proofs.Common.{◌++◌, ◌≡◌, flat_map, Gives, gives_then, List, mark_text, subst}
+use Rattle.std.proofs.Common.{codes}
 use Rattle.report_text.proofs.ends.put_marking_line.Goals as goal
-use Rattle.wsm_schema.specs.Flat.{cards_of}
-use Rattle.wsm_schema.specs.declared.cards.Card.{Card}
+use Rattle.wsm_schema.specs.{Flat.cards_of, declared.cards.Card.Card}
 
 pub returns : goal.returns
 returns g c =

@@ -1,5 +1,4 @@
-use Rattle.report_text.specs.Ends.{mark_text}
-use Rattle.report_words.proofs.Rows.{gives_item}
+use Rattle.report_text.proofs.Common.{gives_item, mark_text}
 use Rattle.report_text.proofs.ends.put_marks.Goals as goal
 
 pub loop-card-preserved : goal.loop-card-preserved

@@ -1,7 +1,4 @@
-use Rattle.std.proofs.Common.{take}
-use Rattle.std.specs.List.{flat_map}
-use Rattle.adept_io.specs.Written.{Gives}
-use Rattle.report_text.specs.Ends.{mark_text}
+use Rattle.report_text.proofs.Common.{flat_map, Gives, mark_text, take}
 use Rattle.report_text.proofs.ends.put_marks.Given as goal
 
 abbrev pub invariant-loop-card : goal.invariant-loop-card

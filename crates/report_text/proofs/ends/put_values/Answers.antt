@@ -1,5 +1,4 @@
-use Rattle.report_text.specs.Ends.{value_now_text}
-use Rattle.report_words.proofs.Rows.{gives_row}
+use Rattle.report_text.proofs.Common.{gives_row, value_now_text}
 use Rattle.report_text.proofs.ends.put_values.Goals as goal
 
 pub loop-element-preserved : goal.loop-element-preserved

@@ -1,7 +1,4 @@
-use Rattle.std.proofs.Common.{take}
-use Rattle.std.specs.List.{flat_map}
-use Rattle.adept_io.specs.Written.{Gives}
-use Rattle.report_text.specs.Ends.{value_now_text}
+use Rattle.report_text.proofs.Common.{flat_map, Gives, take, value_now_text}
 use Rattle.report_text.proofs.ends.put_values.Given as goal
 
 abbrev pub invariant-loop-element : goal.invariant-loop-element

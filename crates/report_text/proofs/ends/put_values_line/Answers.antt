@@ -1,8 +1,5 @@
-use Rattle.std.proofs.Common.{◌≡◌, ℕ, List, ◌++◌, codes, subst}
-use Rattle.std.specs.List.{flat_map}
-use Rattle.adept_io.proofs.Sent.{gives_then}
-use Rattle.adept_io.specs.Written.{Gives}
-use Rattle.report_text.specs.Ends.{value_now_text}
+use Rattle.report_text.proofs.Common.{ℕ, ◌++◌, ◌≡◌, flat_map, Gives, gives_then, List, subst, value_now_text}
+use Rattle.std.proofs.Common.{codes}
 use Rattle.report_text.proofs.ends.put_values_line.Goals as goal
 use Rattle.wsm_lists.specs.declared.values.ElementKind.{ElementKind}
 

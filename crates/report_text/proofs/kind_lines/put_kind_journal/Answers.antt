@@ -1,5 +1,4 @@
-use Rattle.report_text.specs.Journals.{kind_line}
-use Rattle.report_text.proofs.NumberedRows.{gives_line}
+use Rattle.report_text.proofs.{Common.kind_line, NumberedRows.gives_line}
 use Rattle.report_text.proofs.kind_lines.put_kind_journal.Goals as goal
 
 pub loop-i-preserved : goal.loop-i-preserved

@@ -1,6 +1,4 @@
-use Rattle.std.proofs.Common.{take}
-use Rattle.adept_io.specs.Written.{Gives}
-use Rattle.report_text.specs.Journals.{numbered, kind_line}
+use Rattle.report_text.proofs.Common.{Gives, kind_line, numbered, take}
 use Rattle.report_text.proofs.kind_lines.put_kind_journal.Given as goal
 
 abbrev pub invariant-loop-i : goal.invariant-loop-i

@@ -1,4 +1,4 @@
-use Rattle.adept_io.proofs.Sent.{gives_then}
+use Rattle.report_text.proofs.Common.{gives_then}
 use Rattle.report_text.proofs.kind_lines.put_kind_line.Goals as goal
 
 pub returns : goal.returns

@@ -1,8 +1,4 @@
-use Rattle.std.proofs.Common.{◌≡◌, ◌∙◌, ap}
-use Rattle.adept_io.proofs.Sent.{gives_then}
-use Rattle.report_text.specs.Ends.{end_text}
-use Rattle.report_text.specs.Journals.{case_line, numbered}
-use Rattle.report_words.proofs.Rows.{gives_as}
+use Rattle.report_text.proofs.Common.{◌∙◌, ◌≡◌, ap, case_line, end_text, gives_as, gives_then, numbered}
 use Rattle.script_run.specs.CaseEnds.{CaseEnd}
 use Rattle.report_text.proofs.report.put_case.Goals as goal
 

@@ -1,5 +1,4 @@
-use Rattle.adept_io.proofs.Sent.{gives_then}
-use Rattle.report_words.proofs.Rows.{gives_as}
+use Rattle.report_text.proofs.Common.{gives_as, gives_then}
 use Rattle.report_text.proofs.report.put_case_head.Goals as goal
 
 pub returns : goal.returns

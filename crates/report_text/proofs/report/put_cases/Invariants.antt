@@ -1,8 +1,4 @@
-use Rattle.std.proofs.Common.{◌≡◌, ℕ, List, ◌++◌}
-use Rattle.std.specs.Iterator.Adapters.{zip_first, zip_second}
-use Rattle.std.specs.Slice.Iter.{iter_rest}
-use Rattle.adept_io.specs.Written.{Gives}
-use Rattle.report_text.specs.Report.{cases_text}
+use Rattle.report_text.proofs.Common.{ℕ, ◌++◌, ◌≡◌, cases_text, Gives, iter_rest, List, zip_first, zip_second}
 use Rattle.report_text.proofs.report.put_cases.Given as goal
 
 abbrev pub invariant-loop-decl : goal.invariant-loop-decl

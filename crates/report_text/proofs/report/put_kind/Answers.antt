@@ -1,7 +1,4 @@
-use Rattle.std.proofs.Common.{ap}
-use Rattle.adept_io.proofs.Sent.{gives_then}
-use Rattle.report_text.specs.Journals.{kind_line, numbered}
-use Rattle.report_words.proofs.Rows.{gives_as}
+use Rattle.report_text.proofs.Common.{ap, gives_as, gives_then, kind_line, numbered}
 use Rattle.report_text.proofs.report.put_kind.Goals as goal
 
 pub returns : goal.returns

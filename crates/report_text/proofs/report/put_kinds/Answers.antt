@@ -1,11 +1,4 @@
-use Rattle.std.proofs.Common.{◌++◌, ap, sym, ◌∙◌, append-nil}
-use Rattle.std.specs.Iterator.Adapters.{zip_first, zip_second}
-use Rattle.std.specs.Slice.Iter.{iter_rest}
-use Rattle.std.proofs.lemmas.Slice.Zip.{Zip-more, either_empty_from_Zip}
-use Rattle.adept_io.proofs.Sent.{gives_then}
-use Rattle.report_text.specs.Report.{kind_text}
-use Rattle.report_words.proofs.Rows.{gives_as}
-use Rattle.report_text.proofs.NumberedRows.{side_by_side-ended, side_by_side-next}
+use Rattle.report_text.proofs.{Common.{◌++◌, ◌∙◌, ap, append-nil, either_empty_from_Zip, gives_as, gives_then, iter_rest, kind_text, sym, Zip-more, zip_first, zip_second}, NumberedRows.{side_by_side-ended, side_by_side-next}}
 use Rattle.report_text.proofs.report.put_kinds.Goals as goal
 
 pub loop-decl-preserved : goal.loop-decl-preserved

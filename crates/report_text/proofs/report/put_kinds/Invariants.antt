@@ -1,8 +1,4 @@
-use Rattle.std.proofs.Common.{◌≡◌, ℕ, List, ◌++◌}
-use Rattle.std.specs.Iterator.Adapters.{zip_first, zip_second}
-use Rattle.std.specs.Slice.Iter.{iter_rest}
-use Rattle.adept_io.specs.Written.{Gives}
-use Rattle.report_text.specs.Report.{kinds_text}
+use Rattle.report_text.proofs.Common.{ℕ, ◌++◌, ◌≡◌, Gives, iter_rest, kinds_text, List, zip_first, zip_second}
 use Rattle.report_text.proofs.report.put_kinds.Given as goal
 
 abbrev pub invariant-loop-decl : goal.invariant-loop-decl

@@ -1,7 +1,4 @@
-use Rattle.std.proofs.Common.{ap}
-use Rattle.adept_io.proofs.Sent.{gives_then}
-use Rattle.report_words.specs.Totals.{case_totals, migration_totals}
-use Rattle.report_words.proofs.Rows.{gives_as}
+use Rattle.report_text.proofs.Common.{ap, case_totals, gives_as, gives_then, migration_totals}
 use Rattle.report_text.proofs.report.put_summary.Goals as goal
 
 pub returns : goal.returns

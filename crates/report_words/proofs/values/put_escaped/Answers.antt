@@ -1,10 +1,8 @@
-use Rattle.std.proofs.Common.{◌≡◌, ◌+◌, None, ◌++◌, take, drop, ap, sym, ◌∙◌, append_assoc}
+use Rattle.std.proofs.{Common.{◌≡◌, ◌+◌, None, ◌++◌, take, drop, ap, sym, ◌∙◌, append_assoc}, lemmas.List.drop-drop}
 use Rattle.std.specs.List.{flat_map, position}
-use Rattle.std.proofs.lemmas.List.{drop-drop}
 use Rattle.adept_io.proofs.Sent.{gives_then}
 use Rattle.report_words.specs.Words.{escaped, is_escaped}
-use Rattle.report_words.proofs.Escapes.{EndsRun-from_position, flat_map-escaped-none, flat_map-escaped-split}
-use Rattle.report_words.proofs.Rows.{gives_as}
+use Rattle.report_words.proofs.{Escapes.{EndsRun-from_position, flat_map-escaped-none, flat_map-escaped-split}, Rows.gives_as}
 use Rattle.report_words.proofs.values.put_escaped.Goals as goal
 
 pub put_run-well-requires : goal.put_run-well-requires

@@ -1,5 +1,4 @@
-use Rattle.std.proofs.Common.{◌≡◌, ◌++◌, drop}
-use Rattle.script_run.specs.Verdicts.{defined_from}
+use Rattle.script_run.proofs.Common.{◌++◌, ◌≡◌, defined_from, drop}
 use Rattle.script_run.proofs.checking.defined_kinds.Given as goal
 
 abbrev pub invariant-loop-index : goal.invariant-loop-index

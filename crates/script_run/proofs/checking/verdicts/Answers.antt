@@ -1,7 +1,4 @@
-use Rattle.std.proofs.Common.{◌≡◌, [], false, ap, sym, ◌∙◌}
-use Rattle.std.specs.List.{list_any}
-use Rattle.script_run.specs.Verdicts.{Checking, defined_from, some_install}
-use Rattle.script_run.proofs.NoInstalls.{idle-phases}
+use Rattle.script_run.proofs.{Common.{[], ◌∙◌, ◌≡◌, ap, Checking, defined_from, false, list_any, some_install, sym}, NoInstalls.idle-phases}
 use Rattle.script_run.proofs.checking.verdicts.Goals as goal
 
 pub returns-then-not-some_install : goal.returns-then-not-some_install

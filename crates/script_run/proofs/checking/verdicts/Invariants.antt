@@ -1,6 +1,4 @@
-use Rattle.std.proofs.Common.{◌≡◌, drop, fold}
-use Rattle.script_run.specs.Parts.{checking_of}
-use Rattle.script_run.specs.Verdicts.{judged_phase, verdicts}
+use Rattle.script_run.proofs.Common.{◌≡◌, checking_of, drop, fold, judged_phase, verdicts}
 use Rattle.script_run.proofs.checking.verdicts.Given as goal
 
 abbrev pub invariant-loop-lines : goal.invariant-loop-lines

@@ -1,5 +1,4 @@
-use Rattle.std.proofs.Common.{◌≡◌, ◌++◌, drop}
-use Rattle.script_run.specs.Serial.{kinds_from}
+use Rattle.script_run.proofs.Common.{◌++◌, ◌≡◌, drop, kinds_from}
 use Rattle.script_run.proofs.serial.defined_kinds.Given as goal
 
 abbrev pub invariant-loop-index : goal.invariant-loop-index

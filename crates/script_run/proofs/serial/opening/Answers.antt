@@ -1,6 +1,4 @@
-use Rattle.std.proofs.Common.{◌∙◌, ap}
-use Rattle.script_run.specs.Oldest.{oldest}
-use Rattle.script_run.proofs.Aging.{oldest-uncalled}
+use Rattle.script_run.proofs.{Common.{◌∙◌, ap, oldest}, Aging.oldest-uncalled}
 use Rattle.script_run.proofs.serial.opening.Goals as goal
 
 pub returns-clause-age : goal.returns-clause-age

@@ -1,9 +1,4 @@
-use Rattle.std.proofs.Common.{◌≡◌, ◌+◌, ◌≤◌, drop, fold}
-use Rattle.std.specs.List.{sum_by}
-use Rattle.file_model.specs.Sizes.{phase_effort}
-use Rattle.script_run.specs.Oldest.{oldest}
-use Rattle.script_run.specs.Parts.{run_of}
-use Rattle.script_run.specs.Serial.{phase_worked, serial}
+use Rattle.script_run.proofs.Common.{◌+◌, ◌≡◌, ◌≤◌, drop, fold, oldest, phase_effort, phase_worked, run_of, serial, sum_by}
 use Rattle.script_run.proofs.serial.serial_run.Given as goal
 
 abbrev pub invariant-loop-lines : goal.invariant-loop-lines

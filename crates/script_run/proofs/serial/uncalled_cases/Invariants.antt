@@ -1,5 +1,4 @@
-use Rattle.std.proofs.Common.{◌≡◌, ◌++◌, drop, map}
-use Rattle.script_run.specs.Serial.{uncalled}
+use Rattle.script_run.proofs.Common.{◌++◌, ◌≡◌, drop, map, uncalled}
 use Rattle.script_run.proofs.serial.uncalled_cases.Given as goal
 
 abbrev pub invariant-loop-decl : goal.invariant-loop-decl

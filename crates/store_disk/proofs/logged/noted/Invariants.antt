@@ -1,4 +1,4 @@
-use Rattle.std.proofs.Common.{◌≡◌, map, take}
+use Rattle.store_disk.proofs.Common.{◌≡◌, map, take}
 use Rattle.store_disk.proofs.logged.noted.Given as goal
 
 abbrev pub invariant-loop-byte : goal.invariant-loop-byte

@@ -1,7 +1,4 @@
-use Rattle.std.proofs.Common.{ℕ, List, arith}
-use Rattle.store_disk.specs.Rest.{HasNoneOrAll}
-use Rattle.store_disk.proofs.Moments.{started, goes_on}
-use Rattle.store_disk.proofs.Steps.{gate-list, gate-size, is-at-rest, next-gate, staged-list, staged-room}
+use Rattle.store_disk.proofs.{Common.{ℕ, arith, HasNoneOrAll, List}, Moments.{started, goes_on}, Steps.{gate-list, gate-size, is-at-rest, next-gate, staged-list, staged-room}}
 use Rattle.store_disk.proofs.records.open_gate.Goals as goal
 
 pub write-requires : goal.write-requires

@@ -1,8 +1,4 @@
-use Rattle.std.proofs.Common.{◌∷◌, ◌++◌, ap, subst, sym, ◌∙◌}
-use Rattle.std.proofs.lemmas.Result.{on_ok_weaker}
-use Rattle.store_form.specs.Payload.{case_bytes, id_bytes, listed, optional, u16, u32, value_bytes}
-use Rattle.store_form.specs.Stored.{FitsEach, FitsEvent, FitsId, FitsValue, IsNumber}
-use Rattle.store_form.proofs.Puts.{put-then, put-third}
+use Rattle.store_form.proofs.{Common.{◌++◌, ◌∙◌, ◌∷◌, ap, case_bytes, FitsEach, FitsEvent, FitsId, FitsValue, id_bytes, IsNumber, listed, on_ok_weaker, optional, subst, sym, u16, u32, value_bytes}, Puts.{put-then, put-third}}
 use Rattle.store_form.proofs.events.put_event.Goals as goal
 
 pub returns-in_ok-put_tagged-in-Start-clause-bytes : goal.returns-in_ok-put_tagged-in-Start-clause-bytes

@@ -1,7 +1,4 @@
-use Rattle.std.proofs.Common.{◌∷◌, ◌++◌, ap, sym, ◌∙◌}
-use Rattle.std.proofs.lemmas.Result.{on_ok_weaker}
-use Rattle.store_form.specs.Payload.{listed, op_bytes, payload, schema_bytes, u32}
-use Rattle.store_form.proofs.Puts.{put-then}
+use Rattle.store_form.proofs.{Common.{◌++◌, ◌∙◌, ◌∷◌, ap, listed, on_ok_weaker, op_bytes, payload, schema_bytes, sym, u32}, Puts.put-then}
 use Rattle.store_form.proofs.events.put_stored.Goals as goal
 
 pub returns-in_ok-put_tagged-in-Define-clause-bytes : goal.returns-in_ok-put_tagged-in-Define-clause-bytes

@@ -1,8 +1,4 @@
-use Rattle.std.proofs.Common.{arith, subst}
-use Rattle.store_form.specs.Given.{Fails}
-use Rattle.store_form.specs.Payload.{Reads}
-use Rattle.store_form.specs.Reading.{recorded_of}
-use Rattle.store_form.proofs.Calls.{reads-exactly}
+use Rattle.store_form.proofs.{Common.{arith, Fails, Reads, recorded_of, subst}, Calls.reads-exactly}
 use Rattle.store_form.proofs.events.read_payload.Goals as goal
 
 pub returns-in-Ok : goal.returns-in-Ok

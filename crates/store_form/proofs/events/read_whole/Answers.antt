@@ -1,6 +1,4 @@
-use Rattle.std.proofs.lemmas.Result.{err_from_is_err_and}
-use Rattle.store_form.specs.Reading.{recorded_at}
-use Rattle.store_form.proofs.Calls.{whole-done, whole-fails}
+use Rattle.store_form.proofs.{Common.{err_from_is_err_and, recorded_at}, Calls.{whole-done, whole-fails}}
 use Rattle.store_form.proofs.events.read_whole.Goals as goal
 
 pub returns-in_err-recorded : goal.returns-in_err-recorded

@@ -1,7 +1,5 @@
-use Rattle.std.proofs.Common.{◌≡◌, nat_lt, drop}
-use Rattle.wsm_schema.specs.Sound.{parts_depth, lanes_depth}
-use Rattle.wsm_schema.specs.Tree.{lanes}
-use Rattle.wsm_schema.specs.TreeOf.{parts_of, lanes_of}
+use Rattle.store_form.proofs.Common.{◌≡◌, drop, lanes, lanes_depth, lanes_of, parts_depth, parts_of}
+use Rattle.std.proofs.Common.{nat_lt}
 use Rattle.store_form.proofs.limits.+depth.Given as goal
 
 abbrev pub invariant-are_deeper-loop-i : goal.invariant-are_deeper-loop-i

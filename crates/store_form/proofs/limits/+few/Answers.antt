@@ -1,9 +1,4 @@
-use Rattle.std.proofs.Common.{sym, ap, ◌∙◌}
-use Rattle.wsm_schema.specs.Tree.{lanes}
-use Rattle.wsm_schema.specs.TreeOf.{lanes_of, parts_of}
-use Rattle.wsm_schema.specs.declared.blocks.Branch.{Branch}
-use Rattle.store_form.specs.Stored.{few_in_lanes, few_items}
-use Rattle.store_form.proofs.Puts.{few-all, few-all-lanes, few-goes-on, few-none-lanes, few-not, few-not-lanes, few-stops}
+use Rattle.store_form.proofs.{Common.{◌∙◌, ap, Branch, few_in_lanes, few_items, lanes, lanes_of, parts_of, sym}, Puts.{few-all, few-all-lanes, few-goes-on, few-none-lanes, few-not, few-not-lanes, few-stops}}
 use Rattle.store_form.proofs.limits.+few.Goals as goal
 
 pub are_few-returns-then-not-is_short : goal.are_few-returns-then-not-is_short

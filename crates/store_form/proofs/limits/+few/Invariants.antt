@@ -1,7 +1,4 @@
-use Rattle.std.proofs.Common.{◌≡◌, drop}
-use Rattle.wsm_schema.specs.Tree.{lanes}
-use Rattle.wsm_schema.specs.TreeOf.{parts_of, lanes_of}
-use Rattle.store_form.specs.Stored.{few_in_lanes, few_in_parts}
+use Rattle.store_form.proofs.Common.{◌≡◌, drop, few_in_lanes, few_in_parts, lanes, lanes_of, parts_of}
 use Rattle.store_form.proofs.limits.+few.Given as goal
 
 abbrev pub invariant-are_few-loop-i : goal.invariant-are_few-loop-i

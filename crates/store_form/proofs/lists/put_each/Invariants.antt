@@ -1,6 +1,4 @@
-use Rattle.std.proofs.Common.{◌≡◌, ◌++◌, drop}
-use Rattle.std.specs.Prelude.{flat_map}
-use Rattle.std.specs.List.{AllByRecursion}
+use Rattle.store_form.proofs.Common.{◌++◌, ◌≡◌, AllByRecursion, drop, flat_map}
 use Rattle.store_form.proofs.lists.put_each.Given as goal
 
 abbrev pub invariant-loop-item : goal.invariant-loop-item

@@ -1,6 +1,4 @@
-use Rattle.std.proofs.lemmas.Result.{err_from_is_err_and}
-use Rattle.store_form.proofs.Loops.{goes_on, ends, is_done}
-use Rattle.store_form.specs.Shrinking.{too_many}
+use Rattle.store_form.proofs.{Common.{err_from_is_err_and, too_many}, Loops.{goes_on, ends, is_done}}
 use Rattle.store_form.proofs.lists.read_many.Goals as goal
 
 pub returns-then-count-from-clause-read : goal.returns-then-count-from-clause-read

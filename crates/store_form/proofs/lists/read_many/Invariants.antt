@@ -1,6 +1,4 @@
-use Rattle.std.proofs.Common.{◌≡◌, ◌-◌}
-use Rattle.store_form.specs.Reading.{many_at}
-use Rattle.store_form.proofs.Loops.{with_front}
+use Rattle.store_form.proofs.{Common.{◌-◌, ◌≡◌, many_at}, Loops.with_front}
 use Rattle.store_form.proofs.lists.read_many.Given as goal
 
 abbrev pub invariant-loop : goal.invariant-loop

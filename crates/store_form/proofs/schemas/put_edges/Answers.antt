@@ -1,10 +1,4 @@
-use Rattle.std.proofs.Common.{◌++◌, ap, subst, ◌∙◌}
-use Rattle.std.proofs.lemmas.Result.{on_ok_weaker}
-use Rattle.wsm_lists.specs.Keys.{HasRoles}
-use Rattle.wsm_schema.specs.SchemaModel.{SchemaModel}
-use Rattle.store_form.specs.Payload.{edges_bytes, flag, listed, u32, u32_u32}
-use Rattle.store_form.specs.Stored.{FitsEach, FitsEdges, FitsPair}
-use Rattle.store_form.proofs.Puts.{put-third}
+use Rattle.store_form.proofs.{Common.{◌++◌, ◌∙◌, ap, edges_bytes, FitsEach, FitsEdges, FitsPair, flag, HasRoles, listed, on_ok_weaker, SchemaModel, subst, u32, u32_u32}, Puts.put-third}
 use Rattle.store_form.proofs.schemas.put_edges.Goals as goal
 
 pub returns-clause-bytes : goal.returns-clause-bytes

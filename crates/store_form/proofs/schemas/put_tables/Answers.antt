@@ -1,12 +1,4 @@
-use Rattle.std.proofs.Common.{◌++◌, ap, subst, ◌∙◌}
-use Rattle.std.proofs.lemmas.Result.{on_ok_weaker}
-use Rattle.wsm_lists.specs.Keys.{both, first}
-use Rattle.wsm_lists.specs.Rows.{Ascends}
-use Rattle.wsm_schema.specs.SchemaModel.{SchemaModel}
-use Rattle.store_form.specs.Payload.{edges_bytes, kind_bytes, listed, u32, u32_u32}
-use Rattle.store_form.specs.Stored.{FitsEach, FitsPair, IsNumber}
-use Rattle.store_form.proofs.Puts.{put-third}
-use Rattle.store_form.proofs.SchemaForms.{only_first}
+use Rattle.store_form.proofs.{Common.{◌++◌, ◌∙◌, ap, Ascends, both, edges_bytes, first, FitsEach, FitsPair, IsNumber, kind_bytes, listed, on_ok_weaker, SchemaModel, subst, u32, u32_u32}, Puts.put-third, SchemaForms.only_first}
 use Rattle.store_form.proofs.schemas.put_tables.Goals as goal
 
 pub returns-clause-bytes : goal.returns-clause-bytes

@@ -1,10 +1,4 @@
-use Rattle.std.proofs.Common.{Some, ap, sym, ◌∙◌}
-use Rattle.std.specs.List.{list_all}
-use Rattle.std.specs.Prelude.{nat_lt}
-use Rattle.std.proofs.lemmas.Result.{err_from_is_err_and}
-use Rattle.wsm_lists.specs.Keys.{first}
-use Rattle.store_form.specs.Reading.{rises}
-use Rattle.store_form.proofs.RoleRows.{roles-fail, roles-read, roles-unsorted, roles-zero}
+use Rattle.store_form.proofs.{Common.{◌∙◌, ap, err_from_is_err_and, first, list_all, nat_lt, rises, Some, sym}, RoleRows.{roles-fail, roles-read, roles-unsorted, roles-zero}}
 use Rattle.store_form.proofs.schemas.read_roles.Goals as goal
 
 pub returns-in_err-rows : goal.returns-in_err-rows

@@ -1,5 +1,4 @@
-use Rattle.std.proofs.Common.{◌≡◌, drop}
-use Rattle.store_form.specs.Reading.{rises_from}
+use Rattle.store_form.proofs.Common.{◌≡◌, drop, rises_from}
 use Rattle.store_form.proofs.schemas.rise_from.Given as goal
 
 abbrev pub invariant-loop-row : goal.invariant-loop-row

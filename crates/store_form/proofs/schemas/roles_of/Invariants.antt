@@ -1,4 +1,4 @@
-use Rattle.std.proofs.Common.{◌≡◌, ◌++◌, drop}
+use Rattle.store_form.proofs.Common.{◌++◌, ◌≡◌, drop}
 use Rattle.store_form.proofs.schemas.roles_of.Given as goal
 
 abbrev pub invariant-loop-row : goal.invariant-loop-row

@@ -1,6 +1,4 @@
-use Rattle.std.proofs.Common.{arith}
-use Rattle.wsm_ops.proofs.Rising.{filled-next}
-use Rattle.store_form.proofs.SchemaForms.{rises-ascends}
+use Rattle.store_form.proofs.{Common.{arith, filled-next}, SchemaForms.rises-ascends}
 use Rattle.store_form.proofs.schemas.table_of.Goals as goal
 
 pub loop-row-preserved : goal.loop-row-preserved

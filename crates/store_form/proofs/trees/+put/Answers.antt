@@ -1,10 +1,4 @@
-use Rattle.std.proofs.Common.{◌<◌, ◌^◌, ◌++◌, sym, ap, subst}
-use Rattle.std.proofs.lemmas.Result.{on_ok_weaker}
-use Rattle.wsm_schema.specs.Tree.{lanes}
-use Rattle.wsm_schema.specs.TreeOf.{lanes_of, parts_of}
-use Rattle.store_form.specs.Payload.{body_bytes, lanes_bytes, parts_bytes}
-use Rattle.store_form.specs.Stored.{FitsItems, FitsLanes}
-use Rattle.store_form.proofs.Puts.{count-lanes, count-parts, fits-lane, put-counted, put-lane}
+use Rattle.store_form.proofs.{Common.{◌++◌, ◌<◌, ◌^◌, ap, body_bytes, FitsItems, FitsLanes, lanes, lanes_bytes, lanes_of, on_ok_weaker, parts_bytes, parts_of, subst, sym}, Puts.{count-lanes, count-parts, fits-lane, put-counted, put-lane}}
 use Rattle.store_form.proofs.trees.+put.Goals as goal
 
 pub put_branches-returns-clause-bytes : goal.put_branches-returns-clause-bytes

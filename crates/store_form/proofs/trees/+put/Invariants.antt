@@ -1,8 +1,4 @@
-use Rattle.std.proofs.Common.{◌≡◌, ◌++◌, drop}
-use Rattle.wsm_schema.specs.Tree.{lanes}
-use Rattle.wsm_schema.specs.TreeOf.{parts_of, lanes_of}
-use Rattle.store_form.specs.Payload.{lanes_bytes, parts_bytes}
-use Rattle.store_form.specs.Stored.{FitsLanes, FitsParts}
+use Rattle.store_form.proofs.Common.{◌++◌, ◌≡◌, drop, FitsLanes, FitsParts, lanes, lanes_bytes, lanes_of, parts_bytes, parts_of}
 use Rattle.store_form.proofs.trees.+put.Given as goal
 
 abbrev pub invariant-put_each_item-loop-i : goal.invariant-put_each_item-loop-i

@@ -1,10 +1,4 @@
-use Rattle.std.proofs.lemmas.Result.{err_from_is_err_and}
-use Rattle.wsm_schema.specs.TreeOf.{lane_of, part_of}
-use Rattle.store_form.specs.Reading.{lane_at, part_at}
-use Rattle.store_form.specs.Shrinking.{lane_shrinks, part_shrinks, too_many}
-use Rattle.std.proofs.Common.{map}
-use Rattle.store_form.proofs.Loops.{ends, goes_on-seen}
-use Rattle.store_form.proofs.Tags.{gives-act, gives-round}
+use Rattle.store_form.proofs.{Common.{err_from_is_err_and, lane_at, lane_of, lane_shrinks, map, part_at, part_of, part_shrinks, too_many}, Loops.{ends, goes_on-seen}, Tags.{gives-act, gives-round}}
 use Rattle.store_form.proofs.trees.+read.Goals as goal
 
 pub read_tagged-returns-then-tag-eq0 : goal.read_tagged-returns-then-tag-eq0

@@ -1,7 +1,4 @@
-use Rattle.std.proofs.Common.{◌≡◌, ◌-◌, ◌+◌, ◌*◌, map}
-use Rattle.wsm_schema.specs.TreeOf.{part_of, lanes_of}
-use Rattle.store_form.specs.Reading.{lane_at, many_at, part_at}
-use Rattle.store_form.proofs.Loops.{with_front}
+use Rattle.store_form.proofs.{Common.{◌*◌, ◌+◌, ◌-◌, ◌≡◌, lane_at, lanes_of, many_at, map, part_at, part_of}, Loops.with_front}
 use Rattle.store_form.proofs.trees.+read.Given as goal
 
 abbrev pub decreases-read_tagged : goal.decreases-read_tagged

@@ -1,5 +1,4 @@
-use Rattle.std.proofs.Common.{arith}
-use Rattle.store_form.proofs.Forms.{all_bytes}
+use Rattle.store_form.proofs.{Common.arith, Forms.all_bytes}
 use Rattle.store_form.proofs.values.put_text.Goals as goal
 
 pub returns-clause-fits : goal.returns-clause-fits

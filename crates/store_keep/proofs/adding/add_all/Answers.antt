@@ -1,15 +1,7 @@
-use Rattle.std.proofs.Common.{◌≡◌, ◌+◌, ◌-◌, ◌++◌, ◌∙◌, Err, ap, arith, drop, length, map, refl, subst, sym, take}
-use Rattle.std.proofs.lemmas.List.{length-map, length-take-le, take-append-drop}
-use Rattle.std.proofs.lemmas.Result.{err_from_is_err_and}
-use Rattle.store_room.specs.Room.{Overflows, payload_of}
-use Rattle.store_disk.specs.Disk.{LeavesOnly}
-use Rattle.store_disk.specs.Image.{all_framed}
-use Rattle.store_disk.specs.Rest.{HasNoneOrAll, IsAtRest}
-use Rattle.store_keep.specs.Keeping.{held}
+use Rattle.store_keep.proofs.Common.{◌++◌, ◌+◌, ◌-◌, ◌∙◌, ◌≡◌, all_framed, ap, arith, drop, Err, err_from_is_err_and, HasNoneOrAll, held, IsAtRest, LeavesOnly, length, length-map, length-take-le, map, Overflows, payload_of, refl, subst}
+use Rattle.store_keep.proofs.{Common.{sym, take, take-append-drop}, Additions.{Progress, group-more, moments, nothing-yet, room-full, split-group, stays}, Held.{begins-self, rest-again}}
 use Rattle.store_room.specs.declared.faults.RoomFault.TheVariants as room
-use Rattle.store_keep.proofs.Additions.{Progress, group-more, moments, nothing-yet, room-full, split-group, stays}
 use Rattle.store_room.proofs.Grouped.{behind, over-behind, over-first, over-here}
-use Rattle.store_keep.proofs.Held.{begins-self, rest-again}
 use Rattle.store_keep.proofs.adding.add_all.Goals as goal
 
 pub loop-stored-init : goal.loop-stored-init

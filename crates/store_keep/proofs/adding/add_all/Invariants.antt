@@ -1,8 +1,4 @@
-use Rattle.std.proofs.Common.{◌≡◌, ◌-◌, ◌<◌, ◌≤◌, ◌^◌, ◌++◌, drop, length, map}
-use Rattle.store_room.specs.Room.{Overflows, payload_of}
-use Rattle.store_disk.specs.Disk.{LeavesOnly}
-use Rattle.store_keep.specs.Keeping.{HoldsBeginning, held}
-use Rattle.store_keep.proofs.Additions.{Progress}
+use Rattle.store_keep.proofs.{Common.{◌++◌, ◌-◌, ◌<◌, ◌^◌, ◌≡◌, ◌≤◌, drop, held, HoldsBeginning, LeavesOnly, length, map, Overflows, payload_of}, Additions.Progress}
 use Rattle.store_keep.proofs.adding.add_all.Given as goal
 
 abbrev pub ghost-append_group : goal.ghost-append_group

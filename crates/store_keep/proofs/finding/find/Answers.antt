@@ -1,10 +1,5 @@
-use Rattle.std.proofs.Common.{◌≡◌, ◌+◌, ◌-◌, ◌∙◌, false, true, List, ℕ, take, drop, ap, sym, refl, arith}
-use Rattle.std.specs.Prelude.{slice_get}
-use Rattle.std.proofs.lemmas.List.{take_rest}
-use Rattle.store_disk.specs.Opening.{IsFrame}
+use Rattle.store_keep.proofs.{Common.{ℕ, ◌+◌, ◌-◌, ◌∙◌, ◌≡◌, ap, arith, drop, false, is_call, IsFrame, List, refl, slice_get, sym, take, take_rest, true}, Matching.{differs-here, goes-on}}
 use Rattle.store_disk.specs.declared.frames.Frame.TheVariants as front
-use Rattle.store_keep.specs.Finding.{is_call}
-use Rattle.store_keep.proofs.Matching.{differs-here, goes-on}
 use Rattle.store_keep.proofs.finding.find.Goals as goal
 
 pub returns-then-not-branch-clause-found : goal.returns-then-not-branch-clause-found

@@ -1,5 +1,4 @@
-use Rattle.std.proofs.Common.{length}
-use Rattle.store_keep.proofs.Matching.{Matched}
+use Rattle.store_keep.proofs.{Common.length, Matching.Matched}
 use Rattle.store_keep.proofs.finding.find.Given as goal
 
 abbrev pub invariant-loop-len : goal.invariant-loop-len

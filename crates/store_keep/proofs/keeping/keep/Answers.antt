@@ -1,9 +1,5 @@
-use Rattle.std.proofs.Common.{◌∙◌, ap, arith, length, subst, sym}
-use Rattle.std.proofs.lemmas.Result.{on_ok_weaker}
-use Rattle.store_disk.specs.Disk.{IsSettled}
-use Rattle.store_keep.specs.Finding.{HoldsFound}
+use Rattle.store_keep.proofs.{Common.{◌∙◌, ap, arith, HoldsFound, IsSettled, length, on_ok_weaker, subst, sym}, Opened.{add-tells, all-moments, all-stored, is-begun, overflow-told, rest-mid, told-overflows}}
 use Rattle.store_keep.specs.declared.finding.Found.TheVariants as found
-use Rattle.store_keep.proofs.Opened.{add-tells, all-moments, all-stored, is-begun, overflow-told, rest-mid, told-overflows}
 use Rattle.store_keep.proofs.keeping.keep.Goals as goal
 
 pub add_all-requires-clause-rest : goal.add_all-requires-clause-rest

@@ -1,9 +1,8 @@
-use Rattle.std.proofs.Common.{◌≡◌, inl, inr, ◌+◌, Err, ap, length, arith}
-use Rattle.std.proofs.lemmas.Result.{err_from_is_err_and}
+use Rattle.std.proofs.{Common.{◌≡◌, inl, inr, ◌+◌, Err, ap, length, arith}, lemmas.Result.err_from_is_err_and}
 use Rattle.store_disk.specs.Image.{all_framed}
 use Rattle.store_room.specs.declared.faults.RoomFault.TheVariants as fault
-use Rattle.store_room.proofs.Grouped.{group-are, group-fits, group-over, group-payable, group-payloads, group-span}
-use Rattle.store_room.proofs.groups.first_group.Goals.{else-count-gt0-via-then-count-gt0+else-span-len-gt-MAX_GROUP, else-count-gt0-via-else-count-gt0}
+use Rattle.store_room.proofs.{Grouped.{group-are, group-fits, group-over, group-payable, group-payloads, group-span}, groups.first_group.Goals.else-count-gt0-via-then-count-gt0+else-span-len-gt-MAX_GROUP}
+use Rattle.store_room.proofs.groups.first_group.Goals.{else-count-gt0-via-else-count-gt0}
 use Rattle.store_room.proofs.groups.first_group.Goals as goal
 
 pub returns-in_err-bytes-clause-full : goal.returns-in_err-bytes-clause-full

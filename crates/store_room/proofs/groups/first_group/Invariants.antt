@@ -1,7 +1,6 @@
 use Rattle.std.proofs.Common.{◌≡◌, ◌⊎◌, ◌+◌, ◌<◌, ◌≤◌, ◌^◌, drop, length, map, take}
 use Rattle.std.specs.List.{AllByRecursion}
-use Rattle.store_disk.specs.Image.{all_framed}
-use Rattle.store_disk.specs.declared.group.TheConstants.{MAX_GROUP}
+use Rattle.store_disk.specs.{Image.all_framed, declared.group.TheConstants.MAX_GROUP}
 use Rattle.store_room.specs.Room.{HasPayload, IsPayable, Overflows, payload_of}
 use Rattle.store_room.proofs.groups.first_group.Given as goal
 

@@ -1,5 +1,4 @@
-use Rattle.std.proofs.Common.{◌≡◌, ◌+◌, Err, ap, length, arith}
-use Rattle.std.proofs.lemmas.Result.{err_from_is_err_and}
+use Rattle.std.proofs.{Common.{◌≡◌, ◌+◌, Err, ap, length, arith}, lemmas.Result.err_from_is_err_and}
 use Rattle.store_disk.specs.Image.{all_framed}
 use Rattle.store_room.specs.declared.faults.RoomFault.TheVariants as fault
 use Rattle.store_room.proofs.Grouped.{group-are, group-fits, group-over, group-payable, group-payloads, group-span}

@@ -1,7 +1,4 @@
-use Rattle.std.proofs.Common.{ap}
-use Rattle.adept_io.proofs.Sent.{gives_then}
-use Rattle.report_words.proofs.Rows.{gives_as}
-use Rattle.talk_answers.specs.Standings.{roles_text}
+use Rattle.talk_answers.proofs.Common.{ap, gives_as, gives_then, roles_text}
 use Rattle.talk_answers.proofs.actors.put_actor_line.Goals as goal
 
 pub returns : goal.returns

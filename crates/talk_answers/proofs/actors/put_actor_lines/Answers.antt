@@ -1,5 +1,4 @@
-use Rattle.report_words.proofs.Rows.{gives_item}
-use Rattle.talk_answers.specs.Standings.{actor_line}
+use Rattle.talk_answers.proofs.Common.{actor_line, gives_item}
 use Rattle.talk_answers.proofs.actors.put_actor_lines.Goals as goal
 
 pub loop-decl-preserved : goal.loop-decl-preserved

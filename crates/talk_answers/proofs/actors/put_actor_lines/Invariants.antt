@@ -1,7 +1,4 @@
-use Rattle.std.proofs.Common.{take}
-use Rattle.std.specs.List.{flat_map}
-use Rattle.adept_io.specs.Written.{Gives}
-use Rattle.talk_answers.specs.Standings.{actor_line}
+use Rattle.talk_answers.proofs.Common.{actor_line, flat_map, Gives, take}
 use Rattle.talk_answers.proofs.actors.put_actor_lines.Given as goal
 
 abbrev pub invariant-loop-decl : goal.invariant-loop-decl

@@ -1,5 +1,4 @@
-use Rattle.report_words.proofs.Rows.{gives_row}
-use Rattle.talk_answers.specs.Standings.{spaced_role}
+use Rattle.talk_answers.proofs.Common.{gives_row, spaced_role}
 use Rattle.talk_answers.proofs.actors.put_each_role.Goals as goal
 
 pub loop-role-preserved : goal.loop-role-preserved

@@ -1,7 +1,4 @@
-use Rattle.std.proofs.Common.{take}
-use Rattle.std.specs.List.{flat_map}
-use Rattle.adept_io.specs.Written.{Gives}
-use Rattle.talk_answers.specs.Standings.{spaced_role}
+use Rattle.talk_answers.proofs.Common.{flat_map, Gives, spaced_role, take}
 use Rattle.talk_answers.proofs.actors.put_each_role.Given as goal
 
 abbrev pub invariant-loop-role : goal.invariant-loop-role

@@ -1,9 +1,5 @@
-use Rattle.std.proofs.Common.{◌≡◌, ℕ, ◌<◌, List, [], ◌∷◌, ◌++◌, length, arith, refl}
-use Rattle.std.specs.Prelude.{codes, flat_map}
-use Rattle.adept_io.proofs.Sent.{gives_then}
-use Rattle.file_model.specs.declared.files.File.{File}
-use Rattle.report_words.proofs.Rows.{gives_as}
-use Rattle.talk_answers.specs.Standings.{roles_text, spaced_role}
+use Rattle.talk_answers.proofs.Common.{[], ℕ, ◌++◌, ◌<◌, ◌∷◌, ◌≡◌, arith, codes, File, gives_as, gives_then, length, List, refl, roles_text, spaced_role}
+use Rattle.std.specs.Prelude.{flat_map}
 use Rattle.talk_answers.proofs.actors.put_roles.Goals as goal
 
 some-roles : (f : File) (roles : List ℕ) → 0 < length roles → codes " roles" ++ flat_map (spaced_role f) roles ≡ roles_text f roles

@@ -1,9 +1,4 @@
-use Rattle.std.proofs.Common.{◌≡◌, ◌-◌, refl, ap, sym, ◌∙◌, Some, length, slice_get}
-use Rattle.std.specs.Option.{option_copied}
-use Rattle.report_words.proofs.Rows.{gives_as}
-use Rattle.script_run.specs.CaseEnds.{CaseEnd}
-use Rattle.talk_answers.proofs.Last.{last-there}
-use Rattle.talk_answers.specs.Entries.{case_numbered}
+use Rattle.talk_answers.proofs.{Common.{◌-◌, ◌∙◌, ◌≡◌, ap, case_numbered, CaseEnd, gives_as, length, option_copied, refl, slice_get, Some, sym}, Last.last-there}
 use Rattle.talk_answers.proofs.entries.put_case_entry.Goals as goal
 
 pub returns-in-Some : goal.returns-in-Some

@@ -1,5 +1,4 @@
-use Rattle.report_words.proofs.Rows.{gives_row}
-use Rattle.talk_answers.specs.Entries.{entry_at}
+use Rattle.talk_answers.proofs.Common.{entry_at, gives_row}
 use Rattle.talk_answers.proofs.entries.put_entries_of_each.Goals as goal
 
 pub loop-place-preserved : goal.loop-place-preserved

@@ -1,7 +1,4 @@
-use Rattle.std.proofs.Common.{take}
-use Rattle.std.specs.List.{flat_map}
-use Rattle.adept_io.specs.Written.{Gives}
-use Rattle.talk_answers.specs.Entries.{entry_at}
+use Rattle.talk_answers.proofs.Common.{entry_at, flat_map, Gives, take}
 use Rattle.talk_answers.proofs.entries.put_entries_of_each.Given as goal
 
 abbrev pub invariant-loop-place : goal.invariant-loop-place

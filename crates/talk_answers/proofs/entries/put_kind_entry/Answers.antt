@@ -1,8 +1,4 @@
-use Rattle.std.proofs.Common.{◌≡◌, ◌-◌, refl, ap, sym, ◌∙◌, Some, length, slice_get}
-use Rattle.std.specs.Option.{option_copied}
-use Rattle.report_words.proofs.Rows.{gives_as}
-use Rattle.talk_answers.proofs.Last.{last-there}
-use Rattle.talk_answers.specs.Entries.{kind_numbered}
+use Rattle.talk_answers.proofs.{Common.{◌-◌, ◌∙◌, ◌≡◌, ap, gives_as, kind_numbered, length, option_copied, refl, slice_get, Some, sym}, Last.last-there}
 use Rattle.talk_answers.proofs.entries.put_kind_entry.Goals as goal
 
 pub returns-in-Some : goal.returns-in-Some

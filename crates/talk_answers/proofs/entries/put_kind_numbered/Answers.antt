@@ -1,4 +1,4 @@
-use Rattle.adept_io.proofs.Sent.{gives_then}
+use Rattle.talk_answers.proofs.Common.{gives_then}
 use Rattle.talk_answers.proofs.entries.put_kind_numbered.Goals as goal
 
 pub returns : goal.returns

@@ -1,5 +1,4 @@
-use Rattle.adept_io.proofs.Sent.{gives_then}
-use Rattle.report_words.proofs.Rows.{gives_as}
+use Rattle.talk_answers.proofs.Common.{gives_as, gives_then}
 use Rattle.talk_answers.proofs.items.put_item_line.Goals as goal
 
 pub returns : goal.returns

@@ -1,7 +1,4 @@
-use Rattle.std.proofs.Common.{ℕ}
-use Rattle.wsm_items.specs.declared.work_items.Item.{Item}
-use Rattle.report_words.proofs.Rows.{gives_row}
-use Rattle.talk_answers.specs.Standings.{line_if_concerned}
+use Rattle.talk_answers.proofs.Common.{ℕ, gives_row, Item, line_if_concerned}
 use Rattle.talk_answers.proofs.items.put_item_lines.Goals as goal
 
 pub loop-row-preserved : goal.loop-row-preserved

@@ -1,8 +1,4 @@
-use Rattle.std.proofs.Common.{ℕ, take}
-use Rattle.std.specs.List.{flat_map}
-use Rattle.adept_io.specs.Written.{Gives}
-use Rattle.talk_answers.specs.Standings.{line_if_concerned}
-use Rattle.wsm_items.specs.declared.work_items.Item.{Item}
+use Rattle.talk_answers.proofs.Common.{ℕ, flat_map, Gives, Item, line_if_concerned, take}
 use Rattle.talk_answers.proofs.items.put_item_lines.Given as goal
 
 abbrev pub invariant-loop-row : goal.invariant-loop-row

@@ -1,9 +1,4 @@
-use Rattle.std.proofs.Common.{◌≡◌, ℕ, List, ◌++◌}
-use Rattle.std.specs.Iterator.Adapters.{zip_first, zip_second}
-use Rattle.std.specs.Slice.Iter.{iter_rest}
-use Rattle.adept_io.specs.Written.{Gives}
-use Rattle.report_text.specs.Report.{side_by_side}
-use Rattle.talk_answers.specs.Standings.{case_items}
+use Rattle.talk_answers.proofs.Common.{ℕ, ◌++◌, ◌≡◌, case_items, Gives, iter_rest, List, side_by_side, zip_first, zip_second}
 use Rattle.talk_answers.proofs.items.put_items.Given as goal
 
 abbrev pub invariant-loop-decl : goal.invariant-loop-decl

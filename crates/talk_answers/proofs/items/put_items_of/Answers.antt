@@ -1,10 +1,4 @@
-use Rattle.std.proofs.Common.{◌≡◌, ℕ, List, [], ◌∷◌, ◌++◌, refl, ap, ◌∙◌, sym}
-use Rattle.std.specs.List.{flat_map}
-use Rattle.file_words.specs.Lines.{Bytes}
-use Rattle.report_words.proofs.Rows.{gives_as}
-use Rattle.talk_answers.specs.Standings.{item_lines, line_if_concerned}
-use Rattle.wsm_items.specs.WorkItems.{items_in}
-use Rattle.wsm_items.specs.declared.work_items.Item.{Item}
+use Rattle.talk_answers.proofs.Common.{[], ℕ, ◌++◌, ◌∙◌, ◌∷◌, ◌≡◌, ap, Bytes, flat_map, gives_as, Item, item_lines, items_in, line_if_concerned, List, refl, sym}
 use Rattle.talk_answers.proofs.items.put_items_of.Goals as goal
 
 -- what a function writes of rows is what it writes of their items

@@ -1,8 +1,5 @@
-use Rattle.std.proofs.Common.{[], ◌++◌, append_assoc, append-nil, flat_map, refl, sym, ap, ◌∙◌, subst}
-use Rattle.adept_io.proofs.Sent.{gives_nothing, gives_then}
-use Rattle.adept_io.specs.Written.{Gives}
-use Rattle.file_words.specs.Lines.{CutLines}
-use Rattle.talk_answers.specs.Lines.{quoted, quoted_line}
+use Rattle.talk_answers.proofs.Common.{[], ◌++◌, ◌∙◌, ap, append-nil, append_assoc, CutLines, Gives, gives_nothing, gives_then, quoted, quoted_line, refl, subst, sym}
+use Rattle.std.proofs.Common.{flat_map}
 use Rattle.talk_answers.proofs.lines.put_quoted.Goals as goal
 
 pub loop-line-init : goal.loop-line-init

@@ -1,7 +1,4 @@
-use Rattle.std.proofs.Common.{◌≡◌, ◌++◌, length}
-use Rattle.adept_io.specs.Written.{Gives}
-use Rattle.file_words.specs.Lines.{Bytes}
-use Rattle.talk_answers.specs.Lines.{quoted}
+use Rattle.talk_answers.proofs.Common.{◌++◌, ◌≡◌, Bytes, Gives, length, quoted}
 use Rattle.talk_answers.proofs.lines.put_quoted.Given as goal
 
 -- the lines up to the rest were written

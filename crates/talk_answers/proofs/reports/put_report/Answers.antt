@@ -1,7 +1,4 @@
-use Rattle.std.proofs.Common.{◌∙◌, ap}
-use Rattle.adept_io.proofs.Sent.{gives_then}
-use Rattle.report_text.specs.Report.{cases_text, kinds_text}
-use Rattle.report_words.proofs.Rows.{gives_as}
+use Rattle.talk_answers.proofs.Common.{◌∙◌, ap, cases_text, gives_as, gives_then, kinds_text}
 use Rattle.report_words.specs.Totals.{case_totals, migration_totals}
 use Rattle.talk_answers.proofs.reports.put_report.Goals as goal
 

@@ -1,8 +1,4 @@
-use Rattle.std.proofs.Common.{◌≡◌, ◌∙◌, ap}
-use Rattle.adept_io.proofs.Sent.{gives_then}
-use Rattle.report_words.proofs.Rows.{gives_as}
-use Rattle.script_run.specs.CaseEnds.{CaseEnd}
-use Rattle.talk_answers.specs.Standings.{standing_of}
+use Rattle.talk_answers.proofs.Common.{◌∙◌, ◌≡◌, ap, CaseEnd, gives_as, gives_then, standing_of}
 use Rattle.talk_answers.proofs.standings.put_standing.Goals as goal
 
 pub returns : goal.returns

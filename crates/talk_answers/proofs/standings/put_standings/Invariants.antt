@@ -1,9 +1,4 @@
-use Rattle.std.proofs.Common.{◌≡◌, ℕ, List, ◌++◌}
-use Rattle.std.specs.Iterator.Adapters.{zip_first, zip_second}
-use Rattle.std.specs.Slice.Iter.{iter_rest}
-use Rattle.adept_io.specs.Written.{Gives}
-use Rattle.report_text.specs.Report.{side_by_side}
-use Rattle.talk_answers.specs.Standings.{standing}
+use Rattle.talk_answers.proofs.Common.{ℕ, ◌++◌, ◌≡◌, Gives, iter_rest, List, side_by_side, standing, zip_first, zip_second}
 use Rattle.talk_answers.proofs.standings.put_standings.Given as goal
 
 abbrev pub invariant-loop-decl : goal.invariant-loop-decl

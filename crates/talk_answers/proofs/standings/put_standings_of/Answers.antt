@@ -1,5 +1,4 @@
-use Rattle.report_words.proofs.Rows.{gives_row}
-use Rattle.talk_answers.specs.Standings.{standing_at}
+use Rattle.talk_answers.proofs.Common.{gives_row, standing_at}
 use Rattle.talk_answers.proofs.standings.put_standings_of.Goals as goal
 
 pub loop-place-preserved : goal.loop-place-preserved

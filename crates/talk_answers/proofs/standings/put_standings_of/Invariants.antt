@@ -1,7 +1,4 @@
-use Rattle.std.proofs.Common.{take}
-use Rattle.std.specs.List.{flat_map}
-use Rattle.adept_io.specs.Written.{Gives}
-use Rattle.talk_answers.specs.Standings.{standing_at}
+use Rattle.talk_answers.proofs.Common.{flat_map, Gives, standing_at, take}
 use Rattle.talk_answers.proofs.standings.put_standings_of.Given as goal
 
 abbrev pub invariant-loop-place : goal.invariant-loop-place

@@ -1,13 +1,5 @@
-use Rattle.std.proofs.Common.{Option, ap, sym, ◌∙◌}
-use Rattle.line_calls.specs.Calls.{cells_told}
-use Rattle.script_run.specs.Calls.{on_kind, told_to}
-use Rattle.talk_answers.proofs.GivenIf.{if_given-as, if_given-then}
-use Rattle.talk_answers.proofs.Tried.{case-same, told-same}
-use Rattle.talk_answers.specs.Entries.{entries}
-use Rattle.talk_answers.specs.Tried.{call_tried}
+use Rattle.talk_answers.proofs.{Common.{◌∙◌, ap, call_tried, cells_told, entries, on_kind, Option, Placing, sym, told_to, VersionModel}, GivenIf.{if_given-as, if_given-then}, Tried.{case-same, told-same}}
 use Rattle.type_core.specs.declared.events.KindEvent.TheVariants as kind_event
-use Rattle.unit_run.specs.Runs.{Placing}
-use Rattle.wsm_sound.specs.VersionModel.{VersionModel}
 use Rattle.talk_answers.proofs.tries.put_call_tried.Goals as goal
 
 pub returns-in-Case-clause-entries : goal.returns-in-Case-clause-entries

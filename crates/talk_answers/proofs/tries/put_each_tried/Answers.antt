@@ -1,13 +1,5 @@
-use Rattle.std.proofs.Common.{◌≡◌, ◌+◌, ◌++◌, ap, flat_map, sym, take, ◌∙◌}
-use Rattle.adept_io.proofs.Sent.{gives_then}
-use Rattle.case_core.specs.declared.events.Event.{Event}
-use Rattle.case_places.specs.Places.{places_of}
-use Rattle.file_words.specs.Lines.{Bytes}
-use Rattle.report_words.proofs.Rows.{gives_as}
-use Rattle.talk_answers.proofs.Tried.{one-text}
-use Rattle.talk_answers.specs.Tried.{case_tried, tried_at}
-use Rattle.unit_run.specs.Runs.{Placing}
-use Rattle.wsm_sound.specs.declared.versions.CaseId.{CaseId}
+use Rattle.talk_answers.proofs.{Common.{◌++◌, ◌+◌, ◌∙◌, ◌≡◌, ap, Bytes, case_tried, CaseId, Event, gives_as, gives_then, places_of, Placing, sym, take, tried_at}, Tried.one-text}
+use Rattle.std.proofs.Common.{flat_map}
 use Rattle.talk_answers.proofs.tries.put_each_tried.Goals as goal
 
 pub loop-place-preserved : goal.loop-place-preserved

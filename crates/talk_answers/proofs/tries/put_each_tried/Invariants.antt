@@ -1,8 +1,4 @@
-use Rattle.std.proofs.Common.{◌≡◌, take}
-use Rattle.std.specs.List.{flat_map}
-use Rattle.adept_io.specs.Written.{Gives}
-use Rattle.case_places.specs.Places.{places_of}
-use Rattle.talk_answers.specs.Tried.{tried_at}
+use Rattle.talk_answers.proofs.Common.{◌≡◌, flat_map, Gives, places_of, take, tried_at}
 use Rattle.talk_answers.proofs.tries.put_each_tried.Given as goal
 
 abbrev pub invariant-loop-place : goal.invariant-loop-place

@@ -1,7 +1,4 @@
-use Rattle.std.proofs.Common.{◌≡◌, Some, option_map, rules, slice_get}
-use Rattle.report_words.proofs.Rows.{gives_as}
-use Rattle.talk_answers.proofs.Tried.{kind-told}
-use Rattle.unit_run.specs.Tries.{next_kind_entry}
+use Rattle.talk_answers.proofs.{Common.{◌≡◌, gives_as, next_kind_entry, option_map, rules, slice_get, Some}, Tried.kind-told}
 use Rattle.talk_answers.proofs.tries.put_kind_tried.Goals as goal
 
 pub returns-in-Some : goal.returns-in-Some

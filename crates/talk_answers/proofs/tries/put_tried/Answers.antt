@@ -1,9 +1,4 @@
-use Rattle.std.proofs.Common.{◌≡◌, rules}
-use Rattle.line_calls.specs.Calls.{call_of}
-use Rattle.line_calls.specs.Files.{roles_of}
-use Rattle.talk_answers.proofs.GivenIf.{if_given-as}
-use Rattle.talk_answers.proofs.Tried.{line-same}
-use Rattle.unit_run.specs.Runs.{Placing}
+use Rattle.talk_answers.proofs.{Common.{◌≡◌, call_of, Placing, roles_of, rules}, GivenIf.if_given-as, Tried.line-same}
 use Rattle.talk_answers.proofs.tries.put_tried.Goals as goal
 
 pub returns-clause-entries : goal.returns-clause-entries

@@ -1,9 +1,6 @@
-use Rattle.std.proofs.Common.{◌≡◌, Some, option_map, rules, slice_get}
+use Rattle.talk_answers.proofs.{Common.{◌≡◌, gives_as, next_case_entry, option_map, rules, slice_get, Some}, Tried.at-told}
 use Rattle.case_core.specs.Ages.{weight}
-use Rattle.report_words.proofs.Rows.{gives_as}
 use Rattle.script_run.proofs.Aging.{young-at}
-use Rattle.talk_answers.proofs.Tried.{at-told}
-use Rattle.unit_run.specs.Tries.{next_case_entry}
 use Rattle.talk_answers.proofs.tries.put_tried_at.Goals as goal
 
 pub try_case_at-requires : goal.try_case_at-requires

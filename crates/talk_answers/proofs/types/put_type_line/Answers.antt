@@ -1,8 +1,4 @@
-use Rattle.std.proofs.Common.{◌≡◌, ◌∙◌, ap, decimal, length}
-use Rattle.adept_io.proofs.Sent.{gives_then}
-use Rattle.case_places.specs.Places.{Placed, places_of}
-use Rattle.report_words.proofs.Rows.{gives_as}
-use Rattle.talk_answers.specs.Standings.{versions_of}
+use Rattle.talk_answers.proofs.Common.{◌∙◌, ◌≡◌, ap, decimal, gives_as, gives_then, length, Placed, places_of, versions_of}
 use Rattle.type_core.specs.Machine.{newest_of}
 use Rattle.talk_answers.proofs.types.put_type_line.Goals as goal
 

@@ -1,5 +1,4 @@
-use Rattle.talk_answers.specs.Standings.{type_line}
-use Rattle.talk_answers.proofs.Counted.{gives_counted}
+use Rattle.talk_answers.proofs.{Common.type_line, Counted.gives_counted}
 use Rattle.talk_answers.proofs.types.put_types.Goals as goal
 
 pub loop-index-preserved : goal.loop-index-preserved

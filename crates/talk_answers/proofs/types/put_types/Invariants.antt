@@ -1,7 +1,4 @@
-use Rattle.std.proofs.Common.{take}
-use Rattle.adept_io.specs.Written.{Gives}
-use Rattle.report_text.specs.Journals.{numbered}
-use Rattle.talk_answers.specs.Standings.{type_line}
+use Rattle.talk_answers.proofs.Common.{Gives, numbered, take, type_line}
 use Rattle.talk_answers.proofs.types.put_types.Given as goal
 
 abbrev pub invariant-loop-index : goal.invariant-loop-index

@@ -1,5 +1,4 @@
-use Rattle.std.proofs.Common.{◌≡◌, ◌≤◌, ◌+◌, ◌-◌, length, drop}
-use Rattle.file_words.specs.Words.{bare_end}
+use Rattle.talk_items.proofs.Common.{◌+◌, ◌-◌, ◌≡◌, ◌≤◌, bare_end, drop, length}
 use Rattle.talk_items.proofs.plain.bare_end.Given as goal
 
 abbrev pub invariant-loop-end : goal.invariant-loop-end

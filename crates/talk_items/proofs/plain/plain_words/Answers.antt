@@ -1,12 +1,7 @@
-use Rattle.std.proofs.Common.{[], ◌∷◌, ◌++◌, ◌∙◌, ap, subst, sym, length, map, take, drop, arith}
-use Rattle.std.proofs.lemmas.Bool.{eqb-true}
-use Rattle.file_words.specs.Words.{bare_end, words_of}
-use Rattle.talk_items.specs.Keywords.{keyword}
-use Rattle.talk_items.specs.Fronts.{TellAll, tell_enough}
-use Rattle.talk_items.proofs.Fronts.{all-tell, enough-tell, not-enough}
-use Rattle.talk_items.proofs.PlainWords.{bare-word, no-quote, some-line, word-more, words-ended}
+use Rattle.talk_items.proofs.{Common.{[], ◌++◌, ◌∙◌, ◌∷◌, ap, arith, bare_end, drop, eqb-true, keyword, length, subst, sym, take, tell_enough, TellAll, words_of}, Fronts.{all-tell, enough-tell, not-enough}, PlainWords.{bare-word, no-quote}}
+use Rattle.talk_items.proofs.{PlainWords.{some-line, word-more, words-ended}, plain.plain_words.Goals.{else-loop-words-test, then-loop-words-test+else-not-tell_enough}}
+use Rattle.std.proofs.Common.{map}
 use Rattle.talk_items.proofs.plain.plain_words.Goals as goal
-use Rattle.talk_items.proofs.plain.plain_words.Goals.{else-loop-words-test, then-loop-words-test+else-not-tell_enough}
 
 pub loop-words-smaller : goal.loop-words-smaller
 loop-words-smaller c =

@@ -1,7 +1,4 @@
-use Rattle.std.proofs.Common.{◌≡◌, ◌≤◌, ◌++◌, IsTrue, length}
-use Rattle.std.specs.Prelude.{map}
-use Rattle.file_words.specs.Words.{begins_word, words_of}
-use Rattle.talk_items.specs.Keywords.{keyword}
+use Rattle.talk_items.proofs.Common.{◌++◌, ◌≡◌, ◌≤◌, begins_word, IsTrue, keyword, length, map, words_of}
 use Rattle.talk_items.proofs.plain.plain_words.Given as goal
 
 abbrev pub invariant-loop-words : goal.invariant-loop-words

@@ -1,5 +1,4 @@
-use Rattle.std.proofs.Common.{◌≡◌, length}
-use Rattle.file_words.specs.Words.{words_of}
+use Rattle.talk_items.proofs.Common.{◌≡◌, length, words_of}
 use Rattle.talk_items.proofs.plain.without_blanks.Given as goal
 
 abbrev pub invariant-loop-rest : goal.invariant-loop-rest

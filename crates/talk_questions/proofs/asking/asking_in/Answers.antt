@@ -1,8 +1,6 @@
 use Rattle.std.proofs.Common.{◌≡◌, ◌<◌, true, false, length, sym, ◌∙◌, arith, rules}
-use Rattle.file_words.specs.Lines.{front_line, lines_of, without_return}
-use Rattle.file_words.specs.Words.{is_skipped, words_of}
-use Rattle.talk_questions.proofs.Asked.{found, passed}
-use Rattle.talk_questions.proofs.LineBytes.{line-within}
+use Rattle.file_words.specs.{Lines.{front_line, lines_of, without_return}, Words.{is_skipped, words_of}}
+use Rattle.talk_questions.proofs.{Asked.{found, passed}, LineBytes.line-within}
 use Rattle.talk_questions.proofs.asking.asking_in.Goals as goal
 
 pub returns-then-not-is_skipped-clause-asking : goal.returns-then-not-is_skipped-clause-asking

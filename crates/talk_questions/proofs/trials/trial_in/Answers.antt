@@ -1,7 +1,5 @@
 use Rattle.std.proofs.Common.{◌≡◌, rules, subst}
-use Rattle.file_words.specs.Lines.{without_return}
-use Rattle.file_words.specs.Shown.{shown}
-use Rattle.file_words.specs.Words.{words_of}
+use Rattle.file_words.specs.{Lines.without_return, Shown.shown, Words.words_of}
 use Rattle.talk_questions.proofs.ShortWords.{words-short}
 use Rattle.talk_questions.specs.Trials.{AreShort}
 use Rattle.talk_questions.proofs.trials.trial_in.Goals as goal

@@ -1,10 +1,5 @@
-use Rattle.std.proofs.Common.{◌+◌, ◌∷◌, ◌∙◌, [], List, ℕ, ap, inl, length, subst}
-use Rattle.store_disk.specs.Disk.{LeavesOnly}
-use Rattle.store_disk.specs.Image.{all_framed}
-use Rattle.store_disk.specs.Rest.{HasNoneOrAll, IsAtRest}
-use Rattle.talk_rules.specs.Units.{header}
+use Rattle.talk_server.proofs.Common.{[], ℕ, ◌+◌, ◌∙◌, ◌∷◌, all_framed, ap, HasNoneOrAll, header, inl, IsAtRest, LeavesOnly, length, List, stays, subst}
 use Rattle.talk_server.proofs.beginning.begin.Goals as goal
-use Rattle.turn_loop.proofs.Stored.{stays}
 
 pub returns-in_err-holder-clause-any_moment : goal.returns-in_err-holder-clause-any_moment
 returns-in_err-holder-clause-any_moment g c =

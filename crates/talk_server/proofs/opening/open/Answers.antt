@@ -1,13 +1,4 @@
-use Rattle.std.proofs.Common.{◌≡◌, ◌-◌, ◌^◌, ◌≤◌, ◌++◌, ◌∙◌, List, ℕ, ap, drop, length, subst, sym, take, arith}
-use Rattle.std.specs.Prelude.{Err}
-use Rattle.std.proofs.lemmas.List.{take_rest}
-use Rattle.adept_io.specs.Counts.{Rose}
-use Rattle.store_disk.specs.Disk.{IsSettled}
-use Rattle.store_disk.specs.Image.{framed}
-use Rattle.store_disk.specs.Opening.{with_gate}
-use Rattle.talk_rules.specs.Units.{header}
-use Rattle.talk_server.specs.Opening.{damaged_at, opening}
-use Rattle.talk_server.specs.Unopened.{unopened}
+use Rattle.talk_server.proofs.Common.{ℕ, ◌++◌, ◌-◌, ◌^◌, ◌∙◌, ◌≡◌, ◌≤◌, ap, arith, damaged_at, drop, Err, framed, header, IsSettled, length, List, opening, Rose, subst, sym, take, take_rest, unopened, with_gate}
 use Rattle.talk_server.specs.declared.faults.ServeFault.TheVariants as fault
 use Rattle.talk_server.proofs.Opens.{begun-causes, begun-damaged, begun-long, begun-moments, begun-open, begun-rose, gate-again, headed-long, if-err, left-alone, other-told, read-moments, rest-empty, same-err, taken-causes, taken-failed, taken-long, taken-open, taken-told, unread-causes, unread-damaged, unread-failed, unread-long}
 use Rattle.talk_server.proofs.opening.open.Goals as goal

@@ -1,11 +1,7 @@
-use Rattle.std.proofs.Common.{rules, ◌≡◌, inl, refl, subst, ap}
-use Rattle.std.specs.Prelude.{Err}
-use Rattle.adept_io.specs.Counts.{Rose}
-use Rattle.talk_server.proofs.Opens.{same-err}
-use Rattle.talk_server.proofs.Serves.{disk-cut, ends-cut, ends-well, has-answered, has-any-answered, if-any, if-some, no-long-talk, no-read-fault, no-write-fault, opening-moments, rest-again, says-all, says-some, serves-first, talk-moments, told-again, unopened-ends}
+use Rattle.talk_server.proofs.{Common.{◌≡◌, ap, Err, held, inl, refl, Rose, rules, subst}, Opens.same-err, Serves.{disk-cut, ends-cut, ends-well, has-answered, has-any-answered, if-any, if-some, no-long-talk, no-read-fault, no-write-fault}}
+use Rattle.talk_server.proofs.Serves.{opening-moments, rest-again, says-all, says-some, serves-first, talk-moments, told-again, unopened-ends}
 use Rattle.talk_server.proofs.serving.serve.Goals as goal
 use Rattle.talk_server.specs.declared.faults.ServeFault.TheVariants as fault
-use Rattle.turn_loop.specs.Groups.{held}
 use Rattle.turn_loop.specs.declared.faults.TalkFault.TheVariants as cut
 
 pub returns-in_err-state-clause-ended : goal.returns-in_err-state-clause-ended

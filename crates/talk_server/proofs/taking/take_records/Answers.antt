@@ -1,10 +1,5 @@
-use Rattle.std.proofs.Common.{◌≡◌, ◌+◌, ◌-◌, ◌∙◌, false, true, List, ℕ, take, drop, ap, refl, subst, sym, arith}
-use Rattle.std.proofs.lemmas.List.{take_rest}
-use Rattle.store_disk.specs.Opening.{IsFrame}
+use Rattle.talk_server.proofs.{Common.{ℕ, ◌+◌, ◌-◌, ◌∙◌, ◌≡◌, ap, arith, drop, false, is_next, IsFrame, List, refl, subst, sym, take, take_rest, true, units_behind}, Taken.{begins, cut-here, ends-here, goes-on, refused-here}}
 use Rattle.store_disk.specs.declared.frames.Frame.TheVariants as front
-use Rattle.talk_rules.specs.Units.{units_behind}
-use Rattle.talk_server.specs.Opening.{is_next}
-use Rattle.talk_server.proofs.Taken.{begins, cut-here, ends-here, goes-on, refused-here}
 use Rattle.talk_server.proofs.taking.take_records.Goals as goal
 
 pub loop-holder-init : goal.loop-holder-init

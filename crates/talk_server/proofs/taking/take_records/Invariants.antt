@@ -1,5 +1,4 @@
-use Rattle.std.proofs.Common.{length}
-use Rattle.talk_server.proofs.Taken.{Taken}
+use Rattle.talk_server.proofs.{Common.length, Taken.Taken}
 use Rattle.talk_server.proofs.taking.take_records.Given as goal
 
 abbrev pub invariant-loop-holder : goal.invariant-loop-holder

@@ -1,4 +1,4 @@
-use Rattle.std.proofs.Common.{◌≡◌, ◌++◌, map, take}
+use Rattle.talk_state.proofs.Common.{◌++◌, ◌≡◌, map, take}
 use Rattle.talk_state.proofs.answers.note.Given as goal
 
 abbrev pub invariant-loop-byte : goal.invariant-loop-byte

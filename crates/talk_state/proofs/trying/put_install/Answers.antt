@@ -1,12 +1,5 @@
-use Rattle.std.proofs.Common.{◌≡◌, ap, ◌∙◌}
-use Rattle.file_model.specs.declared.files.File.{File}
-use Rattle.file_model.specs.Reading.{file_of}
-use Rattle.script_run.specs.Calls.{worked}
-use Rattle.script_run.specs.declared.runs.Run.{Run}
-use Rattle.talk_state.proofs.WhatIf.{put-back-run}
+use Rattle.talk_state.proofs.{Common.{◌∙◌, ◌≡◌, ap, File, file_of, kind_before, Placing, put_back_kind, Run, worked}, WhatIf.put-back-run}
 use Rattle.talk_state.proofs.trying.put_install.Goals as goal
-use Rattle.unit_run.specs.Runs.{Placing}
-use Rattle.unit_run.specs.Tries.{kind_before, put_back_kind}
 
 pub returns-clause-run : goal.returns-clause-run
 returns-clause-run g c =

@@ -1,14 +1,6 @@
-use Rattle.std.proofs.Common.{◌≡◌, true, ◌++◌, ap, sym, ◌∙◌, rules}
-use Rattle.file_model.specs.declared.files.File.{File}
-use Rattle.file_units.specs.Units.{unit_read}
+use Rattle.talk_state.proofs.{Common.{◌++◌, ◌∙◌, ◌≡◌, ap, entries, entries_read, File, held_in, rules, sym, true, unit_read, was_installed}, TakenBy.not_false, WhatIf.made-with}
 use Rattle.line_calls.specs.declared.calls.Cells.TheVariants as cells
 use Rattle.talk_answers.proofs.GivenIf.{if_given-then}
-use Rattle.talk_answers.specs.Entries.{entries}
-use Rattle.talk_state.proofs.TakenBy.{not_false}
-use Rattle.talk_state.proofs.WhatIf.{made-with}
-use Rattle.talk_state.specs.Answers.{entries_read}
-use Rattle.talk_state.specs.Held.{held_in}
-use Rattle.unit_run.specs.Tries.{was_installed}
 use Rattle.talk_state.proofs.trying.put_made.Goals as goal
 
 pub returns-clause-entries : goal.returns-clause-entries

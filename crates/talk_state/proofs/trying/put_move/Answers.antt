@@ -1,8 +1,4 @@
-use Rattle.std.proofs.Common.{true, length}
-use Rattle.adept_io.proofs.Sent.{gives_then}
-use Rattle.file_units.specs.Units.{unit_read}
-use Rattle.report_words.proofs.Rows.{gives_as}
-use Rattle.talk_state.proofs.WhatIf.{can-move, move-told}
+use Rattle.talk_state.proofs.{Common.{gives_as, gives_then, length, true, unit_read}, WhatIf.{can-move, move-told}}
 use Rattle.talk_state.proofs.trying.put_move.Goals as goal
 
 pub put_moved-requires : goal.put_moved-requires

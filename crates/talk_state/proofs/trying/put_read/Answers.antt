@@ -1,11 +1,4 @@
-use Rattle.std.proofs.Common.{ap, length, subst, sym}
-use Rattle.file_model.specs.declared.files.File.{File}
-use Rattle.file_units.specs.Units.{unit_read}
-use Rattle.report_words.proofs.Rows.{gives_as}
-use Rattle.talk_state.proofs.Taken.{can-say}
-use Rattle.talk_state.proofs.WhatIf.{entries-told}
-use Rattle.talk_state.specs.Answers.{entries_of}
-use Rattle.talk_state.specs.Working.{CanWork, said_called, said_worked}
+use Rattle.talk_state.proofs.{Common.{ap, CanWork, entries_of, File, gives_as, length, said_called, said_worked, subst, sym, unit_read}, Taken.can-say, WhatIf.entries-told}
 use Rattle.talk_state.proofs.trying.put_read.Goals as goal
 
 pub put_said-requires : goal.put_said-requires

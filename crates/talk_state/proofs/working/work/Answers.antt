@@ -1,7 +1,4 @@
-use Rattle.std.proofs.Common.{ap, arith}
-use Rattle.script_run.specs.Oldest.{oldest}
-use Rattle.script_run.specs.declared.runs.Run.{Run}
-use Rattle.talk_state.proofs.Ages.{oldest-declared}
+use Rattle.talk_state.proofs.{Common.{ap, arith, oldest, Run}, Ages.oldest-declared}
 use Rattle.talk_state.proofs.working.work.Goals as goal
 
 pub returns-in_ok-declare-in-Case-clause-age : goal.returns-in_ok-declare-in-Case-clause-age

@@ -1,5 +1,4 @@
-use Rattle.std.proofs.Common.{◌≡◌, List, map, All, arith}
-use Rattle.std.proofs.lemmas.List.Elements.{All-map, All-weaker, All-same}
+use Rattle.std.proofs.{Common.{◌≡◌, List, map, All, arith}, lemmas.List.Elements.{All-map, All-weaker, All-same}}
 use Rattle.turn_cell.specs.Passes.{PassView, joined}
 use Rattle.turn_rows.specs.Rows.{CanClose, CanJoin, first_met, split_from, views, zip_with}
 use Rattle.turn_rows.proofs.Places.{All-zip_with}

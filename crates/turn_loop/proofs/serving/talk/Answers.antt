@@ -1,9 +1,4 @@
-use Rattle.std.proofs.Common.{ap, subst, sym, true, arith}
-use Rattle.std.specs.Prelude.{Err}
-use Rattle.store_disk.specs.Rest.{IsAtRest}
-use Rattle.turn_loop.specs.Serving.{Cut, Ended, Turned}
-use Rattle.turn_loop.specs.Talk.{still_first, worked}
-use Rattle.turn_loop.specs.Turns.{joined}
+use Rattle.turn_loop.proofs.Common.{ap, arith, Cut, Ended, Err, IsAtRest, joined, still_first, subst, sym, true, Turned, worked}
 use Rattle.turn_loop.proofs.Going.{begun, closed, empty, end-of, ended-memory, filled, last-read, told, unfilled, was-cut, went-on, Going}
 use Rattle.turn_loop.proofs.serving.talk.Goals as goal
 

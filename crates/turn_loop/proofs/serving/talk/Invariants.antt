@@ -1,6 +1,4 @@
-use Rattle.std.proofs.Common.{◌+◌, ◌*◌, ◌-◌, ◌^◌, ◌≤◌, length}
-use Rattle.turn_loop.specs.Groups.{held}
-use Rattle.turn_loop.proofs.Going.{Going}
+use Rattle.turn_loop.proofs.{Common.{◌*◌, ◌+◌, ◌-◌, ◌^◌, ◌≤◌, held, length}, Going.Going}
 use Rattle.turn_loop.proofs.serving.talk.Given as goal
 
 abbrev pub invariant-turns : goal.invariant-turns

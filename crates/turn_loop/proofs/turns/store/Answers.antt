@@ -1,6 +1,4 @@
-use Rattle.std.proofs.Common.{inl}
-use Rattle.store_disk.specs.Rest.{HasNoneOrAll}
-use Rattle.turn_loop.proofs.Stored.{gate-short, some-there, stays}
+use Rattle.turn_loop.proofs.{Common.{HasNoneOrAll, inl}, Stored.{gate-short, some-there, stays}}
 use Rattle.turn_loop.proofs.turns.store.Goals as goal
 
 pub returns-then-is_empty-clause-any_moment : goal.returns-then-is_empty-clause-any_moment

@@ -1,8 +1,4 @@
-use Rattle.std.proofs.Common.{◌∙◌, subst, sym}
-use Rattle.std.specs.Io.KnownBytes.{Appends}
-use Rattle.adept_io.specs.Written.{AppendsPrefix}
-use Rattle.turn_loop.specs.Serving.{Cut}
-use Rattle.turn_loop.proofs.Turning.{cut-disk, cut-memory, cut-sink, err-of, turned}
+use Rattle.turn_loop.proofs.{Common.{◌∙◌, Appends, AppendsPrefix, Cut, subst, sym}, Turning.{cut-disk, cut-memory, cut-sink, err-of, turned}}
 use Rattle.turn_loop.proofs.turns.take_turn.Goals as goal
 
 pub store-requires : goal.store-requires

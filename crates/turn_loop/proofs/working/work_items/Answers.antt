@@ -1,9 +1,4 @@
-use Rattle.std.proofs.Common.{◌++◌, ◌<◌, ◌≤◌, ap, arith, length, refl, subst, take}
-use Rattle.std.specs.Prelude.{IfSome}
-use Rattle.turn_loop.specs.Talk.{Takes, still_first, taken_of}
-use Rattle.turn_loop.specs.declared.limits.TheConstants.{MAX_ANSWERS}
-use Rattle.turn_loop.proofs.Splits.{took-item}
-use Rattle.turn_loop.proofs.Worked.{all-taken, none-yet, one-more}
+use Rattle.turn_loop.proofs.{Common.{◌++◌, ◌<◌, ◌≤◌, ap, arith, IfSome, length, MAX_ANSWERS, refl, still_first, subst, take, taken_of, Takes}, Splits.took-item, Worked.{all-taken, none-yet, one-more}}
 use Rattle.turn_loop.proofs.working.work_items.Goals as goal
 
 pub items-init : goal.items-init

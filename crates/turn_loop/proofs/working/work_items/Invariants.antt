@@ -1,6 +1,4 @@
-use Rattle.std.proofs.Common.{◌-◌, ◌<◌, ◌≤◌, Bool, List, ℕ, length}
-use Rattle.turn_loop.specs.Serving.{Works}
-use Rattle.turn_loop.specs.Talk.{IsRest}
+use Rattle.turn_loop.proofs.Common.{ℕ, ◌-◌, ◌<◌, ◌≤◌, Bool, IsRest, length, List, Works}
 use Rattle.turn_loop.proofs.working.work_items.Given as goal
 
 abbrev pub invariant-items : goal.invariant-items

@@ -1,10 +1,5 @@
-use Rattle.std.proofs.Common.{◌≡◌, ◌++◌, refl, ◌∷◌, [], inl, inr, length, sym, ap, ◌∙◌, rules, arith}
-use Rattle.std.proofs.lemmas.List.{append-nil}
-use Rattle.std.specs.Iterator.Adapters.{zip_first, zip_second}
-use Rattle.std.specs.Vec.Iter.{into_iter_items, into_iter_len}
-use Rattle.turn_batch.proofs.Calls.{length-passes}
-use Rattle.turn_rows.proofs.Lists.{appended_more}
-use Rattle.turn_rows.proofs.Closings.{none_closed, next_of, next_can, one_more_closed, all_closed}
+use Rattle.turn_rows.proofs.{Common.{[], ◌++◌, ◌∙◌, ◌∷◌, ◌≡◌, ap, append-nil, arith, inl, inr, into_iter_items, into_iter_len, length, length-passes, refl, rules, sym, zip_first, zip_second}, Lists.appended_more, Closings.none_closed}
+use Rattle.turn_rows.proofs.Closings.{next_of, next_can, one_more_closed, all_closed}
 use Rattle.turn_rows.proofs.closing.close_into.Goals as goal
 
 pub loop-cell-init : goal.loop-cell-init

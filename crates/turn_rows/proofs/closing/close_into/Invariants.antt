@@ -1,7 +1,4 @@
-use Rattle.std.proofs.Common.{◌≡◌, ◌+◌, ◌≤◌, ◌++◌, length, vec_len, vec_capacity}
-use Rattle.std.specs.Iterator.Adapters.{zip_first, zip_second}
-use Rattle.std.specs.Vec.Iter.{into_iter_items, into_iter_len}
-use Rattle.turn_rows.proofs.Closings.{HaveClosed}
+use Rattle.turn_rows.proofs.{Common.{◌++◌, ◌+◌, ◌≡◌, ◌≤◌, into_iter_items, into_iter_len, length, vec_capacity, vec_len, zip_first, zip_second}, Closings.HaveClosed}
 use Rattle.turn_rows.proofs.closing.close_into.Given as goal
 
 abbrev pub invariant-loop-cell : goal.invariant-loop-cell

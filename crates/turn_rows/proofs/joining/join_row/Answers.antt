@@ -1,14 +1,6 @@
-use Rattle.std.proofs.Common.{◌≡◌, ◌+◌, ◌<◌, length, rules, arith, ap, sym, ◌∙◌, drop, get_or}
-use Rattle.std.specs.Iterator.Adapters.{enumerate_count, enumerate_source}
-use Rattle.std.specs.Vec.Iter.{into_iter_items, into_iter_len}
+use Rattle.turn_rows.proofs.{Common.{◌+◌, ◌<◌, ◌∙◌, ◌≡◌, ap, arith, CanJoin, drop, enumerate_count, enumerate_source, get_or, into_iter_items, into_iter_len, length, length-passes, length-set, rules, sym, view_of}, Lists.next_item}
+use Rattle.turn_rows.proofs.{Lists.All-same_at, Passes.of_cell, Joins.{HaveJoinedUpTo, none_joined, one_more_joined, all_joined}}
 use Rattle.std.proofs.lemmas.Grind.{common_steps}
-use Rattle.std.proofs.lemmas.List.{length-set}
-use Rattle.turn_cell.specs.Passes.{view_of}
-use Rattle.turn_batch.proofs.Calls.{length-passes}
-use Rattle.turn_rows.specs.Rows.{CanJoin}
-use Rattle.turn_rows.proofs.Lists.{next_item, All-same_at}
-use Rattle.turn_rows.proofs.Passes.{of_cell}
-use Rattle.turn_rows.proofs.Joins.{HaveJoinedUpTo, none_joined, one_more_joined, all_joined}
 use Rattle.turn_rows.proofs.joining.join_row.Goals as goal
 
 pub loop-place-init : goal.loop-place-init

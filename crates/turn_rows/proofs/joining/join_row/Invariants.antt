@@ -1,7 +1,4 @@
-use Rattle.std.proofs.Common.{◌≡◌, ◌+◌, length, drop}
-use Rattle.std.specs.Iterator.Adapters.{enumerate_count, enumerate_source}
-use Rattle.std.specs.Vec.Iter.{into_iter_items, into_iter_len}
-use Rattle.turn_rows.proofs.Joins.{HaveJoinedUpTo}
+use Rattle.turn_rows.proofs.{Common.{◌+◌, ◌≡◌, drop, enumerate_count, enumerate_source, into_iter_items, into_iter_len, length}, Joins.HaveJoinedUpTo}
 use Rattle.turn_rows.proofs.joining.join_row.Given as goal
 
 abbrev pub invariant-loop-place : goal.invariant-loop-place

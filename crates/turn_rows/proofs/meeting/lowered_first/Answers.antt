@@ -1,6 +1,4 @@
-use Rattle.std.proofs.Common.{◌∙◌, length, ap}
-use Rattle.std.specs.Option.{unwrap_or}
-use Rattle.turn_rows.proofs.Flags.{first_or_end}
+use Rattle.turn_rows.proofs.{Common.{◌∙◌, ap, length, unwrap_or}, Flags.first_or_end}
 use Rattle.turn_rows.proofs.meeting.lowered_first.Goals as goal
 
 pub returns-clause-first : goal.returns-clause-first

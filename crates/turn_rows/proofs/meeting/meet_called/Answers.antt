@@ -1,8 +1,4 @@
-use Rattle.std.proofs.Common.{◌+◌, ◌∙◌, length, arith}
-use Rattle.std.proofs.lemmas.List.{length-set}
-use Rattle.turn_batch.proofs.Calls.{length-passes}
-use Rattle.turn_rows.proofs.Passes.{of_cell}
-use Rattle.turn_rows.proofs.Meetings.{none_met, one_more_met, met_before, all_met}
+use Rattle.turn_rows.proofs.{Common.{◌+◌, ◌∙◌, arith, length, length-passes, length-set}, Passes.of_cell, Meetings.{none_met, one_more_met, met_before, all_met}}
 use Rattle.turn_rows.proofs.meeting.meet_called.Goals as goal
 
 pub loop-place-init : goal.loop-place-init

@@ -1,5 +1,4 @@
-use Rattle.std.proofs.Common.{◌≡◌, ◌-◌, length}
-use Rattle.turn_rows.proofs.Meetings.{HaveMetBefore}
+use Rattle.turn_rows.proofs.{Common.{◌-◌, ◌≡◌, length}, Meetings.HaveMetBefore}
 use Rattle.turn_rows.proofs.meeting.meet_called.Given as goal
 
 abbrev pub invariant-loop-place : goal.invariant-loop-place

@@ -1,8 +1,4 @@
-use Rattle.std.proofs.Common.{◌∙◌, arith}
-use Rattle.std.proofs.lemmas.List.{length-set}
-use Rattle.turn_batch.proofs.Calls.{length-passes}
-use Rattle.turn_rows.proofs.Passes.{of_cell}
-use Rattle.turn_rows.proofs.Meetings.{none_met, one_more_met, all_met}
+use Rattle.turn_rows.proofs.{Common.{◌∙◌, arith, length-passes, length-set}, Passes.of_cell, Meetings.{none_met, one_more_met, all_met}}
 use Rattle.turn_rows.proofs.meeting.meet_rows.Goals as goal
 
 pub loop-place-init : goal.loop-place-init

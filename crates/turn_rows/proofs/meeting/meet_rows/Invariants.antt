@@ -1,5 +1,4 @@
-use Rattle.std.proofs.Common.{◌≡◌, length}
-use Rattle.turn_rows.proofs.Meetings.{HaveMetUpTo}
+use Rattle.turn_rows.proofs.{Common.{◌≡◌, length}, Meetings.HaveMetUpTo}
 use Rattle.turn_rows.proofs.meeting.meet_rows.Given as goal
 
 abbrev pub invariant-loop-place : goal.invariant-loop-place

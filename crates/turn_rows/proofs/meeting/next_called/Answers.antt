@@ -1,6 +1,4 @@
-use Rattle.std.proofs.Common.{◌∙◌, ap, arith}
-use Rattle.std.specs.List.{position_or_len}
-use Rattle.turn_rows.proofs.Flags.{lowered_before}
+use Rattle.turn_rows.proofs.{Common.{◌∙◌, ap, arith, position_or_len}, Flags.lowered_before}
 use Rattle.turn_rows.proofs.meeting.next_called.Goals as goal
 
 pub returns-clause-calm : goal.returns-clause-calm

@@ -1,9 +1,4 @@
-use Rattle.std.proofs.Common.{◌≤◌, length, ap, ◌∙◌, rules, arith}
-use Rattle.std.specs.Iterator.Adapters.{enumerate_count, enumerate_source}
-use Rattle.std.specs.Vec.Iter.{into_iter_items, into_iter_len}
-use Rattle.turn_cell.specs.declared.limits.TheConstants.{MAX_OPENING_AGE}
-use Rattle.turn_rows.proofs.Passes.{opened-of}
-use Rattle.turn_rows.proofs.Openings.{none_opened, one_more_opened, all_opened}
+use Rattle.turn_rows.proofs.{Common.{◌∙◌, ◌≤◌, ap, arith, enumerate_count, enumerate_source, into_iter_items, into_iter_len, length, MAX_OPENING_AGE, rules}, Passes.opened-of, Openings.{none_opened, one_more_opened, all_opened}}
 use Rattle.turn_rows.proofs.opening.open_row.Goals as goal
 
 pub loop-place-init : goal.loop-place-init

@@ -1,8 +1,4 @@
-use Rattle.std.proofs.Common.{◌≡◌, ◌+◌, ◌≤◌, length, vec_len, vec_capacity}
-use Rattle.std.specs.Iterator.Adapters.{enumerate_count, enumerate_source}
-use Rattle.std.specs.Vec.Iter.{into_iter_items, into_iter_len}
-use Rattle.turn_cell.specs.declared.limits.TheConstants.{MAX_OPENING_AGE}
-use Rattle.turn_rows.proofs.Openings.{HaveOpened}
+use Rattle.turn_rows.proofs.{Common.{◌+◌, ◌≡◌, ◌≤◌, enumerate_count, enumerate_source, into_iter_items, into_iter_len, length, MAX_OPENING_AGE, vec_capacity, vec_len}, Openings.HaveOpened}
 use Rattle.turn_rows.proofs.opening.open_row.Given as goal
 
 abbrev pub invariant-loop-place : goal.invariant-loop-place

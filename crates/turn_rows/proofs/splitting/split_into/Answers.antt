@@ -1,11 +1,4 @@
-use Rattle.std.proofs.Common.{◌∷◌, [], ◌++◌, refl, sym, ◌∙◌, arith}
-use Rattle.std.proofs.lemmas.List.{append-nil, length-set}
-use Rattle.turn_cell.specs.Passes.{view_of}
-use Rattle.turn_batch.proofs.Calls.{length-passes}
-use Rattle.turn_rows.specs.Rows.{CanSplit}
-use Rattle.turn_rows.proofs.Lists.{All-same_at, appended_more}
-use Rattle.turn_rows.proofs.Passes.{of_cell}
-use Rattle.turn_rows.proofs.Splits.{none_split, one_more_split, all_split}
+use Rattle.turn_rows.proofs.{Common.{[], ◌++◌, ◌∙◌, ◌∷◌, append-nil, arith, CanSplit, length-passes, length-set, refl, sym, view_of}, Lists.{All-same_at, appended_more}, Passes.of_cell, Splits.{none_split, one_more_split, all_split}}
 use Rattle.turn_rows.proofs.splitting.split_into.Goals as goal
 
 pub loop-place-init : goal.loop-place-init

@@ -1,5 +1,4 @@
-use Rattle.std.proofs.Common.{◌≡◌, ◌+◌, ◌-◌, ◌≤◌, ◌++◌, length, vec_len, vec_capacity}
-use Rattle.turn_rows.proofs.Splits.{HaveSplit}
+use Rattle.turn_rows.proofs.{Common.{◌++◌, ◌+◌, ◌-◌, ◌≡◌, ◌≤◌, length, vec_capacity, vec_len}, Splits.HaveSplit}
 use Rattle.turn_rows.proofs.splitting.split_into.Given as goal
 
 abbrev pub invariant-loop-place : goal.invariant-loop-place

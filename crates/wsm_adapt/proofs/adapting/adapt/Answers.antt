@@ -1,12 +1,4 @@
-use Rattle.std.proofs.Common.{◌≤◌, ◌+◌, [], ap, sym, ◌∙◌, subst}
-use Rattle.wsm_adapt.specs.Adapted.{gone_of, marks_to_read, without}
-use Rattle.wsm_adapt.specs.Begun.{IsFound, TellsOf}
-use Rattle.wsm_adapt.specs.Misfits.{region_misfit}
-use Rattle.wsm_adapt.specs.Region.{is_reached}
-use Rattle.wsm_adapt.specs.Walking.{Confined}
-use Rattle.wsm_adapt.specs.declared.walks.Found.{Found}
-use Rattle.wsm_adapt.proofs.AdaptsRight.{adapt-blocked, adapt-moved}
-use Rattle.wsm_adapt.proofs.TouchedRows.{tells-touched}
+use Rattle.wsm_adapt.proofs.{Common.{[], ◌+◌, ◌∙◌, ◌≤◌, ap, Confined, Found, gone_of, is_reached, IsFound, marks_to_read, region_misfit, subst, sym, TellsOf, without}, AdaptsRight.{adapt-blocked, adapt-moved}, TouchedRows.tells-touched}
 use Rattle.wsm_adapt.proofs.adapting.adapt.Goals as goal
 
 pub returns-in_err-found-clause-marks_few : goal.returns-in_err-found-clause-marks_few

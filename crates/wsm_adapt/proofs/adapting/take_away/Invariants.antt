@@ -1,5 +1,4 @@
-use Rattle.std.proofs.Common.{◌≡◌, drop}
-use Rattle.wsm_adapt.specs.Adapted.{gone_of, without}
+use Rattle.wsm_adapt.proofs.Common.{◌≡◌, drop, gone_of, without}
 use Rattle.wsm_adapt.proofs.adapting.take_away.Given as goal
 
 abbrev pub invariant-loop-node : goal.invariant-loop-node

@@ -1,14 +1,5 @@
-use Rattle.std.proofs.Common.{ℕ, List, [], refl, ap, ◌∙◌, subst}
-use Rattle.std.proofs.lemmas.Bool.{both_ways}
-use Rattle.wsm_settle.proofs.Handing.{handed-within}
-use Rattle.wsm_settle.proofs.Results.{on_ok}
-use Rattle.wsm_adapt.specs.Begun.{IsFound, TellsOf, begun_rows}
-use Rattle.wsm_adapt.specs.Border.{AllAmong, FewAmong, ReadsMore, SpendsAmong, own}
-use Rattle.wsm_adapt.specs.Region.{is_reached}
-use Rattle.wsm_adapt.specs.Walking.{Confined, GoesOn, KeepsTold, StaysInside}
-use Rattle.wsm_adapt.specs.declared.walks.Found.{Found}
-use Rattle.wsm_adapt.proofs.Beginning.{names_first}
-use Rattle.wsm_adapt.proofs.Finding.{found-inside, found-right, found-told, touched-few, walk-few}
+use Rattle.wsm_adapt.proofs.Common.{[], ℕ, ◌∙◌, AllAmong, ap, begun_rows, both_ways, Confined, FewAmong, Found, GoesOn, handed-within, is_reached, IsFound, KeepsTold, List, on_ok, own, ReadsMore, refl, SpendsAmong, StaysInside, subst}
+use Rattle.wsm_adapt.proofs.{Common.TellsOf, Beginning.names_first, Finding.{found-inside, found-right, found-told, touched-few, walk-few}}
 use Rattle.wsm_adapt.proofs.begins.find.Goals as goal
 
 pub walk-requires : goal.walk-requires

@@ -1,6 +1,4 @@
-use Rattle.wsm_schema.specs.Flat.{card_at}
-use Rattle.wsm_settle.proofs.Handing.{handed-next, handed-rest}
-use Rattle.wsm_adapt.specs.Begun.{is_led}
+use Rattle.wsm_adapt.proofs.Common.{card_at, handed-next, handed-rest, is_led}
 use Rattle.wsm_adapt.proofs.begins.hand_on_all.Goals as goal
 
 pub loop-node-preserved : goal.loop-node-preserved

@@ -1,8 +1,4 @@
-use Rattle.std.proofs.Common.{ℕ, List, drop}
-use Rattle.std.specs.List.{list_any}
-use Rattle.wsm_schema.specs.Flat.{card_at}
-use Rattle.wsm_walk.specs.RankPlaces.{Handed}
-use Rattle.wsm_adapt.specs.Begun.{is_led}
+use Rattle.wsm_adapt.proofs.Common.{ℕ, card_at, drop, Handed, is_led, List, list_any}
 use Rattle.wsm_adapt.proofs.begins.hand_on_all.Given as goal
 
 abbrev pub invariant-loop-node : goal.invariant-loop-node

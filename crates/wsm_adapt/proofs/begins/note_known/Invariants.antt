@@ -1,5 +1,4 @@
-use Rattle.std.proofs.Common.{◌≡◌, drop}
-use Rattle.wsm_adapt.specs.Begun.{begun_rows}
+use Rattle.wsm_adapt.proofs.Common.{◌≡◌, begun_rows, drop}
 use Rattle.wsm_adapt.proofs.begins.note_known.Given as goal
 
 abbrev pub invariant-loop-node : goal.invariant-loop-node

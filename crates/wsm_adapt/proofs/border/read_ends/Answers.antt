@@ -1,8 +1,4 @@
-use Rattle.std.proofs.Common.{List, ℕ, refl, ◌∙◌, subst, sym, arith}
-use Rattle.std.proofs.lemmas.List.{drop_all}
-use Rattle.wsm_schema.specs.declared.marks.Mark.{Mark}
-use Rattle.wsm_adapt.specs.Border.{AllKnown, ReadsMore, end_node}
-use Rattle.wsm_adapt.proofs.ReadBorder.{all-next, few-next, few-spent, more-none, more-then, spends-next}
+use Rattle.wsm_adapt.proofs.{Common.{ℕ, ◌∙◌, AllKnown, arith, drop_all, end_node, List, Mark, ReadsMore, refl, subst, sym}, ReadBorder.{all-next, few-next, few-spent, more-none, more-then, spends-next}}
 use Rattle.wsm_adapt.proofs.border.read_ends.Goals as goal
 
 pub loop-end-init : goal.loop-end-init

@@ -1,6 +1,4 @@
-use Rattle.std.proofs.Common.{◌≡◌, ◌≤◌, List, ℕ, Option, drop}
-use Rattle.wsm_schema.specs.declared.marks.Mark.{Mark}
-use Rattle.wsm_adapt.specs.Border.{AllAmong, AllKnown, ReadsMore, SpendsAmong, end_node}
+use Rattle.wsm_adapt.proofs.Common.{ℕ, ◌≡◌, ◌≤◌, AllAmong, AllKnown, drop, end_node, List, Mark, Option, ReadsMore, SpendsAmong}
 use Rattle.wsm_adapt.proofs.border.read_ends.Given as goal
 
 abbrev pub invariant-loop-end : goal.invariant-loop-end

@@ -1,6 +1,4 @@
-use Rattle.std.proofs.Common.{◌≡◌, ◌≤◌, List, ℕ, Option, drop}
-use Rattle.wsm_schema.specs.declared.marks.Mark.{Mark}
-use Rattle.wsm_adapt.specs.Border.{AllAmong, AllKnown, ReadsMore, SpendsAmong, own}
+use Rattle.wsm_adapt.proofs.Common.{ℕ, ◌≡◌, ◌≤◌, AllAmong, AllKnown, drop, List, Mark, Option, own, ReadsMore, SpendsAmong}
 use Rattle.wsm_adapt.proofs.border.read_nodes.Given as goal
 
 abbrev pub invariant-loop-node : goal.invariant-loop-node

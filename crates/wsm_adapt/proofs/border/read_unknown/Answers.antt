@@ -1,12 +1,4 @@
-use Rattle.std.specs.Prelude.{is_some}
-use Rattle.std.proofs.Common.{◌≡◌, false, true, List, ℕ, ap, sym, ◌∙◌, Option, arith}
-use Rattle.wsm_lists.specs.ByNumber.{item_at}
-use Rattle.wsm_lists.specs.Keys.{first}
-use Rattle.wsm_lists.specs.Rows.{put_row}
-use Rattle.wsm_schema.specs.declared.marks.Mark.{Mark}
-use Rattle.wsm_settle.proofs.Results.{on_ok}
-use Rattle.wsm_schema.specs.Trail.{is_one_of}
-use Rattle.wsm_adapt.specs.Border.{ReadsMore, SpendsAmong, is_known}
+use Rattle.wsm_adapt.proofs.Common.{ℕ, ◌∙◌, ◌≡◌, ap, arith, false, first, is_known, is_one_of, is_some, item_at, List, Mark, on_ok, Option, put_row, ReadsMore, SpendsAmong, sym, true}
 use Rattle.wsm_adapt.proofs.ReadBorder.{few-one, known-one, more-like, more-one, spends-one, unknown-like}
 use Rattle.wsm_adapt.proofs.border.read_unknown.Goals as goal
 

@@ -1,5 +1,4 @@
-use Rattle.std.proofs.Common.{sym, arith}
-use Rattle.wsm_adapt.proofs.OtherLengths.{edges-lengths}
+use Rattle.wsm_adapt.proofs.{Common.{arith, sym}, OtherLengths.edges-lengths}
 use Rattle.wsm_adapt.proofs.fits.edges_fit.Goals as goal
 
 pub returns-then-before-writes : goal.returns-then-before-writes

@@ -1,5 +1,4 @@
-use Rattle.std.proofs.Common.{◌≡◌, length, drop}
-use Rattle.wsm_walk.specs.Touches.{edges_fit}
+use Rattle.wsm_adapt.proofs.Common.{◌≡◌, drop, edges_fit, length}
 use Rattle.wsm_adapt.proofs.fits.edges_fit.Given as goal
 
 abbrev pub invariant-loop-i : goal.invariant-loop-i

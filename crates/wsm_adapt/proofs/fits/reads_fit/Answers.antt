@@ -1,5 +1,4 @@
-use Rattle.std.proofs.Common.{sym, arith}
-use Rattle.wsm_adapt.proofs.OtherLengths.{reads-lengths}
+use Rattle.wsm_adapt.proofs.{Common.{arith, sym}, OtherLengths.reads-lengths}
 use Rattle.wsm_adapt.proofs.fits.reads_fit.Goals as goal
 
 pub returns-then-recorded-reads : goal.returns-then-recorded-reads

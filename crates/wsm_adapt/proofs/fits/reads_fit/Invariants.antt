@@ -1,5 +1,4 @@
-use Rattle.std.proofs.Common.{◌≡◌, length, drop}
-use Rattle.wsm_walk.specs.Touches.{reads_fit}
+use Rattle.wsm_adapt.proofs.Common.{◌≡◌, drop, length, reads_fit}
 use Rattle.wsm_adapt.proofs.fits.reads_fit.Given as goal
 
 abbrev pub invariant-loop-i : goal.invariant-loop-i

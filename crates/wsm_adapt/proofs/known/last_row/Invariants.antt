@@ -1,5 +1,4 @@
-use Rattle.std.proofs.Common.{◌≡◌, reverse, take}
-use Rattle.wsm_lists.specs.ByNumber.{item_at}
+use Rattle.wsm_adapt.proofs.Common.{◌≡◌, item_at, reverse, take}
 use Rattle.wsm_adapt.proofs.known.last_row.Given as goal
 
 abbrev pub invariant-loop-place : goal.invariant-loop-place

@@ -1,7 +1,4 @@
-use Rattle.std.proofs.Common.{◌+◌, drop, map, ◌∙◌, ap}
-use Rattle.wsm_walk.specs.FirstBad.{least, lesser}
-use Rattle.wsm_adapt.specs.Misfits.{early_in}
-use Rattle.wsm_adapt.proofs.LeastFirst.{least-next}
+use Rattle.wsm_adapt.proofs.{Common.{◌+◌, ◌∙◌, ap, drop, early_in, least, lesser, map}, LeastFirst.least-next}
 use Rattle.wsm_adapt.proofs.misfits.early_misfit.Goals as goal
 
 pub loop-node-preserved : goal.loop-node-preserved

@@ -1,6 +1,4 @@
-use Rattle.std.proofs.Common.{◌≡◌, drop, map}
-use Rattle.wsm_walk.specs.FirstBad.{least, lesser}
-use Rattle.wsm_adapt.specs.Misfits.{early_in}
+use Rattle.wsm_adapt.proofs.Common.{◌≡◌, drop, early_in, least, lesser, map}
 use Rattle.wsm_adapt.proofs.misfits.early_misfit.Given as goal
 
 abbrev pub invariant-loop-node : goal.invariant-loop-node

@@ -1,7 +1,4 @@
-use Rattle.std.proofs.Common.{◌+◌, drop, get_or, map, ◌∙◌, ap, arith}
-use Rattle.wsm_walk.specs.FirstBad.{least, lesser}
-use Rattle.wsm_adapt.specs.Misfits.{misfit_in}
-use Rattle.wsm_adapt.proofs.LeastFirst.{least-next}
+use Rattle.wsm_adapt.proofs.{Common.{◌+◌, ◌∙◌, ap, arith, drop, get_or, least, lesser, map, misfit_in}, LeastFirst.least-next}
 use Rattle.wsm_adapt.proofs.misfits.touched_misfit.Goals as goal
 
 pub loop-node-preserved : goal.loop-node-preserved

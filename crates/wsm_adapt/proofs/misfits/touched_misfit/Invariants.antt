@@ -1,6 +1,4 @@
-use Rattle.std.proofs.Common.{◌≡◌, ◌+◌, ◌≤◌, drop, map}
-use Rattle.wsm_walk.specs.FirstBad.{least, lesser}
-use Rattle.wsm_adapt.specs.Misfits.{misfit_in}
+use Rattle.wsm_adapt.proofs.Common.{◌+◌, ◌≡◌, ◌≤◌, drop, least, lesser, map, misfit_in}
 use Rattle.wsm_adapt.proofs.misfits.touched_misfit.Given as goal
 
 abbrev pub invariant-loop-node : goal.invariant-loop-node

@@ -1,8 +1,5 @@
-use Rattle.std.proofs.Common.{ap, ◌∙◌}
+use Rattle.wsm_adapt.proofs.Common.{◌∙◌, ap, first, item_at, put_row}
 use Rattle.std.proofs.lemmas.Result.{on_ok_weaker}
-use Rattle.wsm_lists.specs.ByNumber.{item_at}
-use Rattle.wsm_lists.specs.Keys.{first}
-use Rattle.wsm_lists.specs.Rows.{put_row}
 use Rattle.wsm_adapt.proofs.walks.note.Goals as goal
 
 pub returns-clause-known : goal.returns-clause-known

@@ -1,15 +1,5 @@
-use Rattle.std.proofs.Common.{◌+◌, ◌≤◌, ◌||◌, ◌∷◌, get_or, length, slice_index, ap, sym, ◌∙◌, subst, arith, ◌≡◌, Option, Some, None, rules}
-use Rattle.std.specs.Prelude.{if◌then◌else◌}
-use Rattle.std.specs.Option.{option_copied}
-use Rattle.wsm_schema.specs.declared.marks.Mark.{Mark}
-use Rattle.wsm_walk.specs.RankPlaces.{AllWithin, Handed}
-use Rattle.wsm_walk.specs.Targets.{leads_to}
-use Rattle.wsm_settle.proofs.Handing.{handed-within}
-use Rattle.wsm_settle.proofs.Results.{on_ok}
-use Rattle.wsm_adapt.specs.Border.{unknown_in}
-use Rattle.wsm_adapt.specs.Walking.{GoesOn, KeepsTold, SpendsOn, StaysInside, is_named, loop_end}
-use Rattle.wsm_adapt.proofs.ReadBorder.{unknown-like}
-use Rattle.wsm_adapt.proofs.Visiting.{few-visit, goes-new, goes-none, goes-same, keeps-put, put-less, spends-visit, stays-new, stays-same}
+use Rattle.wsm_adapt.proofs.Common.{◌+◌, ◌||◌, ◌∙◌, ◌∷◌, ◌≡◌, ◌≤◌, AllWithin, ap, arith, get_or, GoesOn, Handed, handed-within, if◌then◌else◌, is_named, KeepsTold, leads_to, length, loop_end, Mark, None, on_ok, Option, option_copied, rules}
+use Rattle.wsm_adapt.proofs.{Common.{slice_index, Some, SpendsOn, StaysInside, subst, sym, unknown_in}, ReadBorder.unknown-like, Visiting.{few-visit, goes-new, goes-none, goes-same, keeps-put, put-less, spends-visit, stays-new, stays-same}}
 use Rattle.wsm_adapt.proofs.walks.visit.Goals as goal
 
 pub returns-in-None-clause-walked : goal.returns-in-None-clause-walked

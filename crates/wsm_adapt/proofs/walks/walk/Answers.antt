@@ -1,6 +1,4 @@
-use Rattle.std.proofs.Common.{rules, ◌≡◌, ℕ, ◌<◌, List, ◌∷◌, length, refl, ◌∙◌, subst, arith, All}
-use Rattle.wsm_settle.proofs.Visits.{behind-all, left-less, none-left, within-head, within-tail}
-use Rattle.wsm_adapt.specs.Walking.{GoesOn, StaysInside}
+use Rattle.wsm_adapt.proofs.Common.{ℕ, ◌<◌, ◌∙◌, ◌∷◌, ◌≡◌, All, arith, behind-all, GoesOn, left-less, length, List, none-left, refl, rules, StaysInside, subst, within-head, within-tail}
 use Rattle.wsm_adapt.proofs.Visiting.{few-end, few-then, goes-then, spent-then, stays-then}
 use Rattle.wsm_adapt.proofs.walks.walk.Goals as goal
 

@@ -1,8 +1,4 @@
-use Rattle.std.proofs.Common.{◌≡◌, ◌≤◌, length}
-use Rattle.wsm_walk.specs.RankPlaces.{AllWithin}
-use Rattle.wsm_settle.proofs.Visits.{left_of}
-use Rattle.wsm_adapt.specs.Walking.{GoesOn, KeepsTold, StaysInside}
-use Rattle.wsm_adapt.proofs.Visiting.{Spent}
+use Rattle.wsm_adapt.proofs.{Common.{◌≡◌, ◌≤◌, AllWithin, GoesOn, KeepsTold, left_of, length, StaysInside}, Visiting.Spent}
 use Rattle.wsm_adapt.proofs.walks.walk.Given as goal
 
 abbrev pub invariant-loop-place : goal.invariant-loop-place

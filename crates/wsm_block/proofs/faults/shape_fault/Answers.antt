@@ -1,8 +1,4 @@
-use Rattle.std.proofs.Common.{[], sym, ap, ◌∙◌}
-use Rattle.wsm_schema.specs.Flat.{FlatModel}
-use Rattle.wsm_schema.specs.Sound.{twice, nodes_of}
-use Rattle.wsm_block.proofs.FirstFault.{tree-distinct}
-use Rattle.wsm_block.proofs.FrontOrders.{none-of}
+use Rattle.wsm_block.proofs.{Common.{[], ◌∙◌, ap, FlatModel, nodes_of, sym, twice}, FirstFault.tree-distinct, FrontOrders.none-of}
 use Rattle.wsm_block.proofs.faults.shape_fault.Goals as goal
 
 pub sync_fault-requires-clause-distinct : goal.sync_fault-requires-clause-distinct

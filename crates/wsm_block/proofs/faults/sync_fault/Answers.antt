@@ -1,8 +1,4 @@
-use Rattle.std.proofs.Common.{◌≡◌, List, sym, ap, ◌∙◌}
-use Rattle.wsm_schema.specs.SchemaModel.{SchemaModel}
-use Rattle.wsm_schema.specs.declared.cards.Card.{Card}
-use Rattle.wsm_block.specs.Clauses.{end_fault, place_fault, loop_fault}
-use Rattle.wsm_block.proofs.FirstFault.{or-first, or-later}
+use Rattle.wsm_block.proofs.{Common.{◌∙◌, ◌≡◌, ap, Card, end_fault, List, loop_fault, place_fault, SchemaModel, sym}, FirstFault.{or-first, or-later}}
 use Rattle.wsm_block.proofs.faults.sync_fault.Goals as goal
 
 pub returns-then-is_some : goal.returns-then-is_some

@@ -1,9 +1,4 @@
-use Rattle.std.proofs.Common.{◌≡◌, ℕ, List, true, length, ap, sym, ◌∙◌}
-use Rattle.std.specs.List.{list_all}
-use Rattle.wsm_schema.specs.Trail.{is_one_of}
-use Rattle.wsm_schema.specs.Sound.{nodes_of}
-use Rattle.wsm_schema.specs.declared.cards.Card.{Card}
-use Rattle.wsm_block.proofs.FrontOrders.{tested-same}
+use Rattle.wsm_block.proofs.{Common.{ℕ, ◌∙◌, ◌≡◌, ap, Card, is_one_of, length, List, list_all, nodes_of, sym, true}, FrontOrders.tested-same}
 use Rattle.wsm_block.proofs.fronts.has_same.Goals as goal
 
 pub returns-then-are_nodes : goal.returns-then-are_nodes

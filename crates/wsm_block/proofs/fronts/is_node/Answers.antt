@@ -1,6 +1,4 @@
-use Rattle.std.proofs.Common.{ap, ◌∙◌}
-use Rattle.std.specs.Prelude.{is_some}
-use Rattle.wsm_block.proofs.Places.{place-there}
+use Rattle.wsm_block.proofs.{Common.{◌∙◌, ap, is_some}, Places.place-there}
 use Rattle.wsm_block.proofs.fronts.is_node.Goals as goal
 
 pub returns : goal.returns

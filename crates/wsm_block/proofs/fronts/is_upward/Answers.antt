@@ -1,6 +1,4 @@
-use Rattle.std.proofs.Common.{◌≡◌, [], None, sym, ◌∙◌}
-use Rattle.wsm_schema.specs.Sound.{twice}
-use Rattle.wsm_block.proofs.FrontOrders.{none-of, tested-order}
+use Rattle.wsm_block.proofs.{Common.{[], ◌∙◌, ◌≡◌, None, sym, twice}, FrontOrders.{none-of, tested-order}}
 use Rattle.wsm_block.proofs.fronts.is_upward.Goals as goal
 
 pub returns-then-go_up : goal.returns-then-go_up

@@ -1,6 +1,4 @@
-use Rattle.std.proofs.Common.{◌+◌, ◌-◌, ◌<◌, ◌≤◌, length, take}
-use Rattle.wsm_schema.specs.Sound.{nodes_of}
-use Rattle.wsm_block.specs.Order.{IsOrder, SameNodes, onto_seen}
+use Rattle.wsm_block.proofs.Common.{◌+◌, ◌-◌, ◌<◌, ◌≤◌, IsOrder, length, nodes_of, onto_seen, SameNodes, take}
 use Rattle.wsm_block.proofs.fronts.longest_front.Given as goal
 
 abbrev pub invariant-halves : goal.invariant-halves

@@ -1,11 +1,6 @@
-use Rattle.std.proofs.Common.{◌+◌, ◌∷◌, ◌∙◌, ap, sym, subst, length, drop, get_or, Some}
-use Rattle.std.specs.Prelude.{IfSome, is_none, if◌then◌else◌}
-use Rattle.std.proofs.lemmas.List.{drop_all, take_all}
-use Rattle.wsm_schema.specs.Sound.{sync_cycle}
+use Rattle.wsm_block.proofs.{Common.{◌+◌, ◌∙◌, ◌∷◌, ap, drop, drop_all, get_or, IfSome, if◌then◌else◌, is_none, is_one_of, IsOrder, length, onto_seen, SameNodes, Some, subst, sym, sync_cycle}, Growing.{cycle-next, ends-among, onto-next}}
+use Rattle.std.proofs.lemmas.List.{take_all}
 use Rattle.wsm_schema.specs.declared.faults.BlockFault.TheVariants.{SyncCycle}
-use Rattle.wsm_schema.specs.Trail.{is_one_of}
-use Rattle.wsm_block.specs.Order.{IsOrder, SameNodes, onto_seen}
-use Rattle.wsm_block.proofs.Growing.{cycle-next, ends-among, onto-next}
 use Rattle.wsm_block.proofs.growth.grown_from.Goals as goal
 
 pub with_edge-requires-clause-source : goal.with_edge-requires-clause-source

@@ -1,11 +1,4 @@
-use Rattle.std.proofs.Common.{◌≡◌, ℕ, List, None, length, take, ap, sym, ◌∙◌, subst}
-use Rattle.std.specs.Prelude.{IfOk, IfErr}
-use Rattle.wsm_schema.specs.Sound.{control_edges, sync_cycle}
-use Rattle.wsm_schema.specs.declared.cards.Card.{Card}
-use Rattle.wsm_block.specs.Clauses.{cycle_in}
-use Rattle.wsm_block.specs.Order.{Edges, IsOrder, onto_seen}
-use Rattle.wsm_block.specs.Refusals.{IsBlockFault}
-use Rattle.wsm_block.proofs.FrontOrders.{rest-onto, rest-cycle}
+use Rattle.wsm_block.proofs.{Common.{ℕ, ◌∙◌, ◌≡◌, ap, Card, control_edges, cycle_in, Edges, IfErr, IfOk, IsBlockFault, IsOrder, length, List, None, onto_seen, subst, sym, sync_cycle, take}, FrontOrders.{rest-onto, rest-cycle}}
 use Rattle.wsm_block.proofs.growth.grown_rank.Goals as goal
 
 -- what the edges of the front are, and what stands behind them

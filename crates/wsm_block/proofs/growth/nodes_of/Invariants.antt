@@ -1,5 +1,4 @@
-use Rattle.std.proofs.Common.{◌≡◌, ◌++◌, drop}
-use Rattle.wsm_schema.specs.Sound.{nodes_of}
+use Rattle.wsm_block.proofs.Common.{◌++◌, ◌≡◌, drop, nodes_of}
 use Rattle.wsm_block.proofs.growth.nodes_of.Given as goal
 
 abbrev pub invariant-loop-card : goal.invariant-loop-card

@@ -1,6 +1,4 @@
-use Rattle.std.proofs.Common.{◌++◌, ◌∙◌, ap, take, length, ◌-◌, ◌+◌}
-use Rattle.wsm_block.specs.Order.{onto_seen}
-use Rattle.wsm_block.proofs.FrontOrders.{onto-earlier}
+use Rattle.wsm_block.proofs.{Common.{◌++◌, ◌+◌, ◌-◌, ◌∙◌, ap, length, onto_seen, take}, FrontOrders.onto-earlier}
 use Rattle.wsm_block.proofs.growth.onto.Goals as goal
 
 pub loop-i-preserved : goal.loop-i-preserved

@@ -1,5 +1,4 @@
-use Rattle.std.proofs.Common.{◌≡◌, ◌-◌, ◌++◌, length, take}
-use Rattle.wsm_block.specs.Order.{onto_seen}
+use Rattle.wsm_block.proofs.Common.{◌++◌, ◌-◌, ◌≡◌, length, onto_seen, take}
 use Rattle.wsm_block.proofs.growth.onto.Given as goal
 
 abbrev pub invariant-loop-i : goal.invariant-loop-i

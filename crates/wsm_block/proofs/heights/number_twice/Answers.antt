@@ -1,6 +1,4 @@
-use Rattle.std.proofs.Common.{◌≡◌, ℕ, List, false, take, get_or, sym, ◌∙◌, ap}
-use Rattle.wsm_schema.specs.Trail.{is_one_of}
-use Rattle.wsm_block.proofs.Repeated.{fresh-next}
+use Rattle.wsm_block.proofs.{Common.{ℕ, ◌∙◌, ◌≡◌, ap, false, get_or, is_one_of, List, sym, take}, Repeated.fresh-next}
 use Rattle.wsm_block.proofs.heights.number_twice.Goals as goal
 
 pub loop-i-preserved : goal.loop-i-preserved

@@ -1,8 +1,4 @@
-use Rattle.std.proofs.Common.{◌≡◌, drop}
-use Rattle.wsm_schema.specs.Tree.{lanes}
-use Rattle.wsm_schema.specs.TreeOf.{parts_of, lanes_of}
-use Rattle.wsm_schema.specs.Sizes.{parts_size, lanes_size}
-use Rattle.wsm_block.specs.Sizes.{room_behind}
+use Rattle.wsm_block.proofs.Common.{◌≡◌, drop, lanes, lanes_of, lanes_size, parts_of, parts_size, room_behind}
 use Rattle.wsm_block.proofs.limits.+room.Given as goal
 
 abbrev pub invariant-room_behind-loop-i : goal.invariant-room_behind-loop-i

@@ -1,10 +1,6 @@
-use Rattle.std.proofs.Common.{◌≡◌, ℕ, List, length, true, false, eqb, get_or, take, map, sym, ap, ◌∙◌, arith}
-use Rattle.std.specs.List.{filter}
-use Rattle.std.proofs.lemmas.Bool.{lt-ltb, le-ltb}
-use Rattle.wsm_schema.specs.Sound.{too_many}
-use Rattle.wsm_block.proofs.Counts.{many_in, too_many-at, too_many-none, many-before, many-next}
-use Rattle.wsm_block.proofs.limits.has_many.Goals as goal
+use Rattle.wsm_block.proofs.{Common.{ℕ, ◌∙◌, ◌≡◌, ap, arith, eqb, false, filter, get_or, le-ltb, length, List, lt-ltb, map, sym, take, too_many, true}, Counts.{many_in, too_many-at, too_many-none, many-before, many-next}}
 use Rattle.wsm_block.proofs.limits.has_many.Goals.{else-not-follows_own-via-then-not-follows_own+else-rows_of-gt-MOST_ROWS, else-not-follows_own-via-else-not-follows_own}
+use Rattle.wsm_block.proofs.limits.has_many.Goals as goal
 
 pub returns-then-rows_of-gt-MOST_ROWS : goal.returns-then-rows_of-gt-MOST_ROWS
 returns-then-rows_of-gt-MOST_ROWS g c =

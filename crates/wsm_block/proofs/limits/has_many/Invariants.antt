@@ -1,6 +1,4 @@
-use Rattle.std.proofs.Common.{◌≡◌, false, take}
-use Rattle.std.specs.List.{list_any}
-use Rattle.wsm_block.proofs.Counts.{many_in}
+use Rattle.wsm_block.proofs.{Common.{◌≡◌, false, list_any, take}, Counts.many_in}
 use Rattle.wsm_block.proofs.limits.has_many.Given as goal
 
 abbrev pub invariant-loop-i : goal.invariant-loop-i

@@ -1,9 +1,4 @@
-use Rattle.std.proofs.Common.{◌∙◌, ap}
-use Rattle.std.specs.Prelude.{is_none}
-use Rattle.wsm_schema.specs.TreeOf.{parts_of}
-use Rattle.wsm_schema.specs.Sizes.{parts_size}
-use Rattle.wsm_block.specs.Sizes.{room_behind}
-use Rattle.wsm_block.proofs.TreeSizes.{none-tested, too-many}
+use Rattle.wsm_block.proofs.{Common.{◌∙◌, ap, is_none, parts_of, parts_size, room_behind}, TreeSizes.{none-tested, too-many}}
 use Rattle.wsm_block.proofs.limits.has_many_nodes.Goals as goal
 
 pub returns : goal.returns

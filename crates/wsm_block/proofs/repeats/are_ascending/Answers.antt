@@ -1,5 +1,4 @@
-use Rattle.std.proofs.Common.{sym, ◌∙◌}
-use Rattle.wsm_block.proofs.Ascents.{ascends-next, ascends-stops, ascends-end}
+use Rattle.wsm_block.proofs.{Common.{◌∙◌, sym}, Ascents.{ascends-next, ascends-stops, ascends-end}}
 use Rattle.wsm_block.proofs.repeats.are_ascending.Goals as goal
 
 pub loop-i-preserved : goal.loop-i-preserved

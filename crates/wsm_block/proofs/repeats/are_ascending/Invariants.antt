@@ -1,5 +1,4 @@
-use Rattle.std.proofs.Common.{◌≡◌, ℕ, List, None, map, drop}
-use Rattle.wsm_block.specs.Ascents.{ascend_from}
+use Rattle.wsm_block.proofs.Common.{ℕ, ◌≡◌, ascend_from, drop, List, map, None}
 use Rattle.wsm_block.proofs.repeats.are_ascending.Given as goal
 
 abbrev pub invariant-loop-i : goal.invariant-loop-i

@@ -1,5 +1,4 @@
-use Rattle.std.proofs.Common.{map, sym, ◌∙◌}
-use Rattle.wsm_block.proofs.Ascents.{ascending-once}
+use Rattle.wsm_block.proofs.{Common.{◌∙◌, map, sym}, Ascents.ascending-once}
 use Rattle.wsm_block.proofs.repeats.code_twice.Goals as goal
 
 pub returns-then-are_ascending : goal.returns-then-are_ascending

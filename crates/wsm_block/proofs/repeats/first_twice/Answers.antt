@@ -1,7 +1,4 @@
-use Rattle.std.proofs.Common.{◌≡◌, ℕ, List, true, false, map, take, get_or, sym, ◌∙◌, ap}
-use Rattle.wsm_schema.specs.Trail.{is_one_of}
-use Rattle.wsm_schema.specs.declared.blocks.Branch.{Branch}
-use Rattle.wsm_block.proofs.Repeated.{fresh-row, found-row}
+use Rattle.wsm_block.proofs.{Common.{ℕ, ◌∙◌, ◌≡◌, ap, Branch, false, get_or, is_one_of, List, map, sym, take, true}, Repeated.{fresh-row, found-row}}
 use Rattle.wsm_block.proofs.repeats.first_twice.Goals as goal
 
 pub loop-i-preserved : goal.loop-i-preserved

@@ -1,5 +1,4 @@
-use Rattle.std.proofs.Common.{◌≡◌, [], ℕ, List, map, take, drop}
-use Rattle.wsm_schema.specs.Sound.{twice}
+use Rattle.wsm_block.proofs.Common.{[], ℕ, ◌≡◌, drop, List, map, take, twice}
 use Rattle.wsm_block.proofs.repeats.first_twice.Given as goal
 
 abbrev pub invariant-loop-i : goal.invariant-loop-i

@@ -1,5 +1,4 @@
-use Rattle.std.proofs.Common.{sym, ◌∙◌, ap}
-use Rattle.wsm_block.proofs.Places.{is_below, place-among}
+use Rattle.wsm_block.proofs.{Common.{◌∙◌, ap, sym}, Places.{is_below, place-among}}
 use Rattle.wsm_block.proofs.repeats.is_among.Goals as goal
 
 pub returns-in-Some : goal.returns-in-Some

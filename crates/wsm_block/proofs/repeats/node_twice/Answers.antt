@@ -1,8 +1,4 @@
-use Rattle.std.proofs.Common.{◌≡◌, ℕ, List, [], true, false, take, get_or, sym, ◌∙◌, ap}
-use Rattle.wsm_schema.specs.Trail.{is_one_of}
-use Rattle.wsm_schema.specs.Sound.{twice, nodes_of}
-use Rattle.wsm_schema.specs.declared.cards.Card.{Card}
-use Rattle.wsm_block.proofs.Repeated.{fresh-row, found-row}
+use Rattle.wsm_block.proofs.{Common.{[], ℕ, ◌∙◌, ◌≡◌, ap, Card, false, get_or, is_one_of, List, nodes_of, sym, take, true, twice}, Repeated.{fresh-row, found-row}}
 use Rattle.wsm_block.proofs.repeats.node_twice.Goals as goal
 
 pub loop-i-preserved : goal.loop-i-preserved

@@ -1,5 +1,4 @@
-use Rattle.std.proofs.Common.{◌≡◌, [], ℕ, List, take, drop}
-use Rattle.wsm_schema.specs.Sound.{twice, nodes_of}
+use Rattle.wsm_block.proofs.Common.{[], ℕ, ◌≡◌, drop, List, nodes_of, take, twice}
 use Rattle.wsm_block.proofs.repeats.node_twice.Given as goal
 
 abbrev pub invariant-loop-i : goal.invariant-loop-i

@@ -1,6 +1,4 @@
-use Rattle.std.proofs.Common.{ap, sym, ◌∙◌}
-use Rattle.std.specs.Option.{option_copied}
-use Rattle.wsm_block.proofs.ActsByCard.{is_act, act-by_card}
+use Rattle.wsm_block.proofs.{Common.{◌∙◌, ap, option_copied, sym}, ActsByCard.{is_act, act-by_card}}
 use Rattle.wsm_block.proofs.syncs.is_activity.Goals as goal
 
 pub returns-in-None : goal.returns-in-None

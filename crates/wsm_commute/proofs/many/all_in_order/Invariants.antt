@@ -1,7 +1,4 @@
-use Rattle.std.proofs.Common.{◌≡◌, None, [], drop}
-use Rattle.wsm_schema.specs.Flat.{cards_of}
-use Rattle.wsm_schema.specs.Sound.{nodes_of, twice}
-use Rattle.wsm_commute.specs.Merging.{in_order}
+use Rattle.wsm_commute.proofs.Common.{[], ◌≡◌, cards_of, drop, in_order, nodes_of, None, twice}
 use Rattle.wsm_commute.proofs.many.all_in_order.Given as goal
 
 abbrev pub invariant-loop-ops : goal.invariant-loop-ops

@@ -1,5 +1,4 @@
-use Rattle.std.proofs.Common.{◌≡◌, ◌+◌, drop}
-use Rattle.wsm_commute.specs.Merging.{first_refused}
+use Rattle.wsm_commute.proofs.Common.{◌+◌, ◌≡◌, drop, first_refused}
 use Rattle.wsm_commute.proofs.many.each_alone.Given as goal
 
 abbrev pub invariant-loop-place : goal.invariant-loop-place

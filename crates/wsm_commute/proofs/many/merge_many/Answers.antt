@@ -1,6 +1,4 @@
-use Rattle.std.proofs.Common.{ap, sym, ◌∙◌}
-use Rattle.wsm_commute.specs.Merging.{in_order, first_refused, first_overlap}
-use Rattle.wsm_commute.proofs.ManyLists.{every-order, no-fault}
+use Rattle.wsm_commute.proofs.{Common.{◌∙◌, ap, first_overlap, first_refused, in_order, sym}, ManyLists.{every-order, no-fault}}
 use Rattle.wsm_commute.proofs.many.merge_many.Goals as goal
 
 pub unreachable-requires : goal.unreachable-requires

@@ -1,5 +1,4 @@
-use Rattle.std.proofs.Common.{sym, ◌∙◌}
-use Rattle.wsm_commute.proofs.FirstPairs.{none-found}
+use Rattle.wsm_commute.proofs.{Common.{◌∙◌, sym}, FirstPairs.none-found}
 use Rattle.wsm_commute.proofs.many.no_two_overlap.Goals as goal
 
 pub returns-in-None-clause-ok : goal.returns-in-None-clause-ok

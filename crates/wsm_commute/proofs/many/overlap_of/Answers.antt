@@ -1,6 +1,5 @@
-use Rattle.std.proofs.Common.{◌+◌, ap, sym, ◌∙◌, arith, is_some, option_map}
+use Rattle.wsm_commute.proofs.{Common.{◌+◌, ◌∙◌, ap, arith, is_some, option_map, sym}, FirstPairs.{pair-within, pair-named}}
 use Rattle.wsm_commute.specs.declared.refusals.ManyRefusal.TheVariants as many
-use Rattle.wsm_commute.proofs.FirstPairs.{pair-within, pair-named}
 use Rattle.wsm_commute.proofs.many.overlap_of.Goals as goal
 
 pub offset_bounds-lists-one : goal.offset_bounds-lists-one

@@ -1,8 +1,5 @@
-use Rattle.std.proofs.Common.{arith, ap, ◌∙◌}
+use Rattle.wsm_commute.proofs.{Common.{◌∙◌, ap, arith, earlier, earliest, name_cmp}, FirstPairs.{earliest-goes_on, earliest-ends}}
 use Rattle.std.specs.BTreeMap as tree
-use Rattle.wsm_foot.specs.Order.{name_cmp}
-use Rattle.wsm_commute.specs.Sweep.{earlier, earliest}
-use Rattle.wsm_commute.proofs.FirstPairs.{earliest-goes_on, earliest-ends}
 use Rattle.wsm_commute.proofs.sweeps.first_of.Goals as goal
 
 pub loop-name-preserved : goal.loop-name-preserved

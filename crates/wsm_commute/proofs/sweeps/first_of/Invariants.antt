@@ -1,7 +1,5 @@
-use Rattle.std.proofs.Common.{◌≡◌, drop}
+use Rattle.wsm_commute.proofs.Common.{◌≡◌, drop, earlier, earliest, name_cmp}
 use Rattle.std.specs.BTreeMap as tree
-use Rattle.wsm_foot.specs.Order.{name_cmp}
-use Rattle.wsm_commute.specs.Sweep.{earlier, earliest}
 use Rattle.wsm_commute.proofs.sweeps.first_of.Given as goal
 
 abbrev pub invariant-loop-name : goal.invariant-loop-name

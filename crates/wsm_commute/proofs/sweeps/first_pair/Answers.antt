@@ -1,9 +1,5 @@
-use Rattle.std.proofs.Common.{◌≡◌, ◌+◌, ◌-◌, ap, ◌∙◌, arith}
+use Rattle.wsm_commute.proofs.{Common.{◌+◌, ◌-◌, ◌∙◌, ◌≡◌, all_changes, ap, arith, earlier, footprint, name_cmp, pair_or}, FirstPairs.{list-noted, list-paired}}
 use Rattle.std.specs.BTreeMap as tree
-use Rattle.wsm_foot.specs.Order.{name_cmp}
-use Rattle.wsm_foot.specs.Foot.{all_changes, footprint}
-use Rattle.wsm_commute.specs.Sweep.{pair_or, earlier}
-use Rattle.wsm_commute.proofs.FirstPairs.{list-noted, list-paired}
 use Rattle.wsm_commute.proofs.sweeps.first_pair.Goals as goal
 
 pub loop-place-preserved : goal.loop-place-preserved

@@ -1,8 +1,5 @@
-use Rattle.std.proofs.Common.{◌≡◌, drop}
+use Rattle.wsm_commute.proofs.Common.{◌≡◌, drop, first_changing, first_pair, first_touching, Name, name_cmp}
 use Rattle.std.specs.BTreeMap as tree
-use Rattle.wsm_foot.specs.Order.{name_cmp}
-use Rattle.wsm_foot.specs.declared.names.Name.{Name}
-use Rattle.wsm_commute.specs.Sweep.{first_touching, first_changing, first_pair}
 use Rattle.wsm_commute.proofs.sweeps.first_pair.Given as goal
 
 abbrev pub invariant-loop-place : goal.invariant-loop-place

@@ -1,5 +1,4 @@
-use Rattle.std.proofs.Common.{arith}
-use Rattle.wsm_commute.proofs.FirstPairs.{noted-goes_on}
+use Rattle.wsm_commute.proofs.{Common.arith, FirstPairs.noted-goes_on}
 use Rattle.wsm_commute.proofs.sweeps.note.Goals as goal
 
 pub loop-name-preserved : goal.loop-name-preserved

@@ -1,8 +1,5 @@
-use Rattle.std.proofs.Common.{◌≡◌, drop}
+use Rattle.wsm_commute.proofs.{Common.{◌≡◌, drop, Name, name_cmp}, FirstPairs.noted_of}
 use Rattle.std.specs.BTreeMap as tree
-use Rattle.wsm_foot.specs.Order.{name_cmp}
-use Rattle.wsm_foot.specs.declared.names.Name.{Name}
-use Rattle.wsm_commute.proofs.FirstPairs.{noted_of}
 use Rattle.wsm_commute.proofs.sweeps.note.Given as goal
 
 abbrev pub invariant-loop-name : goal.invariant-loop-name

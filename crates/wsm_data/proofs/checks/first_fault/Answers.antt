@@ -1,9 +1,4 @@
-use Rattle.std.proofs.Common.{◌≡◌, [], ap, sym, ◌∙◌}
-use Rattle.std.proofs.lemmas.Result.{IfOk-weaker}
-use Rattle.wsm_schema.specs.Flat.{FlatModel, cards_of}
-use Rattle.wsm_schema.specs.Sound.{twice, nodes_of, parallel_writes, data_fault}
-use Rattle.wsm_data.proofs.Clauses.{read-clause, write-clause}
-use Rattle.wsm_data.proofs.Firsts.{first-some, first-none, distinct-nodes}
+use Rattle.wsm_data.proofs.{Common.{[], ◌∙◌, ◌≡◌, ap, cards_of, data_fault, FlatModel, IfOk-weaker, nodes_of, parallel_writes, sym, twice}, Clauses.{read-clause, write-clause}, Firsts.{first-some, first-none, distinct-nodes}}
 use Rattle.wsm_data.proofs.checks.first_fault.Goals as goal
 
 pub unknown_read-found-requires : goal.unknown_read-found-requires

@@ -1,5 +1,4 @@
-use Rattle.std.proofs.lemmas.Bool.{ltb-true}
-use Rattle.wsm_data.proofs.Merging.{below-all}
+use Rattle.wsm_data.proofs.{Common.ltb-true, Merging.below-all}
 use Rattle.wsm_data.proofs.merges.are_below.Goals as goal
 
 pub returns : goal.returns

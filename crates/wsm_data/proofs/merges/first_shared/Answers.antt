@@ -1,6 +1,4 @@
-use Rattle.std.proofs.Common.{sym, ◌∙◌, drop, arith}
-use Rattle.std.proofs.lemmas.List.{drop_all}
-use Rattle.wsm_data.proofs.Merging.{first-skipped, second-skipped, order-behind, none-with_none}
+use Rattle.wsm_data.proofs.{Common.{◌∙◌, arith, drop, drop_all, sym}, Merging.{first-skipped, second-skipped, order-behind, none-with_none}}
 use Rattle.wsm_data.proofs.merges.first_shared.Goals as goal
 
 pub both-preserved-then-elements-i-2 : goal.both-preserved-then-elements-i-2

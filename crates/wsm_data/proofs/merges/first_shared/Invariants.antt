@@ -1,7 +1,4 @@
-use Rattle.std.proofs.Common.{◌≡◌, ◌+◌, ◌-◌, drop, length}
-use Rattle.std.specs.Prelude.{find}
-use Rattle.wsm_data.specs.Sets.{InOrder}
-use Rattle.wsm_schema.specs.Trail.{is_one_of}
+use Rattle.wsm_data.proofs.Common.{◌+◌, ◌-◌, ◌≡◌, drop, find, InOrder, is_one_of, length}
 use Rattle.wsm_data.proofs.merges.first_shared.Given as goal
 
 abbrev pub invariant-both : goal.invariant-both

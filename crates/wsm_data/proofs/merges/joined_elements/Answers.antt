@@ -1,10 +1,6 @@
-use Rattle.std.proofs.Common.{◌≡◌, ℕ, List, [], ◌∷◌, ◌++◌, ◌+◌, ◌-◌, ◌⊎◌, inl, inr, length, take, drop, get_or, arith, ap, sym, ◌∙◌, subst}
-use Rattle.std.proofs.lemmas.List.{drop_all, take_rest}
-use Rattle.std.proofs.lemmas.Result.{IfOk-weaker}
-use Rattle.wsm_data.specs.Sets.{InOrder}
-use Rattle.wsm_data.proofs.Joining.{Joined, join-first, join-second, join-both, joined-order}
+use Rattle.wsm_data.proofs.{Common.{[], ℕ, ◌++◌, ◌+◌, ◌-◌, ◌∙◌, ◌∷◌, ◌≡◌, ◌⊎◌, ap, arith, drop, drop_all, get_or, IfOk-weaker, inl, InOrder, inr, length, List, subst, sym, take, take_rest}, Joining.{Joined, join-first, join-second}}
+use Rattle.wsm_data.proofs.{Joining.{join-both, joined-order}, merges.joined_elements.Goals.{then-both-test+else-j-others, else-both-test}}
 use Rattle.wsm_data.proofs.merges.joined_elements.Goals as goal
-use Rattle.wsm_data.proofs.merges.joined_elements.Goals.{then-both-test+else-j-others, else-both-test}
 
 pub both-preserved-then-elements-i : goal.both-preserved-then-elements-i
 both-preserved-then-elements-i c =

@@ -1,5 +1,4 @@
-use Rattle.std.proofs.Common.{◌+◌, ◌-◌, ◌≤◌, drop, length}
-use Rattle.wsm_data.proofs.Joining.{Joined}
+use Rattle.wsm_data.proofs.{Common.{◌+◌, ◌-◌, ◌≤◌, drop, length}, Joining.Joined}
 use Rattle.wsm_data.proofs.merges.joined_elements.Given as goal
 
 abbrev pub invariant-both : goal.invariant-both

@@ -1,7 +1,5 @@
-use Rattle.std.proofs.Common.{refl, sym}
-use Rattle.wsm_data.proofs.Merging.{none-below, none-above}
+use Rattle.wsm_data.proofs.{Common.{refl, sym}, Merging.{none-below, none-above}, merges.shared_element.Goals.{then-are_below-via-then-are_below, then-are_below-via-else-are_below+then-are_below-2}}
 use Rattle.wsm_data.proofs.merges.shared_element.Goals as goal
-use Rattle.wsm_data.proofs.merges.shared_element.Goals.{then-are_below-via-then-are_below, then-are_below-via-else-are_below+then-are_below-2}
 
 pub returns-then-are_below : goal.returns-then-are_below
 returns-then-are_below c =

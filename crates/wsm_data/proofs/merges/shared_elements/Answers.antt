@@ -1,5 +1,4 @@
-use Rattle.std.proofs.Common.{sym, subst, arith, drop, ◌+◌}
-use Rattle.wsm_data.proofs.Merging.{Merged, merge-first, merge-second, merge-both}
+use Rattle.wsm_data.proofs.{Common.{◌+◌, arith, drop, subst, sym}, Merging.{Merged, merge-first, merge-second, merge-both}}
 use Rattle.wsm_data.proofs.merges.shared_elements.Goals as goal
 
 pub both-preserved-then-elements-i : goal.both-preserved-then-elements-i

@@ -1,5 +1,4 @@
-use Rattle.std.proofs.Common.{◌+◌, ◌-◌, drop, length}
-use Rattle.wsm_data.proofs.Merging.{Merged}
+use Rattle.wsm_data.proofs.{Common.{◌+◌, ◌-◌, drop, length}, Merging.Merged}
 use Rattle.wsm_data.proofs.merges.shared_elements.Given as goal
 
 abbrev pub invariant-both : goal.invariant-both

@@ -1,6 +1,4 @@
-use Rattle.std.proofs.Common.{◌≡◌, ◌||◌, eqb, ℕ, drop}
-use Rattle.std.specs.List.{list_any}
-use Rattle.wsm_schema.specs.Trail.{is_one_of}
+use Rattle.wsm_data.proofs.Common.{ℕ, ◌||◌, ◌≡◌, drop, eqb, is_one_of, list_any}
 use Rattle.wsm_data.proofs.missing.add_written.Given as goal
 
 abbrev pub invariant-loop-write : goal.invariant-loop-write

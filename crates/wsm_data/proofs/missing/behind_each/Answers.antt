@@ -1,18 +1,7 @@
-use Rattle.std.proofs.Common.{◌≡◌, ◌<◌, ◌+◌, ◌++◌, ◌∷◌, [], suc, ℕ, List, length, get_or, arith, take, drop, ap, sym, ◌∙◌, subst, Option, Some, None}
-use Rattle.std.specs.Option.{option_copied}
-use Rattle.wsm_schema.specs.Flat.{FlatModel, card_at, cards_of}
-use Rattle.wsm_schema.specs.Rank.{IsRank}
-use Rattle.wsm_schema.specs.SchemaModel.{SchemaModel}
-use Rattle.wsm_schema.specs.Sound.{block_fault, sure_of}
-use Rattle.wsm_schema.specs.declared.cards.Card.{Card}
-use Rattle.wsm_schema.proofs.Rounds.{card_at-node}
-use Rattle.wsm_data.specs.Passes.{IsNext}
-use Rattle.wsm_data.specs.Sets.{Holds}
-use Rattle.wsm_data.specs.Tables.{Tells, told_at}
-use Rattle.wsm_data.proofs.Sure.{rank-next}
-use Rattle.wsm_data.proofs.Pass.{told-sure, put-sure, tells-next, tells-none, seen-next, seen-one}
-use Rattle.wsm_data.proofs.missing.behind_each.Goals as goal
+use Rattle.wsm_data.proofs.Common.{[], ℕ, ◌++◌, ◌+◌, ◌<◌, ◌∙◌, ◌∷◌, ◌≡◌, ap, arith, block_fault, Card, card_at, card_at-node, cards_of, drop, FlatModel, get_or, Holds, IsNext, IsRank, length, List, None, Option, option_copied, SchemaModel}
+use Rattle.wsm_data.proofs.{Common.{Some, subst, suc, sure_of, sym, take, Tells, told_at}, Sure.rank-next, Pass.{told-sure, put-sure, tells-next, tells-none, seen-next, seen-one}}
 use Rattle.wsm_data.proofs.missing.behind_each.Goals.{in-Some+in_ok-sure+in_ok-put_behind, in_default}
+use Rattle.wsm_data.proofs.missing.behind_each.Goals as goal
 
 -- the card that the next node of a rank has comes next
 next-card : (s : SchemaModel) (rank nodes : List ℕ) (i : ℕ) (card : Card) → nodes ≡ rank → IsRank (cards_of s) rank → block_fault s ≡ None → i < length nodes →

@@ -1,5 +1,4 @@
-use Rattle.std.proofs.Common.{take}
-use Rattle.wsm_data.specs.Tables.{Tells}
+use Rattle.wsm_data.proofs.Common.{take, Tells}
 use Rattle.wsm_data.proofs.missing.behind_each.Given as goal
 
 abbrev pub invariant-loop-node : goal.invariant-loop-node

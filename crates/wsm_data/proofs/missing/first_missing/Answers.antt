@@ -1,8 +1,4 @@
-use Rattle.std.proofs.Common.{◌∙◌, arith, ap, sym}
-use Rattle.wsm_marks.specs.Loops.{HasEdge}
-use Rattle.wsm_schema.specs.Sound.{missing_at, sure_of}
-use Rattle.wsm_data.specs.Tables.{TellsAt}
-use Rattle.wsm_data.proofs.Pass.{first-found, first-left, rows-step}
+use Rattle.wsm_data.proofs.{Common.{◌∙◌, ap, arith, HasEdge, missing_at, sure_of, sym, TellsAt}, Pass.{first-found, first-left, rows-step}}
 use Rattle.wsm_data.proofs.missing.first_missing.Goals as goal
 
 pub missing_read_at-requires-clause-edged : goal.missing_read_at-requires-clause-edged

@@ -1,8 +1,4 @@
-use Rattle.std.proofs.Common.{◌≡◌, drop}
-use Rattle.wsm_lists.specs.Rows.{AllRows}
-use Rattle.wsm_marks.specs.Loops.{HasEdge}
-use Rattle.wsm_schema.specs.Sound.{first_some, missing_at, sure_of}
-use Rattle.wsm_data.specs.Tables.{TellsAt}
+use Rattle.wsm_data.proofs.Common.{◌≡◌, AllRows, drop, first_some, HasEdge, missing_at, sure_of, TellsAt}
 use Rattle.wsm_data.proofs.missing.first_missing.Given as goal
 
 abbrev pub invariant-loop-card : goal.invariant-loop-card

@@ -1,6 +1,4 @@
-use Rattle.std.proofs.Common.{◌≡◌, drop}
-use Rattle.std.specs.List.{list_all}
-use Rattle.wsm_schema.specs.Trail.{is_one_of}
+use Rattle.wsm_data.proofs.Common.{◌≡◌, drop, is_one_of, list_all}
 use Rattle.wsm_data.proofs.missing.has_written.Given as goal
 
 abbrev pub invariant-loop-write : goal.invariant-loop-write

@@ -1,6 +1,4 @@
-use Rattle.std.proofs.Common.{◌≡◌, ◌&&◌, not, drop}
-use Rattle.std.specs.Prelude.{find}
-use Rattle.wsm_schema.specs.Trail.{is_one_of}
+use Rattle.wsm_data.proofs.Common.{◌&&◌, ◌≡◌, drop, find, is_one_of, not}
 use Rattle.wsm_data.proofs.missing.missing_at.Given as goal
 
 abbrev pub invariant-loop-read : goal.invariant-loop-read

@@ -1,15 +1,5 @@
-use Rattle.std.proofs.Common.{◌≡◌, [], ap, sym, ◌∙◌, subst, None}
-use Rattle.std.proofs.lemmas.Result.{IfOk-weaker}
-use Rattle.wsm_lists.specs.Rows.{AllRows}
-use Rattle.wsm_lists.proofs.Lists.{all-rows-map}
-use Rattle.wsm_marks.specs.Loops.{HasEdge}
-use Rattle.wsm_schema.specs.SchemaModel.{SchemaModel}
-use Rattle.wsm_schema.specs.Flat.{FlatModel, cards_of}
-use Rattle.wsm_schema.specs.Sound.{first_some, missing_at, nodes_of, sure_of, twice}
-use Rattle.wsm_data.specs.Tables.{TellsAt}
-use Rattle.wsm_data.proofs.Firsts.{distinct-nodes}
-use Rattle.wsm_data.proofs.Pass.{nothing-read, told-sure}
-use Rattle.wsm_data.proofs.Sure.{all-next}
+use Rattle.wsm_data.proofs.{Common.{[], ◌∙◌, ◌≡◌, all-rows-map, AllRows, ap, cards_of, first_some, FlatModel, HasEdge, IfOk-weaker, missing_at, nodes_of, None, SchemaModel, subst, sure_of, sym, TellsAt, twice}, Firsts.distinct-nodes}
+use Rattle.wsm_data.proofs.{Pass.{nothing-read, told-sure}, Sure.all-next}
 use Rattle.wsm_data.proofs.missing.missing_read.Goals as goal
 
 pub returns-then-is_empty : goal.returns-then-is_empty

@@ -1,7 +1,4 @@
-use Rattle.std.proofs.Common.{ap, ◌∙◌}
-use Rattle.wsm_schema.specs.Sound.{missing_at}
-use Rattle.wsm_schema.specs.Trail.{is_one_of}
-use Rattle.wsm_data.proofs.Pass.{missing-there}
+use Rattle.wsm_data.proofs.{Common.{◌∙◌, ap, is_one_of, missing_at}, Pass.missing-there}
 use Rattle.wsm_data.proofs.missing.missing_read_at.Goals as goal
 
 pub returns : goal.returns

@@ -1,12 +1,4 @@
-use Rattle.std.proofs.Common.{◌||◌, eqb, ap, ◌∙◌}
-use Rattle.std.proofs.lemmas.Result.{on_ok_weaker}
-use Rattle.std.specs.List.{list_any}
-use Rattle.wsm_schema.specs.SchemaModel.{SchemaModel}
-use Rattle.wsm_schema.specs.Sound.{writes_of}
-use Rattle.wsm_schema.specs.Trail.{is_one_of}
-use Rattle.wsm_data.specs.Sets.{Holds}
-use Rattle.wsm_data.specs.declared.tables.Behind.{Behind}
-use Rattle.wsm_data.proofs.Pass.{put-is, written-is}
+use Rattle.wsm_data.proofs.{Common.{◌||◌, ◌∙◌, ap, Behind, eqb, Holds, is_one_of, list_any, on_ok_weaker, SchemaModel, writes_of}, Pass.{put-is, written-is}}
 use Rattle.wsm_data.proofs.missing.put_behind.Goals as goal
 
 pub returns : goal.returns

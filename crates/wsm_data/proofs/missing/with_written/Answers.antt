@@ -1,7 +1,4 @@
-use Rattle.std.proofs.Common.{ap, sym, ◌∙◌}
-use Rattle.std.specs.List.{list_all}
-use Rattle.wsm_data.proofs.Pass.{written-there}
-use Rattle.wsm_schema.specs.Trail.{is_one_of}
+use Rattle.wsm_data.proofs.{Common.{◌∙◌, ap, is_one_of, list_all, sym}, Pass.written-there}
 use Rattle.wsm_data.proofs.missing.with_written.Goals as goal
 
 pub returns-then-has_written : goal.returns-then-has_written

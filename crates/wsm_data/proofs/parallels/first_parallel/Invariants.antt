@@ -1,6 +1,4 @@
-use Rattle.std.proofs.Common.{◌≡◌, drop}
-use Rattle.wsm_schema.specs.Sound.{parallel_writes}
-use Rattle.wsm_data.specs.Sets.{WritesInOrder}
+use Rattle.wsm_data.proofs.Common.{◌≡◌, drop, parallel_writes, WritesInOrder}
 use Rattle.wsm_data.proofs.parallels.first_parallel.Given as goal
 
 abbrev pub invariant-loop-place : goal.invariant-loop-place

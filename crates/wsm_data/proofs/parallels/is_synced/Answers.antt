@@ -1,11 +1,4 @@
-use Rattle.std.proofs.Common.{◌||◌, ap, sym, ◌∙◌}
-use Rattle.std.specs.Option.{is_some}
-use Rattle.std.proofs.lemmas.Bool.{or_left}
-use Rattle.wsm_lists.specs.Keys.{both}
-use Rattle.wsm_lists.specs.Rows.{row_at}
-use Rattle.wsm_schema.specs.SchemaModel.{SchemaModel}
-use Rattle.wsm_schema.specs.Sound.{synced}
-use Rattle.wsm_data.proofs.Syncs.{synced-is}
+use Rattle.wsm_data.proofs.{Common.{◌||◌, ◌∙◌, ap, both, is_some, or_left, row_at, SchemaModel, sym, synced}, Syncs.synced-is}
 use Rattle.wsm_data.proofs.parallels.is_synced.Goals as goal
 
 pub returns-then-has : goal.returns-then-has

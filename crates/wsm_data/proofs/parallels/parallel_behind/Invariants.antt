@@ -1,6 +1,4 @@
-use Rattle.std.proofs.Common.{◌≡◌, drop}
-use Rattle.wsm_schema.specs.Sound.{first_some, parallel_write}
-use Rattle.wsm_data.specs.Sets.{WritesInOrder}
+use Rattle.wsm_data.proofs.Common.{◌≡◌, drop, first_some, parallel_write, WritesInOrder}
 use Rattle.wsm_data.proofs.parallels.parallel_behind.Given as goal
 
 abbrev pub invariant-loop-i : goal.invariant-loop-i

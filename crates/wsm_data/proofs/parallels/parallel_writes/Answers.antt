@@ -1,12 +1,4 @@
-use Rattle.std.proofs.Common.{[], ap, sym, ◌∙◌, subst}
-use Rattle.wsm_lists.specs.Keys.{both}
-use Rattle.wsm_lists.specs.Rows.{Ascends}
-use Rattle.wsm_schema.specs.SchemaModel.{SchemaModel}
-use Rattle.wsm_schema.specs.Flat.{FlatModel}
-use Rattle.wsm_schema.specs.Sound.{twice, nodes_of}
-use Rattle.wsm_data.specs.Sets.{WritesInOrder}
-use Rattle.wsm_data.proofs.Firsts.{distinct-nodes}
-use Rattle.wsm_data.proofs.Writers.{nothing-written, writes-ascend}
+use Rattle.wsm_data.proofs.{Common.{[], ◌∙◌, ap, Ascends, both, FlatModel, nodes_of, SchemaModel, subst, sym, twice, WritesInOrder}, Firsts.distinct-nodes, Writers.{nothing-written, writes-ascend}}
 use Rattle.wsm_data.proofs.parallels.parallel_writes.Goals as goal
 
 pub returns-then-is_empty : goal.returns-then-is_empty

@@ -1,8 +1,5 @@
-use Rattle.std.proofs.Common.{ℕ, rules, of_calls}
+use Rattle.wsm_data.proofs.Common.{ℕ, ascends-partitioned, key_lt, number, of_calls, rows_below-point, rules}
 use Rattle.std.proofs.lemmas.List.Sorted.{IsPartitionPoint-from_clause}
-use Rattle.wsm_lists.specs.Rows.{key_lt}
-use Rattle.wsm_lists.proofs.Rows.{ascends-partitioned, rows_below-point}
-use Rattle.wsm_data.specs.Sets.{number}
 use Rattle.wsm_data.proofs.sets.place_of.Goals as goal
 
 pub returns-clause-place : goal.returns-clause-place

@@ -1,6 +1,4 @@
-use Rattle.std.proofs.Common.{◌∙◌}
-use Rattle.std.proofs.lemmas.Bool.{le-ltb}
-use Rattle.wsm_data.proofs.Elements.{stands-at, stands-nowhere}
+use Rattle.wsm_data.proofs.{Common.{◌∙◌, le-ltb}, Elements.{stands-at, stands-nowhere}}
 use Rattle.wsm_data.proofs.sets.stands_at.Goals as goal
 
 pub returns-then-at-numbers : goal.returns-then-at-numbers

@@ -1,8 +1,4 @@
-use Rattle.std.proofs.Common.{◌≡◌, ◌||◌, ◌&&◌, ℕ, drop}
-use Rattle.std.specs.List.{list_any}
-use Rattle.wsm_schema.specs.Sound.{parts_bound}
-use Rattle.wsm_schema.specs.Trail.{is_one_of}
-use Rattle.wsm_data.specs.Tables.{set_behind, told_by_syncs}
+use Rattle.wsm_data.proofs.Common.{ℕ, ◌&&◌, ◌||◌, ◌≡◌, drop, is_one_of, list_any, parts_bound, set_behind, told_by_syncs}
 use Rattle.wsm_data.proofs.tables.add_bound.Given as goal
 
 abbrev pub invariant-loop-source : goal.invariant-loop-source

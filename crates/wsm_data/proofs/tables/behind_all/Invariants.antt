@@ -1,7 +1,4 @@
-use Rattle.std.proofs.Common.{◌≡◌, ◌&&◌, ℕ, map, drop}
-use Rattle.std.specs.List.{list_all}
-use Rattle.wsm_data.specs.Tables.{set_behind}
-use Rattle.wsm_schema.specs.Trail.{is_one_of}
+use Rattle.wsm_data.proofs.Common.{ℕ, ◌&&◌, ◌≡◌, drop, is_one_of, list_all, map, set_behind}
 use Rattle.wsm_data.proofs.tables.behind_all.Given as goal
 
 abbrev pub invariant-loop-i : goal.invariant-loop-i

@@ -1,6 +1,4 @@
-use Rattle.std.proofs.Common.{ap, ◌∙◌}
-use Rattle.std.specs.Option.{is_some}
-use Rattle.wsm_data.proofs.Known.{listed-is}
+use Rattle.wsm_data.proofs.{Common.{◌∙◌, ap, is_some}, Known.listed-is}
 use Rattle.wsm_data.proofs.unknowns.is_listed.Goals as goal
 
 pub returns : goal.returns

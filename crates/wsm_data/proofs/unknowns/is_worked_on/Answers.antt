@@ -1,7 +1,4 @@
-use Rattle.std.proofs.Common.{ap, sym, ◌∙◌}
-use Rattle.std.specs.Option.{option_copied}
-use Rattle.wsm_data.specs.Unknowns.{works}
-use Rattle.wsm_data.proofs.Known.{works-is}
+use Rattle.wsm_data.proofs.{Common.{◌∙◌, ap, option_copied, sym, works}, Known.works-is}
 use Rattle.wsm_data.proofs.unknowns.is_worked_on.Goals as goal
 
 pub returns-in-None : goal.returns-in-None

@@ -1,7 +1,4 @@
-use Rattle.std.proofs.Common.{◌≡◌, true, drop}
-use Rattle.std.specs.Prelude.{IfSome}
-use Rattle.wsm_schema.specs.Sound.{first_some, is_worked_on_in}
-use Rattle.wsm_data.specs.Unknowns.{unknown_in}
+use Rattle.wsm_data.proofs.Common.{◌≡◌, drop, first_some, IfSome, is_worked_on_in, true, unknown_in}
 use Rattle.wsm_data.proofs.unknowns.unknown_write.Given as goal
 
 abbrev pub invariant-loop-write : goal.invariant-loop-write

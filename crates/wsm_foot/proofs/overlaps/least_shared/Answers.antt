@@ -1,7 +1,6 @@
 use Rattle.std.proofs.Common.{ap, ◌∙◌, arith, filter}
 use Rattle.std.specs.BTreeSet.{contains}
-use Rattle.wsm_foot.specs.Order.{name_cmp}
-use Rattle.wsm_foot.specs.Foot.{lesser, least}
+use Rattle.wsm_foot.specs.{Order.name_cmp, Foot.{lesser, least}}
 use Rattle.wsm_foot.proofs.Least.{least-goes_on}
 use Rattle.wsm_foot.proofs.overlaps.least_shared.Goals as goal
 

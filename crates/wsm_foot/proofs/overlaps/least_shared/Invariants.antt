@@ -1,7 +1,6 @@
 use Rattle.std.proofs.Common.{◌≡◌, drop, filter}
 use Rattle.std.specs.BTreeSet.{contains}
-use Rattle.wsm_foot.specs.Order.{name_cmp}
-use Rattle.wsm_foot.specs.Foot.{lesser, least}
+use Rattle.wsm_foot.specs.{Order.name_cmp, Foot.{lesser, least}}
 use Rattle.wsm_foot.proofs.overlaps.least_shared.Given as goal
 
 abbrev pub invariant-loop-name : goal.invariant-loop-name

@@ -1,10 +1,4 @@
-use Rattle.std.proofs.Common.{length, refl, sym, ap, ◌∙◌, arith, subst}
-use Rattle.std.specs.Vec.Iter.{into_iter_items}
-use Rattle.std.proofs.lemmas.List.{nil_from_length}
-use Rattle.wsm_lists.specs.Entries.{rows_of}
-use Rattle.wsm_lists.specs.Rows.{Ascends}
-use Rattle.wsm_lists.proofs.PutOver.{step-over}
-use Rattle.wsm_lists.proofs.Rows.{ascends_put}
+use Rattle.wsm_lists.proofs.{Common.{◌∙◌, ap, arith, Ascends, into_iter_items, length, nil_from_length, refl, rows_of, subst, sym}, PutOver.step-over, Rows.ascends_put}
 use Rattle.wsm_lists.proofs.growing.put_all_in_map.Goals as goal
 
 pub loop-row-init : goal.loop-row-init

@@ -1,8 +1,4 @@
-use Rattle.std.proofs.Common.{◌≡◌, length}
-use Rattle.std.specs.Vec.Iter.{into_iter_items, into_iter_len}
-use Rattle.wsm_lists.specs.Entries.{Keyed, rows_of}
-use Rattle.wsm_lists.specs.PutOver.{put_over}
-use Rattle.wsm_lists.specs.Rows.{Ascends}
+use Rattle.wsm_lists.proofs.Common.{◌≡◌, Ascends, into_iter_items, into_iter_len, Keyed, length, put_over, rows_of}
 use Rattle.wsm_lists.proofs.growing.put_all_in_map.Given as goal
 
 abbrev pub invariant-loop-row : goal.invariant-loop-row

@@ -1,7 +1,4 @@
-use Rattle.std.proofs.Common.{◌≡◌, sym, ◌∙◌, ap, subst}
-use Rattle.std.specs.BTreeMap.{insert_entry}
-use Rattle.wsm_lists.specs.Entries.{rows_of, Keyed}
-use Rattle.wsm_lists.proofs.Entries.{pair_cmp, put-entry, keyed-entry}
+use Rattle.wsm_lists.proofs.{Common.{◌∙◌, ◌≡◌, ap, insert_entry, Keyed, rows_of, subst, sym}, Entries.{pair_cmp, put-entry, keyed-entry}}
 use Rattle.wsm_lists.proofs.growing.put_in_map.Goals as goal
 
 pub returns-clause-rows : goal.returns-clause-rows

@@ -1,9 +1,4 @@
-use Rattle.std.proofs.Common.{cond, length, refl, sym, ap, ◌∙◌, arith, subst}
-use Rattle.std.specs.Vec.Iter.{into_iter_items}
-use Rattle.std.proofs.lemmas.List.{nil_from_length}
-use Rattle.wsm_lists.specs.PutOver.{put_over}
-use Rattle.wsm_lists.specs.Rows.{Ascends, put_row}
-use Rattle.wsm_lists.proofs.PutOver.{ascends-put-if, over-none, step-under}
+use Rattle.wsm_lists.proofs.{Common.{◌∙◌, ap, arith, Ascends, cond, into_iter_items, length, nil_from_length, put_over, put_row, refl, subst, sym}, PutOver.{ascends-put-if, over-none, step-under}}
 use Rattle.wsm_lists.proofs.growing.put_under.Goals as goal
 
 pub loop-row-init : goal.loop-row-init

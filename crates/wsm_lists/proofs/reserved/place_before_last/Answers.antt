@@ -1,10 +1,4 @@
-use Rattle.std.proofs.Common.{◌≡◌, true, ap, sym, ◌∙◌}
-use Rattle.std.specs.Option.{option_copied}
-use Rattle.std.proofs.lemmas.Bool.{lt-ltb}
-use Rattle.wsm_lists.specs.Keys.{first}
-use Rattle.wsm_lists.specs.Rows.{key_lt}
-use Rattle.wsm_lists.proofs.Rows.{ends-below}
-use Rattle.wsm_lists.proofs.ByNumber.{lt_number}
+use Rattle.wsm_lists.proofs.{Common.{◌∙◌, ◌≡◌, ap, first, key_lt, lt-ltb, option_copied, sym, true}, Rows.ends-below, ByNumber.lt_number}
 use Rattle.wsm_lists.proofs.reserved.place_before_last.Goals as goal
 
 pub returns-then-last-number : goal.returns-then-last-number

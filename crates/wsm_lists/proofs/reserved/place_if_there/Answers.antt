@@ -1,8 +1,4 @@
-use Rattle.std.proofs.Common.{ap, sym, ◌∙◌}
-use Rattle.std.specs.Option.{option_copied}
-use Rattle.wsm_lists.specs.Keys.{first}
-use Rattle.wsm_lists.specs.Rows.{rows_below}
-use Rattle.wsm_lists.proofs.Rows.{row-place}
+use Rattle.wsm_lists.proofs.{Common.{◌∙◌, ap, first, option_copied, rows_below, sym}, Rows.row-place}
 use Rattle.wsm_lists.proofs.reserved.place_if_there.Goals as goal
 
 pub returns-then-row-number : goal.returns-then-row-number

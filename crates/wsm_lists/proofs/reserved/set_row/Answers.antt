@@ -1,10 +1,4 @@
-use Rattle.std.proofs.Common.{◌≡◌, true, false, ap, sym, ◌∙◌, rules}
-use Rattle.std.specs.Option.{is_some}
-use Rattle.wsm_lists.specs.ByNumber.{item_at}
-use Rattle.wsm_lists.specs.Keys.{first}
-use Rattle.wsm_lists.specs.Rows.{row_at, rows_below}
-use Rattle.wsm_lists.proofs.ByNumber.{is_some-map}
-use Rattle.wsm_lists.proofs.Rows.{place_within, rows_below_le, set_where_there, insert_where_absent}
+use Rattle.wsm_lists.proofs.{Common.{◌∙◌, ◌≡◌, ap, false, first, is_some, item_at, row_at, rows_below, rules, sym, true}, ByNumber.is_some-map, Rows.{place_within, rows_below_le, set_where_there, insert_where_absent}}
 use Rattle.wsm_lists.proofs.reserved.set_row.Goals as goal
 
 pub index_mut-requires : goal.index_mut-requires

@@ -1,7 +1,4 @@
-use Rattle.std.proofs.Common.{◌≡◌, true, sym, ◌∙◌, ap}
-use Rattle.std.specs.Option.{option_copied}
-use Rattle.wsm_lists.specs.Rows.{key_lt}
-use Rattle.wsm_lists.proofs.Rows.{ends-below}
+use Rattle.wsm_lists.proofs.{Common.{◌∙◌, ◌≡◌, ap, key_lt, option_copied, sym, true}, Rows.ends-below}
 use Rattle.wsm_lists.proofs.tables.are_below.Goals as goal
 
 pub returns-in-Some : goal.returns-in-Some

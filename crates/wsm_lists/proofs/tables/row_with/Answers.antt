@@ -1,6 +1,4 @@
-use Rattle.std.proofs.Common.{sym, ◌∙◌, ap, refl}
-use Rattle.std.specs.Option.{option_copied}
-use Rattle.wsm_lists.proofs.Rows.{row_at-found, row_at-absent}
+use Rattle.wsm_lists.proofs.{Common.{◌∙◌, ap, option_copied, refl, sym}, Rows.{row_at-found, row_at-absent}}
 use Rattle.wsm_lists.proofs.tables.row_with.Goals as goal
 
 pub returns-in-None : goal.returns-in-None

@@ -1,5 +1,4 @@
-use Rattle.std.proofs.Common.{◌≤◌, ◌+◌, length, arith, sym, ◌∙◌}
-use Rattle.wsm_lists.proofs.Rows.{rows_below_le, rows_below-next, filter-run}
+use Rattle.wsm_lists.proofs.{Common.{◌+◌, ◌∙◌, ◌≤◌, arith, length, sym}, Rows.{rows_below_le, rows_below-next, filter-run}}
 use Rattle.wsm_lists.proofs.tables.run_of.Goals as goal
 
 pub split_at-requires : goal.split_at-requires

@@ -1,7 +1,4 @@
-use Rattle.std.proofs.Common.{rules, of_calls}
-use Rattle.std.proofs.lemmas.List.Sorted.{IsPartitionPoint-from_clause}
-use Rattle.wsm_lists.specs.Rows.{key_lt}
-use Rattle.wsm_lists.proofs.Rows.{ascends-partitioned, rows_below-point}
+use Rattle.wsm_lists.proofs.{Common.{IsPartitionPoint-from_clause, key_lt, of_calls, rules}, Rows.{ascends-partitioned, rows_below-point}}
 use Rattle.wsm_lists.proofs.tables.searched_place.Goals as goal
 
 pub returns : goal.returns

@@ -1,7 +1,5 @@
-use Rattle.std.proofs.Common.{rules, of_calls, not}
+use Rattle.wsm_lists.proofs.Common.{is_gone, item_at, not, of_calls, rules}
 use Rattle.std.proofs.lemmas.Fn.{filter_same}
-use Rattle.wsm_lists.specs.ByNumber.{item_at}
-use Rattle.wsm_lists.specs.TakenIn.{is_gone}
 use Rattle.wsm_lists.proofs.taking.drop_gone.Goals as goal
 
 pub returns-clause-rows : goal.returns-clause-rows

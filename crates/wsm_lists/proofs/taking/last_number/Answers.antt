@@ -1,6 +1,4 @@
-use Rattle.std.proofs.Common.{◌≡◌, ◌+◌, ◌-◌, ◌<◌, ◌∙◌, ap, sym, arith, length, take}
-use Rattle.wsm_lists.specs.TakenIn.{last_number}
-use Rattle.wsm_lists.proofs.Merges.{last-taken}
+use Rattle.wsm_lists.proofs.{Common.{◌+◌, ◌-◌, ◌<◌, ◌∙◌, ◌≡◌, ap, arith, last_number, length, sym, take}, Merges.last-taken}
 use Rattle.wsm_lists.proofs.taking.last_number.Goals as goal
 
 pub returns-else-kept-eq0 : goal.returns-else-kept-eq0

@@ -1,5 +1,4 @@
-use Rattle.std.proofs.Common.{rules, ◌≡◌, ◌-◌, ◌<◌, ◌≤◌, ◌∙◌, ap, sym, arith, length, set, take, subst}
-use Rattle.wsm_lists.specs.TakenIn.{last_number, Merging}
+use Rattle.wsm_lists.proofs.Common.{◌-◌, ◌<◌, ◌∙◌, ◌≡◌, ◌≤◌, ap, arith, last_number, length, Merging, rules, set, subst, sym, take}
 use Rattle.wsm_lists.proofs.Merges.{kept-inside, merge-ends, read-as, some-kept, step-first, step-gone, step-later, step-put, step-room, step-same}
 use Rattle.wsm_lists.proofs.taking.merge.Goals as goal
 

@@ -1,5 +1,4 @@
-use Rattle.std.proofs.Common.{◌≡◌, ◌+◌, take, vec_capacity}
-use Rattle.wsm_lists.specs.TakenIn.{Merging}
+use Rattle.wsm_lists.proofs.Common.{◌+◌, ◌≡◌, Merging, take, vec_capacity}
 use Rattle.wsm_lists.proofs.taking.merge.Given as goal
 
 abbrev pub invariant-loop-left : goal.invariant-loop-left

@@ -1,8 +1,4 @@
-use Rattle.std.proofs.Common.{◌∙◌, sym, refl, subst, arith}
-use Rattle.std.proofs.lemmas.List.{take_all}
-use Rattle.wsm_lists.specs.Keys.{first}
-use Rattle.wsm_lists.specs.Rows.{Ascends}
-use Rattle.wsm_lists.proofs.TakenIn.{no-more, push-step}
+use Rattle.wsm_lists.proofs.{Common.{◌∙◌, arith, Ascends, first, refl, subst, sym, take_all}, TakenIn.{no-more, push-step}}
 use Rattle.wsm_lists.proofs.taking.push_absent.Goals as goal
 
 pub loop-change-init : goal.loop-change-init

@@ -1,5 +1,4 @@
-use Rattle.std.proofs.Common.{◌≡◌, ◌+◌, ◌≤◌, ◌++◌, drop, take, vec_capacity, vec_len}
-use Rattle.wsm_lists.specs.TakenIn.{absent_of, puts_of}
+use Rattle.wsm_lists.proofs.Common.{◌++◌, ◌+◌, ◌≡◌, ◌≤◌, absent_of, drop, puts_of, take, vec_capacity, vec_len}
 use Rattle.wsm_lists.proofs.taking.push_absent.Given as goal
 
 abbrev pub invariant-loop-change : goal.invariant-loop-change

@@ -1,8 +1,4 @@
-use Rattle.std.proofs.Common.{rules, ◌≡◌, ◌∙◌, ap, sym, subst, arith, length}
-use Rattle.wsm_lists.specs.Keys.{first}
-use Rattle.wsm_lists.specs.Rows.{Ascends}
-use Rattle.wsm_lists.specs.TakenIn.{put_all, puts_of}
-use Rattle.wsm_lists.proofs.TakenIn.{pushed-front, pushed-none, pushed-size}
+use Rattle.wsm_lists.proofs.{Common.{◌∙◌, ◌≡◌, ap, arith, Ascends, first, length, put_all, puts_of, rules, subst, sym}, TakenIn.{pushed-front, pushed-none, pushed-size}}
 use Rattle.wsm_lists.proofs.taking.put_changes.Goals as goal
 
 pub merge-requires-clause-size : goal.merge-requires-clause-size

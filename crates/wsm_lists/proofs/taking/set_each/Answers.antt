@@ -1,8 +1,4 @@
-use Rattle.std.proofs.Common.{◌∙◌, arith, subst, sym, []}
-use Rattle.wsm_lists.specs.Keys.{first}
-use Rattle.wsm_lists.specs.Rows.{Ascends}
-use Rattle.wsm_lists.specs.TakenIn.{put_before}
-use Rattle.wsm_lists.proofs.TakenIn.{ascends-put_all, set-step}
+use Rattle.wsm_lists.proofs.{Common.{[], ◌∙◌, arith, Ascends, first, put_before, subst, sym}, TakenIn.{ascends-put_all, set-step}}
 use Rattle.wsm_lists.proofs.taking.set_each.Goals as goal
 
 pub loop-change-preserved : goal.loop-change-preserved

@@ -1,7 +1,4 @@
-use Rattle.std.proofs.Common.{◌≡◌, ◌+◌, ◌≤◌, drop, vec_capacity, vec_len}
-use Rattle.wsm_lists.specs.Keys.{first}
-use Rattle.wsm_lists.specs.Rows.{Ascends}
-use Rattle.wsm_lists.specs.TakenIn.{put_all, puts_of}
+use Rattle.wsm_lists.proofs.Common.{◌+◌, ◌≡◌, ◌≤◌, Ascends, drop, first, put_all, puts_of, vec_capacity, vec_len}
 use Rattle.wsm_lists.proofs.taking.set_each.Given as goal
 
 abbrev pub invariant-loop-change : goal.invariant-loop-change

@@ -1,7 +1,4 @@
-use Rattle.std.proofs.Common.{◌∙◌, ap, filter, not, sym}
-use Rattle.wsm_lists.specs.ByNumber.{item_at}
-use Rattle.wsm_lists.specs.TakenIn.{is_gone, put_all, puts_of}
-use Rattle.wsm_lists.proofs.TakenIn.{all-stay, taken-in}
+use Rattle.wsm_lists.proofs.{Common.{◌∙◌, ap, filter, is_gone, item_at, not, put_all, puts_of, sym}, TakenIn.{all-stay, taken-in}}
 use Rattle.wsm_lists.proofs.taking.take_in.Goals as goal
 
 pub returns-then-drops_some-clause-rows : goal.returns-then-drops_some-clause-rows

@@ -1,7 +1,4 @@
-use Rattle.std.proofs.Common.{rules, arith, subst, sym}
-use Rattle.wsm_ops.specs.Apply.{applied, IsOpFault}
-use Rattle.wsm_ops.proofs.Steps.{step_goes_on, step_stops, no_more}
-use Rattle.wsm_ops.proofs.Distinct.{IsDistinct, applied-distinct}
+use Rattle.wsm_ops.proofs.{Common.{applied, arith, IsOpFault, rules, subst, sym}, Steps.{step_goes_on, step_stops, no_more}, Distinct.{IsDistinct, applied-distinct}}
 use Rattle.wsm_ops.proofs.applications.apply.Goals as goal
 
 pub returns-in_err-draft-2-clause-fault : goal.returns-in_err-draft-2-clause-fault

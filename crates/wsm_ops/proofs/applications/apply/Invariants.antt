@@ -1,5 +1,4 @@
-use Rattle.std.proofs.Common.{◌≡◌, ◌+◌, drop}
-use Rattle.wsm_ops.specs.Apply.{applied, applied_from}
+use Rattle.wsm_ops.proofs.Common.{◌+◌, ◌≡◌, applied, applied_from, drop}
 use Rattle.wsm_ops.proofs.applications.apply.Given as goal
 
 abbrev pub invariant-loop-i : goal.invariant-loop-i

@@ -1,7 +1,5 @@
-use Rattle.std.proofs.Common.{◌≡◌, ℕ, ◌||◌, ◌==◌, not, filter, IfOk, refl, subst}
-use Rattle.wsm_schema.specs.SchemaModel.{SchemaModel}
-use Rattle.wsm_ops.specs.Edit.{without}
-use Rattle.wsm_ops.specs.Apply.{effect, with_role}
+use Rattle.wsm_ops.proofs.Common.{ℕ, ◌||◌, ◌≡◌, effect, IfOk, refl, SchemaModel, subst, with_role, without}
+use Rattle.std.proofs.Common.{◌==◌, not, filter}
 use Rattle.wsm_ops.specs.declared.operations.Op.TheVariants as op
 use Rattle.wsm_ops.proofs.effects.deleted.Goals as goal
 

@@ -1,12 +1,4 @@
-use Rattle.std.proofs.Common.{ap, sym, subst}
-use Rattle.std.specs.Prelude.{not}
-use Rattle.wsm_schema.specs.Tree.{act}
-use Rattle.wsm_schema.specs.SchemaModel.{SchemaModel}
-use Rattle.wsm_ops.specs.Edit.{without}
-use Rattle.wsm_ops.specs.Apply.{put_at}
-use Rattle.wsm_ops.proofs.DraftEdits.{moved-made}
-use Rattle.wsm_ops.proofs.OncePieces.{once-in, once-left}
-use Rattle.wsm_ops.specs.Outline.{at_gap, is_node, IsOnce}
+use Rattle.wsm_ops.proofs.{Common.{act, ap, at_gap, is_node, IsOnce, not, put_at, SchemaModel, subst, sym, without}, DraftEdits.moved-made, OncePieces.{once-in, once-left}}
 use Rattle.wsm_ops.specs.declared.operations.Gap.TheVariants.{After}
 use Rattle.wsm_ops.proofs.effects.moved.Goals as goal
 

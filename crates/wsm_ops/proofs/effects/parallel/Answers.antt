@@ -1,9 +1,4 @@
-use Rattle.std.proofs.Common.{◌≡◌, ap, subst, IfOk}
-use Rattle.wsm_schema.specs.SchemaModel.{SchemaModel}
-use Rattle.wsm_ops.specs.Edit.{change, beside}
-use Rattle.wsm_ops.specs.Apply.{with_role}
-use Rattle.wsm_ops.proofs.DraftEdits.{wrap-made, opened-once}
-use Rattle.wsm_ops.proofs.OncePieces.{once-in}
+use Rattle.wsm_ops.proofs.{Common.{◌≡◌, ap, beside, change, IfOk, SchemaModel, subst, with_role}, DraftEdits.{wrap-made, opened-once}, OncePieces.once-in}
 use Rattle.wsm_ops.specs.declared.operations.Gap.TheVariants.{After}
 use Rattle.wsm_ops.proofs.effects.parallel.Goals as goal
 

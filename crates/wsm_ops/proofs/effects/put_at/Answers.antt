@@ -1,8 +1,4 @@
-use Rattle.std.proofs.Common.{ap}
-use Rattle.wsm_ops.specs.Edit.{new_part}
-use Rattle.wsm_ops.specs.Apply.{put_at}
-use Rattle.wsm_ops.proofs.DraftEdits.{put-made}
-use Rattle.wsm_ops.proofs.OncePieces.{once-in}
+use Rattle.wsm_ops.proofs.{Common.{ap, new_part, put_at}, DraftEdits.put-made, OncePieces.once-in}
 use Rattle.wsm_ops.proofs.effects.put_at.Goals as goal
 
 pub put-requires : goal.put-requires

@@ -1,8 +1,4 @@
-use Rattle.std.proofs.Common.{ap}
-use Rattle.wsm_schema.specs.SchemaModel.{SchemaModel}
-use Rattle.wsm_ops.specs.Edit.{without}
-use Rattle.wsm_ops.proofs.DraftEdits.{without-made}
-use Rattle.wsm_ops.proofs.OncePieces.{once-in}
+use Rattle.wsm_ops.proofs.{Common.{ap, SchemaModel, without}, DraftEdits.without-made, OncePieces.once-in}
 use Rattle.wsm_ops.specs.declared.operations.Gap.TheVariants.{After}
 use Rattle.wsm_ops.proofs.effects.without_activity.Goals as goal
 

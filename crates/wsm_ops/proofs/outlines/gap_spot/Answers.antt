@@ -1,6 +1,4 @@
-use Rattle.std.proofs.Common.{sym, subst}
-use Rattle.wsm_ops.specs.Outline.{at_gap}
-use Rattle.wsm_ops.specs.Runs.{IsSpot}
+use Rattle.wsm_ops.proofs.Common.{at_gap, IsSpot, subst, sym}
 use Rattle.wsm_ops.proofs.outlines.gap_spot.Goals as goal
 
 pub returns-in-After : goal.returns-in-After

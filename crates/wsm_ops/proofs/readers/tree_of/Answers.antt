@@ -1,7 +1,4 @@
-use Rattle.std.proofs.Common.{ap, sym, ◌∙◌}
-use Rattle.wsm_ops.specs.Outline.{read_pieces}
-use Rattle.wsm_ops.specs.Readings.{levels_of}
-use Rattle.wsm_ops.proofs.PieceReading.{read-last}
+use Rattle.wsm_ops.proofs.{Common.{◌∙◌, ap, levels_of, read_pieces, sym}, PieceReading.read-last}
 use Rattle.wsm_ops.proofs.readers.tree_of.Goals as goal
 
 pub loop-piece-preserved : goal.loop-piece-preserved

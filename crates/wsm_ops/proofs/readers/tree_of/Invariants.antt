@@ -1,7 +1,4 @@
-use Rattle.std.proofs.Common.{◌≡◌, [], length}
-use Rattle.wsm_schema.specs.Tokens.{empty}
-use Rattle.wsm_ops.specs.Outline.{read_pieces}
-use Rattle.wsm_ops.specs.Readings.{levels_of}
+use Rattle.wsm_ops.proofs.Common.{[], ◌≡◌, empty, length, levels_of, read_pieces}
 use Rattle.wsm_ops.proofs.readers.tree_of.Given as goal
 
 abbrev pub invariant-loop-piece : goal.invariant-loop-piece

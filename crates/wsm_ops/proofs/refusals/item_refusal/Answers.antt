@@ -1,6 +1,4 @@
-use Rattle.std.proofs.Common.{sym, ◌∙◌}
-use Rattle.wsm_schema.specs.Flat.{cards_of}
-use Rattle.wsm_ops.proofs.SeatCards.{item_by_seat}
+use Rattle.wsm_ops.proofs.{Common.{◌∙◌, cards_of, sym}, SeatCards.item_by_seat}
 use Rattle.wsm_ops.proofs.refusals.item_refusal.Goals as goal
 
 pub returns-in-Some : goal.returns-in-Some

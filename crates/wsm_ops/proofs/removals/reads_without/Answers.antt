@@ -1,5 +1,4 @@
-use Rattle.wsm_lists.specs.Keys.{first_two}
-use Rattle.wsm_ops.proofs.Rising.{Ascends-filter}
+use Rattle.wsm_ops.proofs.{Common.first_two, Rising.Ascends-filter}
 use Rattle.wsm_ops.proofs.removals.reads_without.Goals as goal
 
 pub table_of-requires : goal.table_of-requires

@@ -1,5 +1,4 @@
-use Rattle.std.proofs.Common.{arith}
-use Rattle.wsm_ops.proofs.Rising.{filled-next}
+use Rattle.wsm_ops.proofs.{Common.arith, Rising.filled-next}
 use Rattle.wsm_ops.proofs.removals.table_of.Goals as goal
 
 pub loop-row-preserved : goal.loop-row-preserved

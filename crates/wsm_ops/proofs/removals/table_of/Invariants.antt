@@ -1,4 +1,4 @@
-use Rattle.std.proofs.Common.{◌≡◌, ◌++◌, drop}
+use Rattle.wsm_ops.proofs.Common.{◌++◌, ◌≡◌, drop}
 use Rattle.wsm_ops.proofs.removals.table_of.Given as goal
 
 abbrev pub invariant-loop-row : goal.invariant-loop-row

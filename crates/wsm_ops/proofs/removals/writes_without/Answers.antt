@@ -1,5 +1,4 @@
-use Rattle.wsm_lists.specs.Keys.{both}
-use Rattle.wsm_ops.proofs.Rising.{Ascends-filter}
+use Rattle.wsm_ops.proofs.{Common.both, Rising.Ascends-filter}
 use Rattle.wsm_ops.proofs.removals.writes_without.Goals as goal
 
 pub table_of-requires : goal.table_of-requires

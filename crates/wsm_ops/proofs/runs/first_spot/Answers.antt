@@ -1,9 +1,4 @@
-use Rattle.std.proofs.Common.{◌≡◌, ◌+◌, false, ◌||◌, drop, ap, sym, ◌∙◌}
-use Rattle.std.specs.List.{list_any}
-use Rattle.std.proofs.lemmas.List.Folds.{list_any-append}
-use Rattle.wsm_ops.specs.Outline.{at_gap}
-use Rattle.wsm_ops.specs.Runs.{joined, items_at}
-use Rattle.wsm_ops.proofs.JoinedRuns.{drop-joined}
+use Rattle.wsm_ops.proofs.{Common.{◌+◌, ◌||◌, ◌∙◌, ◌≡◌, ap, at_gap, drop, false, items_at, joined, list_any, list_any-append, sym}, JoinedRuns.drop-joined}
 use Rattle.wsm_ops.proofs.runs.first_spot.Goals as goal
 
 pub loop-run-preserved : goal.loop-run-preserved

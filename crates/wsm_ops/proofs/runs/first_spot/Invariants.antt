@@ -1,7 +1,4 @@
-use Rattle.std.proofs.Common.{◌≡◌, drop}
-use Rattle.std.specs.List.{list_any}
-use Rattle.wsm_ops.specs.Outline.{at_gap}
-use Rattle.wsm_ops.specs.Runs.{joined}
+use Rattle.wsm_ops.proofs.Common.{◌≡◌, at_gap, drop, joined, list_any}
 use Rattle.wsm_ops.proofs.runs.first_spot.Given as goal
 
 -- it is in none of the runs so far

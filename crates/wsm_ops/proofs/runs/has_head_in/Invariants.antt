@@ -1,6 +1,4 @@
-use Rattle.std.proofs.Common.{◌≡◌, drop}
-use Rattle.wsm_ops.specs.Outline.{has_head}
-use Rattle.wsm_ops.specs.Runs.{joined}
+use Rattle.wsm_ops.proofs.Common.{◌≡◌, drop, has_head, joined}
 use Rattle.wsm_ops.proofs.runs.has_head_in.Given as goal
 
 -- it is in none of the runs so far

@@ -1,5 +1,4 @@
-use Rattle.std.proofs.Common.{◌≡◌, ◌++◌, drop}
-use Rattle.wsm_ops.specs.Runs.{joined}
+use Rattle.wsm_ops.proofs.Common.{◌++◌, ◌≡◌, drop, joined}
 use Rattle.wsm_ops.proofs.runs.pieces_in.Given as goal
 
 -- the pieces so far, and those of the runs that are left

@@ -1,7 +1,4 @@
-use Rattle.std.proofs.Common.{◌≤◌, ◌<◌, ◌++◌, length, take, drop, ap, sym, ◌∙◌, subst, arith}
-use Rattle.std.proofs.lemmas.Result.{on_ok_weaker}
-use Rattle.wsm_ops.specs.Runs.{items_at}
-use Rattle.wsm_ops.proofs.JoinedRuns.{got-items, put-joined}
+use Rattle.wsm_ops.proofs.{Common.{◌++◌, ◌<◌, ◌∙◌, ◌≤◌, ap, arith, drop, items_at, length, on_ok_weaker, subst, sym, take}, JoinedRuns.{got-items, put-joined}}
 use Rattle.wsm_ops.proofs.runs.put_before.Goals as goal
 
 pub put_all-requires : goal.put_all-requires

@@ -1,7 +1,4 @@
-use Rattle.std.proofs.Common.{◌+◌, ◌≤◌, ◌<◌, ◌++◌, length, take, drop, ap, sym, ◌∙◌, subst, arith}
-use Rattle.std.proofs.lemmas.Result.{on_ok_weaker}
-use Rattle.wsm_ops.specs.Runs.{items_at, joined}
-use Rattle.wsm_ops.proofs.JoinedRuns.{got-items, place-next, put-joined}
+use Rattle.wsm_ops.proofs.{Common.{◌++◌, ◌+◌, ◌<◌, ◌∙◌, ◌≤◌, ap, arith, drop, items_at, joined, length, on_ok_weaker, subst, sym, take}, JoinedRuns.{got-items, place-next, put-joined}}
 use Rattle.wsm_ops.proofs.runs.put_behind.Goals as goal
 
 pub overflow_add-spot : goal.overflow_add-spot

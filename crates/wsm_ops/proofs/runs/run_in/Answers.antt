@@ -1,6 +1,4 @@
-use Rattle.std.proofs.Common.{ap, sym, ◌∙◌}
-use Rattle.std.specs.Option.{option_copied}
-use Rattle.wsm_ops.proofs.JoinedRuns.{none-items, some-items}
+use Rattle.wsm_ops.proofs.{Common.{◌∙◌, ap, option_copied, sym}, JoinedRuns.{none-items, some-items}}
 use Rattle.wsm_ops.proofs.runs.run_in.Goals as goal
 
 pub returns-in-None : goal.returns-in-None

@@ -1,7 +1,4 @@
-use Rattle.std.proofs.Common.{◌++◌, ap, ◌∙◌}
-use Rattle.std.proofs.lemmas.List.{take-append-drop}
-use Rattle.wsm_ops.specs.Runs.{joined}
-use Rattle.wsm_ops.proofs.JoinedRuns.{joined-push}
+use Rattle.wsm_ops.proofs.{Common.{◌++◌, ◌∙◌, ap, joined, take-append-drop}, JoinedRuns.joined-push}
 use Rattle.wsm_ops.proofs.runs.runs_of.Goals as goal
 
 pub loop-rest-preserved : goal.loop-rest-preserved

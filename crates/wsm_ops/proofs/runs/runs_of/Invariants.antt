@@ -1,5 +1,4 @@
-use Rattle.std.proofs.Common.{◌≡◌, ◌++◌, length}
-use Rattle.wsm_ops.specs.Runs.{joined}
+use Rattle.wsm_ops.proofs.Common.{◌++◌, ◌≡◌, joined, length}
 use Rattle.wsm_ops.proofs.runs.runs_of.Given as goal
 
 -- the pieces so far, and those that are left

@@ -1,8 +1,4 @@
-use Rattle.std.proofs.Common.{ap, sym, ◌∙◌, refl, Some, None}
-use Rattle.std.specs.Prelude.{position}
-use Rattle.wsm_ops.specs.Outline.{at_gap}
-use Rattle.wsm_ops.specs.Runs.{items_at}
-use Rattle.wsm_ops.proofs.OnePlace.{first-is}
+use Rattle.wsm_ops.proofs.{Common.{◌∙◌, ap, at_gap, items_at, None, position, refl, Some, sym}, OnePlace.first-is}
 use Rattle.wsm_ops.proofs.runs.spot_in.Goals as goal
 
 pub returns-in-None : goal.returns-in-None

@@ -1,6 +1,4 @@
-use Rattle.std.proofs.Common.{◌<◌, length, ap, sym, ◌∙◌, subst, arith}
-use Rattle.std.specs.List.{remove}
-use Rattle.wsm_ops.proofs.JoinedRuns.{got-items, take-joined}
+use Rattle.wsm_ops.proofs.{Common.{◌<◌, ◌∙◌, ap, arith, length, remove, subst, sym}, JoinedRuns.{got-items, take-joined}}
 use Rattle.wsm_ops.proofs.runs.take_from.Goals as goal
 
 pub remove-requires : goal.remove-requires

@@ -1,18 +1,7 @@
-use Rattle.std.proofs.Common.{◌≡◌, ℕ, Bool, true, false, cond, eqb, List, [], ◌∷◌, ◌++◌, append_assoc, refl, ap, sym, ◌∙◌, arith, add-one, drop-cons, drop, inl, inr}
-use Rattle.std.specs.Prelude.{not, ◌||◌, get_or, length, ◌<◌, ◌+◌}
-use Rattle.std.specs.Ordering.{nat_cmp}
-use Rattle.std.specs.BTreeSet.{contains}
-use Rattle.std.specs.BTreeMap.{is_at}
-use Rattle.std.proofs.lemmas.Bool.{cases_order, eq-eqb, ne_eqb, le-ltb, lt-ltb}
-use Rattle.std.proofs.lemmas.List.{get_or_read}
-use Rattle.wsm_schema.specs.Tree.{Parts, Lanes, lane, lanes}
-use Rattle.wsm_schema.specs.TreeOf.{parts_of, lanes_of, lane_of}
-use Rattle.wsm_schema.specs.Trail.{is_one_of}
-use Rattle.wsm_schema.specs.declared.blocks.Block.{Block}
-use Rattle.wsm_schema.specs.declared.blocks.Branch.{Branch}
-use Rattle.wsm_schema.specs.declared.blocks.Block.TheFolds.{fold_out-Branch}
-use Rattle.wsm_ops.specs.Outline.{parts_pieces, lanes_pieces}
-use Rattle.wsm_ops.specs.declared.pieces.Piece.{Piece}
+use Rattle.wsm_ops.proofs.Common.{[], ℕ, ◌++◌, ◌∙◌, ◌∷◌, ◌≡◌, add-one, ap, append_assoc, arith, Bool, cases_order, cond, contains, drop, drop-cons, eq-eqb, eqb, false, get_or_read, inl, inr, is_one_of, lane, lane_of, Lanes, lanes, lanes_of}
+use Rattle.wsm_ops.proofs.Common.{lanes_pieces, le-ltb, List, lt-ltb, nat_cmp, ne_eqb, not, Parts, parts_of, parts_pieces, Piece, refl, sym, true}
+use Rattle.std.specs.{Prelude.{◌||◌, get_or, length, ◌<◌, ◌+◌}, BTreeMap.is_at}
+use Rattle.wsm_schema.specs.{declared.blocks.Block.Block, declared.blocks.Branch.Branch, declared.blocks.Block.TheFolds.fold_out-Branch}
 use Rattle.wsm_ops.specs.declared.pieces.Piece.TheVariants.{Head}
 use Rattle.wsm_ops.proofs.walks.+walk.Goals as goal
 

@@ -1,10 +1,4 @@
-use Rattle.std.proofs.Common.{◌≡◌, ℕ, List, [], ◌++◌, drop}
-use Rattle.std.specs.Ordering.{nat_cmp}
-use Rattle.std.specs.BTreeSet.{contains}
-use Rattle.wsm_schema.specs.TreeOf.{parts_of, lanes_of}
-use Rattle.wsm_schema.specs.Tree.{lanes}
-use Rattle.wsm_schema.specs.Trail.{is_one_of}
-use Rattle.wsm_ops.specs.Outline.{parts_pieces, lanes_pieces}
+use Rattle.wsm_ops.proofs.Common.{[], ℕ, ◌++◌, ◌≡◌, contains, drop, is_one_of, lanes, lanes_of, lanes_pieces, List, nat_cmp, parts_of, parts_pieces}
 use Rattle.wsm_ops.proofs.walks.+walk.Given as goal
 
 -- some codes are those so far, and the rest is still to come

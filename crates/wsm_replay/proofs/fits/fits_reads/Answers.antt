@@ -1,6 +1,4 @@
-use Rattle.std.proofs.Common.{sym, arith}
-use Rattle.wsm_trail.specs.EntryAt.{value_noted}
-use Rattle.wsm_replay.proofs.Lengths.{fits_reads_lengths}
+use Rattle.wsm_replay.proofs.{Common.{arith, sym, value_noted}, Lengths.fits_reads_lengths}
 use Rattle.wsm_replay.proofs.fits.fits_reads.Goals as goal
 
 pub returns-then-reads-edges : goal.returns-then-reads-edges

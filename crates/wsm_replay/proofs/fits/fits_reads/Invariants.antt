@@ -1,6 +1,4 @@
-use Rattle.std.proofs.Common.{◌≡◌, length, drop}
-use Rattle.wsm_schema.specs.Replay.{fits_reads}
-use Rattle.wsm_trail.specs.EntryAt.{value_noted}
+use Rattle.wsm_replay.proofs.Common.{◌≡◌, drop, fits_reads, length, value_noted}
 use Rattle.wsm_replay.proofs.fits.fits_reads.Given as goal
 
 abbrev pub invariant-loop-i : goal.invariant-loop-i

@@ -1,5 +1,4 @@
-use Rattle.std.proofs.Common.{◌≡◌, drop}
-use Rattle.wsm_schema.specs.Replay.{has_label}
+use Rattle.wsm_replay.proofs.Common.{◌≡◌, drop, has_label}
 use Rattle.wsm_replay.proofs.fits.has_label.Given as goal
 
 abbrev pub invariant-loop-end : goal.invariant-loop-end

@@ -1,8 +1,4 @@
-use Rattle.std.proofs.Common.{◌≡◌, ◌∷◌, ap, sym, ◌∙◌}
-use Rattle.std.proofs.lemmas.Result.{IfOk-weaker}
-use Rattle.wsm_schema.specs.Replay.{after}
-use Rattle.wsm_schema.specs.Rules.{settle, marking_of}
-use Rattle.wsm_replay.proofs.Agreement.{after_spot, after-spot}
+use Rattle.wsm_replay.proofs.{Common.{◌∙◌, ◌∷◌, ◌≡◌, after, ap, IfOk-weaker, marking_of, settle, sym}, Agreement.{after_spot, after-spot}}
 use Rattle.wsm_replay.proofs.settling.after.Goals as goal
 
 pub returns-in-None : goal.returns-in-None

@@ -1,9 +1,4 @@
-use Rattle.std.proofs.Common.{◌≡◌, ◌∷◌, ap, ◌∙◌}
-use Rattle.std.proofs.lemmas.Result.{IfOk-weaker}
-use Rattle.wsm_lists.specs.Rows.{put_row}
-use Rattle.wsm_schema.specs.Rules.{by_node, settle, marking_of}
-use Rattle.wsm_replay.proofs.Agreement.{settle-put}
-use Rattle.wsm_replay.proofs.Replays.{marking_of-same}
+use Rattle.wsm_replay.proofs.{Common.{◌∙◌, ◌∷◌, ◌≡◌, ap, by_node, IfOk-weaker, marking_of, put_row, settle}, Agreement.settle-put, Replays.marking_of-same}
 use Rattle.wsm_replay.proofs.settling.given.Goals as goal
 
 pub returns : goal.returns

@@ -1,9 +1,4 @@
-use Rattle.std.proofs.Common.{◌≡◌, ◌+◌, ◌∷◌, drop, drop-cons, slice_index, add-one, ap, sym, ◌∙◌, arith}
-use Rattle.wsm_lists.specs.Rows.{row_at}
-use Rattle.wsm_schema.specs.Flat.{card_at}
-use Rattle.wsm_schema.specs.Pass.{pass, ruled_if}
-use Rattle.wsm_schema.specs.Rules.{by_node}
-use Rattle.wsm_replay.proofs.Agreement.{pass-rows}
+use Rattle.wsm_replay.proofs.{Common.{◌+◌, ◌∙◌, ◌∷◌, ◌≡◌, add-one, ap, arith, by_node, card_at, drop, drop-cons, pass, row_at, ruled_if, slice_index, sym}, Agreement.pass-rows}
 use Rattle.wsm_replay.proofs.settling.passed.Goals as goal
 
 pub loop-node-preserved : goal.loop-node-preserved

@@ -1,6 +1,4 @@
-use Rattle.std.proofs.Common.{[], drop}
-use Rattle.wsm_schema.specs.Pass.{pass}
-use Rattle.wsm_replay.specs.SameSpots.{SameRows}
+use Rattle.wsm_replay.proofs.Common.{[], drop, pass, SameRows}
 use Rattle.wsm_replay.proofs.settling.passed.Given as goal
 
 abbrev pub invariant-loop-node : goal.invariant-loop-node

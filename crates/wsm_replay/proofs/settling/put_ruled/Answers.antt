@@ -1,10 +1,4 @@
-use Rattle.std.proofs.Common.{◌≡◌, cond, not, [], ◌∷◌, ◌++◌, ap, sym, ◌∙◌, Some}
-use Rattle.std.specs.Option.{option_copied, is_some}
-use Rattle.wsm_lists.specs.Rows.{row_at, put_row}
-use Rattle.wsm_schema.specs.Flat.{card_at}
-use Rattle.wsm_schema.specs.Pass.{ruled_if}
-use Rattle.wsm_schema.specs.Rules.{by_node}
-use Rattle.wsm_replay.proofs.Agreement.{put-rows}
+use Rattle.wsm_replay.proofs.{Common.{[], ◌++◌, ◌∙◌, ◌∷◌, ◌≡◌, ap, by_node, card_at, cond, is_some, not, option_copied, put_row, row_at, ruled_if, Some, sym}, Agreement.put-rows}
 use Rattle.wsm_replay.proofs.settling.put_ruled.Goals as goal
 
 pub returns-in_ok-put-in-Some : goal.returns-in_ok-put-in-Some

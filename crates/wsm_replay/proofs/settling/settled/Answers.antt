@@ -1,9 +1,4 @@
-use Rattle.std.proofs.Common.{[], subst}
-use Rattle.wsm_lists.specs.Rows.{Ascends}
-use Rattle.wsm_schema.specs.Pass.{pass}
-use Rattle.wsm_schema.specs.Rules.{by_node}
-use Rattle.wsm_replay.specs.SameSpots.{SameRows}
-use Rattle.wsm_replay.proofs.Markings.{settled-marking}
+use Rattle.wsm_replay.proofs.{Common.{[], Ascends, by_node, pass, SameRows, subst}, Markings.settled-marking}
 use Rattle.wsm_replay.proofs.settling.settled.Goals as goal
 
 pub returns : goal.returns

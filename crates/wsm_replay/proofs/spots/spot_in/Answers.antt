@@ -1,6 +1,4 @@
-use Rattle.std.proofs.Common.{ap, sym, ◌∙◌}
-use Rattle.std.specs.Option.{option_copied}
-use Rattle.wsm_replay.proofs.Agreement.{spot_or, spot_in-row}
+use Rattle.wsm_replay.proofs.{Common.{◌∙◌, ap, option_copied, sym}, Agreement.{spot_or, spot_in-row}}
 use Rattle.wsm_replay.proofs.spots.spot_in.Goals as goal
 
 pub returns-in-Some : goal.returns-in-Some

@@ -1,5 +1,4 @@
-use Rattle.std.proofs.Common.{◌≡◌, map, take}
-use Rattle.wsm_schema.specs.TreeOf.{part_of, lane_of}
+use Rattle.wsm_schema.proofs.Common.{◌≡◌, lane_of, map, part_of, take}
 use Rattle.wsm_schema.proofs.blocks.+copy.Given as goal
 
 abbrev pub invariant-copy_branches-loop-i : goal.invariant-copy_branches-loop-i

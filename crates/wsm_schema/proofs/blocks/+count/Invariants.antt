@@ -1,7 +1,5 @@
-use Rattle.std.proofs.Common.{◌≡◌, ◌≤◌, ◌+◌, ◌-◌, ◌^◌, min, drop}
+use Rattle.wsm_schema.proofs.Common.{◌+◌, ◌-◌, ◌^◌, ◌≡◌, ◌≤◌, drop, lanes, lanes_of, min, parts_of}
 use Rattle.wsm_schema.specs.Sizes.{parts_size, lanes_size}
-use Rattle.wsm_schema.specs.Tree.{lanes}
-use Rattle.wsm_schema.specs.TreeOf.{parts_of, lanes_of}
 use Rattle.wsm_schema.proofs.blocks.+count.Given as goal
 
 abbrev pub invariant-nodes_in-loop-i : goal.invariant-nodes_in-loop-i

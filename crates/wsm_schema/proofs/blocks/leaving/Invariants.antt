@@ -1,6 +1,4 @@
-use Rattle.std.proofs.Common.{◌≡◌, drop}
-use Rattle.wsm_schema.specs.TreeOf.{parts_of}
-use Rattle.wsm_schema.specs.Places.{leaving}
+use Rattle.wsm_schema.proofs.Common.{◌≡◌, drop, leaving, parts_of}
 use Rattle.wsm_schema.proofs.blocks.leaving.Given as goal
 
 abbrev pub invariant-loop-block : goal.invariant-loop-block

@@ -1,7 +1,4 @@
-use Rattle.std.proofs.Common.{◌≡◌, ◌++◌, drop}
-use Rattle.wsm_schema.specs.Tree.{lanes}
-use Rattle.wsm_schema.specs.TreeOf.{parts_of, lanes_of}
-use Rattle.wsm_schema.specs.Enclosures.{parts_walk, lanes_walk}
+use Rattle.wsm_schema.proofs.Common.{◌++◌, ◌≡◌, drop, lanes, lanes_of, lanes_walk, parts_of, parts_walk}
 use Rattle.wsm_schema.proofs.enclosures.+walk.Given as goal
 
 abbrev pub invariant-put_items-loop-i : goal.invariant-put_items-loop-i

@@ -1,7 +1,4 @@
-use Rattle.std.proofs.Common.{◌≡◌, ℕ, ap, sym, subst, ◌∙◌, arith, drop}
-use Rattle.std.proofs.lemmas.List.{take_rest}
-use Rattle.wsm_schema.specs.Enclosures.{are_bound, are_free}
-use Rattle.wsm_schema.proofs.BoundNodes.{rest-free}
+use Rattle.wsm_schema.proofs.{Common.{ℕ, ◌∙◌, ◌≡◌, ap, are_bound, are_free, arith, drop, subst, sym, take_rest}, BoundNodes.rest-free}
 use Rattle.wsm_schema.proofs.enclosures.are_bound.Goals as goal
 
 pub returns : goal.returns

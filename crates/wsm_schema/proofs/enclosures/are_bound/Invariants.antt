@@ -1,5 +1,4 @@
-use Rattle.std.proofs.Common.{◌≡◌, drop}
-use Rattle.wsm_schema.specs.Enclosures.{are_bound}
+use Rattle.wsm_schema.proofs.Common.{◌≡◌, are_bound, drop}
 use Rattle.wsm_schema.proofs.enclosures.are_bound.Given as goal
 
 abbrev pub invariant-loop-i : goal.invariant-loop-i

@@ -1,5 +1,4 @@
-use Rattle.std.proofs.Common.{◌≡◌, drop}
-use Rattle.wsm_schema.specs.Enclosures.{are_free}
+use Rattle.wsm_schema.proofs.Common.{◌≡◌, are_free, drop}
 use Rattle.wsm_schema.proofs.enclosures.are_free.Given as goal
 
 abbrev pub invariant-loop-block : goal.invariant-loop-block

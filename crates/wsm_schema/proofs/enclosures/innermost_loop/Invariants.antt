@@ -1,5 +1,4 @@
-use Rattle.std.proofs.Common.{◌≡◌, drop, None}
-use Rattle.wsm_schema.specs.Enclosures.{innermost_loop}
+use Rattle.wsm_schema.proofs.Common.{◌≡◌, drop, innermost_loop, None}
 use Rattle.wsm_schema.proofs.enclosures.innermost_loop.Given as goal
 
 abbrev pub invariant-loop-block : goal.invariant-loop-block

@@ -1,5 +1,4 @@
-use Rattle.std.proofs.Common.{sym, ◌∙◌, arith}
-use Rattle.wsm_schema.proofs.EnclosedNodes.{past-end}
+use Rattle.wsm_schema.proofs.{Common.{◌∙◌, arith, sym}, EnclosedNodes.past-end}
 use Rattle.wsm_schema.proofs.enclosures.part_ways.Goals as goal
 
 pub returns : goal.returns

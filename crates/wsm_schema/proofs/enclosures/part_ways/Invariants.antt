@@ -1,5 +1,4 @@
-use Rattle.std.proofs.Common.{◌≡◌, drop}
-use Rattle.wsm_schema.specs.Enclosures.{part_ways}
+use Rattle.wsm_schema.proofs.Common.{◌≡◌, drop, part_ways}
 use Rattle.wsm_schema.proofs.enclosures.part_ways.Given as goal
 
 abbrev pub invariant-loop-i : goal.invariant-loop-i

@@ -1,9 +1,4 @@
-use Rattle.std.proofs.Common.{◌≡◌, ℕ, Some, get_or, subst, sym, ap, ◌∙◌, arith, inl, inr}
-use Rattle.std.proofs.lemmas.Bool.{cases_lt}
-use Rattle.std.specs.Prelude.{slice_get, option_map}
-use Rattle.wsm_schema.specs.Groups.{rows_with}
-use Rattle.wsm_schema.specs.declared.cards.Card.{Card}
-use Rattle.wsm_schema.proofs.FirstCards.{first-there, found-there, no-other, within}
+use Rattle.wsm_schema.proofs.{Common.{ℕ, ◌∙◌, ◌≡◌, ap, arith, Card, cases_lt, get_or, inl, inr, option_map, rows_with, slice_get, Some, subst, sym}, FirstCards.{first-there, found-there, no-other, within}}
 use Rattle.wsm_schema.proofs.flats.are_apart.Goals as goal
 
 pub loop-place-preserved : goal.loop-place-preserved

@@ -1,7 +1,4 @@
-use Rattle.std.proofs.Common.{◌≡◌, ℕ, ◌<◌, Some}
-use Rattle.std.specs.Prelude.{slice_get}
-use Rattle.wsm_schema.specs.Flat.{card_at}
-use Rattle.wsm_schema.specs.declared.cards.Card.{Card}
+use Rattle.wsm_schema.proofs.Common.{ℕ, ◌<◌, ◌≡◌, Card, card_at, slice_get, Some}
 use Rattle.wsm_schema.proofs.flats.are_apart.Given as goal
 
 abbrev pub invariant-loop-place : goal.invariant-loop-place

@@ -1,4 +1,4 @@
-use Rattle.std.proofs.Common.{◌≡◌, ◌++◌, drop, map}
+use Rattle.wsm_schema.proofs.Common.{◌++◌, ◌≡◌, drop, map}
 use Rattle.wsm_schema.proofs.flats.nodes_of.Given as goal
 
 abbrev pub invariant-loop-card : goal.invariant-loop-card

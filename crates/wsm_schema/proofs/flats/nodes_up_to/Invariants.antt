@@ -1,5 +1,4 @@
-use Rattle.std.proofs.Common.{◌≡◌, ◌++◌, map, drop}
-use Rattle.wsm_schema.specs.Flat.{up_to_node}
+use Rattle.wsm_schema.proofs.Common.{◌++◌, ◌≡◌, drop, map, up_to_node}
 use Rattle.wsm_schema.proofs.flats.nodes_up_to.Given as goal
 
 abbrev pub invariant-loop-c : goal.invariant-loop-c

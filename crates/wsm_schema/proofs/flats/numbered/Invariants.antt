@@ -1,5 +1,4 @@
-use Rattle.std.proofs.Common.{◌≡◌, ◌++◌, drop}
-use Rattle.wsm_schema.specs.Groups.{numbered}
+use Rattle.wsm_schema.proofs.Common.{◌++◌, ◌≡◌, drop, numbered}
 use Rattle.wsm_schema.proofs.flats.numbered.Given as goal
 
 abbrev pub invariant-loop-place : goal.invariant-loop-place

@@ -1,7 +1,4 @@
-use Rattle.std.proofs.Common.{rules, of_calls}
-use Rattle.std.proofs.Math.Dec.{leb}
-use Rattle.std.proofs.lemmas.List.Sorted.{IsPartitionPoint-from_clause, IsPartitionedBy-leb}
-use Rattle.wsm_schema.proofs.Runs.{end-from_tests}
+use Rattle.wsm_schema.proofs.{Common.{IsPartitionedBy-leb, IsPartitionPoint-from_clause, leb, of_calls, rules}, Runs.end-from_tests}
 use Rattle.wsm_schema.proofs.groups.end_of.Goals as goal
 
 pub returns-clause-place : goal.returns-clause-place

@@ -1,7 +1,4 @@
-use Rattle.std.proofs.Common.{cond, Some, None, sym, ◌∙◌, ap}
-use Rattle.std.specs.Option.{option_copied}
-use Rattle.std.proofs.lemmas.Bool.{eq-eqb, ne_eqb}
-use Rattle.wsm_schema.proofs.Runs.{row_of, first-at_start}
+use Rattle.wsm_schema.proofs.{Common.{◌∙◌, ap, cond, eq-eqb, ne_eqb, None, option_copied, Some, sym}, Runs.{row_of, first-at_start}}
 use Rattle.wsm_schema.proofs.groups.row_with.Goals as goal
 
 pub returns-in-None : goal.returns-in-None

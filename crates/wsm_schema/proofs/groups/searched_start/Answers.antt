@@ -1,6 +1,4 @@
-use Rattle.std.proofs.Common.{rules, of_calls, ltb}
-use Rattle.std.proofs.lemmas.List.Sorted.{IsPartitionPoint-from_clause, IsPartitionedBy-ltb}
-use Rattle.wsm_schema.proofs.Runs.{start-from_tests}
+use Rattle.wsm_schema.proofs.{Common.{IsPartitionedBy-ltb, IsPartitionPoint-from_clause, ltb, of_calls, rules}, Runs.start-from_tests}
 use Rattle.wsm_schema.proofs.groups.searched_start.Goals as goal
 
 pub returns-clause-place : goal.returns-clause-place

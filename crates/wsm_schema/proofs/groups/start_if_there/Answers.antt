@@ -1,5 +1,4 @@
-use Rattle.std.proofs.Common.{sym, ◌∙◌}
-use Rattle.wsm_schema.proofs.Runs.{place-within, start-from_row}
+use Rattle.wsm_schema.proofs.{Common.{◌∙◌, sym}, Runs.{place-within, start-from_row}}
 use Rattle.wsm_schema.proofs.groups.start_if_there.Goals as goal
 
 pub returns-then-starts_at-clause-bound : goal.returns-then-starts_at-clause-bound

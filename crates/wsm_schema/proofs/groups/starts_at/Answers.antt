@@ -1,6 +1,4 @@
-use Rattle.std.proofs.Common.{refl, ap, sym, ◌∙◌, not}
-use Rattle.wsm_schema.specs.Groups.{has_number}
-use Rattle.wsm_schema.proofs.Runs.{starts_behind}
+use Rattle.wsm_schema.proofs.{Common.{◌∙◌, ap, has_number, not, refl, sym}, Runs.starts_behind}
 use Rattle.wsm_schema.proofs.groups.starts_at.Goals as goal
 
 pub returns-then-at-eq0 : goal.returns-then-at-eq0

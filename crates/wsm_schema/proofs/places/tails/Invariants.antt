@@ -1,7 +1,4 @@
-use Rattle.std.proofs.Common.{◌≡◌, ◌++◌, drop}
-use Rattle.wsm_schema.specs.TreeOf.{lanes_of}
-use Rattle.wsm_schema.specs.Tree.{lanes}
-use Rattle.wsm_schema.specs.Places.{branch_tails}
+use Rattle.wsm_schema.proofs.Common.{◌++◌, ◌≡◌, branch_tails, drop, lanes, lanes_of}
 use Rattle.wsm_schema.proofs.places.tails.Given as goal
 
 abbrev pub invariant-loop-branch : goal.invariant-loop-branch

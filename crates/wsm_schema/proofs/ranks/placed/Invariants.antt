@@ -1,5 +1,4 @@
-use Rattle.std.proofs.Common.{◌≡◌, ◌++◌, drop}
-use Rattle.wsm_schema.specs.Groups.{placed}
+use Rattle.wsm_schema.proofs.Common.{◌++◌, ◌≡◌, drop, placed}
 use Rattle.wsm_schema.proofs.ranks.placed.Given as goal
 
 abbrev pub invariant-loop-place : goal.invariant-loop-place

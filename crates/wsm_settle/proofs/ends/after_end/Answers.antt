@@ -1,8 +1,4 @@
-use Rattle.std.proofs.Common.{ap, sym, ◌∙◌, subst}
-use Rattle.wsm_walk.specs.Kept.{mark_or}
-use Rattle.wsm_settle.specs.Events.{EndsRight}
-use Rattle.wsm_settle.proofs.Begins.{ends-right, reaches-own, reaches-walk}
-use Rattle.wsm_settle.proofs.Results.{if_ok}
+use Rattle.wsm_settle.proofs.{Common.{◌∙◌, ap, EndsRight, mark_or, subst, sym}, Begins.{ends-right, reaches-own, reaches-walk}, Results.if_ok}
 use Rattle.wsm_settle.proofs.ends.after_end.Goals as goal
 
 pub returns-in_err-changes-clause-few : goal.returns-in_err-changes-clause-few

@@ -1,13 +1,4 @@
-use Rattle.std.proofs.Common.{◌+◌, [], length, refl, ap, sym, ◌∙◌}
-use Rattle.std.specs.Option.{option_copied}
-use Rattle.std.proofs.lemmas.Bool.{both_ways}
-use Rattle.wsm_walk.specs.RankPlaces.{AllWithin}
-use Rattle.wsm_walk.specs.Targets.{leads_to}
-use Rattle.wsm_settle.specs.Events.{BehindNode}
-use Rattle.wsm_settle.specs.Places.{Places}
-use Rattle.wsm_settle.proofs.Begins.{behind-named}
-use Rattle.wsm_settle.proofs.Handing.{handed-within, placed-at, position-none}
-use Rattle.wsm_settle.proofs.Results.{if_ok}
+use Rattle.wsm_settle.proofs.{Common.{[], ◌+◌, ◌∙◌, AllWithin, ap, BehindNode, both_ways, leads_to, length, option_copied, Places, refl, sym}, Begins.behind-named, Handing.{handed-within, placed-at, position-none}, Results.if_ok}
 use Rattle.wsm_settle.proofs.ends.behind.Goals as goal
 
 pub returns-in-None-place-clause-handed : goal.returns-in-None-place-clause-handed

@@ -1,7 +1,4 @@
-use Rattle.std.proofs.Common.{◌≡◌, ◌+◌, ◌≤◌, ◌++◌, drop, map}
-use Rattle.wsm_marks.specs.Timed.{awaited}
-use Rattle.wsm_walk.specs.Listed.{seen}
-use Rattle.wsm_settle.specs.Signals.{awaited_signals, signal_by}
+use Rattle.wsm_settle.proofs.Common.{◌++◌, ◌+◌, ◌≡◌, ◌≤◌, awaited, awaited_signals, drop, map, seen, signal_by}
 use Rattle.wsm_settle.specs.Sources.{KnowsSource}
 use Rattle.wsm_settle.proofs.equations.control_signals.Given as goal
 

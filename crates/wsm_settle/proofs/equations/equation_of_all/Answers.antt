@@ -1,12 +1,4 @@
-use Rattle.std.proofs.Common.{◌≡◌, ◌∙◌, refl, sym, map, None}
-use Rattle.wsm_marks.specs.Timed.{Timed, awaited}
-use Rattle.wsm_schema.specs.declared.cards.End.{End}
-use Rattle.wsm_settle.specs.Signals.{signal_by}
-use Rattle.wsm_walk.specs.Listed.{seen}
-use Rattle.wsm_walk.specs.Walk.{time_by}
-use Rattle.wsm_settle.proofs.Results.{if_ok}
-use Rattle.wsm_settle.proofs.Visits.{equation-is}
-use Rattle.wsm_settle.proofs.Waiting.{all-of, awaited-all, awaited-none, lacks-of}
+use Rattle.wsm_settle.proofs.{Common.{◌∙◌, ◌≡◌, awaited, End, map, None, refl, seen, signal_by, sym, time_by, Timed}, Results.if_ok, Visits.equation-is, Waiting.{all-of, awaited-all, awaited-none, lacks-of}}
 use Rattle.wsm_settle.proofs.equations.equation_of_all.Goals as goal
 
 pub returns-in-None-clause-timed : goal.returns-in-None-clause-timed

@@ -1,5 +1,4 @@
-use Rattle.std.proofs.Common.{◌≡◌, drop}
-use Rattle.wsm_marks.specs.Timed.{greater, latest}
+use Rattle.wsm_settle.proofs.Common.{◌≡◌, drop, greater, latest}
 use Rattle.wsm_settle.proofs.equations.latest.Given as goal
 
 abbrev pub invariant-loop-signal : goal.invariant-loop-signal

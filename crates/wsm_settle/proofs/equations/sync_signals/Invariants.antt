@@ -1,6 +1,4 @@
-use Rattle.std.proofs.Common.{◌≡◌, ◌+◌, ◌≤◌, ◌++◌, drop, map, None}
-use Rattle.wsm_walk.specs.Listed.{seen}
-use Rattle.wsm_settle.specs.Signals.{signal_by}
+use Rattle.wsm_settle.proofs.Common.{◌++◌, ◌+◌, ◌≡◌, ◌≤◌, drop, map, None, seen, signal_by}
 use Rattle.wsm_settle.proofs.equations.sync_signals.Given as goal
 
 abbrev pub invariant-loop-node : goal.invariant-loop-node

@@ -1,5 +1,4 @@
-use Rattle.std.proofs.Common.{arith}
-use Rattle.wsm_settle.proofs.Flagged.{resized}
+use Rattle.wsm_settle.proofs.{Common.arith, Flagged.resized}
 use Rattle.wsm_settle.proofs.flags.hold_flag.Goals as goal
 
 pub returns-in-Some-clause-same : goal.returns-in-Some-clause-same

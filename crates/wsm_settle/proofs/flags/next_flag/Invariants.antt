@@ -1,5 +1,4 @@
-use Rattle.std.proofs.Common.{◌≡◌, drop}
-use Rattle.wsm_settle.specs.Places.{flagged}
+use Rattle.wsm_settle.proofs.Common.{◌≡◌, drop, flagged}
 use Rattle.wsm_settle.proofs.flags.next_flag.Given as goal
 
 -- none of the flags so far is raised

@@ -1,6 +1,4 @@
-use Rattle.std.proofs.Common.{◌≡◌, ap, arith, length, ◌∙◌}
-use Rattle.wsm_settle.specs.Places.{flagged}
-use Rattle.wsm_settle.proofs.Flagged.{grown}
+use Rattle.wsm_settle.proofs.{Common.{◌∙◌, ◌≡◌, ap, arith, flagged, length}, Flagged.grown}
 use Rattle.wsm_settle.proofs.flags.no_flags.Goals as goal
 
 pub returns : goal.returns

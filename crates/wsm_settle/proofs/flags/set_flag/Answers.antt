@@ -1,7 +1,4 @@
-use Rattle.std.proofs.Common.{ap, ◌∙◌}
-use Rattle.std.specs.BTreeSet.{insert_key}
-use Rattle.std.specs.Ordering.{nat_cmp}
-use Rattle.wsm_settle.proofs.Flagged.{raised}
+use Rattle.wsm_settle.proofs.{Common.{◌∙◌, ap, insert_key, nat_cmp}, Flagged.raised}
 use Rattle.wsm_settle.proofs.flags.set_flag.Goals as goal
 
 pub returns-clause-ok : goal.returns-clause-ok

@@ -1,6 +1,4 @@
-use Rattle.std.proofs.Common.{◌≡◌, ◌+◌, ◌<◌, ◌∷◌, All, ap, drop, length, sym, ◌∙◌, subst}
-use Rattle.wsm_settle.specs.Places.{flagged}
-use Rattle.wsm_settle.proofs.Flagged.{behind-least, lowered}
+use Rattle.wsm_settle.proofs.{Common.{◌+◌, ◌<◌, ◌∙◌, ◌∷◌, ◌≡◌, All, ap, drop, flagged, length, subst, sym}, Flagged.{behind-least, lowered}}
 use Rattle.wsm_settle.proofs.flags.take_flag.Goals as goal
 
 pub returns-clause-removal : goal.returns-clause-removal

@@ -1,8 +1,4 @@
-use Rattle.std.proofs.Common.{subst}
-use Rattle.wsm_schema.specs.declared.cards.Card.{Card}
-use Rattle.wsm_walk.specs.RankPlaces.{Handed}
-use Rattle.wsm_settle.specs.Opening.{opens}
-use Rattle.wsm_settle.proofs.Handing.{handed-next, handed-rest}
+use Rattle.wsm_settle.proofs.{Common.{Card, Handed, opens, subst}, Handing.{handed-next, handed-rest}}
 use Rattle.wsm_settle.proofs.openings.hand_to_openings.Goals as goal
 
 pub loop-card-preserved : goal.loop-card-preserved

@@ -1,7 +1,4 @@
-use Rattle.std.proofs.Common.{ℕ, List, drop}
-use Rattle.std.specs.List.{list_any}
-use Rattle.wsm_settle.specs.Opening.{is_opening, opens}
-use Rattle.wsm_walk.specs.RankPlaces.{Handed}
+use Rattle.wsm_settle.proofs.Common.{ℕ, drop, Handed, is_opening, List, list_any, opens}
 use Rattle.wsm_settle.proofs.openings.hand_to_openings.Given as goal
 
 abbrev pub invariant-loop-card : goal.invariant-loop-card

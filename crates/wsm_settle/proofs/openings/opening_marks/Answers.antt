@@ -1,12 +1,4 @@
-use Rattle.std.proofs.Common.{[], ap, ◌∙◌, subst}
-use Rattle.wsm_lists.specs.ByNumber.{RowsWithRoom, changed}
-use Rattle.wsm_schema.specs.declared.marks.Mark.{Mark}
-use Rattle.wsm_walk.specs.Walk.{Walks}
-use Rattle.wsm_settle.specs.Opening.{is_opening}
-use Rattle.wsm_settle.specs.Timing.{MarksRight}
-use Rattle.wsm_settle.proofs.Handing.{handed-within}
-use Rattle.wsm_settle.proofs.FirstMarks.{opening-right}
-use Rattle.wsm_settle.proofs.Results.{if_ok}
+use Rattle.wsm_settle.proofs.{Common.{[], ◌∙◌, ap, changed, is_opening, Mark, MarksRight, RowsWithRoom, subst, Walks}, Handing.handed-within, FirstMarks.opening-right, Results.if_ok}
 use Rattle.wsm_settle.proofs.openings.opening_marks.Goals as goal
 
 pub walk-requires : goal.walk-requires

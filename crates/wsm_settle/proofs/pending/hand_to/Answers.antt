@@ -1,6 +1,4 @@
-use Rattle.std.specs.Prelude.{◌==◌}
-use Rattle.wsm_settle.specs.Behind.{low_of}
-use Rattle.wsm_settle.proofs.Handing.{handed-next, handed-rest}
+use Rattle.wsm_settle.proofs.{Common.{◌==◌, low_of}, Handing.{handed-next, handed-rest}}
 use Rattle.wsm_settle.proofs.pending.hand_to.Goals as goal
 
 pub loop-node-preserved : goal.loop-node-preserved

@@ -1,7 +1,4 @@
-use Rattle.std.proofs.Common.{ℕ, List, drop}
-use Rattle.wsm_schema.specs.Trail.{is_one_of}
-use Rattle.wsm_walk.specs.RankPlaces.{Handed}
-use Rattle.wsm_settle.specs.Behind.{low_of}
+use Rattle.wsm_settle.proofs.Common.{ℕ, drop, Handed, is_one_of, List, low_of}
 use Rattle.wsm_settle.proofs.pending.hand_to.Given as goal
 
 abbrev pub invariant-loop-node : goal.invariant-loop-node

@@ -1,6 +1,4 @@
-use Rattle.std.specs.Prelude.{◌==◌}
-use Rattle.wsm_settle.specs.Behind.{low_of}
-use Rattle.wsm_settle.proofs.Handing.{handed-last, handed-next, handed-rest}
+use Rattle.wsm_settle.proofs.{Common.{◌==◌, low_of}, Handing.{handed-last, handed-next, handed-rest}}
 use Rattle.wsm_settle.proofs.pending.hand_to_ends.Goals as goal
 
 pub loop-end-preserved : goal.loop-end-preserved

@@ -1,8 +1,4 @@
-use Rattle.std.proofs.Common.{ℕ, List, drop}
-use Rattle.std.specs.Prelude.{◌==◌}
-use Rattle.std.specs.List.{list_any}
-use Rattle.wsm_walk.specs.RankPlaces.{Handed}
-use Rattle.wsm_settle.specs.Behind.{WasHanded, low_of}
+use Rattle.wsm_settle.proofs.Common.{ℕ, ◌==◌, drop, Handed, List, list_any, low_of, WasHanded}
 use Rattle.wsm_settle.proofs.pending.hand_to_ends.Given as goal
 
 abbrev pub invariant-loop-end : goal.invariant-loop-end

@@ -1,7 +1,4 @@
-use Rattle.std.proofs.Common.{sym, ◌∙◌}
-use Rattle.std.proofs.lemmas.Bool.{both_ways}
-use Rattle.wsm_settle.specs.Behind.{low_of}
-use Rattle.wsm_settle.proofs.Handing.{node-away, node-before, node-comes}
+use Rattle.wsm_settle.proofs.{Common.{◌∙◌, both_ways, low_of, sym}, Handing.{node-away, node-before, node-comes}}
 use Rattle.wsm_settle.proofs.pending.hand_to_node.Goals as goal
 
 pub returns-in_ok-insert-in-Some : goal.returns-in_ok-insert-in-Some

@@ -1,4 +1,4 @@
-use Rattle.std.proofs.Common.{rules, ◌≡◌, Some}
+use Rattle.wsm_settle.proofs.Common.{◌≡◌, rules, Some}
 use Rattle.wsm_settle.proofs.pending.hand_to_other.Goals as goal
 
 pub returns-then-eq : goal.returns-then-eq

@@ -1,12 +1,4 @@
-use Rattle.std.proofs.Common.{◌≡◌, ℕ, List, [], refl, ap, sym, ◌∙◌, subst}
-use Rattle.std.proofs.lemmas.Bool.{both_ways}
-use Rattle.wsm_schema.specs.Flat.{loop_nodes}
-use Rattle.wsm_schema.specs.Trail.{is_one_of}
-use Rattle.wsm_settle.specs.Events.{RepeatsRight}
-use Rattle.wsm_settle.specs.Freed.{freed_rows}
-use Rattle.wsm_settle.proofs.Begins.{of-loop, repeats-few, repeats-right}
-use Rattle.wsm_settle.proofs.Handing.{handed-within}
-use Rattle.wsm_settle.proofs.Results.{if_ok}
+use Rattle.wsm_settle.proofs.{Common.{[], ℕ, ◌∙◌, ◌≡◌, ap, both_ways, freed_rows, is_one_of, List, loop_nodes, refl, RepeatsRight, subst, sym}, Begins.{of-loop, repeats-few, repeats-right}, Handing.handed-within, Results.if_ok}
 use Rattle.wsm_settle.proofs.repeats.after_again.Goals as goal
 
 pub walk-requires : goal.walk-requires

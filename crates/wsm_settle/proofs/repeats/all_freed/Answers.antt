@@ -1,10 +1,4 @@
-use Rattle.std.proofs.Common.{◌≡◌, ◌+◌, ◌∷◌, List, ℕ, Option, drop, drop-cons, slice_index, add-one, ap, sym, ◌∙◌}
-use Rattle.wsm_lists.specs.Keys.{first}
-use Rattle.wsm_lists.specs.Rows.{put_row}
-use Rattle.wsm_schema.specs.declared.marks.Mark.{Mark}
-use Rattle.wsm_walk.specs.Listed.{said}
-use Rattle.wsm_walk.specs.Walk.{freed}
-use Rattle.wsm_settle.specs.Freed.{freed_rows}
+use Rattle.wsm_settle.proofs.Common.{ℕ, ◌+◌, ◌∙◌, ◌∷◌, ◌≡◌, add-one, ap, drop, drop-cons, first, freed, freed_rows, List, Mark, Option, put_row, said, slice_index, sym}
 use Rattle.wsm_settle.proofs.repeats.all_freed.Goals as goal
 
 pub loop-node-preserved : goal.loop-node-preserved

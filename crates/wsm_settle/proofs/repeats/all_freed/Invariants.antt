@@ -1,5 +1,4 @@
-use Rattle.std.proofs.Common.{◌≡◌, [], drop}
-use Rattle.wsm_settle.specs.Freed.{freed_rows}
+use Rattle.wsm_settle.proofs.Common.{[], ◌≡◌, drop, freed_rows}
 use Rattle.wsm_settle.proofs.repeats.all_freed.Given as goal
 
 abbrev pub invariant-loop-node : goal.invariant-loop-node

@@ -1,13 +1,5 @@
-use Rattle.std.proofs.Common.{◌≡◌, ℕ, List, [], ◌∷◌, ◌++◌, ◌∙◌, ap, sym, subst, Some, Option}
-use Rattle.wsm_lists.specs.ByNumber.{changed}
-use Rattle.wsm_schema.specs.Flat.{flat_of}
-use Rattle.wsm_schema.specs.Marks.{marks_of}
+use Rattle.wsm_settle.proofs.{Common.{[], ℕ, ◌++◌, ◌∙◌, ◌∷◌, ◌≡◌, ap, changed, flat_of, List, Mark, mark_or, marks_of, Option, Some, start-changes, StartsRight, subst, sym}, Results.if_ok}
 use Rattle.wsm_schema.specs.declared.entries.Entry.TheVariants as entry
-use Rattle.wsm_schema.specs.declared.marks.Mark.{Mark}
-use Rattle.wsm_walk.specs.Kept.{mark_or}
-use Rattle.wsm_walk.proofs.OneMore.{start-changes}
-use Rattle.wsm_settle.specs.Events.{StartsRight}
-use Rattle.wsm_settle.proofs.Results.{if_ok}
 use Rattle.wsm_settle.proofs.starts.after_start.Goals as goal
 
 pub returns-clause-changes : goal.returns-clause-changes

@@ -1,13 +1,6 @@
-use Rattle.std.proofs.Common.{◌≡◌, ℕ, List, [], ◌∷◌, ◌∙◌, ap, sym, subst, Some, None, Option}
-use Rattle.wsm_lists.specs.ByNumber.{changed}
-use Rattle.wsm_schema.specs.Flat.{flat_of}
-use Rattle.wsm_schema.specs.Marks.{marks_of}
-use Rattle.wsm_schema.specs.declared.marks.Mark.{Mark}
+use Rattle.wsm_settle.proofs.{Common.{[], ℕ, ◌∙◌, ◌∷◌, ◌≡◌, ap, changed, flat_of, List, Mark, mark_or, marks_of, None, Option, Some, subst, sym, WithdrawsRight}, Results.if_ok}
 use Rattle.wsm_trail.specs.Withdrawn.{without_start}
-use Rattle.wsm_walk.specs.Kept.{mark_or}
 use Rattle.wsm_walk.proofs.Withdrawals.{withdraw-changes}
-use Rattle.wsm_settle.specs.Events.{WithdrawsRight}
-use Rattle.wsm_settle.proofs.Results.{if_ok}
 use Rattle.wsm_settle.proofs.starts.after_withdraw.Goals as goal
 
 pub returns-clause-changes : goal.returns-clause-changes

@@ -1,7 +1,4 @@
-use Rattle.std.proofs.Common.{ap, ◌∙◌}
-use Rattle.wsm_schema.specs.Replay.{replay_of}
-use Rattle.wsm_settle.specs.Timing.{position_in}
-use Rattle.wsm_settle.proofs.TrailMarks.{answer-position}
+use Rattle.wsm_settle.proofs.{Common.{◌∙◌, ap, position_in, replay_of}, TrailMarks.answer-position}
 use Rattle.wsm_settle.proofs.timing.failure.Goals as goal
 
 pub returns : goal.returns

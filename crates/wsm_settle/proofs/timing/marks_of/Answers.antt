@@ -1,16 +1,5 @@
-use Rattle.std.proofs.Common.{◌≡◌, [], length, ap, sym, ◌∙◌, subst}
-use Rattle.std.proofs.lemmas.Bool.{eqb-true}
+use Rattle.wsm_settle.proofs.{Common.{[], ◌∙◌, ◌≡◌, ap, changed, eqb-true, length, Mark, MarksRight, places_from, rises-after, RisesAfter, RowsWithRoom, subst, sym, told_rows}, AllPlaces.all-visited, Results.if_ok, TrailMarks.marks-right}
 use Rattle.std.proofs.lemmas.List.{nil_from_length}
-use Rattle.wsm_lists.specs.ByNumber.{RowsWithRoom, changed}
-use Rattle.wsm_schema.specs.declared.marks.Mark.{Mark}
-use Rattle.wsm_marks.specs.Fits.{RisesAfter}
-use Rattle.wsm_walk.specs.Told.{told_rows}
-use Rattle.wsm_walk.proofs.OneMore.{rises-after}
-use Rattle.wsm_settle.specs.AllPlaces.{places_from}
-use Rattle.wsm_settle.specs.Timing.{MarksRight}
-use Rattle.wsm_settle.proofs.AllPlaces.{all-visited}
-use Rattle.wsm_settle.proofs.Results.{if_ok}
-use Rattle.wsm_settle.proofs.TrailMarks.{marks-right}
 use Rattle.wsm_settle.proofs.timing.marks_of.Goals as goal
 
 pub returns-then-is_empty : goal.returns-then-is_empty

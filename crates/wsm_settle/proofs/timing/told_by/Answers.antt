@@ -1,5 +1,4 @@
-use Rattle.std.proofs.Common.{◌≡◌, ◌+◌, ◌∷◌, suc, drop, drop-cons, add-one, ap, sym, ◌∙◌}
-use Rattle.wsm_walk.specs.Told.{told_rows}
+use Rattle.wsm_settle.proofs.Common.{◌+◌, ◌∙◌, ◌∷◌, ◌≡◌, add-one, ap, drop, drop-cons, suc, sym, told_rows}
 use Rattle.wsm_settle.proofs.timing.told_by.Goals as goal
 
 pub loop-position-preserved : goal.loop-position-preserved

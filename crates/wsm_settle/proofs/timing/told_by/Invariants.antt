@@ -1,5 +1,4 @@
-use Rattle.std.proofs.Common.{◌≡◌, [], drop}
-use Rattle.wsm_walk.specs.Told.{told_rows}
+use Rattle.wsm_settle.proofs.Common.{[], ◌≡◌, drop, told_rows}
 use Rattle.wsm_settle.proofs.timing.told_by.Given as goal
 
 abbrev pub invariant-loop-position : goal.invariant-loop-position

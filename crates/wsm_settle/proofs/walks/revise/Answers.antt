@@ -1,6 +1,4 @@
-use Rattle.std.proofs.Common.{rules, ◌≡◌}
-use Rattle.wsm_walk.specs.Listed.{seen}
-use Rattle.wsm_settle.proofs.Visits.{revised-new, revised-same}
+use Rattle.wsm_settle.proofs.{Common.{◌≡◌, rules, seen}, Visits.{revised-new, revised-same}}
 use Rattle.wsm_settle.proofs.walks.revise.Goals as goal
 
 pub returns-then-eq-clause-mark : goal.returns-then-eq-clause-mark

@@ -1,12 +1,4 @@
-use Rattle.std.proofs.Common.{◌≡◌, Option, Some, None, get_or, slice_index, ap, sym, ◌∙◌, rules}
-use Rattle.std.specs.Prelude.{if◌then◌else◌}
-use Rattle.std.specs.Option.{option_copied}
-use Rattle.wsm_lists.specs.Keys.{first}
-use Rattle.wsm_lists.specs.Rows.{put_row}
-use Rattle.wsm_schema.specs.declared.marks.Mark.{Mark}
-use Rattle.wsm_settle.specs.AllPlaces.{WalksOne}
-use Rattle.wsm_settle.proofs.AllPlaces.{one-new, one-none, one-same}
-use Rattle.wsm_settle.proofs.Visits.{revised-over}
+use Rattle.wsm_settle.proofs.{Common.{◌∙◌, ◌≡◌, ap, first, get_or, if◌then◌else◌, Mark, None, Option, option_copied, put_row, rules, slice_index, Some, sym, WalksOne}, AllPlaces.{one-new, one-none, one-same}, Visits.revised-over}
 use Rattle.wsm_settle.proofs.Results.{on_ok}
 use Rattle.wsm_settle.proofs.walks.revise_at.Goals as goal
 

@@ -1,14 +1,5 @@
-use Rattle.std.proofs.Common.{◌≡◌, ◌+◌, ◌∷◌, Option, Some, None, get_or, length, slice_index, ap, sym, ◌∙◌, arith, rules}
-use Rattle.std.specs.Prelude.{if◌then◌else◌}
-use Rattle.std.specs.Option.{option_copied}
-use Rattle.wsm_schema.specs.declared.marks.Mark.{Mark}
-use Rattle.wsm_walk.specs.RankPlaces.{AllWithin, Handed}
-use Rattle.wsm_walk.specs.Spent.{Spends}
-use Rattle.wsm_walk.specs.Targets.{leads_to}
-use Rattle.wsm_walk.specs.Walk.{Walks}
-use Rattle.wsm_settle.proofs.Handing.{handed-within}
-use Rattle.wsm_settle.proofs.Results.{on_ok}
-use Rattle.wsm_settle.proofs.Visits.{revised-over, spends-new, spends-same, walks-new, walks-none, walks-same}
+use Rattle.wsm_settle.proofs.{Common.{◌+◌, ◌∙◌, ◌∷◌, ◌≡◌, AllWithin, ap, arith, get_or, Handed, if◌then◌else◌, leads_to, length, Mark, None, Option, option_copied, rules, slice_index, Some, Spends, sym, Walks}, Handing.handed-within}
+use Rattle.wsm_settle.proofs.{Results.on_ok, Visits.{revised-over, spends-new, spends-same, walks-new, walks-none, walks-same}}
 use Rattle.wsm_settle.proofs.walks.visit.Goals as goal
 
 pub returns-in-None-clause-walked : goal.returns-in-None-clause-walked

@@ -1,5 +1,4 @@
-use Rattle.std.proofs.Common.{rules, ◌≡◌, ℕ, ◌<◌, List, ◌∷◌, get_or, length, refl, ◌∙◌, arith, All}
-use Rattle.wsm_settle.proofs.Visits.{behind-all, few-end, few-failed, left-less, none-left, spends-on, walks-end, walks-on, within-head, within-tail}
+use Rattle.wsm_settle.proofs.{Common.{ℕ, ◌<◌, ◌∙◌, ◌∷◌, ◌≡◌, All, arith, get_or, length, List, refl, rules}, Visits.{behind-all, few-end, few-failed, left-less, none-left, spends-on, walks-end, walks-on, within-head, within-tail}}
 use Rattle.wsm_settle.proofs.walks.walk.Goals as goal
 
 pub visit-requires-clause-place : goal.visit-requires-clause-place

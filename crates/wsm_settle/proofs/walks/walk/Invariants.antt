@@ -1,8 +1,4 @@
-use Rattle.std.proofs.Common.{◌≡◌, ◌≤◌, length}
-use Rattle.wsm_walk.specs.RankPlaces.{AllWithin}
-use Rattle.wsm_walk.specs.Spent.{Spends}
-use Rattle.wsm_walk.specs.Walk.{Walks}
-use Rattle.wsm_settle.proofs.Visits.{left_of}
+use Rattle.wsm_settle.proofs.{Common.{◌≡◌, ◌≤◌, AllWithin, length, Spends, Walks}, Visits.left_of}
 use Rattle.wsm_settle.proofs.walks.walk.Given as goal
 
 abbrev pub invariant-loop-place : goal.invariant-loop-place

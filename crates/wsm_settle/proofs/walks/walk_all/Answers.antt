@@ -1,5 +1,4 @@
-use Rattle.std.proofs.Common.{◌≡◌, length, refl, ap, ◌∙◌, arith}
-use Rattle.wsm_settle.proofs.AllPlaces.{left-first, left-next, left-none}
+use Rattle.wsm_settle.proofs.{Common.{◌∙◌, ◌≡◌, ap, arith, length, refl}, AllPlaces.{left-first, left-next, left-none}}
 use Rattle.wsm_settle.proofs.walks.walk_all.Goals as goal
 
 pub loop-place-init : goal.loop-place-init

@@ -1,5 +1,4 @@
-use Rattle.std.proofs.Common.{◌≡◌}
-use Rattle.wsm_settle.proofs.AllPlaces.{LeftFrom}
+use Rattle.wsm_settle.proofs.{Common.◌≡◌, AllPlaces.LeftFrom}
 use Rattle.wsm_settle.proofs.walks.walk_all.Given as goal
 
 abbrev pub invariant-loop-place : goal.invariant-loop-place

@@ -1,7 +1,6 @@
 use Rattle.std.proofs.Common.{ap, sym, ◌∙◌, subst}
 use Rattle.wsm_lists.specs.Rows.{AllRows}
-use Rattle.wsm_schema.specs.Touched.{Touched}
-use Rattle.wsm_schema.specs.Trail.{is_one_of}
+use Rattle.wsm_schema.specs.{Touched.Touched, Trail.is_one_of}
 use Rattle.wsm_touch.proofs.Touching.{each-touched, listed-is, others-untouched}
 use Rattle.wsm_touch.proofs.changed_nodes.touched.Goals as goal
 

@@ -1,8 +1,4 @@
-use Rattle.std.proofs.Common.{◌≡◌, ◌<◌, ℕ, Bool, true, Some, None, List, length, get_or, refl, ap, sym, ◌∙◌, rules}
-use Rattle.std.specs.Prelude.{if◌then◌else◌}
-use Rattle.wsm_schema.specs.Trail.{cut_entry}
-use Rattle.wsm_schema.specs.declared.entries.Entry.{Entry}
-use Rattle.wsm_trail.proofs.Cutting.{cut-kept}
+use Rattle.wsm_trail.proofs.{Common.{ℕ, ◌<◌, ◌∙◌, ◌≡◌, ap, Bool, cut_entry, Entry, get_or, if◌then◌else◌, length, List, None, refl, rules, Some, sym, true}, Cutting.cut-kept}
 use Rattle.wsm_trail.proofs.cuts.cut_at.Goals as goal
 
 pub returns-clause-entries : goal.returns-clause-entries

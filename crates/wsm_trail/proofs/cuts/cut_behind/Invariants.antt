@@ -1,5 +1,4 @@
-use Rattle.std.proofs.Common.{◌≡◌, ◌≤◌, ◌++◌, take, drop, vec_len, vec_capacity}
-use Rattle.wsm_trail.specs.Cuts.{cut_entries}
+use Rattle.wsm_trail.proofs.Common.{◌++◌, ◌≡◌, ◌≤◌, cut_entries, drop, take, vec_capacity, vec_len}
 use Rattle.wsm_trail.proofs.cuts.cut_behind.Given as goal
 
 abbrev pub invariant-loop-i : goal.invariant-loop-i

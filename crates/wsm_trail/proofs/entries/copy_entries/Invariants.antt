@@ -1,4 +1,4 @@
-use Rattle.std.proofs.Common.{◌≡◌, take}
+use Rattle.wsm_trail.proofs.Common.{◌≡◌, take}
 use Rattle.wsm_trail.proofs.entries.copy_entries.Given as goal
 
 abbrev pub invariant-loop-row : goal.invariant-loop-row

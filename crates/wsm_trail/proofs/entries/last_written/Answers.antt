@@ -1,6 +1,4 @@
-use Rattle.wsm_trail.specs.EntryAt.{last_written}
-use Rattle.std.proofs.Common.{drop}
-use Rattle.wsm_trail.proofs.LateNotes.{later-none}
+use Rattle.wsm_trail.proofs.{Common.{drop, last_written}, LateNotes.later-none}
 use Rattle.wsm_trail.proofs.entries.last_written.Goals as goal
 
 pub loop-i-init : goal.loop-i-init

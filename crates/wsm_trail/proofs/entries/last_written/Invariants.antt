@@ -1,7 +1,4 @@
-use Rattle.std.proofs.Common.{◌≡◌, drop}
-use Rattle.std.specs.Option.{option_copied}
-use Rattle.wsm_schema.specs.Trail.{later_or}
-use Rattle.wsm_trail.specs.EntryAt.{last_written}
+use Rattle.wsm_trail.proofs.Common.{◌≡◌, drop, last_written, later_or, option_copied}
 use Rattle.wsm_trail.proofs.entries.last_written.Given as goal
 
 abbrev pub invariant-loop-i : goal.invariant-loop-i

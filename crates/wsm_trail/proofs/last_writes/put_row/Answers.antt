@@ -1,10 +1,4 @@
-use Rattle.std.proofs.Common.{◌≡◌, true, false, ap, sym, ◌∙◌, rules}
-use Rattle.std.specs.Option.{is_some}
-use Rattle.wsm_lists.specs.Keys.{first}
-use Rattle.wsm_lists.specs.Rows.{row_at, rows_below}
-use Rattle.wsm_lists.proofs.Rows.{place_within, rows_below_le, set_where_there, insert_where_absent}
-use Rattle.wsm_lists.specs.ByNumber.{item_at}
-use Rattle.wsm_lists.proofs.ByNumber.{is_some-map}
+use Rattle.wsm_trail.proofs.Common.{◌∙◌, ◌≡◌, ap, false, first, insert_where_absent, is_some, is_some-map, item_at, place_within, row_at, rows_below, rows_below_le, rules, set_where_there, sym, true}
 use Rattle.wsm_trail.proofs.last_writes.put_row.Goals as goal
 
 pub index_mut-requires : goal.index_mut-requires

@@ -1,9 +1,4 @@
-use Rattle.std.proofs.Common.{rules, ◌≡◌, ℕ, ◌+◌, ◌≤◌, List, take, ap, sym, ◌∙◌}
-use Rattle.wsm_schema.specs.Trail.{written_by}
-use Rattle.wsm_schema.specs.declared.entries.Entry.{Entry}
-use Rattle.wsm_trail.specs.LastWrites.{noted, noted_entries, noted_entry}
-use Rattle.wsm_trail.proofs.LateNotes.{below-next, noted-take, one-more}
-use Rattle.wsm_trail.proofs.Rising.{rises-ascends}
+use Rattle.wsm_trail.proofs.{Common.{ℕ, ◌+◌, ◌∙◌, ◌≡◌, ◌≤◌, ap, Entry, List, noted, noted_entries, noted_entry, rules, sym, take, written_by}, LateNotes.{below-next, noted-take, one-more}, Rising.rises-ascends}
 use Rattle.wsm_trail.proofs.late.note_late.Goals as goal
 
 pub place_of-place-requires : goal.place_of-place-requires

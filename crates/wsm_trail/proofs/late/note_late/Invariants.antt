@@ -1,5 +1,4 @@
-use Rattle.std.proofs.Common.{◌≡◌, ◌≤◌, take}
-use Rattle.wsm_trail.specs.LastWrites.{noted_entries, noted_until}
+use Rattle.wsm_trail.proofs.Common.{◌≡◌, ◌≤◌, noted_entries, noted_until, take}
 use Rattle.wsm_trail.proofs.late.note_late.Given as goal
 
 abbrev pub invariant-loop-i : goal.invariant-loop-i

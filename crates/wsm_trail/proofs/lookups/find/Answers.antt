@@ -1,9 +1,4 @@
-use Rattle.std.proofs.Common.{ap, sym, ◌∙◌, refl}
-use Rattle.std.specs.Option.{option_copied, option_map}
-use Rattle.std.proofs.lemmas.Bool.{eq-eqb, ne_eqb}
-use Rattle.wsm_lists.specs.Keys.{first}
-use Rattle.wsm_lists.proofs.Rows.{row_at-found, row_at-absent}
-use Rattle.wsm_lists.proofs.ByNumber.{eq_number}
+use Rattle.wsm_trail.proofs.Common.{◌∙◌, ap, eq-eqb, eq_number, first, ne_eqb, option_copied, option_map, refl, row_at-absent, row_at-found, sym}
 use Rattle.wsm_trail.proofs.lookups.find.Goals as goal
 
 pub returns-then-row-number : goal.returns-then-row-number

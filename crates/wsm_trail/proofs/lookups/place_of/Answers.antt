@@ -1,9 +1,5 @@
-use Rattle.std.proofs.Common.{rules, of_calls}
+use Rattle.wsm_trail.proofs.Common.{ascends-partitioned, first, key_lt, lt_number, of_calls, rows_below-point, rules}
 use Rattle.std.proofs.lemmas.List.Sorted.{IsPartitionPoint-from_clause}
-use Rattle.wsm_lists.specs.Keys.{first}
-use Rattle.wsm_lists.specs.Rows.{key_lt}
-use Rattle.wsm_lists.proofs.Rows.{ascends-partitioned, rows_below-point}
-use Rattle.wsm_lists.proofs.ByNumber.{lt_number}
 use Rattle.wsm_trail.proofs.lookups.place_of.Goals as goal
 
 pub returns : goal.returns

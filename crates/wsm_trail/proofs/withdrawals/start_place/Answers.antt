@@ -1,6 +1,4 @@
-use Rattle.std.proofs.Common.{◌≡◌, ℕ, Option, Some, None, refl, rules}
-use Rattle.wsm_trail.specs.StartPlaces.{IsStartPlace}
-use Rattle.wsm_trail.proofs.Withdrawing.{none-starts, place-at}
+use Rattle.wsm_trail.proofs.{Common.{ℕ, ◌≡◌, IsStartPlace, None, Option, refl, rules, Some}, Withdrawing.{none-starts, place-at}}
 use Rattle.wsm_trail.proofs.withdrawals.start_place.Goals as goal
 
 pub returns : goal.returns

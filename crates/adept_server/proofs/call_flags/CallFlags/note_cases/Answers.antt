@@ -1,6 +1,4 @@
-use Rattle.std.proofs.Common.{◌≡◌, ◌<◌, length, Some, slice_get, vec_len, sym, ap, ◌∙◌, arith}
-use Rattle.std.proofs.lemmas.Option.{slice_get-get_or}
-use Rattle.adept_server.proofs.Noted.{cases-calm, no-row}
+use Rattle.adept_server.proofs.{Common.{◌<◌, ◌∙◌, ◌≡◌, ap, arith, length, slice_get, slice_get-get_or, Some, sym, vec_len}, Noted.{cases-calm, no-row}}
 use Rattle.adept_server.proofs.call_flags.CallFlags.note_cases.Goals as goal
 
 pub returns-then-index-len-clause-cases : goal.returns-then-index-len-clause-cases

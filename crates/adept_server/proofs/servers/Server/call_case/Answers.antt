@@ -1,16 +1,5 @@
-use Rattle.std.proofs.Common.{◌<◌, length, map, slice_get, refl, sym, ◌∙◌, subst, arith}
-use Rattle.std.proofs.lemmas.List.{with_items_is}
-use Rattle.std.proofs.lemmas.Option.{slice_get_within}
-use Rattle.adept_server.specs.Calling.{CallsOne, HasRoom}
-use Rattle.std.proofs.lemmas.Result.{IfErr-weaker}
-use Rattle.std.specs.Vec.{with_item, with_items}
-use Rattle.case_core.specs.Machine.{case_after, case_reply}
-use Rattle.turn_cell.specs.Passes.{view_of}
-use Rattle.turn_batch.specs.Batch.{AreOf}
-use Rattle.adept_server.proofs.Sent.{case-send, case-sync, event-send, event-sync}
-use Rattle.adept_server.proofs.Rows.{items_at}
-use Rattle.adept_server.proofs.Made.{case_row, case_made, row_room}
-use Rattle.std.proofs.Crossing.{crosses}
+use Rattle.adept_server.proofs.Common.{◌<◌, ◌∙◌, AreOf, arith, CallsOne, case_after, case_reply, crosses, HasRoom, IfErr-weaker, length, map, refl, slice_get, slice_get_within, subst, sym, view_of, with_item, with_items, with_items_is}
+use Rattle.adept_server.proofs.{Sent.{case-send, case-sync, event-send, event-sync}, Rows.items_at, Made.{case_row, case_made, row_room}}
 use denote.Param.Send.{sendable}
 use Rattle.adept_server.proofs.servers.Server.call_case.Goals as goal
 

@@ -1,15 +1,6 @@
-use Rattle.std.proofs.Common.{drop, refl, sym, ap, ◌∙◌, subst, arith}
-use Rattle.std.proofs.Crossing.{crosses}
-use Rattle.std.proofs.lemmas.List.{with_items_is}
-use Rattle.std.proofs.lemmas.Option.{slice_get_within}
-use Rattle.std.specs.Vec.{with_item, with_items}
+use Rattle.adept_server.proofs.{Common.{◌∙◌, ap, AreOf, arith, case_after, case_reply, crosses, drop, refl, slice_get_within, subst, sym, with_item, with_items, with_items_is}, Made.{kind_row, batch_made}, OneCall.{batch_ok, batch_err}}
+use Rattle.adept_server.proofs.{Rows.items_at, Sent.{case-send, case-sync, event-send, event-sync}}
 use denote.Param.Send.{sendable}
-use Rattle.adept_server.proofs.Made.{kind_row, batch_made}
-use Rattle.adept_server.proofs.OneCall.{batch_ok, batch_err}
-use Rattle.adept_server.proofs.Rows.{items_at}
-use Rattle.adept_server.proofs.Sent.{case-send, case-sync, event-send, event-sync}
-use Rattle.case_core.specs.Machine.{case_after, case_reply}
-use Rattle.turn_batch.specs.Batch.{AreOf}
 use Rattle.adept_server.proofs.servers.Server.call_cases.Goals as goal
 
 pub call_first-requires-send-M : goal.call_first-requires-send-M

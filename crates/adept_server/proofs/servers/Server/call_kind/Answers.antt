@@ -1,15 +1,7 @@
-use Rattle.std.proofs.Common.{◌≡◌, IfErr, slice_get, map, true, false, refl, sym, ◌∙◌, subst}
-use Rattle.adept_server.proofs.Made.{kind_made}
-use Rattle.adept_server.proofs.Sent.{version-send, version-sync}
-use Rattle.std.proofs.Crossing.{crosses}
+use Rattle.adept_server.proofs.{Common.{◌∙◌, ◌≡◌, AreOf, CallsOne, crosses, false, HasRoom, IfErr, kind_after, kind_reply, map, refl, slice_get, subst, sym, true, view_of, with_items_is}, Made.kind_made, Sent.{version-send, version-sync}}
 use denote.Param.Send.{sendable}
-use Rattle.std.proofs.lemmas.List.{with_items_is}
-use Rattle.adept_server.specs.Calling.{CallsOne, HasRoom}
-use Rattle.turn_batch.specs.Batch.{AreOf}
-use Rattle.turn_cell.specs.Passes.{view_of}
 use Rattle.turn_cell.specs.declared.faults.CallFault.TheVariants as fault
 use Rattle.adept_server.proofs.servers.Server.call_kind.Goals as goal
-use Rattle.type_core.specs.Machine.{kind_after, kind_reply}
 
 pub call_at-answer-requires-send-M : goal.call_at-answer-requires-send-M
 call_at-answer-requires-send-M g c κs = search (version-send, version-sync, sendable, crosses) depth 30

@@ -1,17 +1,7 @@
-use Rattle.std.proofs.Common.{◌≡◌, [], ◌++◌, All, sym, ap, ◌∙◌, subst, arith}
-use Rattle.std.proofs.Crossing.{crosses}
-use Rattle.std.proofs.lemmas.List.{with_items_is, nil_from_length}
+use Rattle.adept_server.proofs.Common.{[], ◌++◌, ◌∙◌, ◌≡◌, All, AllZip, ap, arith, CanClose, ClosedServer, crosses, IsClosedAs, kind_after, kind_reply, nil_from_length, row_views, subst, sym, views, with_items, with_items_is}
+use Rattle.adept_server.proofs.{RowsClosed.room_of, Sent.{case-send, case-sync, event-send, event-sync, version-send, version-sync}, Ended.{can_close, cases_closed, server_closed}}
 use denote.Param.Send.{sendable}
-use Rattle.std.specs.List.{AllZip}
-use Rattle.std.specs.Vec.{with_items}
-use Rattle.turn_rows.specs.Rows.{CanClose, IsClosedAs, views}
-use Rattle.adept_server.specs.Vecs.{row_views}
-use Rattle.adept_server.specs.declared.closing.ClosedServer.{ClosedServer}
-use Rattle.adept_server.proofs.RowsClosed.{room_of}
-use Rattle.adept_server.proofs.Sent.{case-send, case-sync, event-send, event-sync, version-send, version-sync}
-use Rattle.adept_server.proofs.Ended.{can_close, cases_closed, server_closed}
 use Rattle.adept_server.proofs.servers.Server.close.Goals as goal
-use Rattle.type_core.specs.Machine.{kind_after, kind_reply}
 
 pub close_into-requires-clause-can : goal.close_into-requires-clause-can
 close_into-requires-clause-can c κs = (can_close c.args.self c.args.first c.requires.desk c.requires.first c.requires.all).0

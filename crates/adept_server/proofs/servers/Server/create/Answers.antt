@@ -1,9 +1,4 @@
-use Rattle.std.proofs.Common.{Ok, slice_get, inr, ap, ◌∙◌, subst}
-use Rattle.std.proofs.lemmas.Result.{IfErr-weaker}
-use Rattle.adept_server.proofs.Asked.{create_unasked, newest_answered, room_unasked}
-use Rattle.adept_server.specs.Calling.{CallsKind, HasRoom}
-use Rattle.adept_server.specs.Calling.Creates.{asked}
-use Rattle.adept_server.specs.Desks.{case_pass, desk_view}
+use Rattle.adept_server.proofs.{Common.{◌∙◌, ap, asked, CallsKind, case_pass, desk_view, HasRoom, IfErr-weaker, inr, Ok, slice_get, subst}, Asked.{create_unasked, newest_answered, room_unasked}}
 use Rattle.type_core.specs.declared.events.KindEvent.TheVariants.{Newest}
 use Rattle.adept_server.proofs.servers.Server.create.Goals as goal
 

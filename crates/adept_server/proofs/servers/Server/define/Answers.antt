@@ -1,8 +1,5 @@
-use Rattle.std.proofs.Common.{ap, ◌∙◌}
-use Rattle.adept_server.proofs.Asked.{kind_failed, now_defined}
-use Rattle.adept_server.specs.Desks.{desk_view}
+use Rattle.adept_server.proofs.{Common.{◌∙◌, ap, desk_view, fault_of}, Asked.{kind_failed, now_defined}}
 use Rattle.type_core.specs.declared.events.KindEvent.TheVariants.{Define}
-use Rattle.wsm_sound.specs.Faults.{fault_of}
 use Rattle.adept_server.proofs.servers.Server.define.Goals as goal
 
 pub returns-in_err-copy-clause-called : goal.returns-in_err-copy-clause-called

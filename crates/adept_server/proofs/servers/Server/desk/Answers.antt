@@ -1,15 +1,6 @@
-use Rattle.std.proofs.Common.{◌+◌, All, refl, sym, ◌∙◌, subst}
-use Rattle.std.specs.Vec.{with_items}
-use Rattle.std.proofs.Crossing.{crosses}
-use Rattle.std.proofs.lemmas.List.{with_items_is}
-use denote.Param.Send.{sendable}
-use Rattle.turn_rows.specs.Rows.{CanSplit}
-use Rattle.adept_server.specs.Vecs.{row_views}
-use Rattle.adept_server.specs.declared.desks.Desk.{Desk}
-use Rattle.adept_server.proofs.Parting.{can_split, desk_made}
-use Rattle.adept_server.proofs.RowsClosed.{room_of}
-use Rattle.adept_server.proofs.RowsSplit.{split_of_cells, all_split_of}
+use Rattle.adept_server.proofs.{Common.{◌+◌, ◌∙◌, All, CanSplit, crosses, Desk, refl, row_views, subst, sym, with_items, with_items_is}, Parting.{can_split, desk_made}, RowsClosed.room_of, RowsSplit.{split_of_cells, all_split_of}}
 use Rattle.adept_server.proofs.Sent.{case-send, case-sync, event-send, event-sync, version-send, version-sync}
+use denote.Param.Send.{sendable}
 use Rattle.adept_server.proofs.servers.Server.desk.Goals as goal
 
 pub split_row-requires-clause-can : goal.split_row-requires-clause-can

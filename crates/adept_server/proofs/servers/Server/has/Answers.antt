@@ -1,5 +1,4 @@
-use Rattle.std.proofs.Common.{◌≤◌, length, sym, ◌∙◌, arith}
-use Rattle.adept_server.proofs.Rows.{no_cell, read_there, has_by, cells_and_passes}
+use Rattle.adept_server.proofs.{Common.{◌∙◌, ◌≤◌, arith, length, sym}, Rows.{no_cell, read_there, has_by, cells_and_passes}}
 use Rattle.std.proofs.lemmas.Bool.Decides.{nat_tests}
 use Rattle.adept_server.proofs.servers.Server.has.Goals as goal
 

@@ -1,5 +1,4 @@
-use Rattle.adept_server.proofs.Asked.{kind_failed}
-use Rattle.adept_server.specs.Desks.{desk_view}
+use Rattle.adept_server.proofs.{Asked.kind_failed, Common.desk_view}
 use Rattle.type_core.specs.declared.events.KindEvent.TheVariants.{Install}
 use Rattle.adept_server.proofs.servers.Server.install.Goals as goal
 

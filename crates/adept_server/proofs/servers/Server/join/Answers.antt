@@ -1,17 +1,6 @@
-use Rattle.std.proofs.Common.{◌≡◌, ◌+◌, Bool, All, length, refl, sym, ap, ◌∙◌, subst}
-use Rattle.std.specs.Prelude.{◌||◌}
-use Rattle.std.specs.Vec.{with_items}
-use Rattle.std.proofs.Crossing.{crosses}
-use Rattle.std.proofs.lemmas.List.{with_items_is}
+use Rattle.adept_server.proofs.{Common.{◌+◌, ◌||◌, ◌∙◌, ◌≡◌, All, ap, Bool, CanJoin, crosses, Desk, length, refl, row_views, subst, sym, with_items, with_items_is, zip_with}, Meeting.even_flags_of, RowsJoined.joined_of_cells}
+use Rattle.adept_server.proofs.{RowsJoined.all_joined_of, Sent.{case-send, case-sync, event-send, event-sync, version-send, version-sync}, Taking.{can_join, desk_taken}, Zips.zip_of}
 use denote.Param.Send.{sendable}
-use Rattle.turn_rows.specs.Rows.{CanJoin, zip_with}
-use Rattle.adept_server.specs.Vecs.{row_views}
-use Rattle.adept_server.specs.declared.desks.Desk.{Desk}
-use Rattle.adept_server.proofs.Meeting.{even_flags_of}
-use Rattle.adept_server.proofs.RowsJoined.{joined_of_cells, all_joined_of}
-use Rattle.adept_server.proofs.Sent.{case-send, case-sync, event-send, event-sync, version-send, version-sync}
-use Rattle.adept_server.proofs.Taking.{can_join, desk_taken}
-use Rattle.adept_server.proofs.Zips.{zip_of}
 use Rattle.adept_server.proofs.servers.Server.join.Goals as goal
 
 pub raise_all-requires : goal.raise_all-requires

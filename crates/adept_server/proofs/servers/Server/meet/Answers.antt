@@ -1,15 +1,6 @@
-use Rattle.std.proofs.Common.{◌≡◌, Bool, length, refl, sym, ap, ◌∙◌, arith}
-use Rattle.std.specs.Prelude.{◌||◌}
-use Rattle.std.specs.Vec.{with_items}
-use Rattle.std.proofs.Crossing.{crosses}
-use Rattle.std.proofs.lemmas.List.{with_items_is}
+use Rattle.adept_server.proofs.{Common.{◌||◌, ◌∙◌, ◌≡◌, ap, arith, Bool, crosses, Desk, length, refl, sym, with_items, with_items_is, zip_with}, Meeting.{even_flags_of, desks_met}, RowsMet.{met_of_cells, all_met_of}, Sent.case-send}
+use Rattle.adept_server.proofs.{Sent.{case-sync, event-send, event-sync, version-send, version-sync}, Zips.zip_of}
 use denote.Param.Send.{sendable}
-use Rattle.turn_rows.specs.Rows.{zip_with}
-use Rattle.adept_server.specs.declared.desks.Desk.{Desk}
-use Rattle.adept_server.proofs.Meeting.{even_flags_of, desks_met}
-use Rattle.adept_server.proofs.RowsMet.{met_of_cells, all_met_of}
-use Rattle.adept_server.proofs.Sent.{case-send, case-sync, event-send, event-sync, version-send, version-sync}
-use Rattle.adept_server.proofs.Zips.{zip_of}
 use Rattle.adept_server.proofs.servers.Server.meet.Goals as goal
 
 pub raise_all-requires : goal.raise_all-requires

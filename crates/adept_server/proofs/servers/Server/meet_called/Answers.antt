@@ -1,16 +1,6 @@
-use Rattle.std.proofs.Common.{◌≡◌, Bool, length, refl, sym, ap, ◌∙◌, subst, arith}
-use Rattle.std.specs.Prelude.{◌||◌}
-use Rattle.std.specs.Vec.{with_items}
-use Rattle.std.proofs.Crossing.{crosses}
-use Rattle.std.proofs.lemmas.List.{with_items_is}
+use Rattle.adept_server.proofs.{Common.{◌||◌, ◌∙◌, ◌≡◌, ap, AreLevel, arith, Bool, crosses, Desk, desk_view, length, refl, subst, sym, with_items, with_items_is, zip_with}, Meeting.{desks_met, even_flags_of, legal_desk}}
+use Rattle.adept_server.proofs.{RowsMet.{met_of_cells, all_met_of, level_rows_before, legal_rows_before}, Sent.{case-send, case-sync, event-send, event-sync, version-send, version-sync}, Zips.zip_of}
 use denote.Param.Send.{sendable}
-use Rattle.turn_rows.specs.Rows.{AreLevel, zip_with}
-use Rattle.adept_server.specs.Desks.{desk_view}
-use Rattle.adept_server.specs.declared.desks.Desk.{Desk}
-use Rattle.adept_server.proofs.Meeting.{desks_met, even_flags_of, legal_desk}
-use Rattle.adept_server.proofs.RowsMet.{met_of_cells, all_met_of, level_rows_before, legal_rows_before}
-use Rattle.adept_server.proofs.Sent.{case-send, case-sync, event-send, event-sync, version-send, version-sync}
-use Rattle.adept_server.proofs.Zips.{zip_of}
 use Rattle.adept_server.proofs.servers.Server.meet_called.Goals as goal
 
 pub raise_all-requires : goal.raise_all-requires

@@ -1,6 +1,4 @@
-use Rattle.std.proofs.Common.{arith}
-use Rattle.adept_server.proofs.Asked.{all_move}
-use Rattle.adept_server.specs.Desks.{desk_view}
+use Rattle.adept_server.proofs.{Common.{arith, desk_view}, Asked.all_move}
 use Rattle.adept_server.proofs.servers.Server.migrate_all.Goals as goal
 
 pub returns-clause-called : goal.returns-clause-called

@@ -1,9 +1,6 @@
-use Rattle.std.proofs.Common.{Ok, refl, ap, ◌∙◌, subst}
-use Rattle.adept_server.proofs.Asked.{newest_answered, none_asked, migrate_unasked, migrate_untold}
-use Rattle.adept_server.specs.Calling.{CallsKind}
+use Rattle.adept_server.proofs.{Common.{◌∙◌, ap, CallsKind, desk_view, Ok, refl, subst}, Asked.{newest_answered, none_asked, migrate_unasked, migrate_untold}}
 use Rattle.adept_server.specs.Calling.Migrates.{told}
 use Rattle.turn_cell.specs.declared.faults.CallFault.TheVariants.{NoMemory}
-use Rattle.adept_server.specs.Desks.{desk_view}
 use Rattle.type_core.specs.declared.events.KindEvent.TheVariants.{Newest}
 use Rattle.adept_server.proofs.servers.Server.migrate_first.Goals as goal
 

@@ -1,5 +1,4 @@
-use Rattle.adept_server.proofs.Asked.{case_failed}
-use Rattle.adept_server.specs.Desks.{desk_view}
+use Rattle.adept_server.proofs.{Asked.case_failed, Common.desk_view}
 use Rattle.case_core.specs.declared.events.Event.TheVariants.{Start}
 use Rattle.adept_server.proofs.servers.Server.start.Goals as goal
 

@@ -1,6 +1,4 @@
-use Rattle.std.proofs.Common.{◌≡◌, false, length, replicate, refl, rules}
-use Rattle.adept_server.specs.declared.desks.Desk.{Desk}
-use Rattle.adept_server.proofs.Founding.{first_desk_is, first_desk_of}
+use Rattle.adept_server.proofs.{Common.{◌≡◌, Desk, false, length, refl, replicate, rules}, Founding.{first_desk_is, first_desk_of}}
 use Rattle.adept_server.proofs.servers.Server.with_rooms.Goals as goal
 
 pub returns : goal.returns

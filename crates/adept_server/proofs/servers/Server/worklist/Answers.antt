@@ -1,13 +1,4 @@
-use Rattle.std.proofs.Common.{length, map, refl, sym, ap, ◌∙◌, subst, arith}
-use Rattle.std.proofs.Math.ListN.{length-map}
-use Rattle.std.proofs.lemmas.List.{with_items_is}
-use Rattle.std.specs.Vec.{with_items}
-use Rattle.adept_server.proofs.Looks.{desk_opened}
-use Rattle.adept_server.proofs.Made.{looks_made}
-use Rattle.adept_server.proofs.Rows.{AreVecsOf}
-use Rattle.adept_server.specs.Desks.{AreShort, desk_view}
-use Rattle.adept_server.specs.Offering.{AllLooked, AllOpened}
-use Rattle.turn_cell.specs.Passes.{view_of}
+use Rattle.adept_server.proofs.{Common.{◌∙◌, AllLooked, AllOpened, ap, AreShort, arith, desk_view, length, length-map, map, refl, subst, sym, view_of, with_items, with_items_is}, Looks.desk_opened, Made.looks_made, Rows.AreVecsOf}
 use Rattle.adept_server.proofs.servers.Server.worklist.Goals as goal
 
 pub look_rows-requires-clause-opening : goal.look_rows-requires-clause-opening

@@ -1,7 +1,5 @@
-use Rattle.std.proofs.Common.{◌≡◌, ℕ, List, Option, None, zero, suc, ◌<◌, ◌-◌, ◌++◌, ◌∷◌, [], length, map, set, refl, ap, ◌∙◌, subst, arith, IsSome}
-use Rattle.case_audit.proofs.Common.{Asked, asked_in, asked_of, calls_in, length-map, map-append, map-set, numbered_of, on_ok_weaker, PhaseCalls, set-get_or}
-use Rattle.case_audit.proofs.Changes.{last-none, last-other, last-same, map-at}
-use Rattle.case_audit.proofs.owed.Owed.add.Goals.{in-Some+else-last-phase, in_default}
+use Rattle.case_audit.proofs.Common.{[], ℕ, ◌++◌, ◌-◌, ◌<◌, ◌∙◌, ◌∷◌, ◌≡◌, ap, arith, Asked, asked_in, asked_of, calls_in, IsSome, length, length-map, List, map, map-append, map-set, None, numbered_of, on_ok_weaker, Option, PhaseCalls}
+use Rattle.case_audit.proofs.{Common.{refl, set, set-get_or, subst, suc, zero}, Changes.{last-none, last-other, last-same, map-at}, owed.Owed.add.Goals.{in-Some+else-last-phase, in_default}}
 use Rattle.case_audit.proofs.owed.Owed.add.Goals as goal
 
 nothing : {A : Type 0} (o : Option A) (n : ℕ) → (0 < n → IsSome o) → o ≡ None → n ≡ 0

@@ -1,7 +1,5 @@
-use Rattle.std.proofs.Common.{◌≡◌, ◌<◌, ◌≤◌, length, map, refl, sym, ap, ◌∙◌, arith}
-use Rattle.case_audit.proofs.Common.{behind_front, deques_of, front_of, left_in, length-map, next_version, one_taken, queue_of, told_versions}
-use Rattle.case_audit.proofs.Changes.{none-taken, queue-at, queue-changed}
-use Rattle.case_audit.proofs.Fronts.{popped-front, popped-rest}
+use Rattle.case_audit.proofs.{Common.{◌<◌, ◌∙◌, ◌≡◌, ◌≤◌, ap, arith, behind_front, deques_of, front_of, left_in, length, length-map, map, next_version, one_taken, queue_of, refl, sym, told_versions}, Changes.{none-taken, queue-at}}
+use Rattle.case_audit.proofs.{Changes.queue-changed, Fronts.{popped-front, popped-rest}}
 use Rattle.case_audit.proofs.told.Told.next.Goals as goal
 
 pub returns-in_err-get_mut-clause-left : goal.returns-in_err-get_mut-clause-left

@@ -1,5 +1,4 @@
-use Rattle.std.proofs.Common.{◌≡◌, ◌++◌, drop, map}
-use Rattle.case_audit.proofs.Common.{all_told, deques_of}
+use Rattle.case_audit.proofs.Common.{◌++◌, ◌≡◌, all_told, deques_of, drop, map}
 use Rattle.case_audit.proofs.told.Told.of.Given as goal
 
 abbrev pub invariant-loop-kind : goal.invariant-loop-kind

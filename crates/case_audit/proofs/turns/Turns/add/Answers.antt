@@ -1,6 +1,4 @@
-use Rattle.std.proofs.Common.{◌≡◌, ◌<◌, ◌++◌, ◌∷◌, [], length, refl, ap, ◌∙◌, arith}
-use Rattle.case_audit.proofs.Common.{asked_in, asked_of, map-append}
-use Rattle.case_audit.proofs.Changes.{queue-changed}
+use Rattle.case_audit.proofs.{Common.{[], ◌++◌, ◌<◌, ◌∙◌, ◌∷◌, ◌≡◌, ap, arith, asked_in, asked_of, length, map-append, refl}, Changes.queue-changed}
 use Rattle.case_audit.proofs.turns.Turns.add.Goals as goal
 
 pub returns-in_ok-push_back-in-Some : goal.returns-in_ok-push_back-in-Some

@@ -1,7 +1,4 @@
-use Rattle.std.proofs.Common.{◌<◌, length, refl, arith}
-use Rattle.case_audit.proofs.Common.{asked_in, asked_of, behind_front}
-use Rattle.case_audit.proofs.Changes.{queue-changed}
-use Rattle.case_audit.proofs.Fronts.{popped-rest}
+use Rattle.case_audit.proofs.{Common.{◌<◌, arith, asked_in, asked_of, behind_front, length, refl}, Changes.queue-changed, Fronts.popped-rest}
 use Rattle.case_audit.proofs.turns.Turns.next.Goals as goal
 
 pub returns-clause-others : goal.returns-clause-others

@@ -1,5 +1,4 @@
-use Rattle.std.proofs.Common.{◌≡◌, ◌+◌, [], map, replicate}
-use Rattle.case_audit.proofs.Common.{asked_in}
+use Rattle.case_audit.proofs.Common.{[], ◌+◌, ◌≡◌, asked_in, map, replicate}
 use Rattle.case_audit.proofs.turns.Turns.none.Given as goal
 
 abbrev pub invariant-loop-made : goal.invariant-loop-made

@@ -1,5 +1,4 @@
-use Rattle.std.proofs.Common.{◌≡◌, drop, fold}
-use Rattle.case_audit.proofs.Common.{all_turns, asked_in, queues_of, with_turn}
+use Rattle.case_audit.proofs.Common.{◌≡◌, all_turns, asked_in, drop, fold, queues_of, with_turn}
 use Rattle.case_audit.proofs.turns.Turns.of.Given as goal
 
 abbrev pub invariant-loop-call : goal.invariant-loop-call

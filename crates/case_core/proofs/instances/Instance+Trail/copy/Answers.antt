@@ -1,7 +1,5 @@
-use Rattle.std.proofs.Common.{◌≡◌, Some, option_map, ap, sym, subst, ◌∙◌}
-use Rattle.case_core.proofs.Copies.{trail-of}
-use Rattle.case_core.specs.Instances.{CountedCase, IsLive, live_in}
-use Rattle.wsm_schema.specs.Trail.{TrailModel}
+use Rattle.case_core.proofs.{Common.{◌∙◌, ◌≡◌, ap, CountedCase, IsLive, live_in, Some, subst, sym, TrailModel}, Copies.trail-of}
+use Rattle.std.proofs.Common.{option_map}
 use Rattle.case_core.proofs.instances.Instance+Trail.copy.Goals as goal
 
 pub invariant_of-result-in-Some : goal.invariant_of-result-in-Some

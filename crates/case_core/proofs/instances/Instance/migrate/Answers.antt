@@ -1,5 +1,4 @@
-use Rattle.std.proofs.Common.{subst}
-use Rattle.case_core.specs.Instances.{IsKept}
+use Rattle.case_core.proofs.Common.{IsKept, subst}
 use Rattle.case_core.proofs.instances.Instance.migrate.Goals as goal
 
 pub migrate-requires : goal.migrate-requires

@@ -1,11 +1,4 @@
-use Rattle.std.proofs.Common.{◌≡◌, ◌+◌, ◌≤◌, subst, sym}
-use Rattle.std.proofs.lemmas.Result.{IfOk-weaker}
-use Rattle.case_core.specs.Ages.{age, weight}
-use Rattle.case_core.specs.Machine.{next_case}
-use Rattle.case_core.proofs.AgesOfSteps.{age-next_case}
-use Rattle.case_core.proofs.Starts.{starts-filled}
-use Rattle.case_core.proofs.TrailFacts.{names-entry}
-use Rattle.case_core.specs.Promises.{NamesEntryIn, StartsFilled}
+use Rattle.case_core.proofs.{Common.{◌+◌, ◌≡◌, ◌≤◌, age, IfOk-weaker, NamesEntryIn, next_case, StartsFilled, subst, sym, weight}, AgesOfSteps.age-next_case, Starts.starts-filled, TrailFacts.names-entry}
 use Rattle.case_core.proofs.instances.Instance.step.Goals as goal
 
 pub returns-clause-age : goal.returns-clause-age

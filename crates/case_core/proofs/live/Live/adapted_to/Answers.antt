@@ -1,12 +1,5 @@
-use Rattle.std.proofs.Common.{◌≡◌, ◌+◌, ◌≤◌, List, ℕ, arith, refl, ap, subst, ◌∙◌}
+use Rattle.case_core.proofs.Common.{ℕ, ◌+◌, ◌∙◌, ◌≡◌, ◌≤◌, AdaptsRight, ap, arith, flat_of, FlatModel, IsAdaptedTo, List, live_in, LiveModel, marks_to_read, refl, SchemaModel, subst, TellsTouched, TrailModel}
 use Rattle.case_core.proofs.Moving.{adapted-to, both-ok, net-of}
-use Rattle.case_core.specs.CaseModel.{LiveModel}
-use Rattle.case_core.specs.Instances.{live_in}
-use Rattle.case_core.specs.Remarks.{IsAdaptedTo}
-use Rattle.wsm_adapt.specs.Adapted.{AdaptsRight, TellsTouched, marks_to_read}
-use Rattle.wsm_schema.specs.Flat.{FlatModel, flat_of}
-use Rattle.wsm_schema.specs.SchemaModel.{SchemaModel}
-use Rattle.wsm_schema.specs.Trail.{TrailModel}
 use Rattle.wsm_touch.specs.TouchedNodes.{touched_nodes}
 use Rattle.case_core.proofs.live.Live.adapted_to.Goals as goal
 

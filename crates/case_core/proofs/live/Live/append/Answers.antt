@@ -1,17 +1,5 @@
-use Rattle.std.proofs.Common.{◌≡◌, ◌∙◌, ℕ, List, Option, Some, refl, ap}
-use Rattle.case_core.proofs.ItemLoops.{made-so, renewed-so, renewed_changes, renews-of}
-use Rattle.case_core.proofs.KeptHolders.{pushed-made}
-use Rattle.case_core.proofs.KeptItems.{keeps-of, pushed-items, told-of}
-use Rattle.case_core.proofs.Marked.{after-event}
-use Rattle.case_core.specs.CaseModel.{LiveModel}
-use Rattle.case_core.specs.Instances.{live_in}
-use Rattle.case_core.specs.KeptItems.{ChangesItems, KeepsItems, RenewsItems, entries_with}
-use Rattle.case_core.specs.Machine.{with_trail}
-use Rattle.wsm_items.specs.declared.work_items.Item.{Item}
-use Rattle.wsm_lists.specs.ByNumber.{changed}
-use Rattle.wsm_schema.specs.Flat.{cards_of}
-use Rattle.wsm_schema.specs.Trail.{TrailModel, pushed}
-use Rattle.wsm_schema.specs.declared.cards.Card.{Card}
+use Rattle.case_core.proofs.{Common.{ℕ, ◌∙◌, ◌≡◌, ap, Card, cards_of, changed, ChangesItems, entries_with, Item, KeepsItems, List, live_in, LiveModel, Option, pushed, refl, RenewsItems, Some, TrailModel, with_trail}, ItemLoops.made-so}
+use Rattle.case_core.proofs.{ItemLoops.{renewed-so, renewed_changes, renews-of}, KeptHolders.pushed-made, KeptItems.{keeps-of, pushed-items, told-of}, Marked.after-event}
 use Rattle.case_core.proofs.live.Live.append.Goals as goal
 
 pub returns-clause-live : goal.returns-clause-live

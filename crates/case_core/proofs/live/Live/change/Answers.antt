@@ -1,9 +1,4 @@
-use Rattle.std.proofs.Common.{◌≡◌, ◌++◌, Ok, rules}
-use Rattle.case_core.specs.CaseModel.{LiveModel}
-use Rattle.wsm_schema.specs.SchemaModel.{SchemaModel}
-use Rattle.wsm_sound.proofs.InARow.{applied-in_a_row}
-use Rattle.wsm_sound.proofs.NoFaults.{taken_parts}
-use Rattle.wsm_sound.specs.Faults.{changed_by}
+use Rattle.case_core.proofs.Common.{◌++◌, ◌≡◌, applied-in_a_row, changed_by, LiveModel, Ok, rules, SchemaModel, taken_parts}
 use Rattle.case_core.proofs.live.Live.change.Goals as goal
 
 pub take-requires-clause-own : goal.take-requires-clause-own

@@ -1,20 +1,6 @@
-use Rattle.std.proofs.Common.{◌≡◌, ◌∙◌, ℕ, List, Option, Some, refl, ap, sym, subst}
-use Rattle.case_core.proofs.ItemLoops.{made-so, renewed-so, renewed_changes, renews-of}
-use Rattle.case_core.proofs.KeptHolders.{again-made}
-use Rattle.case_core.proofs.KeptItems.{cut-items, keeps-of, told-of}
-use Rattle.case_core.proofs.Marked.{after-event}
-use Rattle.case_core.specs.CaseModel.{LiveModel}
-use Rattle.case_core.specs.Instances.{live_in}
-use Rattle.case_core.specs.KeptItems.{ChangesItems, KeepsItems, RenewsItems, entries_with}
-use Rattle.case_core.specs.Machine.{with_trail}
-use Rattle.wsm_items.specs.declared.work_items.Item.{Item}
-use Rattle.wsm_lists.specs.ByNumber.{changed}
-use Rattle.wsm_schema.specs.Flat.{cards_of}
-use Rattle.wsm_schema.specs.Trail.{TrailModel, cut_by, pushed}
-use Rattle.wsm_schema.specs.declared.entries.Entry.{Entry}
+use Rattle.case_core.proofs.Common.{ℕ, ◌∙◌, ◌≡◌, ap, Card, cards_of, changed, ChangesItems, cut_by, entries_with, Entry, Item, KeepsItems, List, live_in, LiveModel, Option, pushed, refl, RenewsItems, Some, StaysBelow, subst, sym}
+use Rattle.case_core.proofs.{Common.{TrailModel, with_trail}, ItemLoops.{made-so, renewed-so, renewed_changes, renews-of}, KeptHolders.again-made, KeptItems.{cut-items, keeps-of, told-of}, Marked.after-event}
 use Rattle.wsm_schema.specs.declared.entries.Entry.TheVariants.{Again}
-use Rattle.wsm_trail.specs.Cuts.{StaysBelow}
-use Rattle.wsm_schema.specs.declared.cards.Card.{Card}
 use Rattle.case_core.proofs.live.Live.cut_and_append.Goals as goal
 
 pub returns-clause-live : goal.returns-clause-live

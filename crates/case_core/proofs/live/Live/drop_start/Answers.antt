@@ -1,18 +1,5 @@
-use Rattle.std.proofs.Common.{◌≡◌, ◌∙◌, ℕ, List, Option, None, refl, ap}
-use Rattle.case_core.proofs.ItemLoops.{made-so, renewed-so, renewed_changes, renews-of}
-use Rattle.case_core.proofs.KeptHolders.{left-made}
-use Rattle.case_core.proofs.KeptItems.{keeps-of, left-items, told-of}
-use Rattle.case_core.proofs.Marked.{after-event}
-use Rattle.case_core.specs.CaseModel.{LiveModel}
-use Rattle.case_core.specs.Instances.{live_in}
-use Rattle.case_core.specs.KeptItems.{ChangesItems, KeepsItems, RenewsItems, entries_with}
-use Rattle.case_core.specs.Machine.{with_trail}
-use Rattle.wsm_items.specs.declared.work_items.Item.{Item}
-use Rattle.wsm_lists.specs.ByNumber.{changed}
-use Rattle.wsm_schema.specs.Flat.{cards_of}
-use Rattle.wsm_schema.specs.Trail.{TrailModel}
-use Rattle.wsm_trail.specs.Withdrawn.{withdrawn}
-use Rattle.wsm_schema.specs.declared.cards.Card.{Card}
+use Rattle.case_core.proofs.{Common.{ℕ, ◌∙◌, ◌≡◌, ap, Card, cards_of, changed, ChangesItems, entries_with, Item, KeepsItems, List, live_in, LiveModel, None, Option, refl, RenewsItems, TrailModel, with_trail, withdrawn}, ItemLoops.made-so}
+use Rattle.case_core.proofs.{ItemLoops.{renewed-so, renewed_changes, renews-of}, KeptHolders.left-made, KeptItems.{keeps-of, left-items, told-of}, Marked.after-event}
 use Rattle.case_core.proofs.live.Live.drop_start.Goals as goal
 
 pub returns-clause-live : goal.returns-clause-live

@@ -1,14 +1,5 @@
-use Rattle.std.proofs.Common.{◌≡◌, true, false, Some, None, rules, sym, ◌∙◌, ap, subst}
-use Rattle.std.specs.Option.{option_copied}
-use Rattle.case_core.proofs.Keeping.{kept-end, kept-repeat}
-use Rattle.case_core.proofs.Marked.{runs-loop}
-use Rattle.case_core.specs.CaseModel.{LiveModel}
-use Rattle.case_core.specs.Kept.{Kept}
-use Rattle.case_core.specs.Machine.{end_refusal, repeats, repeated_trail, with_trail}
-use Rattle.case_core.specs.Remarks.{Remarks, RunsLoop}
-use Rattle.case_writes.specs.Writes.{by_element}
-use Rattle.wsm_schema.specs.Flat.{card_at, cards_of}
-use Rattle.wsm_schema.specs.Trail.{pushed}
+use Rattle.case_core.proofs.Common.{◌∙◌, ◌≡◌, ap, by_element, card_at, cards_of, end_refusal, false, Kept, LiveModel, None, option_copied, pushed, Remarks, repeated_trail, repeats, rules, RunsLoop, Some, subst, sym, true, with_trail}
+use Rattle.case_core.proofs.{Keeping.{kept-end, kept-repeat}, Marked.runs-loop}
 use Rattle.wsm_schema.specs.declared.entries.Entry.TheVariants.{End}
 use Rattle.case_core.proofs.live.Live.end.Goals as goal
 

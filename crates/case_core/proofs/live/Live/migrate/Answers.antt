@@ -1,7 +1,4 @@
-use Rattle.std.proofs.Common.{◌≡◌, Ok, rules, ◌∙◌, ap}
-use Rattle.wsm_ops.specs.Apply.{applied}
-use Rattle.wsm_sound.proofs.NoFaults.{taken_parts}
-use Rattle.wsm_sound.specs.Faults.{changed_by}
+use Rattle.case_core.proofs.Common.{◌∙◌, ◌≡◌, ap, applied, changed_by, Ok, rules, taken_parts}
 use Rattle.case_core.proofs.live.Live.migrate.Goals as goal
 
 pub take-requires-clause-own : goal.take-requires-clause-own

@@ -1,18 +1,5 @@
-use Rattle.std.proofs.Common.{◌≡◌, ◌∙◌, ℕ, List, Option, None, refl, ap}
-use Rattle.case_core.proofs.ItemLoops.{made-so, renewed-so, renewed_changes, renews-of}
-use Rattle.case_core.proofs.KeptHolders.{moved-made}
-use Rattle.case_core.proofs.KeptItems.{keeps-of, told-of}
-use Rattle.case_core.proofs.Moving.{moved-items}
-use Rattle.case_core.specs.CaseModel.{LiveModel, on_schema}
-use Rattle.case_core.specs.Instances.{live_in}
-use Rattle.case_core.specs.Kept.{marks_in}
-use Rattle.case_core.specs.KeptItems.{ChangesItems, KeepsItems, RenewsItems}
-use Rattle.wsm_items.specs.declared.work_items.Item.{Item}
-use Rattle.wsm_lists.specs.ByNumber.{changed}
-use Rattle.wsm_schema.specs.Flat.{cards_of}
-use Rattle.wsm_schema.specs.SchemaModel.{SchemaModel}
-use Rattle.wsm_schema.specs.Trail.{TrailModel}
-use Rattle.wsm_schema.specs.declared.cards.Card.{Card}
+use Rattle.case_core.proofs.{Common.{ℕ, ◌∙◌, ◌≡◌, ap, Card, cards_of, changed, ChangesItems, Item, KeepsItems, List, live_in, LiveModel, marks_in, None, on_schema, Option, refl, RenewsItems, SchemaModel, TrailModel}, ItemLoops.made-so}
+use Rattle.case_core.proofs.{ItemLoops.{renewed-so, renewed_changes, renews-of}, KeptHolders.moved-made, KeptItems.{keeps-of, told-of}, Moving.moved-items}
 use Rattle.case_core.proofs.live.Live.move_to.Goals as goal
 
 pub returns-clause-live : goal.returns-clause-live

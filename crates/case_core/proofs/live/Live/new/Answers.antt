@@ -1,9 +1,4 @@
-use Rattle.std.proofs.Common.{[], rules, subst}
-use Rattle.case_core.specs.Remarks.{IsTimedOn}
-use Rattle.case_core.specs.declared.live.Live.{Live}
-use Rattle.case_core.proofs.Opened.{opened-live}
-use Rattle.wsm_schema.specs.SchemaModel.{SchemaModel}
-use Rattle.wsm_schema.specs.Trail.{TrailModel}
+use Rattle.case_core.proofs.{Common.{[], IsTimedOn, Live, rules, SchemaModel, subst, TrailModel}, Opened.opened-live}
 use Rattle.wsm_settle.specs.declared.timing.TimedMarks.TheVariants as timed
 use Rattle.case_core.proofs.live.Live.new.Goals as goal
 

@@ -1,13 +1,5 @@
-use Rattle.std.proofs.Common.{◌≡◌, ◌∙◌, List, ℕ, ap, sym, subst}
-use Rattle.case_core.specs.CaseModel.{LiveModel}
-use Rattle.case_core.specs.Instances.{live_in}
-use Rattle.case_core.specs.Kept.{Kept}
-use Rattle.case_core.specs.Machine.{with_trail}
-use Rattle.case_core.specs.Remarks.{Remarks, RunsLoop}
-use Rattle.wsm_schema.specs.Flat.{FlatModel, flat_of, loop_nodes}
-use Rattle.wsm_schema.specs.Trail.{TrailModel, pushed, cut_by}
+use Rattle.case_core.proofs.Common.{ℕ, ◌∙◌, ◌≡◌, ap, cut_by, flat_of, FlatModel, Kept, List, live_in, LiveModel, loop_nodes, pushed, Remarks, RunsLoop, StaysBelow, subst, sym, TrailModel, with_trail}
 use Rattle.wsm_schema.specs.declared.entries.Entry.TheVariants.{Again}
-use Rattle.wsm_trail.specs.Cuts.{StaysBelow}
 use Rattle.case_core.proofs.live.Live.repeat.Goals as goal
 
 pub again_changes-requires-clause-runs : goal.again_changes-requires-clause-runs

@@ -1,12 +1,4 @@
-use Rattle.std.proofs.Common.{◌≡◌, Some, None, rules, sym, ◌∙◌, ap, subst}
-use Rattle.std.specs.Option.{option_copied}
-use Rattle.case_core.proofs.Keeping.{kept-start}
-use Rattle.case_core.specs.CaseModel.{LiveModel}
-use Rattle.case_core.specs.Kept.{Kept}
-use Rattle.case_core.specs.Machine.{start_refusal, reads_now, with_trail}
-use Rattle.case_core.specs.Remarks.{Remarks}
-use Rattle.wsm_schema.specs.Flat.{card_at, cards_of}
-use Rattle.wsm_schema.specs.Trail.{pushed}
+use Rattle.case_core.proofs.{Common.{◌∙◌, ◌≡◌, ap, card_at, cards_of, Kept, LiveModel, None, option_copied, pushed, reads_now, Remarks, rules, Some, start_refusal, subst, sym, with_trail}, Keeping.kept-start}
 use Rattle.wsm_schema.specs.declared.entries.Entry.TheVariants.{Start}
 use Rattle.case_core.proofs.live.Live.start.Goals as goal
 

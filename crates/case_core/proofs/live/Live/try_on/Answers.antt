@@ -1,14 +1,5 @@
-use Rattle.std.proofs.Common.{subst, sym}
-use Rattle.case_core.proofs.Keeping.{kept-on_schema}
-use Rattle.case_core.proofs.Marked.{whole-fails}
-use Rattle.case_core.specs.CaseModel.{LiveModel, on_schema, replay_of_case}
-use Rattle.case_core.specs.Instances.{live_in}
-use Rattle.case_core.specs.Kept.{Kept}
-use Rattle.case_core.specs.Remarks.{IsAdaptedTo, Moves}
+use Rattle.case_core.proofs.{Common.{IsAdaptedTo, IsChecked, Kept, live_in, LiveModel, Moves, on_schema, replay_of_case, SchemaModel, subst, sym, TrailModel}, Keeping.kept-on_schema, Marked.whole-fails}
 use Rattle.wsm_adapt.specs.declared.adapting.Adapted.TheVariants as adapted
-use Rattle.wsm_schema.specs.SchemaModel.{SchemaModel}
-use Rattle.wsm_schema.specs.Trail.{TrailModel}
-use Rattle.wsm_sound.specs.Flattened.{IsChecked}
 use Rattle.case_core.proofs.live.Live.try_on.Goals as goal
 
 pub move_to-requires-clause-kept : goal.move_to-requires-clause-kept

@@ -1,12 +1,5 @@
-use Rattle.std.proofs.Common.{◌≡◌, Some, None, length, rules, sym, ◌∙◌, ap, subst}
-use Rattle.std.specs.Option.{option_copied}
+use Rattle.case_core.proofs.Common.{◌∙◌, ◌≡◌, ap, card_at, cards_of, hold_refusal, Kept, length, LiveModel, None, option_copied, Remarks, rules, Some, starts_of, subst, sym, with_trail, withdrawn}
 use Rattle.case_core.proofs.Keeping.{held-running, kept-withdrawn, one-held}
-use Rattle.case_core.specs.CaseModel.{LiveModel}
-use Rattle.case_core.specs.Kept.{Kept}
-use Rattle.case_core.specs.Machine.{hold_refusal, with_trail}
-use Rattle.case_core.specs.Remarks.{Remarks}
-use Rattle.wsm_schema.specs.Flat.{card_at, cards_of}
-use Rattle.wsm_trail.specs.Withdrawn.{starts_of, withdrawn}
 use Rattle.case_core.proofs.live.Live.withdraw.Goals as goal
 
 pub withdraw_changes-requires-clause-runs : goal.withdraw_changes-requires-clause-runs

@@ -1,16 +1,5 @@
-use Rattle.std.proofs.Common.{◌≡◌, ◌+◌, ◌≤◌, ◌∙◌, ap, subst}
-use Rattle.std.proofs.lemmas.Result.{IfOk-weaker}
+use Rattle.case_core.proofs.Common.{◌+◌, ◌∙◌, ◌≡◌, ◌≤◌, AgainRemarks, ap, cards_of, flat_of, FlatModel, IfOk-weaker, is_sound, IsRank, LiveModel, reach_size, RepeatsRight, SchemaModel, sound-regular, subst, TrailModel}
 use Rattle.case_core.proofs.Marked.{again-remarks}
-use Rattle.case_core.specs.CaseModel.{LiveModel}
-use Rattle.case_core.specs.Remarks.{AgainRemarks}
-use Rattle.wsm_marks.proofs.SoundSchemas.{sound-regular}
-use Rattle.wsm_schema.specs.Flat.{FlatModel, cards_of, flat_of}
-use Rattle.wsm_schema.specs.Rank.{IsRank}
-use Rattle.wsm_schema.specs.SchemaModel.{SchemaModel}
-use Rattle.wsm_schema.specs.Trail.{TrailModel}
-use Rattle.wsm_sound.proofs.NoFaults.{is_sound}
-use Rattle.wsm_walk.specs.Spent.{reach_size}
-use Rattle.wsm_settle.specs.Events.{RepeatsRight}
 use Rattle.case_core.proofs.live_of.LiveOf.again_changes.Goals as goal
 
 pub returns-clause-changes : goal.returns-clause-changes

@@ -1,7 +1,4 @@
-use Rattle.std.proofs.Common.{IfOk, subst}
-use Rattle.case_core.proofs.Copies.{live-copied}
-use Rattle.case_core.specs.CaseModel.{LiveModel}
-use Rattle.case_core.specs.Instances.{IsLive}
+use Rattle.case_core.proofs.{Common.{IfOk, IsLive, LiveModel, subst}, Copies.live-copied}
 use Rattle.case_core.proofs.live_of.LiveOf.copy.Goals as goal
 
 pub returns-clause-kept : goal.returns-clause-kept

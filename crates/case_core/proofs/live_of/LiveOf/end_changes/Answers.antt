@@ -1,16 +1,4 @@
-use Rattle.std.proofs.Common.{◌≡◌, ◌+◌, ◌≤◌, ◌∙◌, ap, subst}
-use Rattle.std.proofs.lemmas.Result.{IfOk-weaker}
-use Rattle.case_core.proofs.Marked.{end-remarks}
-use Rattle.case_core.specs.CaseModel.{LiveModel}
-use Rattle.case_core.specs.Remarks.{EndRemarks}
-use Rattle.wsm_marks.proofs.SoundSchemas.{sound-regular}
-use Rattle.wsm_schema.specs.Flat.{FlatModel, cards_of, flat_of}
-use Rattle.wsm_schema.specs.Rank.{IsRank}
-use Rattle.wsm_schema.specs.SchemaModel.{SchemaModel}
-use Rattle.wsm_schema.specs.Trail.{TrailModel}
-use Rattle.wsm_sound.proofs.NoFaults.{is_sound}
-use Rattle.wsm_walk.specs.Spent.{reach_size}
-use Rattle.wsm_settle.specs.Events.{EndsRight}
+use Rattle.case_core.proofs.{Common.{◌+◌, ◌∙◌, ◌≡◌, ◌≤◌, ap, cards_of, EndRemarks, EndsRight, flat_of, FlatModel, IfOk-weaker, is_sound, IsRank, LiveModel, reach_size, SchemaModel, sound-regular, subst, TrailModel}, Marked.end-remarks}
 use Rattle.case_core.proofs.live_of.LiveOf.end_changes.Goals as goal
 
 pub returns-clause-changes : goal.returns-clause-changes

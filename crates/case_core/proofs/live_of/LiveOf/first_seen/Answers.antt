@@ -1,8 +1,4 @@
-use Rattle.std.proofs.Common.{◌∙◌, ℕ, ap, sym, subst}
-use Rattle.case_core.proofs.RoundStarts.{stays-below}
-use Rattle.case_core.specs.CaseModel.{LiveModel}
-use Rattle.case_core.specs.Rounds.{first_seen}
-use Rattle.wsm_trail.specs.Cuts.{StaysBelow}
+use Rattle.case_core.proofs.{Common.{ℕ, ◌∙◌, ap, first_seen, LiveModel, StaysBelow, subst, sym}, RoundStarts.stays-below}
 use Rattle.case_core.proofs.live_of.LiveOf.first_seen.Goals as goal
 
 pub returns-clause-stays : goal.returns-clause-stays

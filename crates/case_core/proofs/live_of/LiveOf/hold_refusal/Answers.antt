@@ -1,6 +1,4 @@
-use Rattle.std.proofs.Common.{Some, sym, ◌∙◌, ap}
-use Rattle.case_core.proofs.KeptItems.{none-holds, some-holds}
-use Rattle.case_core.specs.CaseModel.{LiveModel}
+use Rattle.case_core.proofs.{Common.{◌∙◌, ap, LiveModel, Some, sym}, KeptItems.{none-holds, some-holds}}
 use Rattle.case_core.specs.declared.replies.Reply.TheVariants as reply
 use Rattle.case_core.proofs.live_of.LiveOf.hold_refusal.Goals as goal
 

@@ -1,8 +1,4 @@
-use Rattle.std.proofs.Common.{◌≡◌, Some, sym, subst, rules}
-use Rattle.case_core.proofs.KeptItems.{holder-started}
-use Rattle.case_core.specs.CaseModel.{LiveModel}
-use Rattle.case_core.specs.Promises.{HolderStarted}
-use Rattle.case_core.specs.Shown.{shown_holder}
+use Rattle.case_core.proofs.{Common.{◌≡◌, HolderStarted, LiveModel, rules, shown_holder, Some, subst, sym}, KeptItems.holder-started}
 use Rattle.case_core.proofs.live_of.LiveOf.holder.Goals as goal
 
 pub returns-in-Some-Held-clause-started : goal.returns-in-Some-Held-clause-started

@@ -1,11 +1,4 @@
-use Rattle.std.proofs.Common.{subst}
-use Rattle.case_core.proofs.KeptItems.{held-are, items-are, keeps-of}
-use Rattle.case_core.specs.CaseModel.{LiveModel}
-use Rattle.case_core.specs.Instances.{live_in}
-use Rattle.case_core.specs.Kept.{Kept}
-use Rattle.case_core.specs.KeptItems.{KeepsItems}
-use Rattle.wsm_lists.specs.Keys.{first}
-use Rattle.wsm_lists.specs.Rows.{Ascends}
+use Rattle.case_core.proofs.{Common.{Ascends, first, KeepsItems, Kept, live_in, LiveModel, subst}, KeptItems.{held-are, items-are, keeps-of}}
 use Rattle.case_core.proofs.live_of.LiveOf.items.Goals as goal
 
 pub returns-clause-items : goal.returns-clause-items

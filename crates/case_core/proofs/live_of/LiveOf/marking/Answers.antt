@@ -1,10 +1,5 @@
-use Rattle.std.proofs.Common.{◌≡◌, [], List, ◌∙◌, ap}
+use Rattle.case_core.proofs.{Common.{[], ◌∙◌, ◌≡◌, ap, by_node, Card, List, LiveModel, put_row, shown_spots, spot_in, Spots}, Marked.shown-again}
 use Rattle.std.specs.List.{fold}
-use Rattle.case_core.proofs.Marked.{shown-again}
-use Rattle.case_core.specs.CaseModel.{LiveModel, shown_spots}
-use Rattle.wsm_lists.specs.Rows.{put_row}
-use Rattle.wsm_schema.specs.Rules.{Spots, by_node, spot_in}
-use Rattle.wsm_schema.specs.declared.cards.Card.{Card}
 use Rattle.case_core.proofs.live_of.LiveOf.marking.Goals as goal
 
 pub loop-card-init : goal.loop-card-init

@@ -1,8 +1,5 @@
-use Rattle.std.proofs.Common.{◌≡◌, drop}
+use Rattle.case_core.proofs.Common.{◌≡◌, by_node, drop, put_row, shown_spots, spot_in}
 use Rattle.std.specs.List.{fold}
-use Rattle.case_core.specs.CaseModel.{shown_spots}
-use Rattle.wsm_lists.specs.Rows.{put_row}
-use Rattle.wsm_schema.specs.Rules.{by_node, spot_in}
 use Rattle.case_core.proofs.live_of.LiveOf.marking.Given as goal
 
 abbrev pub invariant-loop-card : goal.invariant-loop-card

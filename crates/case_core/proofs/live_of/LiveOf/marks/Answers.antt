@@ -1,5 +1,4 @@
-use Rattle.std.proofs.Common.{◌∙◌, ap}
-use Rattle.case_core.specs.Kept.{marks_in}
+use Rattle.case_core.proofs.Common.{◌∙◌, ap, marks_in}
 use Rattle.case_core.proofs.live_of.LiveOf.marks.Goals as goal
 
 pub returns-clause-rows : goal.returns-clause-rows

@@ -1,9 +1,5 @@
-use Rattle.std.proofs.Common.{◌≡◌, [], ap, sym, ◌∙◌, rules}
-use Rattle.std.proofs.lemmas.Result.{IfOk-weaker}
+use Rattle.case_core.proofs.{Common.{[], ◌∙◌, ◌≡◌, ap, IfOk-weaker, least_overlap, ops_after, rules, sym}, NoOverlap.no-overlap}
 use Rattle.case_core.specs.Machine.{overlap_with}
-use Rattle.wsm_foot.specs.Foot.{least_overlap}
-use Rattle.wsm_sound.specs.Versions.{ops_after}
-use Rattle.case_core.proofs.NoOverlap.{no-overlap}
 use Rattle.case_core.proofs.live_of.LiveOf.overlap_with.Goals as goal
 
 pub returns-then-is_empty : goal.returns-then-is_empty

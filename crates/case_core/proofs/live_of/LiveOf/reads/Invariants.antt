@@ -1,6 +1,4 @@
-use Rattle.std.proofs.Common.{◌≡◌, ◌++◌, drop, map}
-use Rattle.case_core.specs.CaseModel.{value_now}
-use Rattle.case_core.specs.Machine.{reads_now}
+use Rattle.case_core.proofs.Common.{◌++◌, ◌≡◌, drop, map, reads_now, value_now}
 use Rattle.case_core.proofs.live_of.LiveOf.reads.Given as goal
 
 abbrev pub invariant-loop-edge : goal.invariant-loop-edge

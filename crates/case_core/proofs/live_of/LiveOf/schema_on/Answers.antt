@@ -1,6 +1,4 @@
-use Rattle.std.proofs.Common.{◌≡◌, [], Ok, None, rules, sym, ◌∙◌, ap}
-use Rattle.wsm_sound.proofs.NoFaults.{change_none}
-use Rattle.wsm_sound.specs.Faults.{changed_by, fault_of}
+use Rattle.case_core.proofs.Common.{[], ◌∙◌, ◌≡◌, ap, change_none, changed_by, fault_of, None, Ok, rules, sym}
 use Rattle.case_core.proofs.live_of.LiveOf.schema_on.Goals as goal
 
 pub returns-then-is_empty-clause-ok : goal.returns-then-is_empty-clause-ok

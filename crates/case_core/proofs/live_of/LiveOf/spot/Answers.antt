@@ -1,12 +1,4 @@
-use Rattle.std.proofs.Common.{◌≡◌, Some, None, refl, sym, ◌∙◌, ap}
-use Rattle.std.specs.Option.{option_copied}
-use Rattle.case_core.proofs.Marked.{spot-marked, spot-none}
-use Rattle.case_core.specs.CaseModel.{LiveModel}
-use Rattle.case_core.specs.Kept.{marks_in}
-use Rattle.wsm_lists.specs.ByNumber.{item_at}
-use Rattle.wsm_schema.specs.Flat.{card_at, cards_of}
-use Rattle.wsm_walk.specs.Kept.{mark_or}
-use Rattle.wsm_walk.specs.MarkStates.{mark_spot}
+use Rattle.case_core.proofs.{Common.{◌∙◌, ◌≡◌, ap, card_at, cards_of, item_at, LiveModel, mark_or, mark_spot, marks_in, None, option_copied, refl, Some, sym}, Marked.{spot-marked, spot-none}}
 use Rattle.case_core.proofs.live_of.LiveOf.spot.Goals as goal
 
 pub returns-in-None : goal.returns-in-None

@@ -1,12 +1,4 @@
-use Rattle.std.proofs.Common.{◌≡◌, ◌∙◌, ap}
-use Rattle.std.proofs.lemmas.Result.{IfOk-weaker}
-use Rattle.case_core.proofs.Marked.{start-remarks}
-use Rattle.case_core.specs.CaseModel.{LiveModel}
-use Rattle.case_core.specs.Kept.{Kept}
-use Rattle.case_core.specs.Remarks.{StartRemarks}
-use Rattle.wsm_schema.specs.Flat.{flat_of}
-use Rattle.wsm_schema.specs.Trail.{TrailModel}
-use Rattle.wsm_settle.specs.Events.{StartsRight}
+use Rattle.case_core.proofs.{Common.{◌∙◌, ◌≡◌, ap, flat_of, IfOk-weaker, Kept, LiveModel, StartRemarks, StartsRight, TrailModel}, Marked.start-remarks}
 use Rattle.case_core.proofs.live_of.LiveOf.start_changes.Goals as goal
 
 pub returns-clause-changes : goal.returns-clause-changes

@@ -1,7 +1,4 @@
-use Rattle.std.proofs.Common.{subst}
-use Rattle.case_core.proofs.TrailFacts.{once-each}
-use Rattle.case_core.specs.CaseModel.{LiveModel}
-use Rattle.case_core.specs.Kept.{Kept}
+use Rattle.case_core.proofs.{Common.{Kept, LiveModel, subst}, TrailFacts.once-each}
 use Rattle.case_core.proofs.live_of.LiveOf.trail.Goals as goal
 
 pub returns-clause-once : goal.returns-clause-once

@@ -1,9 +1,4 @@
-use Rattle.std.proofs.Common.{◌≡◌, true, Some, sym, subst, ◌∙◌, ap}
-use Rattle.std.proofs.lemmas.Result.{IfOk-weaker}
-use Rattle.case_core.proofs.Fairness.{never-stuck, fair}
-use Rattle.case_core.proofs.TrailFacts.{last-writes}
-use Rattle.case_core.specs.Promises.{AreLastWrites, goes_on, IsFair}
-use Rattle.case_core.specs.Shown.{shown_live}
+use Rattle.case_core.proofs.{Common.{◌∙◌, ◌≡◌, ap, AreLastWrites, goes_on, IfOk-weaker, IsFair, shown_live, Some, subst, sym, true}, Fairness.{never-stuck, fair}, TrailFacts.last-writes}
 use Rattle.case_core.proofs.live_of.LiveOf.view.Goals as goal
 
 pub returns-clause-goes_on : goal.returns-clause-goes_on

@@ -1,10 +1,4 @@
-use Rattle.std.proofs.lemmas.Result.{IfOk-weaker}
-use Rattle.case_core.proofs.Marked.{withdraw-remarks}
-use Rattle.case_core.specs.CaseModel.{LiveModel}
-use Rattle.case_core.specs.Kept.{Kept}
-use Rattle.case_core.specs.Remarks.{Remarks}
-use Rattle.wsm_settle.specs.Events.{WithdrawsRight}
-use Rattle.wsm_trail.specs.Withdrawn.{withdrawn}
+use Rattle.case_core.proofs.{Common.{IfOk-weaker, Kept, LiveModel, Remarks, withdrawn, WithdrawsRight}, Marked.withdraw-remarks}
 use Rattle.case_core.proofs.live_of.LiveOf.withdraw_changes.Goals as goal
 
 pub returns-clause-changes : goal.returns-clause-changes

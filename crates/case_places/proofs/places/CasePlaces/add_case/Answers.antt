@@ -1,6 +1,4 @@
-use Rattle.std.proofs.Common.{◌≡◌, ◌<◌, ◌+◌, ◌^◌, ◌++◌, ◌∷◌, [], ◌∙◌, ℕ, List, ap, arith, get_or, length, map, set, subst, sym}
-use Rattle.std.proofs.lemmas.List.{get_or-map, length-append, length-map, length-set, map-append, map-set}
-use Rattle.std.proofs.Math.Seq.{map-set_same}
+use Rattle.std.proofs.{Common.{◌≡◌, ◌<◌, ◌+◌, ◌^◌, ◌++◌, ◌∷◌, [], ◌∙◌, ℕ, List, ap, arith, get_or, length, map, set, subst, sym}, lemmas.List.{get_or-map, length-append, length-map, length-set, map-append, map-set}, Math.Seq.map-set_same}
 use Rattle.case_places.specs.Places.{AreRows}
 use Rattle.case_places.proofs.Rows.{case-added}
 use Rattle.case_places.proofs.places.CasePlaces.add_case.Goals as goal

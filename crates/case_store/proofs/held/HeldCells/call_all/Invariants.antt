@@ -1,5 +1,4 @@
-use Rattle.std.proofs.Common.{drop}
-use Rattle.case_store.proofs.Calling.{Made}
+use Rattle.case_store.proofs.{Common.drop, Calling.Made}
 use Rattle.case_store.proofs.held.HeldCells.call_all.Given as goal
 
 abbrev pub invariant-loop-call : goal.invariant-loop-call

@@ -1,7 +1,4 @@
-use Rattle.std.proofs.Common.{◌≡◌, ◌≤◌, length, ap, subst, sym, arith}
-use Rattle.std.specs.List.{AllByRecursion}
-use Rattle.case_store.proofs.Cells.{length-fresh, starts-within}
-use Rattle.case_store.specs.Folding.{fresh_cases, starts_of}
+use Rattle.case_store.proofs.{Common.{◌≡◌, ◌≤◌, AllByRecursion, ap, arith, fresh_cases, length, starts_of, subst, sym}, Cells.{length-fresh, starts-within}}
 use Rattle.case_store.proofs.held.HeldCells.new.Goals as goal
 
 pub invariant_of-result : goal.invariant_of-result

@@ -1,8 +1,5 @@
-use Rattle.std.proofs.Common.{◌≡◌, ◌<◌, Some, length, ap, refl, sym, ◌∙◌, arith}
-use Rattle.std.specs.Prelude.{slice_get}
+use Rattle.case_store.proofs.{Common.{◌<◌, ◌∙◌, ◌≡◌, ap, arith, length, place_of, refl, slice_get, Some, sym}, Cells.{case-answers, case-called, case-older, case-young, place-within}}
 use Rattle.std.proofs.lemmas.Option.{slice_get_read}
-use Rattle.case_store.proofs.Cells.{case-answers, case-called, case-older, case-young, place-within}
-use Rattle.case_store.specs.Folding.{place_of}
 use Rattle.case_store.proofs.held.HeldCells.on_case.Goals as goal
 
 pub index_mut-requires : goal.index_mut-requires

@@ -1,8 +1,4 @@
-use Rattle.std.proofs.Common.{◌≡◌, ◌+◌, take, drop, false, true, ◌-◌, List, ℕ, ap, subst, arith}
-use Rattle.std.proofs.lemmas.List.{take_rest}
-use Rattle.case_store.proofs.Folds.{goes-further, is-cut, refused-here}
-use Rattle.case_store.specs.Damage.{TakesIn}
-use Rattle.store_disk.specs.Opening.{IsFrame}
+use Rattle.case_store.proofs.{Common.{ℕ, ◌+◌, ◌-◌, ◌≡◌, ap, arith, drop, false, IsFrame, List, subst, take, take_rest, TakesIn, true}, Folds.{goes-further, is-cut, refused-here}}
 use Rattle.store_disk.specs.declared.frames.Frame.TheVariants as front
 use Rattle.case_store.proofs.held.HeldCells.take_all.Goals as goal
 

@@ -1,5 +1,4 @@
-use Rattle.std.proofs.Common.{length}
-use Rattle.case_store.proofs.Folds.{Reached}
+use Rattle.case_store.proofs.{Common.length, Folds.Reached}
 use Rattle.case_store.proofs.held.HeldCells.take_all.Given as goal
 
 abbrev pub invariant-loop-len : goal.invariant-loop-len

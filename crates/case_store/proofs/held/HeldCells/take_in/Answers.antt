@@ -1,7 +1,4 @@
-use Rattle.std.proofs.Common.{subst}
-use Rattle.case_store.proofs.Folds.{none-older, room-for, takes-in}
-use Rattle.script_run.specs.Oldest.{oldest}
-use Rattle.store_form.specs.Payload.{IsPayloadOf, Reads}
+use Rattle.case_store.proofs.{Common.{IsPayloadOf, oldest, Reads, subst}, Folds.{none-older, room-for, takes-in}}
 use Rattle.case_store.proofs.held.HeldCells.take_in.Goals as goal
 
 pub call_recorded-requires-clause-young : goal.call_recorded-requires-clause-young

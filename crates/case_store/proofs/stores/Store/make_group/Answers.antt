@@ -1,12 +1,5 @@
-use Rattle.std.proofs.Common.{◌+◌, ◌<◌, ◌≤◌, ◌^◌, false, length, map, subst, sym}
-use Rattle.case_store.proofs.Folds.{all-steps, room-for-all, stays}
+use Rattle.case_store.proofs.{Common.{◌+◌, ◌<◌, ◌^◌, ◌≤◌, all_framed, AreKnown, false, HasNoneOrAll, IsStore, LeavesOnly, length, map, oldest, payload_of, subst, sym}, Folds.{all-steps, room-for-all, stays}}
 use Rattle.case_store.proofs.stores.Store.make_group.Goals as goal
-use Rattle.case_store.specs.Standing.{AreKnown, IsStore}
-use Rattle.script_run.specs.Oldest.{oldest}
-use Rattle.store_disk.specs.Disk.{LeavesOnly}
-use Rattle.store_disk.specs.Image.{all_framed}
-use Rattle.store_disk.specs.Rest.{HasNoneOrAll}
-use Rattle.store_room.specs.Room.{payload_of}
 
 pub call_all-requires-clause-young : goal.call_all-requires-clause-young
 call_all-requires-clause-young g c =

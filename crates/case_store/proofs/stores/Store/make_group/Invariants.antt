@@ -1,5 +1,5 @@
 use Rattle.std.specs.Prelude.{map}
-use Rattle.store_room.specs.Room.{payload_of}
+use Rattle.case_store.proofs.Common.{payload_of}
 use Rattle.case_store.proofs.stores.Store.make_group.Given as goal
 
 abbrev pub ghost-append_group : goal.ghost-append_group

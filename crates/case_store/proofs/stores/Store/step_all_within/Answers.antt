@@ -1,7 +1,5 @@
-use Rattle.std.proofs.Common.{map}
-use Rattle.case_store.proofs.Folds.{known-payable, stays}
+use Rattle.case_store.proofs.{Common.{map, payload_of}, Folds.{known-payable, stays}}
 use Rattle.case_store.proofs.stores.Store.step_all_within.Goals as goal
-use Rattle.store_room.specs.Room.{payload_of}
 
 pub group_within-requires-clause-payable : goal.group_within-requires-clause-payable
 group_within-requires-clause-payable g c =

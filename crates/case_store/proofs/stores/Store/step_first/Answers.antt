@@ -1,13 +1,7 @@
-use Rattle.std.proofs.Common.{◌≡◌, ◌++◌, ◌∙◌, [], false, Some, ap, arith, drop, map, subst, sym, take}
-use Rattle.std.proofs.lemmas.List.{length-take-le, take-append-drop}
-use Rattle.case_store.proofs.Calling.{told-many}
-use Rattle.case_store.proofs.Folds.{known-payable, stays}
+use Rattle.case_store.proofs.{Common.{[], ◌++◌, ◌∙◌, ◌≡◌, answers_of, ap, AreKnown, arith, drop, false, IsStore, length-take-le, map, payload_of, Some, subst, sym, take, take-append-drop}, Calling.told-many, Folds.{known-payable, stays}}
 use Rattle.case_store.proofs.Staying.{known-front}
 use Rattle.case_store.proofs.stores.Store.step_first.Goals as goal
-use Rattle.case_store.specs.Folding.{answers_of}
-use Rattle.case_store.specs.Standing.{AreKnown, IsStore}
 use Rattle.store_room.specs.Groups.{IsFirstGroup}
-use Rattle.store_room.specs.Room.{payload_of}
 
 pub first_group-requires-clause-payable : goal.first_group-requires-clause-payable
 first_group-requires-clause-payable g c =

@@ -1,12 +1,4 @@
-use Rattle.std.proofs.Common.{arith, ◌≡◌, ◌≤◌, ◌∙◌, [], ◌∷◌, false, true, map, ap, subst, sym}
-use Rattle.case_store.proofs.Folds.{one-step, room, stays}
-use Rattle.case_store.specs.Folding.{has}
-use Rattle.case_store.specs.Standing.{IsStore}
-use Rattle.store_room.specs.Room.{Passes, payload_of}
-use Rattle.script_run.specs.Oldest.{oldest}
-use Rattle.store_disk.specs.Disk.{LeavesOnly}
-use Rattle.store_disk.specs.Rest.{IsBeforeOrAfter, appended}
-use Rattle.store_form.specs.Payload.{payload}
+use Rattle.case_store.proofs.{Common.{[], ◌∙◌, ◌∷◌, ◌≡◌, ◌≤◌, ap, appended, arith, false, has, IsBeforeOrAfter, IsStore, LeavesOnly, map, oldest, Passes, payload, payload_of, subst, sym, true}, Folds.{one-step, room, stays}}
 use Rattle.case_store.proofs.stores.Store.step_within.Goals as goal
 
 pub returns-in_err-framed-clause-any_moment : goal.returns-in_err-framed-clause-any_moment

@@ -1,5 +1,5 @@
 use Rattle.std.specs.Prelude.{map}
-use Rattle.store_room.specs.Room.{payload_of}
+use Rattle.case_store.proofs.Common.{payload_of}
 use Rattle.case_store.proofs.stores.Store.step_within.Given as goal
 
 abbrev pub ghost-append : goal.ghost-append

@@ -1,8 +1,4 @@
-use Rattle.std.proofs.Common.{◌≡◌, ◌<◌, ◌+◌, ◌^◌, ◌∙◌, length, arith}
-use Rattle.std.proofs.lemmas.Grind.{get_or_default_zero}
-use Rattle.std.specs.Prelude.{slice_index}
-use Rattle.file_model.specs.CaseCounts.{cases_of_type}
-use Rattle.file_model.proofs.CountedCases.{few_of_type}
+use Rattle.file_model.proofs.{Common.{◌+◌, ◌<◌, ◌^◌, ◌∙◌, ◌≡◌, arith, cases_of_type, get_or_default_zero, length, slice_index}, CountedCases.few_of_type}
 use Rattle.file_model.proofs.case_tables.CaseTable.push.Goals as goal
 
 pub overflow_add-count : goal.overflow_add-count

@@ -1,6 +1,4 @@
-use Rattle.std.proofs.Common.{ap}
-use Rattle.file_model.specs.declared.states.Contents.{Contents}
-use Rattle.file_units.proofs.Mirror.{nothing-front}
+use Rattle.file_units.proofs.{Common.{ap, Contents}, Mirror.nothing-front}
 use Rattle.file_units.proofs.held.HeldFile.new.Goals as goal
 
 pub bring_up-requires-clause-front : goal.bring_up-requires-clause-front

@@ -1,5 +1,4 @@
-use Rattle.std.proofs.Common.{sym, string_bytes, arith}
-use Rattle.log_fit.proofs.WordCounts.{too_few}
+use Rattle.log_fit.proofs.{Common.{arith, string_bytes, sym}, WordCounts.too_few}
 use Rattle.log_fit.proofs.asking.Asked.of.Goals as goal
 
 pub returns-in-len1 : goal.returns-in-len1

@@ -1,7 +1,5 @@
-use Rattle.std.proofs.Common.{◌≡◌, ◌<◌, length, slice_set, rules, arith, ◌∙◌, ap, refl}
-use Rattle.file_names.specs.Names.{noted, number_of}
-use Rattle.log_fit.proofs.Takings.{few_at, in_rows, taken}
-use Rattle.log_fit.specs.Rows.{rows_with}
+use Rattle.log_fit.proofs.{Common.{◌<◌, ◌∙◌, ◌≡◌, ap, arith, length, noted, number_of, refl, rows_with, rules}, Takings.{few_at, in_rows, taken}}
+use Rattle.std.proofs.Common.{slice_set}
 use Rattle.log_fit.proofs.tables.CaseTable.take.Goals as goal
 
 pub index_mut-requires : goal.index_mut-requires

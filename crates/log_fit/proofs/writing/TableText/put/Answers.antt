@@ -1,8 +1,4 @@
-use Rattle.std.proofs.Common.{◌≡◌, ap}
-use Rattle.std.specs.List.{flat_map}
-use Rattle.adept_io.proofs.Sent.{gives_then}
-use Rattle.log_fit.specs.Table.{fit_line}
-use Rattle.report_words.proofs.Rows.{gives_as}
+use Rattle.log_fit.proofs.Common.{◌≡◌, ap, fit_line, flat_map, gives_as, gives_then}
 use Rattle.log_fit.proofs.writing.TableText.put.Goals as goal
 
 pub returns : goal.returns

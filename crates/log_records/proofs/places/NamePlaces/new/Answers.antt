@@ -1,7 +1,5 @@
-use Rattle.std.proofs.Common.{◌≡◌, ℕ, ◌+◌, ◌-◌, ◌<◌, ◌∷◌, length, drop, get_or, ◌∙◌, ap, refl, arith, add-one}
-use Rattle.std.proofs.Math.Seq.{drop-cons}
-use Rattle.std.specs.Map.{lookup}
-use Rattle.std.specs.Str.{bytes_eq}
+use Rattle.std.proofs.{Common.{◌≡◌, ℕ, ◌+◌, ◌-◌, ◌<◌, ◌∷◌, length, drop, get_or, ◌∙◌, ap, refl, arith, add-one}, Math.Seq.drop-cons}
+use Rattle.std.specs.{Map.lookup, Str.bytes_eq}
 use Rattle.log_records.proofs.Finding.{one_more}
 use Rattle.log_records.proofs.places.NamePlaces.new.Goals as goal
 

@@ -1,6 +1,5 @@
 use Rattle.std.proofs.Common.{◌≡◌, true}
-use Rattle.csv.specs.Records.{fields_of}
-use Rattle.csv.specs.Reading.{has_failed}
+use Rattle.csv.specs.{Records.fields_of, Reading.has_failed}
 use Rattle.log_records.specs.Records.{IsGoing}
 use Rattle.log_records.proofs.Reading.{found_next, none_next}
 use Rattle.log_records.proofs.readers.LogReader.next.Goals as goal

@@ -1,6 +1,5 @@
 use Rattle.std.proofs.lemmas.Result.{on_ok_weaker}
-use Rattle.case_core.specs.Ages.{weight}
-use Rattle.script_run.proofs.Aging.{young-at, oldest-changed_at}
+use Rattle.script_run.proofs.{Common.weight, Aging.{young-at, oldest-changed_at}}
 use Rattle.script_run.proofs.calls.Working.on_case.Goals as goal
 
 pub on_case_at-requires : goal.on_case_at-requires

@@ -1,10 +1,6 @@
-use Rattle.std.proofs.Common.{◌≡◌, ◌<◌, length, get_or, take, ap, sym, ◌∙◌}
-use Rattle.case_core.specs.Ages.{weight}
-use Rattle.script_run.specs.Calls.{call_case, changed_at}
-use Rattle.script_run.proofs.Aging.{young-at, oldest-each_of}
-use Rattle.script_run.proofs.Each.{each-at, each-called, each-passed}
-use Rattle.script_run.proofs.calls.Working.on_each.Goals as goal
+use Rattle.script_run.proofs.{Common.{◌<◌, ◌∙◌, ◌≡◌, ap, call_case, changed_at, get_or, length, sym, take, weight}, Aging.{young-at, oldest-each_of}, Each.{each-at, each-called, each-passed}}
 use Rattle.script_run.proofs.calls.Working.on_each.Goals.{then-is_among+in_ok-copy+in_ok-on_case_at, else-is_among}
+use Rattle.script_run.proofs.calls.Working.on_each.Goals as goal
 
 pub on_case_at-requires : goal.on_case_at-requires
 on_case_at-requires c =

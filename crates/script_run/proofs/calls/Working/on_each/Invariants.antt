@@ -1,5 +1,4 @@
-use Rattle.std.proofs.Common.{◌≡◌, take}
-use Rattle.script_run.specs.Calls.{call_case, each_of}
+use Rattle.script_run.proofs.Common.{◌≡◌, call_case, each_of, take}
 use Rattle.script_run.proofs.calls.Working.on_each.Given as goal
 
 abbrev pub invariant-loop-place : goal.invariant-loop-place

@@ -1,8 +1,4 @@
-use Rattle.std.proofs.Common.{◌≡◌, ◌+◌, ◌≤◌, drop}
-use Rattle.file_model.specs.Sizes.{phase_effort}
-use Rattle.script_run.specs.Oldest.{oldest}
-use Rattle.script_run.specs.Parts.{run_of}
-use Rattle.script_run.specs.Serial.{phase_worked}
+use Rattle.script_run.proofs.Common.{◌+◌, ◌≡◌, ◌≤◌, drop, oldest, phase_effort, phase_worked, run_of}
 use Rattle.script_run.proofs.calls.Working.work_phase.Given as goal
 
 abbrev pub invariant-loop-line : goal.invariant-loop-line

@@ -1,6 +1,4 @@
-use Rattle.std.proofs.Common.{◌≡◌, drop}
-use Rattle.script_run.specs.Parts.{checking_of}
-use Rattle.script_run.specs.Verdicts.{judged_phase}
+use Rattle.script_run.proofs.Common.{◌≡◌, checking_of, drop, judged_phase}
 use Rattle.script_run.proofs.checking.Judging.judge_phase.Given as goal
 
 abbrev pub invariant-loop-line : goal.invariant-loop-line

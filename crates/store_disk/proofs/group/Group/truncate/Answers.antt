@@ -1,6 +1,4 @@
-use Rattle.std.proofs.Common.{[], ◌∷◌, ◌++◌, subst, ap, ◌∙◌}
-use Rattle.store_disk.specs.Rest.{IsGroupOf}
-use Rattle.store_disk.proofs.Groups.{is-truncated, truncated}
+use Rattle.store_disk.proofs.{Common.{[], ◌++◌, ◌∙◌, ◌∷◌, ap, IsGroupOf, subst}, Groups.{is-truncated, truncated}}
 use Rattle.store_disk.proofs.group.Group.truncate.Goals as goal
 
 pub invariant_of-self : goal.invariant_of-self

@@ -1,7 +1,4 @@
-use Rattle.std.proofs.Common.{◌∷◌, map, sym, ap, subst, ◌∙◌}
-use Rattle.store_disk.specs.History.{synced}
-use Rattle.store_disk.specs.Entries.{IsHeld, first_of, past_of}
-use Rattle.store_disk.proofs.Entries.{past-synced}
+use Rattle.store_disk.proofs.{Common.{◌∙◌, ◌∷◌, ap, first_of, IsHeld, map, past_of, subst, sym, synced}, Entries.past-synced}
 use Rattle.store_disk.proofs.logged.LoggedBytes.sync.Goals as goal
 
 pub invariant_of-self : goal.invariant_of-self

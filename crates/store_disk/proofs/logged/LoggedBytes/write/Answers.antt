@@ -1,7 +1,4 @@
-use Rattle.std.proofs.Common.{◌∷◌, map, length, ap, ◌∙◌}
-use Rattle.store_disk.specs.History.{has_written, wrote}
-use Rattle.store_disk.specs.Entries.{past_of}
-use Rattle.store_disk.proofs.Entries.{past-wrote}
+use Rattle.store_disk.proofs.{Common.{◌∙◌, ◌∷◌, ap, has_written, length, map, past_of, wrote}, Entries.past-wrote}
 use Rattle.store_disk.proofs.logged.LoggedBytes.write.Goals as goal
 
 pub invariant_of-self : goal.invariant_of-self

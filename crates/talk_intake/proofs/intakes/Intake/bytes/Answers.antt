@@ -1,5 +1,4 @@
-use Rattle.std.proofs.Common.{◌≡◌, ◌∙◌, ◌≤◌, length, arith, subst, sym}
-use Rattle.std.proofs.lemmas.List.{take_all}
+use Rattle.std.proofs.{Common.{◌≡◌, ◌∙◌, ◌≤◌, length, arith, subst, sym}, lemmas.List.take_all}
 use Rattle.talk_intake.proofs.intakes.Intake.bytes.Goals as goal
 
 pub returns : goal.returns

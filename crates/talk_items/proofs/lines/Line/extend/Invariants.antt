@@ -1,4 +1,4 @@
-use Rattle.std.proofs.Common.{◌≡◌, ◌++◌, take}
+use Rattle.talk_items.proofs.Common.{◌++◌, ◌≡◌, take}
 use Rattle.talk_items.proofs.lines.Line.extend.Given as goal
 
 abbrev pub invariant-loop-byte : goal.invariant-loop-byte

@@ -1,7 +1,5 @@
-use Rattle.std.proofs.Common.{◌≡◌, arith, take}
+use Rattle.talk_items.proofs.{Common.{◌≡◌, arith, take, words}, Fronts.four_told}
 use Rattle.std.proofs.lemmas.Grind.{common_steps}
-use Rattle.talk_items.specs.Items.{words}
-use Rattle.talk_items.proofs.Fronts.{four_told}
 use Rattle.talk_items.proofs.lines.Line.into_first.Goals as goal
 
 pub returns : goal.returns

@@ -1,7 +1,4 @@
-use Rattle.std.proofs.Common.{subst, sym}
-use Rattle.std.specs.Prelude.{map}
-use Rattle.talk_items.specs.Scans.{IsScan}
-use Rattle.talk_items.proofs.Scanned.{part-scanned}
+use Rattle.talk_items.proofs.{Common.{IsScan, map, subst, sym}, Scanned.part-scanned}
 use Rattle.talk_items.proofs.scanner.Scanner.begin_line.Goals as goal
 
 pub invariant_of-self : goal.invariant_of-self

@@ -1,13 +1,6 @@
-use Rattle.std.proofs.Common.{◌≡◌, ◌++◌, ◌∷◌, [], ◌+◌, ◌∙◌, arith, ap, length, min, refl, subst, sym}
-use Rattle.std.specs.Prelude.{map}
-use Rattle.file_words.specs.Lines.{Bytes, lines_of}
-use Rattle.talk_items.specs.Items.{ends, ends_line, place_behind, place_of, words}
+use Rattle.talk_items.proofs.Common.{[], ◌++◌, ◌+◌, ◌∙◌, ◌∷◌, ◌≡◌, ap, arith, Bytes, counted_with, ends, ends_line, first_with, IsScan, length, lines_of, map, MAX_ITEM, min, place_behind, place_of, refl, subst, sym, TellAll, words}
+use Rattle.talk_items.proofs.{Fronts.{counted-told, ends-told, first-told, place-told}, Scanned.{ends-feed, feed-scanned, few-counted, part-scanned}}
 use Rattle.talk_items.specs.declared.items.Place.TheVariants as places
-use Rattle.talk_items.specs.declared.limits.TheConstants.{MAX_ITEM}
-use Rattle.talk_items.specs.Fronts.{TellAll}
-use Rattle.talk_items.specs.Scans.{IsScan, counted_with, first_with}
-use Rattle.talk_items.proofs.Fronts.{counted-told, ends-told, first-told, place-told}
-use Rattle.talk_items.proofs.Scanned.{ends-feed, feed-scanned, few-counted, part-scanned}
 use Rattle.talk_items.proofs.scanner.Scanner.end_line.Goals as goal
 
 pub counted_with-self-inside-requires : goal.counted_with-self-inside-requires

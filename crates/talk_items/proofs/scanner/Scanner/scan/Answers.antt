@@ -1,10 +1,6 @@
-use Rattle.std.proofs.Common.{◌≡◌, ◌==◌, ◌++◌, ◌∷◌, [], ◌-◌, ◌∙◌, arith, ap, length, drop, length-drop, take, take_all, Some, None, subst, sym}
+use Rattle.talk_items.proofs.{Common.{[], ◌++◌, ◌-◌, ◌==◌, ◌∙◌, ◌∷◌, ◌≡◌, ap, arith, Bytes, drop, ends, HasNoFeed, length, length-drop, None, Some, subst, sym, take, take_all}, Feeds.{first-feed, no-feeds}, Scanned.{scan-all, scan-ends}}
+use Rattle.talk_items.proofs.Scanned.{scan-line, scan-none}
 use Rattle.std.specs.Prelude.{position}
-use Rattle.file_words.specs.Lines.{Bytes}
-use Rattle.talk_items.specs.Items.{ends}
-use Rattle.talk_items.specs.Scans.{HasNoFeed}
-use Rattle.talk_items.proofs.Feeds.{first-feed, no-feeds}
-use Rattle.talk_items.proofs.Scanned.{scan-all, scan-ends, scan-line, scan-none}
 use Rattle.talk_items.proofs.scanner.Scanner.scan.Goals as goal
 
 pub loop-len-init : goal.loop-len-init

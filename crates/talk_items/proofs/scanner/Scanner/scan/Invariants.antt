@@ -1,5 +1,4 @@
-use Rattle.std.proofs.Common.{◌≤◌, ◌-◌, length}
-use Rattle.talk_items.proofs.Scanned.{SoFar}
+use Rattle.talk_items.proofs.{Common.{◌-◌, ◌≤◌, length}, Scanned.SoFar}
 use Rattle.talk_items.proofs.scanner.Scanner.scan.Given as goal
 
 abbrev pub invariant-loop-len : goal.invariant-loop-len

@@ -1,9 +1,5 @@
-use Rattle.std.proofs.Common.{◌∙◌, ap, sym}
-use Rattle.std.specs.Prelude.{map, take}
-use Rattle.file_words.specs.Words.{words_of}
-use Rattle.talk_items.specs.Cuts.{cut}
-use Rattle.talk_items.specs.Keywords.{keyword}
-use Rattle.talk_items.proofs.Cutting.{words-of-cut}
+use Rattle.talk_items.proofs.{Common.{◌∙◌, ap, cut, keyword, map, sym, words_of}, Cutting.words-of-cut}
+use Rattle.std.specs.Prelude.{take}
 use Rattle.talk_items.proofs.words.Words.into_first.Goals as goal
 
 pub returns : goal.returns

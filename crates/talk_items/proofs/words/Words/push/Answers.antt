@@ -1,11 +1,5 @@
-use Rattle.std.proofs.Common.{◌≡◌, ◌∷◌, [], ◌∙◌, ap, subst, sym}
-use Rattle.std.specs.Prelude.{map, take}
-use Rattle.std.proofs.lemmas.List.{map-append}
-use Rattle.file_words.specs.Words.{behind}
-use Rattle.talk_items.specs.Cuts.{cut, cut_more, quoted}
-use Rattle.talk_items.specs.Keywords.{keyword}
-use Rattle.talk_items.proofs.Cutting.{cut-once-more}
-use Rattle.talk_items.proofs.Fronts.{behind-it}
+use Rattle.talk_items.proofs.{Common.{[], ◌∙◌, ◌∷◌, ◌≡◌, ap, behind, cut, cut_more, keyword, map, map-append, quoted, subst, sym}, Cutting.cut-once-more, Fronts.behind-it}
+use Rattle.std.specs.Prelude.{take}
 use Rattle.talk_items.proofs.words.Words.push.Goals as goal
 
 pub invariant_of-self : goal.invariant_of-self

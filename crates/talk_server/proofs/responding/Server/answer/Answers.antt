@@ -1,11 +1,5 @@
-use Rattle.std.proofs.Common.{◌≡◌, ◌<◌, ◌≤◌, ◌++◌, ◌∙◌, ap, length, subst, sym}
-use Rattle.std.specs.Prelude.{codes}
-use Rattle.std.proofs.lemmas.Result.{on_ok_weaker}
-use Rattle.talk_items.specs.Items.{kind}
+use Rattle.talk_server.proofs.{Common.{◌++◌, ◌<◌, ◌∙◌, ◌≡◌, ◌≤◌, ap, codes, kind, length, MAX_ITEM, next_refused, on_ok_weaker, subst, sym, units_in}, Answering.{long-answer, long-by, question-told, short-answer, short-by, unit-told}}
 use Rattle.talk_items.specs.declared.items.ItemKind.TheVariants as kinds
-use Rattle.talk_items.specs.declared.limits.TheConstants.{MAX_ITEM}
-use Rattle.talk_server.specs.Talks.{next_refused, units_in}
-use Rattle.talk_server.proofs.Answering.{long-answer, long-by, question-told, short-answer, short-by, unit-told}
 use Rattle.talk_server.proofs.responding.Server.answer.Goals as goal
 
 pub returns-then-is_too_long-clause-answer : goal.returns-then-is_too_long-clause-answer

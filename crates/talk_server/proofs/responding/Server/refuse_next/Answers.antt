@@ -1,4 +1,4 @@
-use Rattle.std.proofs.Common.{arith}
+use Rattle.talk_server.proofs.Common.{arith}
 use Rattle.talk_items.proofs.Scanned.{few-counted}
 use Rattle.talk_server.proofs.responding.Server.refuse_next.Goals as goal
 

@@ -1,8 +1,4 @@
-use Rattle.std.proofs.Common.{◌≡◌, ◌<◌, ◌≤◌, ◌∙◌, false, length, sym}
-use Rattle.std.proofs.lemmas.Result.{on_ok_weaker}
-use Rattle.talk_items.specs.Items.{is_blank}
-use Rattle.talk_items.specs.declared.limits.TheConstants.{MAX_ITEM}
-use Rattle.talk_server.proofs.Answering.{long-by, long-told, short-by, unended-told}
+use Rattle.talk_server.proofs.{Common.{◌<◌, ◌∙◌, ◌≡◌, ◌≤◌, false, is_blank, length, MAX_ITEM, on_ok_weaker, sym}, Answering.{long-by, long-told, short-by, unended-told}}
 use Rattle.talk_server.proofs.responding.ServerResponder.close.Goals as goal
 
 pub returns-then-is_too_long : goal.returns-then-is_too_long

@@ -1,9 +1,5 @@
-use Rattle.std.proofs.Common.{[], false, subst, sym}
-use Rattle.talk_server.specs.Serving.{Serves}
-use Rattle.talk_server.specs.Talks.{server_rules}
-use Rattle.talk_server.proofs.Answering.{then-serves}
+use Rattle.talk_server.proofs.{Common.{[], false, held_behind, server_rules, Serves, subst, sym}, Answering.then-serves}
 use Rattle.talk_server.proofs.responding.ServerResponder.work.Goals as goal
-use Rattle.turn_loop.specs.Talk.{held_behind}
 
 pub returns-clause-holds : goal.returns-clause-holds
 returns-clause-holds g c = λ first ps item s whole.

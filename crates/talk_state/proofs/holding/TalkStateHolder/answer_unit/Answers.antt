@@ -1,5 +1,4 @@
-use Rattle.std.proofs.Common.{◌++◌, ap, ◌∙◌}
-use Rattle.talk_state.proofs.Answered.{answer-taken}
+use Rattle.talk_state.proofs.{Common.{◌++◌, ◌∙◌, ap}, Answered.answer-taken}
 use Rattle.talk_state.proofs.holding.TalkStateHolder.answer_unit.Goals as goal
 
 pub returns-in_ok-tell_taken-in-Ok-clause-answer : goal.returns-in_ok-tell_taken-in-Ok-clause-answer

@@ -1,8 +1,5 @@
-use Rattle.std.proofs.Common.{length, subst}
-use Rattle.std.specs.Prelude.{IfSome}
-use Rattle.talk_questions.specs.Shown.{shown_asking, shown_trial}
+use Rattle.talk_state.proofs.{Common.{IfSome, length, shown_asking, shown_trial, subst}, Tried.within-more}
 use Rattle.talk_questions.specs.Trials.{IsShort, IsWithin}
-use Rattle.talk_state.proofs.Tried.{within-more}
 use Rattle.talk_state.proofs.states.TalkState.answer.Goals as goal
 
 pub answer_trial-requires : goal.answer_trial-requires

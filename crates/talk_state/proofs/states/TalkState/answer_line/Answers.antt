@@ -1,9 +1,5 @@
-use Rattle.std.proofs.Common.{◌≡◌, ap, sym, ◌∙◌, Some}
-use Rattle.std.specs.Prelude.{option_map}
+use Rattle.talk_state.proofs.{Common.{◌∙◌, ◌≡◌, ap, known_in, option_map, shown_question, Some, sym}, Asking.answer-told}
 use Rattle.talk_questions.specs.Questions.{question_in}
-use Rattle.talk_questions.specs.Shown.{shown_question}
-use Rattle.talk_state.proofs.Asking.{answer-told}
-use Rattle.talk_state.specs.Telling.{known_in}
 use Rattle.talk_state.proofs.states.TalkState.answer_line.Goals as goal
 
 pub returns-in-Some-known : goal.returns-in-Some-known

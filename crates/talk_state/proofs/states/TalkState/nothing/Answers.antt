@@ -1,5 +1,4 @@
-use Rattle.std.proofs.Common.{◌+◌, length, refl, ap}
-use Rattle.talk_state.proofs.Nothing.{nothing-sound}
+use Rattle.talk_state.proofs.{Common.{◌+◌, ap, length, refl}, Nothing.nothing-sound}
 use Rattle.talk_state.proofs.states.TalkState.nothing.Goals as goal
 
 pub invariant_of-result : goal.invariant_of-result

@@ -1,10 +1,4 @@
-use Rattle.std.proofs.Common.{ap, sym, ◌∙◌}
-use Rattle.file_model.specs.Reading.{file_of}
-use Rattle.file_model.specs.declared.files.File.{File}
-use Rattle.report_text.specs.Report.{text}
-use Rattle.report_words.proofs.Rows.{gives_as}
-use Rattle.talk_state.specs.States.{State}
-use Rattle.talk_state.specs.Telling.{told}
+use Rattle.talk_state.proofs.Common.{◌∙◌, ap, File, file_of, gives_as, State, sym, text, told}
 use Rattle.talk_state.proofs.states.TalkState.put.Goals as goal
 
 pub returns-in-Report : goal.returns-in-Report

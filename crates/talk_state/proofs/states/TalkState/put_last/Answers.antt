@@ -1,10 +1,4 @@
-use Rattle.std.proofs.Common.{◌≡◌, ◌-◌, List, ℕ, ap, sym, ◌∙◌, drop, length, take}
-use Rattle.std.proofs.Math.Seq.{take-length}
-use Rattle.std.proofs.lemmas.List.{drop_min, length-drop}
-use Rattle.adept_io.proofs.Sent.{gives_then}
-use Rattle.report_words.proofs.Rows.{gives_as}
-use Rattle.talk_answers.specs.Lines.{quoted}
-use Rattle.talk_state.specs.States.{State}
+use Rattle.talk_state.proofs.Common.{ℕ, ◌-◌, ◌∙◌, ◌≡◌, ap, drop, drop_min, gives_as, gives_then, length, length-drop, List, quoted, State, sym, take, take-length}
 use Rattle.talk_state.proofs.states.TalkState.put_last.Goals as goal
 
 -- all that is left behind the first so many

@@ -1,13 +1,6 @@
-use Rattle.std.proofs.Common.{◌≡◌, ◌+◌, ◌<◌, ◌^◌, true, ◌∷◌, [], ◌++◌, length, sym, subst, ◌∙◌, arith, rules}
-use Rattle.std.proofs.lemmas.Bool.{ltb-true}
-use Rattle.file_model.specs.declared.files.File.{File}
-use Rattle.file_units.specs.Units.{unit_read}
-use Rattle.talk_state.proofs.Taken.{can-say, sound-try, taken-holds, taken-sound}
-use Rattle.talk_state.proofs.TakenBy.{not_false, taken-by}
-use Rattle.talk_state.specs.States.{Holds, State}
-use Rattle.talk_state.specs.Working.{CanWork}
+use Rattle.talk_state.proofs.{Common.{[], ◌++◌, ◌+◌, ◌<◌, ◌^◌, ◌∙◌, ◌∷◌, ◌≡◌, arith, CanWork, File, Holds, length, ltb-true, rules, State, subst, sym, true, unit_read}, Taken.{can-say, sound-try, taken-holds, taken-sound}}
+use Rattle.talk_state.proofs.{TakenBy.{not_false, taken-by}, states.TalkState.take.Goals.{in-Line+in-End-3, in-Line+in-Change-3, in-Line+in-Install-3, in-Line+in-Create-3, in-Type-3}}
 use Rattle.talk_state.proofs.states.TalkState.take.Goals as goal
-use Rattle.talk_state.proofs.states.TalkState.take.Goals.{in-Line+in-End-3, in-Line+in-Change-3, in-Line+in-Install-3, in-Line+in-Create-3, in-Type-3}
 
 pub work-requires : goal.work-requires
 work-requires c =

@@ -1,6 +1,5 @@
-use Rattle.std.proofs.Common.{◌≡◌, [], None}
+use Rattle.turn_cell.proofs.Common.{[], ◌≡◌, None, Stays, view_at}
 use Rattle.turn_cell.specs.declared.seat_view.Phase.TheVariants.{Idle}
-use Rattle.turn_cell.specs.Passes.{Stays, view_at}
 use Rattle.turn_cell.proofs.cell.Cell.acquire.Given as goal
 
 abbrev pub invariant-loop : goal.invariant-loop

@@ -1,8 +1,5 @@
-use Rattle.std.proofs.Common.{◌≡◌, refl, sym, subst}
-use Rattle.std.specs.Option.{IsSome}
-use Rattle.std.specs.Slots.{slots_items}
-use Rattle.turn_cell.specs.Passes.{IsClosed, view_of}
-use Rattle.turn_cell.proofs.Closing.{closed}
+use Rattle.turn_cell.proofs.{Common.{◌≡◌, IsClosed, refl, subst, sym, view_of}, Closing.closed}
+use Rattle.std.specs.{Option.IsSome, Slots.slots_items}
 use Rattle.turn_cell.proofs.cell.Cell.close.Goals as goal
 
 pub unwrap-machine-requires : goal.unwrap-machine-requires

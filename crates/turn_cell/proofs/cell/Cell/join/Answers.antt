@@ -1,9 +1,6 @@
-use Rattle.std.proofs.Common.{arith, ap, subst, ◌∙◌, length}
+use Rattle.turn_cell.proofs.{Common.{◌∙◌, ap, arith, length, longer, shorter, subst}, Serving.more_of, Joins.joins_pass}
 use Rattle.std.specs.Prelude.{ltb}
 use mathlib.Core.List.{IsPrefix}
-use Rattle.turn_cell.specs.Rule.{longer, shorter}
-use Rattle.turn_cell.proofs.Serving.{more_of}
-use Rattle.turn_cell.proofs.Joins.{joins_pass}
 use Rattle.turn_cell.proofs.cell.Cell.join.Goals as goal
 
 pub join_seat-requires : goal.join_seat-requires

@@ -1,5 +1,4 @@
-use Rattle.std.proofs.Common.{arith, ap, ◌∙◌}
-use Rattle.turn_cell.proofs.Joins.{splits_note, joins_note}
+use Rattle.turn_cell.proofs.{Common.{◌∙◌, ap, arith}, Joins.{splits_note, joins_note}}
 use Rattle.turn_cell.proofs.cell.Cell.meet.Goals as goal
 
 pub split_seat-note-requires : goal.split_seat-note-requires

@@ -1,5 +1,4 @@
-use Rattle.std.proofs.Common.{arith}
-use Rattle.turn_cell.proofs.Turns.{observes}
+use Rattle.turn_cell.proofs.{Common.arith, Turns.observes}
 use Rattle.turn_cell.proofs.cell.Cell.observe.Goals as goal
 
 pub load-requires : goal.load-requires

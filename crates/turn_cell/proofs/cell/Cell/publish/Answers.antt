@@ -1,8 +1,4 @@
-use Rattle.std.proofs.Common.{arith, ◌≡◌, ◌+◌, ◌∷◌, [], ◌++◌, length, length-append, ap, sym, ◌∙◌, subst, Some}
-use Rattle.atomic_table.specs.Table.{rest}
-use Rattle.turn_cell.specs.History.{IsStateAfter, IsLegalFrom}
-use Rattle.turn_cell.specs.Rule.{carried_log}
-use Rattle.turn_cell.proofs.Turns.{releases, commits}
+use Rattle.turn_cell.proofs.{Common.{[], ◌++◌, ◌+◌, ◌∙◌, ◌∷◌, ◌≡◌, ap, arith, carried_log, IsLegalFrom, IsStateAfter, length, length-append, rest, Some, subst, sym}, Turns.{releases, commits}}
 use Rattle.turn_cell.proofs.cell.Cell.publish.Goals as goal
 
 pub store-requires : goal.store-requires

@@ -1,7 +1,4 @@
-use Rattle.std.proofs.Common.{arith, ◌≡◌, ◌∷◌, [], ap, sym, ◌∙◌, subst, Some}
-use Rattle.atomic_table.specs.Table.{rest}
-use Rattle.turn_cell.specs.History.{IsStateAfter}
-use Rattle.turn_cell.proofs.Turns.{releases}
+use Rattle.turn_cell.proofs.{Common.{[], ◌∙◌, ◌∷◌, ◌≡◌, ap, arith, IsStateAfter, rest, Some, subst, sym}, Turns.releases}
 use Rattle.turn_cell.proofs.cell.Cell.put_back.Goals as goal
 
 pub store-requires : goal.store-requires

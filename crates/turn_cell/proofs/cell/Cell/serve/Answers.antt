@@ -1,7 +1,4 @@
-use Rattle.std.proofs.Common.{◌≡◌, ◌∷◌, [], ◌++◌, length, drop, ap, sym, ◌∙◌, subst, None}
-use Rattle.turn_cell.specs.History.{IsStateAfter, IsLegalFrom, entry}
-use Rattle.turn_cell.specs.Passes.{view_at}
-use Rattle.turn_cell.proofs.Serving.{legal_more, state_more, calls_made}
+use Rattle.turn_cell.proofs.{Common.{[], ◌++◌, ◌∙◌, ◌∷◌, ◌≡◌, ap, drop, entry, IsLegalFrom, IsStateAfter, length, None, subst, sym, view_at}, Serving.{legal_more, state_more, calls_made}}
 use Rattle.turn_cell.proofs.cell.Cell.serve.Goals as goal
 
 pub publish-requires-clause-grown : goal.publish-requires-clause-grown

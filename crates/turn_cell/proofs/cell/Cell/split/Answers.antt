@@ -1,5 +1,4 @@
-use Rattle.std.proofs.Common.{arith}
-use Rattle.turn_cell.proofs.Joins.{splits_pass}
+use Rattle.turn_cell.proofs.{Common.arith, Joins.splits_pass}
 use Rattle.turn_cell.proofs.cell.Cell.split.Goals as goal
 
 pub split_seat-seat-requires : goal.split_seat-seat-requires

@@ -1,5 +1,4 @@
-use Rattle.std.proofs.Common.{arith}
-use Rattle.turn_cell.proofs.Turns.{acquires}
+use Rattle.turn_cell.proofs.{Common.arith, Turns.acquires}
 use Rattle.turn_cell.proofs.cell.Cell.try_acquire.Goals as goal
 
 pub compare_exchange-requires : goal.compare_exchange-requires

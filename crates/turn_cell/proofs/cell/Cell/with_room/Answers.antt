@@ -1,8 +1,4 @@
-use Rattle.std.proofs.Common.{◌≡◌, ◌≤◌, [], ◌∷◌, ◌++◌, ap, sym, ◌∙◌, subst, Some}
-use Rattle.atomic_table.specs.Table.{opening}
-use Rattle.turn_cell.specs.declared.guarded.Guarded.{Guarded}
-use Rattle.turn_cell.specs.Rule.{IsKept, first}
-use Rattle.turn_cell.proofs.Closing.{opens}
+use Rattle.turn_cell.proofs.{Common.{[], ◌++◌, ◌∙◌, ◌∷◌, ◌≡◌, ◌≤◌, ap, first, Guarded, IsKept, opening, Some, subst, sym}, Closing.opens}
 use Rattle.turn_cell.proofs.cell.Cell.with_room.Goals as goal
 
 pub new-requires-2 : goal.new-requires-2

@@ -1,5 +1,4 @@
-use Rattle.std.proofs.Common.{◌++◌, ◌∙◌, arith, ap, take}
-use Rattle.turn_loop.proofs.Kept.{kept-more}
+use Rattle.turn_loop.proofs.{Common.{◌++◌, ◌∙◌, ap, arith, take}, Kept.kept-more}
 use Rattle.turn_loop.proofs.begun.Begun.extend.Goals as goal
 
 pub returns : goal.returns

@@ -1,6 +1,4 @@
-use Rattle.std.proofs.Common.{inl, ap, arith, length, length-drop, refl, take}
-use Rattle.std.proofs.KnownBytes.{Consumes-nil}
-use Rattle.std.proofs.lemmas.List.{length-take}
+use Rattle.turn_loop.proofs.Common.{ap, arith, Consumes-nil, inl, length, length-drop, length-take, refl, take}
 use Rattle.turn_loop.proofs.waiting.Waiting.fill.Goals as goal
 
 pub returns-then-self-clause-filled : goal.returns-then-self-clause-filled

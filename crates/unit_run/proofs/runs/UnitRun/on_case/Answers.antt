@@ -1,11 +1,5 @@
-use Rattle.std.proofs.Common.{◌≡◌, ◌+◌, ◌≤◌, ap, arith, sym, subst, ◌∙◌}
+use Rattle.unit_run.proofs.{Common.{◌+◌, ◌∙◌, ◌≡◌, ◌≤◌, ap, arith, IsOf, oldest, oldest-changed_at, on_case, Placing, subst, sym, weight, young-at}, Called.{both_ok, case-called, case-passed, of_parts}}
 use Rattle.std.proofs.lemmas.Result.{on_ok_weaker}
-use Rattle.case_core.specs.Ages.{weight}
-use Rattle.script_run.proofs.Aging.{oldest-changed_at, young-at}
-use Rattle.script_run.specs.Calls.{on_case}
-use Rattle.script_run.specs.Oldest.{oldest}
-use Rattle.unit_run.proofs.Called.{both_ok, case-called, case-passed, of_parts}
-use Rattle.unit_run.specs.Runs.{IsOf, Placing}
 use Rattle.unit_run.proofs.runs.UnitRun.on_case.Goals as goal
 
 pub on_case_at-requires : goal.on_case_at-requires

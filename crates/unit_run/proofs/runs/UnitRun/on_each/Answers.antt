@@ -1,12 +1,5 @@
-use Rattle.std.proofs.Common.{◌≡◌, ◌+◌, ◌<◌, ◌≤◌, get_or, length, take, take_all, ap, arith, refl, sym, subst, ◌∙◌}
-use Rattle.case_core.specs.Ages.{weight}
-use Rattle.script_run.proofs.Aging.{oldest-each_of, young-at}
-use Rattle.script_run.specs.Calls.{call_case, changed_at, on_each}
-use Rattle.script_run.specs.Oldest.{oldest}
-use Rattle.unit_run.proofs.Called.{each-called, of_parts}
-use Rattle.unit_run.proofs.Each.{all-called, one_more, still-there}
-use Rattle.unit_run.proofs.Placed.{changed_all}
-use Rattle.unit_run.specs.Runs.{IsOf, Placing}
+use Rattle.unit_run.proofs.{Common.{◌+◌, ◌<◌, ◌∙◌, ◌≡◌, ◌≤◌, ap, arith, call_case, changed_at, get_or, IsOf, length, oldest, oldest-each_of, on_each, Placing, refl, subst, sym, take, take_all, weight, young-at}, Called.each-called}
+use Rattle.unit_run.proofs.{Called.of_parts, Each.{all-called, one_more, still-there}, Placed.changed_all}
 use Rattle.unit_run.proofs.runs.UnitRun.on_each.Goals as goal
 
 pub loop-place-init : goal.loop-place-init

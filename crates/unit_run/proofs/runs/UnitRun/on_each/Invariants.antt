@@ -1,6 +1,4 @@
-use Rattle.std.proofs.Common.{◌≡◌, take}
-use Rattle.script_run.specs.Calls.{call_case}
-use Rattle.unit_run.proofs.Placed.{changed_all}
+use Rattle.unit_run.proofs.{Common.{◌≡◌, call_case, take}, Placed.changed_all}
 use Rattle.unit_run.proofs.runs.UnitRun.on_each.Given as goal
 
 abbrev pub invariant-loop-place : goal.invariant-loop-place

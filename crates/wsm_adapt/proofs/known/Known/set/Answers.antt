@@ -1,11 +1,4 @@
-use Rattle.std.proofs.Common.{ℕ, Option, [], ◌∷◌, ◌++◌, reverse, Some, cond, eqb, ap, sym, ◌∙◌}
-use Rattle.std.proofs.lemmas.List.{nil_from_length, reverse-append}
-use Rattle.wsm_schema.specs.declared.marks.Mark.{Mark}
-use Rattle.wsm_lists.specs.ByNumber.{item_at}
-use Rattle.wsm_lists.specs.Keys.{first}
-use Rattle.wsm_lists.specs.Rows.{put_row}
-use Rattle.wsm_lists.proofs.ByNumber.{item_at-put}
-use Rattle.wsm_adapt.proofs.KnownRows.{lookup-item, put-before, put-in_front}
+use Rattle.wsm_adapt.proofs.{Common.{[], ℕ, ◌++◌, ◌∙◌, ◌∷◌, ap, cond, eqb, first, item_at, item_at-put, Mark, nil_from_length, Option, put_row, reverse, reverse-append, Some, sym}, KnownRows.{lookup-item, put-before, put-in_front}}
 use Rattle.wsm_adapt.proofs.known.Known.set.Goals as goal
 
 pub returns-in_ok-push : goal.returns-in_ok-push

@@ -1,6 +1,4 @@
-use Rattle.std.proofs.Common.{reverse, ap, sym, ◌∙◌}
-use Rattle.wsm_lists.specs.ByNumber.{item_at}
-use Rattle.wsm_adapt.proofs.KnownRows.{lookup-item, told-first, told-later}
+use Rattle.wsm_adapt.proofs.{Common.{◌∙◌, ap, item_at, reverse, sym}, KnownRows.{lookup-item, told-first, told-later}}
 use Rattle.wsm_adapt.proofs.known.KnownMarkRows.row.Goals as goal
 
 pub returns-in-None : goal.returns-in-None

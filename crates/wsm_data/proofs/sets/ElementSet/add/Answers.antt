@@ -1,8 +1,4 @@
-use Rattle.std.proofs.Common.{◌≡◌, false, ◌||◌, eqb, ap, sym, ◌∙◌}
-use Rattle.wsm_lists.specs.Rows.{rows_below}
-use Rattle.wsm_data.specs.Sets.{number}
-use Rattle.wsm_data.proofs.Elements.{insert-put, insert-order, has-put_row}
-use Rattle.wsm_schema.specs.Trail.{is_one_of}
+use Rattle.wsm_data.proofs.{Common.{◌||◌, ◌∙◌, ◌≡◌, ap, eqb, false, is_one_of, number, rows_below, sym}, Elements.{insert-put, insert-order, has-put_row}}
 use Rattle.wsm_data.proofs.sets.ElementSet.add.Goals as goal
 
 pub invariant_of-self-2 : goal.invariant_of-self-2

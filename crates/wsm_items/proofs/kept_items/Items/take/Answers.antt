@@ -1,6 +1,5 @@
 use Rattle.std.proofs.Common.{◌≡◌, ℕ, sym, subst}
-use Rattle.wsm_items.specs.WorkItems.{ByNode, item_node}
-use Rattle.wsm_items.specs.declared.work_items.Item.{Item}
+use Rattle.wsm_items.specs.{WorkItems.{ByNode, item_node}, declared.work_items.Item.Item}
 use Rattle.wsm_lists.specs.Keys.{first}
 use Rattle.wsm_lists.proofs.Rows.{all_drop}
 use Rattle.wsm_items.proofs.kept_items.Items.take.Goals as goal

@@ -1,6 +1,4 @@
-use Rattle.std.proofs.Common.{ℕ, ◌<◌, rules}
-use Rattle.wsm_lists.specs.Keys.{first}
-use Rattle.wsm_lists.proofs.Rows.{all_drop, all_set}
+use Rattle.wsm_lists.proofs.{Common.{ℕ, ◌<◌, first, rules}, Rows.{all_drop, all_set}}
 use Rattle.wsm_lists.proofs.growing.GrowingRoles.put.Goals as goal
 
 pub invariant_of-self : goal.invariant_of-self

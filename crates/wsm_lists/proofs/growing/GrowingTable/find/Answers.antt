@@ -1,9 +1,4 @@
-use Rattle.std.proofs.Common.{Some, ◌∙◌, sym, ap, subst}
-use Rattle.std.specs.Option.{option_copied}
-use Rattle.wsm_lists.specs.Rows.{Ascends, row_at}
-use Rattle.wsm_lists.specs.Entries.{rows_of}
-use Rattle.wsm_lists.proofs.Entries.{found-row}
-use Rattle.wsm_lists.proofs.PutOver.{ascends-over, or_else, row_at-over}
+use Rattle.wsm_lists.proofs.{Common.{◌∙◌, ap, Ascends, option_copied, row_at, rows_of, Some, subst, sym}, Entries.found-row, PutOver.{ascends-over, or_else, row_at-over}}
 use Rattle.wsm_lists.proofs.growing.GrowingTable.find.Goals as goal
 
 pub returns-in-None-clause-found : goal.returns-in-None-clause-found

@@ -1,9 +1,4 @@
-use Rattle.std.proofs.Common.{refl, sym, ◌∙◌, ap, subst}
-use Rattle.std.proofs.lemmas.List.{nil_from_length}
-use Rattle.wsm_lists.specs.PutOver.{put_over}
-use Rattle.wsm_lists.specs.Rows.{Ascends}
-use Rattle.wsm_lists.specs.Entries.{rows_of}
-use Rattle.wsm_lists.proofs.PutOver.{over-none}
+use Rattle.wsm_lists.proofs.{Common.{◌∙◌, ap, Ascends, nil_from_length, put_over, refl, rows_of, subst, sym}, PutOver.over-none}
 use Rattle.wsm_lists.proofs.growing.GrowingTable.into_table.Goals as goal
 
 pub returns-then-is_empty : goal.returns-then-is_empty

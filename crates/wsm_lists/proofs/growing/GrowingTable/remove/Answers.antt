@@ -1,10 +1,4 @@
-use Rattle.std.proofs.Common.{sym, ◌∙◌, ap, subst}
-use Rattle.wsm_lists.specs.PutOver.{put_over}
-use Rattle.wsm_lists.specs.Rows.{drop_row, Ascends}
-use Rattle.wsm_lists.specs.Entries.{rows_of, Keyed}
-use Rattle.wsm_lists.proofs.Entries.{removed-entry, keyed-removed}
-use Rattle.wsm_lists.proofs.PutOver.{over-drop}
-use Rattle.wsm_lists.proofs.Rows.{ascends_drop}
+use Rattle.wsm_lists.proofs.{Common.{◌∙◌, ap, Ascends, drop_row, Keyed, put_over, rows_of, subst, sym}, Entries.{removed-entry, keyed-removed}, PutOver.over-drop, Rows.ascends_drop}
 use Rattle.wsm_lists.proofs.growing.GrowingTable.remove.Goals as goal
 
 pub invariant_of-self : goal.invariant_of-self

@@ -1,10 +1,4 @@
-use Rattle.std.proofs.Common.{◌≡◌, sym, ◌∙◌, ap, subst, false}
-use Rattle.std.specs.Option.{is_some}
-use Rattle.wsm_lists.specs.PutOver.{put_over}
-use Rattle.wsm_lists.specs.Rows.{Ascends, put_row, row_at}
-use Rattle.wsm_lists.specs.Entries.{rows_of}
-use Rattle.wsm_lists.proofs.PutOver.{on-ok, over-put, put-under}
-use Rattle.wsm_lists.proofs.Rows.{ascends_put}
+use Rattle.wsm_lists.proofs.{Common.{◌∙◌, ◌≡◌, ap, Ascends, false, is_some, put_over, put_row, row_at, rows_of, subst, sym}, PutOver.{on-ok, over-put, put-under}, Rows.ascends_put}
 use Rattle.wsm_lists.proofs.growing.GrowingTable.set.Goals as goal
 
 pub returns-then-goes_into_list-clause-ok : goal.returns-then-goes_into_list-clause-ok

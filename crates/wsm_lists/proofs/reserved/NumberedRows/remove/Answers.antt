@@ -1,10 +1,5 @@
-use Rattle.std.proofs.Common.{◌≡◌, true, false, ap, sym, ◌∙◌, subst, rules}
-use Rattle.std.specs.Option.{is_some}
-use Rattle.wsm_lists.specs.ByNumber.{RowsWithRoom, item_at}
-use Rattle.wsm_lists.specs.Keys.{first}
-use Rattle.wsm_lists.specs.Rows.{Ascends, drop_row, row_at, rows_below}
-use Rattle.wsm_lists.proofs.ByNumber.{is_some-map}
-use Rattle.wsm_lists.proofs.Rows.{ascends_drop, drop_where_absent, place_within, remove_where_there}
+use Rattle.wsm_lists.proofs.{Common.{◌∙◌, ◌≡◌, ap, Ascends, drop_row, false, first, is_some, item_at, row_at, rows_below, RowsWithRoom, rules, subst, sym, true}, ByNumber.is_some-map, Rows.{ascends_drop, drop_where_absent, place_within}}
+use Rattle.wsm_lists.proofs.Rows.{remove_where_there}
 use Rattle.wsm_lists.proofs.reserved.NumberedRows.remove.Goals as goal
 
 pub remove-requires : goal.remove-requires

@@ -1,7 +1,4 @@
-use Rattle.std.proofs.Common.{sym, subst}
-use Rattle.wsm_lists.specs.Keys.{first}
-use Rattle.wsm_lists.specs.Rows.{Ascends}
-use Rattle.wsm_lists.proofs.Rows.{ascends_put}
+use Rattle.wsm_lists.proofs.{Common.{Ascends, first, subst, sym}, Rows.ascends_put}
 use Rattle.wsm_lists.proofs.reserved.NumberedRows.set.Goals as goal
 
 pub invariant_of-self : goal.invariant_of-self

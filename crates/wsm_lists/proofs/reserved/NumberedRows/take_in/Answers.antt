@@ -1,7 +1,4 @@
-use Rattle.std.proofs.Common.{subst, sym}
-use Rattle.wsm_lists.specs.Keys.{first}
-use Rattle.wsm_lists.specs.Rows.{Ascends}
-use Rattle.wsm_lists.proofs.ByNumber.{ascends-changed}
+use Rattle.wsm_lists.proofs.{Common.{Ascends, first, subst, sym}, ByNumber.ascends-changed}
 use Rattle.wsm_lists.proofs.reserved.NumberedRows.take_in.Goals as goal
 
 pub invariant_of-self : goal.invariant_of-self

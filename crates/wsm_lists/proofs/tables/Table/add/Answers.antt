@@ -1,6 +1,4 @@
-use Rattle.std.proofs.Common.{◌≡◌, sym, ◌∙◌, subst, rules, false}
-use Rattle.wsm_lists.specs.Rows.{Ascends}
-use Rattle.wsm_lists.proofs.Rows.{rows_below_le, insert_where_absent, ascends_put}
+use Rattle.wsm_lists.proofs.{Common.{◌∙◌, ◌≡◌, Ascends, false, rules, subst, sym}, Rows.{rows_below_le, insert_where_absent, ascends_put}}
 use Rattle.wsm_lists.proofs.tables.Table.add.Goals as goal
 
 pub insert-requires : goal.insert-requires

@@ -1,6 +1,4 @@
-use Rattle.std.proofs.Common.{◌≡◌, sym, ◌∙◌, subst, rules}
-use Rattle.wsm_lists.specs.Rows.{Ascends}
-use Rattle.wsm_lists.proofs.Rows.{place_within, remove_where_there, drop_where_absent, ascends_drop}
+use Rattle.wsm_lists.proofs.{Common.{◌∙◌, ◌≡◌, Ascends, rules, subst, sym}, Rows.{place_within, remove_where_there, drop_where_absent, ascends_drop}}
 use Rattle.wsm_lists.proofs.tables.Table.remove.Goals as goal
 
 pub remove-requires : goal.remove-requires

@@ -1,6 +1,4 @@
-use Rattle.std.proofs.Common.{◌≡◌, sym, subst, rules}
-use Rattle.wsm_lists.specs.Rows.{Ascends}
-use Rattle.wsm_lists.proofs.Rows.{place_within, set_where_there, ascends_put}
+use Rattle.wsm_lists.proofs.{Common.{◌≡◌, Ascends, rules, subst, sym}, Rows.{place_within, set_where_there, ascends_put}}
 use Rattle.wsm_lists.proofs.tables.Table.replace.Goals as goal
 
 pub index_mut-requires : goal.index_mut-requires

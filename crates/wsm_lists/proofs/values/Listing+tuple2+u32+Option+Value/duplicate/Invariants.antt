@@ -1,4 +1,4 @@
-use Rattle.std.proofs.Common.{◌≡◌, take}
+use Rattle.wsm_lists.proofs.Common.{◌≡◌, take}
 use Rattle.wsm_lists.proofs.values.Listing+tuple2+u32+Option+Value.duplicate.Given as goal
 
 abbrev pub invariant-loop-read : goal.invariant-loop-read

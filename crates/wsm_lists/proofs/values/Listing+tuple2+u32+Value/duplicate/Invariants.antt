@@ -1,4 +1,4 @@
-use Rattle.std.proofs.Common.{◌≡◌, take}
+use Rattle.wsm_lists.proofs.Common.{◌≡◌, take}
 use Rattle.wsm_lists.proofs.values.Listing+tuple2+u32+Value.duplicate.Given as goal
 
 abbrev pub invariant-loop-write : goal.invariant-loop-write

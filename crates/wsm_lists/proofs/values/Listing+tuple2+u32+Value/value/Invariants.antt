@@ -1,4 +1,4 @@
-use Rattle.std.proofs.Common.{◌≡◌, drop}
+use Rattle.wsm_lists.proofs.Common.{◌≡◌, drop}
 use Rattle.wsm_lists.specs.Values.{value_in}
 use Rattle.wsm_lists.proofs.values.Listing+tuple2+u32+Value.value.Given as goal
 

@@ -1,5 +1,4 @@
-use Rattle.std.proofs.Common.{◌∙◌}
-use Rattle.wsm_ops.proofs.Shown.{shown-branch}
+use Rattle.wsm_ops.proofs.{Common.◌∙◌, Shown.shown-branch}
 use Rattle.wsm_ops.proofs.drafts.Draft.has_branch.Goals as goal
 
 pub returns : goal.returns

@@ -1,7 +1,4 @@
-use Rattle.std.proofs.Common.{ap, sym, ◌∙◌, subst}
-use Rattle.wsm_schema.specs.SchemaModel.{SchemaModel}
-use Rattle.wsm_ops.specs.Outline.{IsOutline}
-use Rattle.wsm_ops.proofs.Shown.{outline-of, body-of}
+use Rattle.wsm_ops.proofs.{Common.{◌∙◌, ap, IsOutline, SchemaModel, subst, sym}, Shown.{outline-of, body-of}}
 use Rattle.wsm_ops.proofs.drafts.Draft.of.Goals as goal
 
 pub invariant_of-result : goal.invariant_of-result

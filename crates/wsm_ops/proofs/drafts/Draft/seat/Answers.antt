@@ -1,7 +1,5 @@
-use Rattle.std.proofs.Common.{◌∙◌}
+use Rattle.wsm_ops.proofs.{Common.◌∙◌, OncePieces.once-in, Shown.shown-seat}
 use Rattle.wsm_ops.specs.declared.operations.Gap.TheVariants.{After}
-use Rattle.wsm_ops.proofs.OncePieces.{once-in}
-use Rattle.wsm_ops.proofs.Shown.{shown-seat}
 use Rattle.wsm_ops.proofs.drafts.Draft.seat.Goals as goal
 
 pub seat-requires : goal.seat-requires

@@ -1,8 +1,4 @@
-use Rattle.std.proofs.Common.{◌≡◌, ◌+◌, ◌++◌, true, false, take, drop, ap, sym, ◌∙◌, subst, slice_get}
-use Rattle.std.specs.List.{list_any}
-use Rattle.wsm_ops.specs.Outline.{at_gap}
-use Rattle.wsm_ops.specs.Places.{place_of, passes, IsNoted}
-use Rattle.wsm_ops.specs.Runs.{IsSpot, joined, place_at}
+use Rattle.wsm_ops.proofs.Common.{◌++◌, ◌+◌, ◌∙◌, ◌≡◌, ap, at_gap, drop, false, IsNoted, IsSpot, joined, list_any, passes, place_at, place_of, slice_get, subst, sym, take, true}
 use Rattle.wsm_ops.proofs.JoinedRuns.{spot-place, spot-run, spot-within}
 use Rattle.wsm_ops.proofs.NotedNodes.{put-noted}
 use Rattle.wsm_ops.proofs.OnePlace.{behind-found, behind-none}

@@ -1,8 +1,4 @@
-use Rattle.std.proofs.Common.{◌≡◌, true, false, ap, sym, ◌∙◌, subst, slice_get}
-use Rattle.std.specs.List.{list_any}
-use Rattle.wsm_ops.specs.Outline.{at_gap}
-use Rattle.wsm_ops.specs.Places.{passes, seat_there}
-use Rattle.wsm_ops.specs.Runs.{IsSpot, items_at, joined, place_at}
+use Rattle.wsm_ops.proofs.Common.{◌∙◌, ◌≡◌, ap, at_gap, false, IsSpot, items_at, joined, list_any, passes, place_at, seat_there, slice_get, subst, sym, true}
 use Rattle.wsm_ops.specs.declared.operations.Gap.TheVariants.{After}
 use Rattle.wsm_ops.proofs.JoinedRuns.{spot-get, spot-place}
 use Rattle.wsm_ops.proofs.OnePlace.{seat-absent, seat-found}

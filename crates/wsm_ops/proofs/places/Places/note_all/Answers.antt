@@ -1,5 +1,4 @@
-use Rattle.wsm_ops.specs.Places.{place_of}
-use Rattle.wsm_ops.proofs.NotedNodes.{noted-end, next-noted}
+use Rattle.wsm_ops.proofs.{Common.place_of, NotedNodes.{noted-end, next-noted}}
 use Rattle.wsm_ops.proofs.places.Places.note_all.Goals as goal
 
 pub loop-piece-preserved : goal.loop-piece-preserved

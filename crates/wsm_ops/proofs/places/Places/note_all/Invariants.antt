@@ -1,7 +1,4 @@
-use Rattle.std.proofs.Common.{◌≡◌, ◌||◌, ℕ, drop}
-use Rattle.std.specs.List.{list_any}
-use Rattle.wsm_ops.specs.Outline.{is_node}
-use Rattle.wsm_ops.specs.Places.{place_of, is_known}
+use Rattle.wsm_ops.proofs.Common.{ℕ, ◌||◌, ◌≡◌, drop, is_known, is_node, list_any, place_of}
 use Rattle.wsm_ops.proofs.places.Places.note_all.Given as goal
 
 -- of the nodes so far a place is known

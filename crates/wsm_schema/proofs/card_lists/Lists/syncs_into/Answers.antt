@@ -1,6 +1,4 @@
-use Rattle.std.proofs.Common.{◌≡◌, ℕ, List, map, ap, ◌∙◌, refl, subst}
-use Rattle.std.specs.Prelude.{IfOk}
-use Rattle.wsm_schema.proofs.Runs.{sources-reversed}
+use Rattle.wsm_schema.proofs.{Common.{ℕ, ◌∙◌, ◌≡◌, ap, IfOk, List, map, refl, subst}, Runs.sources-reversed}
 use Rattle.wsm_schema.proofs.card_lists.Lists.syncs_into.Goals as goal
 
 pub returns : goal.returns

@@ -1,6 +1,4 @@
-use Rattle.std.proofs.Common.{◌∙◌, ap}
-use Rattle.wsm_schema.specs.Enclosures.{parts_round, part_ways}
-use Rattle.wsm_schema.proofs.EnclosureWalk.{apart-by_blocks}
+use Rattle.wsm_schema.proofs.{Common.{◌∙◌, ap, part_ways, parts_round}, EnclosureWalk.apart-by_blocks}
 use Rattle.wsm_schema.proofs.enclosures.Enclosures.are_apart.Goals as goal
 
 pub returns : goal.returns

@@ -1,8 +1,4 @@
-use Rattle.std.proofs.Common.{ℕ, List, get_or, ◌∙◌, ap}
-use Rattle.wsm_schema.specs.Flat.{cards_of}
-use Rattle.wsm_schema.specs.Sound.{nodes_of}
-use Rattle.wsm_schema.specs.Enclosures.{parts_round, part_ways}
-use Rattle.wsm_schema.proofs.EnclosureWalk.{apart-by_blocks}
+use Rattle.wsm_schema.proofs.{Common.{ℕ, ◌∙◌, ap, cards_of, get_or, List, nodes_of, part_ways, parts_round}, EnclosureWalk.apart-by_blocks}
 use Rattle.wsm_schema.proofs.enclosures.Enclosures.are_apart_at.Goals as goal
 
 pub returns : goal.returns

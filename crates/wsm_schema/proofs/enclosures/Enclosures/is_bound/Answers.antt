@@ -1,6 +1,4 @@
-use Rattle.std.proofs.Common.{◌∙◌, ap}
-use Rattle.wsm_schema.specs.Enclosures.{parts_round, are_bound}
-use Rattle.wsm_schema.proofs.EnclosureWalk.{bound-by_blocks}
+use Rattle.wsm_schema.proofs.{Common.{◌∙◌, ap, are_bound, parts_round}, EnclosureWalk.bound-by_blocks}
 use Rattle.wsm_schema.proofs.enclosures.Enclosures.is_bound.Goals as goal
 
 pub returns : goal.returns

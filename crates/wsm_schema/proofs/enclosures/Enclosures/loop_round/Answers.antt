@@ -1,6 +1,4 @@
-use Rattle.std.proofs.Common.{None, sym, ◌∙◌, ap}
-use Rattle.wsm_schema.specs.Enclosures.{innermost_loop}
-use Rattle.wsm_schema.proofs.EnclosedNodes.{parts-loop}
+use Rattle.wsm_schema.proofs.{Common.{◌∙◌, ap, innermost_loop, None, sym}, EnclosedNodes.parts-loop}
 use Rattle.wsm_schema.proofs.enclosures.Enclosures.loop_round.Goals as goal
 
 pub returns : goal.returns

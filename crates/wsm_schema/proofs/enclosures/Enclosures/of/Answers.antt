@@ -1,10 +1,4 @@
-use Rattle.std.proofs.Common.{◌≡◌, [], None, sym, ap, ◌∙◌}
-use Rattle.wsm_schema.specs.SchemaModel.{SchemaModel}
-use Rattle.wsm_schema.specs.TreeOf.{parts_of}
-use Rattle.wsm_schema.specs.Flat.{FlatModel, cards_of}
-use Rattle.wsm_schema.specs.Sound.{twice, nodes_of}
-use Rattle.wsm_schema.specs.Enclosures.{schema_walk}
-use Rattle.wsm_schema.proofs.EnclosureWalk.{walked}
+use Rattle.wsm_schema.proofs.{Common.{[], ◌∙◌, ◌≡◌, ap, cards_of, FlatModel, nodes_of, None, parts_of, schema_walk, SchemaModel, sym, twice}, EnclosureWalk.walked}
 use Rattle.wsm_schema.proofs.enclosures.Enclosures.of.Goals as goal
 
 pub invariant_of-result : goal.invariant_of-result

@@ -1,11 +1,4 @@
-use Rattle.std.proofs.Common.{◌≡◌, ◌<◌, Some, None, length, get_or, eqb, subst, sym, ap, ◌∙◌}
-use Rattle.std.specs.List.{position_from}
-use Rattle.wsm_schema.specs.SchemaModel.{SchemaModel}
-use Rattle.wsm_schema.specs.Flat.{FlatModel, cards_of}
-use Rattle.wsm_schema.specs.Sound.{nodes_of}
-use Rattle.wsm_schema.specs.Enclosures.{parts_round}
-use Rattle.wsm_schema.proofs.Runs.{node-placed, node-not_placed}
-use Rattle.wsm_schema.proofs.EnclosureWalk.{absent-round}
+use Rattle.wsm_schema.proofs.{Common.{◌<◌, ◌∙◌, ◌≡◌, ap, cards_of, eqb, FlatModel, get_or, length, nodes_of, None, parts_round, position_from, SchemaModel, Some, subst, sym}, Runs.{node-placed, node-not_placed}, EnclosureWalk.absent-round}
 use Rattle.wsm_schema.proofs.enclosures.Enclosures.round.Goals as goal
 
 pub round_at-requires : goal.round_at-requires

@@ -1,9 +1,4 @@
-use Rattle.std.proofs.Common.{◌<◌, length, get_or, subst, sym, ap, ◌∙◌}
-use Rattle.wsm_schema.specs.SchemaModel.{SchemaModel}
-use Rattle.wsm_schema.specs.Flat.{cards_of}
-use Rattle.wsm_schema.specs.Sound.{nodes_of}
-use Rattle.wsm_schema.specs.Enclosures.{parts_round}
-use Rattle.wsm_schema.proofs.EnclosureWalk.{blocks-placed}
+use Rattle.wsm_schema.proofs.{Common.{◌<◌, ◌∙◌, ap, cards_of, get_or, length, nodes_of, parts_round, SchemaModel, subst, sym}, EnclosureWalk.blocks-placed}
 use Rattle.wsm_schema.proofs.enclosures.Enclosures.round_at.Goals as goal
 
 pub returns-clause-blocks : goal.returns-clause-blocks

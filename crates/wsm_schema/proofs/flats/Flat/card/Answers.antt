@@ -1,7 +1,4 @@
-use Rattle.std.proofs.Common.{sym, ◌∙◌, ap}
-use Rattle.std.specs.Prelude.{slice_get}
-use Rattle.wsm_schema.specs.Flat.{FlatModel}
-use Rattle.wsm_schema.proofs.Runs.{no_card-placed, card-placed}
+use Rattle.wsm_schema.proofs.{Common.{◌∙◌, ap, FlatModel, slice_get, sym}, Runs.{no_card-placed, card-placed}}
 use Rattle.wsm_schema.proofs.flats.Flat.card.Goals as goal
 
 pub returns-in-None : goal.returns-in-None

@@ -1,8 +1,4 @@
-use Rattle.std.proofs.Common.{◌≡◌, ℕ, eqb, drop, length, map, arith, ap, sym, ◌∙◌, Option, Some}
-use Rattle.std.specs.List.{position_from}
-use Rattle.std.proofs.lemmas.List.{take_rest}
-use Rattle.wsm_schema.specs.Flat.{FlatModel}
-use Rattle.wsm_schema.proofs.FromPlace.{none-from, cards-from, node_of, there}
+use Rattle.wsm_schema.proofs.{Common.{ℕ, ◌∙◌, ◌≡◌, ap, arith, drop, eqb, FlatModel, length, map, Option, position_from, Some, sym, take_rest}, FromPlace.{none-from, cards-from, node_of, there}}
 use Rattle.wsm_schema.proofs.flats.Flat.cards_from.Goals as goal
 
 pub offset_bounds-deref-place : goal.offset_bounds-deref-place

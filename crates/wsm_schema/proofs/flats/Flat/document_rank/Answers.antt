@@ -1,6 +1,4 @@
-use Rattle.std.proofs.Common.{◌≡◌, map, ap, sym, ◌∙◌, subst}
-use Rattle.wsm_schema.specs.Groups.{SameGroups, numbered, placed}
-use Rattle.wsm_schema.proofs.PlacedCards.{placed-cards}
+use Rattle.wsm_schema.proofs.{Common.{◌∙◌, ◌≡◌, ap, map, numbered, placed, SameGroups, subst, sym}, PlacedCards.placed-cards}
 use Rattle.wsm_schema.proofs.flats.Flat.document_rank.Goals as goal
 
 pub with_places-requires : goal.with_places-requires

@@ -1,9 +1,4 @@
-use Rattle.std.proofs.Common.{ℕ, List, eqb, ◌∙◌, ap}
-use Rattle.std.specs.Prelude.{slice_get, option_map}
-use Rattle.std.specs.List.{position_from}
-use Rattle.wsm_schema.specs.Flat.{FlatModel}
-use Rattle.wsm_schema.specs.Groups.{rows_with}
-use Rattle.wsm_schema.proofs.Runs.{place-numbered}
+use Rattle.wsm_schema.proofs.{Common.{ℕ, ◌∙◌, ap, eqb, FlatModel, List, option_map, position_from, rows_with, slice_get}, Runs.place-numbered}
 use Rattle.wsm_schema.proofs.flats.Flat.place.Goals as goal
 
 pub returns : goal.returns

@@ -1,6 +1,4 @@
-use Rattle.std.proofs.Common.{rules}
-use Rattle.std.proofs.lemmas.List.Sorted.{answers_always, IsNonDecreasingBy-from_sort_by_key}
-use Rattle.wsm_schema.proofs.Runs.{sorted-groups}
+use Rattle.wsm_schema.proofs.{Common.{answers_always, IsNonDecreasingBy-from_sort_by_key, rules}, Runs.sorted-groups}
 use Rattle.wsm_schema.proofs.groups.Groups.of.Goals as goal
 
 pub invariant_of-result : goal.invariant_of-result

@@ -1,9 +1,4 @@
-use Rattle.std.proofs.Common.{ℕ, eqb, List, sym, ◌∙◌, ap}
-use Rattle.std.specs.Prelude.{slice_get, option_map}
-use Rattle.std.specs.Option.{option_copied}
-use Rattle.std.specs.List.{position_from}
-use Rattle.wsm_schema.specs.Groups.{rows_with}
-use Rattle.wsm_schema.proofs.Runs.{place-placed}
+use Rattle.wsm_schema.proofs.{Common.{ℕ, ◌∙◌, ap, eqb, List, option_copied, option_map, position_from, rows_with, slice_get, sym}, Runs.place-placed}
 use Rattle.wsm_schema.proofs.ranks.Rank.place.Goals as goal
 
 pub returns-in-None : goal.returns-in-None

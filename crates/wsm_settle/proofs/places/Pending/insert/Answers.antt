@@ -1,7 +1,5 @@
-use Rattle.std.proofs.Common.{◌<◌, All, sym, subst, arith}
-use Rattle.std.specs.Ordering.{nat_cmp}
+use Rattle.wsm_settle.proofs.Common.{◌<◌, All, arith, nat_cmp, subst, sym, waiting}
 use Rattle.std.proofs.lemmas.Map.Views.{All-insert_key}
-use Rattle.wsm_settle.specs.Places.{waiting}
 use Rattle.wsm_settle.proofs.places.Pending.insert.Goals as goal
 
 pub invariant_of-self-then-place-least : goal.invariant_of-self-then-place-least

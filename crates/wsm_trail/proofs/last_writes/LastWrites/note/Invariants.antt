@@ -1,5 +1,4 @@
-use Rattle.std.proofs.Common.{◌≡◌, ◌+◌, ◌≤◌, length, drop}
-use Rattle.wsm_trail.specs.LastWrites.{noted}
+use Rattle.wsm_trail.proofs.Common.{◌+◌, ◌≡◌, ◌≤◌, drop, length, noted}
 use Rattle.wsm_trail.proofs.last_writes.LastWrites.note.Given as goal
 
 abbrev pub invariant-loop-write : goal.invariant-loop-write

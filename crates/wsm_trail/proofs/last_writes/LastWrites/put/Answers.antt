@@ -1,7 +1,4 @@
-use Rattle.std.proofs.Common.{sym, subst}
-use Rattle.wsm_lists.specs.Keys.{first}
-use Rattle.wsm_lists.specs.Rows.{Ascends}
-use Rattle.wsm_lists.proofs.Rows.{ascends_put}
+use Rattle.wsm_trail.proofs.Common.{Ascends, ascends_put, first, subst, sym}
 use Rattle.wsm_trail.proofs.last_writes.LastWrites.put.Goals as goal
 
 pub invariant_of-self : goal.invariant_of-self

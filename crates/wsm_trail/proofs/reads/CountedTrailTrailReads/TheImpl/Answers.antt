@@ -1,9 +1,6 @@
 -- One read more is at most one more.
-use Rattle.std.proofs.Common.{◌≡◌, [], arith}
-use Rattle.std.specs.Prelude.{⊤}
-use Rattle.std.specs.Option.{option_copied}
+use Rattle.wsm_trail.proofs.Common.{[], ⊤, ◌≡◌, arith, entry_at, option_copied}
 use contract.Monad.{fact}
-use Rattle.wsm_trail.specs.EntryAt.{entry_at}
 use mathlib.Core.Option.{none}
 use base.Fml.{GName}
 use base.Logic.{ent, emp, sep, ex, via, all, all_i, ex_i, ex_e, wand, wand_i, snd∗, emp∗, mono_r}

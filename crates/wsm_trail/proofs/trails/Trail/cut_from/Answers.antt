@@ -1,15 +1,5 @@
-use Rattle.std.proofs.Common.{◌≡◌, ℕ, List, ◌++◌, take, drop, ap, sym, ◌∙◌, subst, rules}
-use Rattle.wsm_lists.specs.Keys.{first}
-use Rattle.wsm_lists.proofs.Rows.{rows_below_le}
-use Rattle.wsm_lists.specs.Rows.{Ascends, rows_below}
-use Rattle.wsm_schema.specs.Trail.{cut_by}
-use Rattle.wsm_schema.specs.declared.entries.Entry.{Entry}
-use Rattle.wsm_trail.specs.Cuts.{StaysBelow, cut_entries}
-use Rattle.wsm_trail.specs.LastWrites.{noted_until}
-use Rattle.wsm_trail.specs.TrailWithRoom.{Rises, TrailWithRoom}
-use Rattle.wsm_trail.proofs.Cutting.{cut-above, rises_cut}
-use Rattle.wsm_trail.proofs.LateNotes.{noted_until-cut}
-use Rattle.wsm_trail.proofs.Rising.{rises-ascends}
+use Rattle.wsm_trail.proofs.{Common.{ℕ, ◌++◌, ◌∙◌, ◌≡◌, ap, Ascends, cut_by, cut_entries, drop, Entry, first, List, noted_until, Rises, rows_below, rows_below_le, rules, StaysBelow, subst, sym, take, TrailWithRoom}, Cutting.cut-above}
+use Rattle.wsm_trail.proofs.{Cutting.rises_cut, LateNotes.noted_until-cut, Rising.rises-ascends}
 use Rattle.wsm_trail.proofs.trails.Trail.cut_from.Goals as goal
 
 -- the entries that are left

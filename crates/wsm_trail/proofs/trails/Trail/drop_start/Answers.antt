@@ -1,13 +1,6 @@
-use Rattle.std.proofs.Common.{◌≡◌, ℕ, ◌+◌, ◌++◌, List, length, take, drop, Some, sym, ◌∙◌, ap, subst, rules}
-use Rattle.wsm_schema.specs.declared.entries.Entry.{Entry}
-use Rattle.wsm_trail.specs.LastWrites.{noted_until}
-use Rattle.wsm_trail.specs.StartPlaces.{IsStartPlace}
-use Rattle.wsm_trail.specs.TrailWithRoom.{Rises, TrailWithRoom}
-use Rattle.wsm_trail.specs.Withdrawn.{starts_of, without_start, withdrawn}
-use Rattle.wsm_trail.proofs.LateNotes.{noted_until-left}
-use Rattle.wsm_trail.proofs.Withdrawing.{place-left, rises-left}
+use Rattle.wsm_trail.proofs.{Common.{ℕ, ◌++◌, ◌+◌, ◌∙◌, ◌≡◌, ap, drop, Entry, IsStartPlace, length, List, noted_until, Rises, rules, Some, starts_of, subst, sym, take, TrailWithRoom, withdrawn, without_start}, LateNotes.noted_until-left}
+use Rattle.wsm_trail.proofs.{Withdrawing.{place-left, rises-left}, trails.Trail.drop_start.Goals.{in-Start-1, in-End-1, in-Again-1, in-Wrote-1}}
 use Rattle.wsm_trail.proofs.trails.Trail.drop_start.Goals as goal
-use Rattle.wsm_trail.proofs.trails.Trail.drop_start.Goals.{in-Start-1, in-End-1, in-Again-1, in-Wrote-1}
 
 -- the entries that are left
 left : (k : TrailWithRoom) (n i : ℕ) (es new : List (ℕ × Entry)) → es ≡ k.trail.entries → length (starts_of n k.trail.entries) ≡ 1 → IsStartPlace n es (Some i) → new ≡ take i es ++ drop (i + 1) es → new ≡ without_start n es

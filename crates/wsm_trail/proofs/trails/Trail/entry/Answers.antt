@@ -1,7 +1,4 @@
-use Rattle.std.proofs.Common.{sym, subst}
-use Rattle.wsm_lists.specs.Keys.{first}
-use Rattle.wsm_lists.specs.Rows.{Ascends}
-use Rattle.wsm_trail.proofs.Rising.{rises-ascends}
+use Rattle.wsm_trail.proofs.{Common.{Ascends, first, subst, sym}, Rising.rises-ascends}
 use Rattle.wsm_trail.proofs.trails.Trail.entry.Goals as goal
 
 pub find-requires : goal.find-requires

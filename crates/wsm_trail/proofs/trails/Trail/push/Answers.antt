@@ -1,8 +1,4 @@
-use Rattle.std.proofs.Common.{◌+◌, ap, sym, ◌∙◌, subst, arith}
-use Rattle.wsm_trail.specs.LastWrites.{noted_until}
-use Rattle.wsm_trail.specs.TrailWithRoom.{Rises}
-use Rattle.wsm_trail.proofs.LateNotes.{noted_until-push}
-use Rattle.wsm_trail.proofs.Rising.{rises_push}
+use Rattle.wsm_trail.proofs.{Common.{◌+◌, ◌∙◌, ap, arith, noted_until, Rises, subst, sym}, LateNotes.noted_until-push, Rising.rises_push}
 use Rattle.wsm_trail.proofs.trails.Trail.push.Goals as goal
 
 pub invariant_of-self : goal.invariant_of-self

@@ -1,16 +1,5 @@
-use Rattle.std.proofs.Common.{◌≡◌, ◌≤◌, ℕ, Option, Some, None, List, drop, ap, sym, ◌∙◌, subst}
-use Rattle.std.specs.Option.{option_copied}
-use Rattle.wsm_schema.specs.Trail.{TrailModel, later_or, value_below}
-use Rattle.wsm_schema.specs.declared.entries.Entry.{Entry}
-use Rattle.wsm_lists.specs.ByNumber.{item_at}
-use Rattle.wsm_lists.specs.Keys.{first}
-use Rattle.wsm_lists.specs.Rows.{Ascends, rows_below}
-use Rattle.wsm_trail.specs.EntryAt.{entry_at, entry_of, last_written, value_noted, written_to}
-use Rattle.wsm_trail.specs.LastWrites.{noted_until}
-use Rattle.wsm_lists.specs.declared.values.Value.{Value}
-use Rattle.wsm_trail.specs.TrailWithRoom.{Rises, TrailWithRoom}
-use Rattle.wsm_trail.proofs.LateNotes.{value-late}
-use Rattle.wsm_trail.proofs.Rising.{rises-ascends}
+use Rattle.wsm_trail.proofs.Common.{ℕ, ◌∙◌, ◌≡◌, ◌≤◌, ap, Ascends, drop, Entry, entry_at, entry_of, first, item_at, last_written, later_or, List, None, noted_until, Option, option_copied, Rises, rows_below, Some, subst, sym, TrailModel}
+use Rattle.wsm_trail.proofs.{Common.{TrailWithRoom, Value, value_below, value_noted, written_to}, LateNotes.value-late, Rising.rises-ascends}
 use Rattle.wsm_trail.proofs.trails.Trail.value.Goals as goal
 
 pub place_of-place-requires : goal.place_of-place-requires

@@ -1,10 +1,4 @@
-use Rattle.std.proofs.Common.{◌≡◌, [], ◌++◌, ℕ, List, drop, ap, sym, ◌∙◌, subst, arith, append-nil, drop_of_length-le}
-use Rattle.wsm_lists.specs.Keys.{first}
-use Rattle.wsm_lists.specs.Rows.{Ascends}
-use Rattle.wsm_lists.specs.Values.{value_in}
-use Rattle.wsm_schema.specs.declared.entries.Entry.{Entry}
-use Rattle.wsm_trail.specs.LastWrites.{noted_entries, values_at}
-use Rattle.wsm_trail.proofs.LastWrite.{all_values-ascend, value_in-all_values}
+use Rattle.wsm_trail.proofs.{Common.{[], ℕ, ◌++◌, ◌∙◌, ◌≡◌, ap, append-nil, arith, Ascends, drop, drop_of_length-le, Entry, first, List, noted_entries, subst, sym, value_in, values_at}, LastWrite.{all_values-ascend, value_in-all_values}}
 use Rattle.wsm_trail.proofs.trails.Trail.values.Goals as goal
 
 -- what the loop leaves

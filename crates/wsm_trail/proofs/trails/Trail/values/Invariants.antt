@@ -1,5 +1,4 @@
-use Rattle.std.proofs.Common.{◌≡◌, ◌++◌, drop}
-use Rattle.wsm_trail.specs.LastWrites.{values_at}
+use Rattle.wsm_trail.proofs.Common.{◌++◌, ◌≡◌, drop, values_at}
 use Rattle.wsm_trail.proofs.trails.Trail.values.Given as goal
 
 abbrev pub invariant-loop-row : goal.invariant-loop-row

@@ -1,9 +1,4 @@
-use Rattle.std.proofs.Common.{subst}
-use Rattle.adept_actor.specs.Work.{WorksLines}
-use Rattle.adept_server.specs.Desks.{desk_view}
-use Rattle.crew_run.proofs.LineByLine.{roles-at}
-use Rattle.crew_run.proofs.PhaseWorked.{leaves-ended}
-use Rattle.crew_run.specs.Phases.{ended}
+use Rattle.crew_run.proofs.{Common.{desk_view, ended, subst, WorksLines}, LineByLine.roles-at, PhaseWorked.leaves-ended}
 use Rattle.crew_run.proofs.phases.fn.work_side_by_side.work_own.Goals as goal
 
 pub returns : goal.returns
