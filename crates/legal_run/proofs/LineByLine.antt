@@ -1,22 +1,20 @@
 -- What a script line makes of a run in file order: calls that the line stands for.
-use Rattle.legal_run.proofs.Common.{[], ℕ, ◌&&◌, ◌+◌, ◌<◌, ◌==◌, ◌∙◌, ◌∷◌, ◌≡◌, ◌≢◌, ◌≤◌, AllRows, and_from, and_parts, ap, AreOf, ArePlaced, arith, asked, Bool, Call, call_of, calls_of_case, calls_of_kind, case_reply, CaseDecl, CaseEntry}
-use Rattle.legal_run.proofs.Common.{CaseId, cases_Bool, ClosedCase, ClosedKind, cond, declared-typed, entry, eq-eqb, eqb-true, Event, false, File, get_or, ids-distinct, if◌then◌else◌, inl, inr, is_case, IsDeclared, IsKnownAct, IsWorkable}
-use Rattle.legal_run.proofs.Common.{kind_after, kind_reply, length, List, list_any, ltb-false, ltb-true, map, nat_lt, ne_eqb, newest-told, None, of_kind, option_map, place_of, position_from, refl, Reply, roles_of, Run, set, slice_get}
-use Rattle.legal_run.proofs.{Common.{slice_get-get_or, slice_get-map, slice_get_cases, Some, subst, suc, sym, take, told, told_each, true, VersionModel, versions-kept, zero}, Made.{CaseMade, HasGone, KindMade, case_made-none, gone-then}}
-use Rattle.legal_run.proofs.{Made.{kind_made-none, takes-state}, OnMachines.caller_of, Places.{one-becomes, some_one, there-as}, Told.{each-all, each-kind, entry_if, some-at, some-other}}
-use Rattle.std.proofs.{Math.ListN.length-set, lemmas.List.Quantifiers.position-Some, lemmas.List.Sums.sum_by-cons}
-use mathlib.Core.Logic.{dite}
-use native.Mathlib.Decide.{ℕ_discrete}
+use Rattle.legal_run.proofs.Common.{[], ℕ, ◌&&◌, ◌+◌, ◌<◌, ◌==◌, ◌∙◌, ◌∷◌, ◌≡◌, AllRows, answered_version, ap, AreOf, ArePlaced, arith, asked, asked-known, asked_among, Bool, Call, call_case, call_kind, called, calls_of_case, calls_of_kind}
+use Rattle.legal_run.proofs.Common.{case_reply, CaseDecl, CaseEntry, CaseId, cells_told, changed_where, ClosedCase, ClosedKind, Decides, each_of, Entry, entry, eq-eqb, eqb-true, Event, false, File, get_or, ids-distinct, if_among}
+use Rattle.legal_run.proofs.Common.{if◌then◌else◌, inl, inr, is_case, IsDeclared, IsWorkable, kind_reply, KindEvent, length, List, lt-ltb, ltb-false, ltb-true, map, nat_lt, ne_eqb, newest-told, newest_in, None, of_kind, Option}
+use Rattle.legal_run.proofs.Common.{option_and_then, option_map, place_of, put_back, range_with_len, refl, Reply, Run, same_Some, set, slice_get, slice_get-get_or, slice_get-map, slice_get_cases, slice_get_past, slice_get_read}
+use Rattle.legal_run.proofs.{Common.{slice_get_within, Some, subst, suc, sym, told, told_each, told_to, true, VersionModel, versions-kept, zero}, Made.{Cells, HasGone, HasMade, HaveMade, case_cells, gone-then, have-none, id_at, id_in}}
+use Rattle.legal_run.proofs.{Made.{kind_cells, made-none, takes-legal}, OnMachines.caller_of, Places.{one-becomes, some_one, there-as}, Told.{each-all, each-kind, entry_if, some-at, some-other}}
+use Rattle.std.proofs.{Math.ListN.length-set, lemmas.Bool.Decides.{Decides-and, Decides-eqb, Decides-like, same_from_decides}, lemmas.List.Folds.Any-from_list_any, lemmas.List.FromFn.{get_or-map-range_with_len, length-map-range_with_len}}
+use Rattle.std.proofs.lemmas.List.Sums.{position_or_len_is}
+use Rattle.line_calls.specs.{Known.IsKnownCall, declared.calls.Told.Told}
+use Rattle.file_model.specs.CaseCounts.{has_id, is_among}
+use Rattle.script_run.specs.Calls.{on_case as case_called, on_each as each_called, on_kind as kind_called}
 use Rattle.case_core.specs.declared.events.Event.TheVariants as event
-use Rattle.line_calls.proofs.{Facts.known-call, Places.position-from_0}
-use Rattle.line_calls.specs.Known.{IsKnownCall}
+use Rattle.case_core.specs.declared.replies.Reply.TheVariants as reply
 use Rattle.line_calls.specs.declared.calls.Call as line
 use Rattle.line_calls.specs.declared.calls.Call.TheVariants as call
 use Rattle.line_calls.specs.declared.calls.Told.TheVariants as tell
-use Rattle.file_model.specs.CaseCounts.{cases_of_type as counted, has_id, is_among}
-use Rattle.file_model.specs.declared.files.Act.{Act}
-use Rattle.script_run.specs.Calls.{acted, call_case, call_kind, called, changed_where, created, each_of, if_among, migrated, newest, newest_in, on_case as case_called, on_each as each_called, on_kind as kind_called, put_back, answered_version}
-use Rattle.type_core.specs.declared.events.KindEvent.{KindEvent}
 use Rattle.type_core.specs.declared.events.KindEvent.TheVariants as kind_event
 
 -- between lines a run has the file's types and cases, and each type has a version
@@ -27,26 +25,33 @@ pub record IsRunning (f : File) (r : Run) : Type 0 where
 
 pub running-still : (f : File) (calls : List Call) (r s : Run) → HasGone f calls r s → IsRunning f r → IsRunning f s
 running-still f calls r s gone running = record {
-  types = gone.types ∙ running.types;
-  cases = gone.many ∙ running.cases;
+  types = gone.kinds.many ∙ running.types;
+  cases = gone.cases.many ∙ running.cases;
   versions = λ t l at_then.
-      let (k, at) = there-as s.kinds r.kinds t l (sym gone.types) at_then in
-      let made = gone.kinds t k l at at_then in
-      let is = takes-state kind_after kind_reply k.machine l.machine (calls_of_kind t calls) made.takes in
+      let (k, at) = there-as s.kinds r.kinds t l (sym gone.kinds.many) at_then in
+      let made = gone.kinds.each t k l at at_then in
+      let is = (takes-legal kind_cells.after kind_reply k.machine l.machine (calls_of_kind t calls) made.takes).1 in
       let some = running.versions t k at in
       let kept = versions-kept k.machine (calls_of_kind t calls) in
       subst (λ m. 0 < length m.versions) (sym is) (omega arith);
 }
 
+-- where one of some machines is called, each has gone on: it by that call, and the others by none
+one-called : {M E R W S X : Type 0} (m : Cells M E R W S X) (calls : List Call) (xs ys : List X) (i : ℕ) (x y : X) (es : List (Entry M E R W S)) → slice_get xs i ≡ Some x → ys ≡ set xs i y → HasMade m es x y
+    → ((j : ℕ) (p : X) → slice_get xs j ≡ Some p → m.on j calls ≡ (if i == j then es else [])) → HaveMade m calls xs ys
+one-called m calls xs ys i x y es there now made told_it = record {
+  many = ap length now ∙ length-set xs i y;
+  each = λ j p q at at_then. subst (λ es. HasMade m es p q) (sym (told_it j p at)) (one-becomes (HasMade m) (made-none m) xs ys i x y es there now made j p q at at_then);
+}
+
 -- ---- a call of a type
 call-kind : (f : File) (a t : ℕ) (e : KindEvent) (r : Run) (k : ClosedKind) → slice_get r.kinds t ≡ Some k → HasGone f (of_kind t (entry a e (kind_reply k.machine e)) ∷ []) r (kind_called a t e r)
 call-kind f a t e r k is =
-    let now : (kind_called a t e r).kinds ≡ set r.kinds t (call_kind a e k) = ap (put_back (call_kind a e) t r.kinds) is in
+    let calls = of_kind t (entry a e (kind_reply k.machine e)) ∷ [] in
+    let now = ap (put_back (call_kind a e) t r.kinds) is in
     record {
-      types = ap length now ∙ length-set r.kinds t (call_kind a e k);
-      many = refl;
-      kinds = one-becomes KindMade kind_made-none r.kinds (kind_called a t e r).kinds t k (call_kind a e k) (entry a e (kind_reply k.machine e) ∷ []) is now (record { takes = (refl, refl); grown = refl });
-      cases = λ i d c e declared at at_then. subst (CaseMade [] c) (some_one at at_then) (case_made-none c);
+      kinds = one-called kind_cells calls r.kinds _ t k (call_kind a e k) (entry a e (kind_reply k.machine e) ∷ []) is now (record { takes = (refl, refl); grown = refl }) (λ j p at. refl);
+      cases = have-none (case_cells f) calls r.cases (λ i. refl);
     }
 
 kind-there : (f : File) (r : Run) (t : ℕ) → IsRunning f r → t < length f.types → (k : ClosedKind) × (slice_get r.kinds t ≡ Some k)
@@ -55,115 +60,51 @@ kind-there f r t running low = elim (slice_get_cases r.kinds t).1 [
   | inr past ↦ absurd (let many = running.types in omega (arith, past.0))
 ]
 
--- a type that is asked for its newest version tells one
-call-newest : (f : File) (a t : ℕ) (r : Run) → IsRunning f r → t < length f.types → (v : VersionModel) × (newest t r ≡ Some v) × HasGone f (asked a t v ∷ []) r (kind_called a t kind_event.Newest r)
-call-newest f a t r running low =
-    let (k, at) = kind-there f r t running low in
-    let (v, tells) = newest-told k.machine (running.versions t k at) in
-    (v, ap newest_in at ∙ ap answered_version tells, subst (λ x. HasGone f (of_kind t (entry a kind_event.Newest x) ∷ []) r (kind_called a t kind_event.Newest r)) tells (call-kind f a t kind_event.Newest r k at))
+-- ---- where a case was declared
+case-decides : (c d : CaseId) → Decides (is_case c d) (d ≡ c)
+case-decides c d = Decides-like (is_case c d)
+    (λ same. subst (λ n. d ≡ record { type_no = c.type_no; place = n }) same.1 (subst (λ n. d ≡ record { type_no = n; place = d.place }) same.0 refl)) (λ same. (ap (λ (x : CaseId). x.type_no) same, ap (λ (x : CaseId). x.place) same))
+    (Decides-and (d.type_no == c.type_no) (d.place == c.place) (Decides-eqb d.type_no c.type_no) (Decides-eqb d.place c.place))
+
+module _ (f : File) (placed : ArePlaced f.cases) where
+  -- no other case has its id
+  own-id : (i j : ℕ) (x d : CaseDecl) → slice_get f.cases i ≡ Some x → slice_get f.cases j ≡ Some d → is_case d.id x.id ≡ (i == j)
+  own-id i j x d at_i at_j =
+      same_from_decides (is_case d.id x.id) (i == j)
+      (Decides-like (is_case d.id x.id) (λ same. ids-distinct f.cases i j x d placed at_i at_j same) (λ same. ap (λ (y : CaseDecl). y.id) (some_one (ap (slice_get f.cases) (sym same) ∙ at_i) at_j)) (case-decides d.id x.id))
+      (Decides-eqb i j)
+
+  own-place : (i : ℕ) (d : CaseDecl) → slice_get f.cases i ≡ Some d → place_of f d.id ≡ Some i
+  own-place i d at =
+      let low = slice_get_within f.cases i d at in
+      let by : (k : ℕ) → k < length f.cases → has_id d.id (get_or f.cases k d) ≡ (k == i) = λ k within. own-id k i (get_or f.cases k d) d (slice_get-get_or f.cases k d within) at in
+      rw (position_or_len_is (has_id d.id) f.cases i d (omega arith) (λ k below. by k (omega arith) ∙ ne_eqb k i (λ same. omega arith)) (λ within. by i within ∙ eq-eqb i i refl), lt-ltb i (length f.cases) low) refl
+
+  declared-at : (c : CaseId) → IsDeclared c f.cases → (i : ℕ) × (d : CaseDecl) × (slice_get f.cases i ≡ Some d) × (d.id ≡ c)
+  declared-at c declared = let (i, d, low, is, here) = Any-from_list_any (has_id c) f.cases declared in (i, d, slice_get-get_or f.cases i d low ∙ ap Some is, (case-decides c d.id).0 here)
 
 -- ---- a call of a case
-same_id : (c d : CaseId) → c.type_no ≡ d.type_no → c.place ≡ d.place → c ≡ d
-same_id c d kind place = subst (λ n. c ≡ record { type_no = d.type_no; place = n }) place (subst (λ n. c ≡ record { type_no = n; place = c.place }) kind refl)
-
-case-self : (c d : CaseId) → d ≡ c → is_case c d ≡ true
-case-self c d same = ap (λ b. b && d.place == c.place) (eq-eqb d.type_no c.type_no (ap (λ (x : CaseId). x.type_no) same)) ∙ eq-eqb d.place c.place (ap (λ (x : CaseId). x.place) same)
-
-case-same : (c d : CaseId) → is_case c d ≡ true → d ≡ c
-case-same c d is = let both = and_parts _ _ is in same_id d c (eqb-true d.type_no c.type_no both.0) (eqb-true d.place c.place both.1)
-
-first-place : {X : Type 0} (p : X → Bool) (n : ℕ) (xs : List X) → list_any p xs ≡ true → (i : ℕ) × (position_from p n xs ≡ Some i)
-first-place p n [] some = absurd (cc)
-first-place p n (x ∷ xs) some = elim (cases_Bool (p x)) [
-  | inl here ↦ (n, ap (λ b. cond b (Some n) (position_from p (n + 1) xs)) here)
-  | inr later ↦ let r = first-place p (n + 1) xs (rw later at some) in (r.0, ap (λ b. cond b (Some n) (position_from p (n + 1) xs)) later ∙ r.1)
-]
-
--- a declared case has its place
-place-declared : (f : File) (c : CaseId) → IsDeclared c f.cases → (i : ℕ) × (d : CaseDecl) × (place_of f c ≡ Some i) × (slice_get f.cases i ≡ Some d) × (d.id ≡ c)
-place-declared f c declared =
-    let (i, from) = first-place (has_id c) 0 f.cases declared in
-    let place : place_of f c ≡ Some i = sym (position-from_0 (has_id c) f.cases) ∙ from in
-    let other : CaseDecl = record { name = []; id = c } in
-    let found = position-Some (has_id c) f.cases i other place in
-    (i, get_or f.cases i other, place, slice_get-get_or f.cases i other found.0, case-same c (get_or f.cases i other).id found.1)
-
--- no other case has its id
-own-place : (f : File) (c : CaseId) (i j : ℕ) (x d : CaseDecl) → ArePlaced f.cases → slice_get f.cases i ≡ Some x → x.id ≡ c → slice_get f.cases j ≡ Some d → is_case d.id c ≡ (i == j)
-own-place f c i j x d placed at_i is at_j =
-    dite (ℕ_discrete i j)
-    (λ (same : i ≡ j).
-    let one : x ≡ d = some_one (ap (slice_get f.cases) (sym same) ∙ at_i) at_j in
-    case-self d.id c (sym is ∙ ap (λ (y : CaseDecl). y.id) one) ∙ sym (eq-eqb i j same))
-    (λ (not : i ≢ j). other not (is_case d.id c) refl ∙ sym (ne_eqb i j not))
-  where
-    other : i ≢ j → (b : Bool) → is_case d.id c ≡ b → is_case d.id c ≡ false
-    other not true same = absurd (not (ids-distinct f.cases i j x d placed at_i at_j (is ∙ case-same d.id c same)))
-    other not false differs = differs
-
 call-case : (f : File) → IsWorkable f → (a : ℕ) (c : CaseId) (e : Event) (r : Run) → IsRunning f r → IsDeclared c f.cases → (answer : Reply) × HasGone f (told a c e answer ∷ []) r (case_called f a c e r)
 call-case f workable a c e r running declared =
-    let (i, x, place, at_x, is) = place-declared f c declared in
+    let (i, x, at_x, is) = declared-at f workable.placed c declared in
     let (k, at_k) = there-as f.cases r.cases i x running.cases at_x in
-    let now : (case_called f a c e r).cases ≡ set r.cases i (call_case a e k) = ap (λ o. changed_where (call_case a e) o r.cases) place ∙ ap (put_back (call_case a e) i r.cases) at_k in
-    let told_it = entry a e (case_reply k.machine e) ∷ [] in (
+    let now = ap (λ o. changed_where (call_case a e) o r.cases) (ap (place_of f) (sym is) ∙ own-place f workable.placed i x at_x) ∙ ap (put_back (call_case a e) i r.cases) at_k in
+    let es : List CaseEntry = entry a e (case_reply k.machine e) ∷ [] in (
       case_reply k.machine e,
       record {
-        types = refl;
-        many = ap length now ∙ length-set r.cases i (call_case a e k);
-        kinds = λ t p q at at_then. subst (KindMade [] p) (some_one at at_then) (kind_made-none p);
-        cases = λ j d p q at_d at at_then.
-            subst (λ b. CaseMade (if b then told_it else []) p q) (sym (own-place f c i j x d workable.placed at_x is at_d))
-            (one-becomes CaseMade case_made-none r.cases (case_called f a c e r).cases i k (call_case a e k) told_it at_k now (record { takes = (refl, refl); grown = refl }) j p q at at_then);
+        kinds = have-none kind_cells (told a c e (case_reply k.machine e) ∷ []) r.kinds (λ t. refl);
+        cases = one-called (case_cells f) (told a c e (case_reply k.machine e) ∷ []) r.cases _ i k (call_case a e k) es at_k now (record { takes = (refl, refl); grown = refl }) (λ j p at.
+            let (d, at_d) = there-as r.cases f.cases j p (sym running.cases) at in
+            ap (λ (b : Bool). if b then es else []) (ap (λ o. is_case (id_in o) c) at_d ∙ (ap (is_case d.id) (sym is) ∙ own-id f workable.placed i j x d at_x at_d)));
       },
     )
 
--- ---- a call of each case of a type
--- what they answer, in order
-abbrev replies : ℕ → Event → List CaseDecl → List ClosedCase → List Reply
-replies t e [] cs = []
-replies t e (d ∷ ds) [] = []
-replies t e (d ∷ ds) (c ∷ cs) = if d.id.type_no == t then case_reply c.machine e ∷ replies t e ds cs else replies t e ds cs
-
-length_if : {A : Type 0} (b : Bool) (x : A) (xs : List A) → length (if b then x ∷ xs else xs) ≡ cond b 1 0 + length xs
-length_if true x xs = omega arith
-length_if false x xs = omega arith
-
-length-replies : (t : ℕ) (e : Event) (ds : List CaseDecl) (cs : List ClosedCase) → length cs ≡ length ds → length (replies t e ds cs) ≡ counted t ds
-length-replies t e [] cs many = refl
-length-replies t e (d ∷ ds) [] many = absurd (omega arith)
-length-replies t e (d ∷ ds) (c ∷ cs) many =
-    let here = length_if (d.id.type_no == t) (case_reply c.machine e) (replies t e ds cs) in
-    let others = length-replies t e ds cs (omega arith) in
-    let all : counted t (d ∷ ds) ≡ cond (d.id.type_no == t) 1 0 + counted t ds = sum_by-cons (λ (x : CaseDecl). cond (x.id.type_no == t) 1 0) d ds in
-    omega (arith, here, others, all)
-
-behind_if : {A : Type 0} (b : Bool) (x : A) (xs : List A) (n : ℕ) → slice_get (if b then x ∷ xs else xs) (cond b 1 0 + n) ≡ slice_get xs n
-behind_if true x xs n = let next : 1 + n ≡ suc n = omega arith in ap (slice_get (x ∷ xs)) next
-behind_if false x xs n = let same : 0 + n ≡ n = omega arith in ap (slice_get xs) same
-
--- a case's answer stands behind those of the cases of its type before it
-reply-at : (t : ℕ) (e : Event) (ds : List CaseDecl) (cs : List ClosedCase) (i : ℕ) (d : CaseDecl) (c : ClosedCase) → slice_get ds i ≡ Some d → slice_get cs i ≡ Some c → d.id.type_no ≡ t
-    → slice_get (replies t e ds cs) (counted t (take i ds)) ≡ Some (case_reply c.machine e)
-reply-at t e [] cs i d c at_d at_c typed = absurd (cc)
-reply-at t e (x ∷ ds) [] i d c at_d at_c typed = absurd (cc)
-reply-at t e (x ∷ ds) (y ∷ cs) zero d c at_d at_c typed =
-    let is_d : x ≡ d = cc (at_d) in
-    let is_c : y ≡ c = cc (at_c) in
-    ap (λ (b : Bool). slice_get (if b then case_reply y.machine e ∷ replies t e ds cs else replies t e ds cs) 0) (eq-eqb x.id.type_no t (ap (λ (z : CaseDecl). z.id.type_no) is_d ∙ typed))
-    ∙ ap (λ (z : ClosedCase). Some (case_reply z.machine e)) is_c
-reply-at t e (x ∷ ds) (y ∷ cs) (suc i) d c at_d at_c typed =
-    let all : counted t (x ∷ take i ds) ≡ cond (x.id.type_no == t) 1 0 + counted t (take i ds) = sum_by-cons (λ (z : CaseDecl). cond (z.id.type_no == t) 1 0) x (take i ds) in
-    ap (slice_get (replies t e (x ∷ ds) (y ∷ cs))) all ∙ (behind_if (x.id.type_no == t) (case_reply y.machine e) (replies t e ds cs) (counted t (take i ds)) ∙ reply-at t e ds cs i d c at_d at_c typed)
-
+-- ---- a call of each of the first cases of a type
 each-at : (t many : ℕ) (g : ClosedCase → ClosedCase) (ds : List CaseDecl) (cs : List ClosedCase) (i : ℕ) (d : CaseDecl) (c : ClosedCase) → slice_get ds i ≡ Some d → slice_get cs i ≡ Some c →
     slice_get (each_of t many g ds cs) i ≡ Some (if_among t many g d c)
 each-at t many g [] cs i d c at_d at_c = absurd (cc)
 each-at t many g (x ∷ ds) [] i d c at_d at_c = absurd (cc)
-each-at t many g (x ∷ ds) (y ∷ cs) zero d c at_d at_c =
-    let is_d : x ≡ d = cc (at_d) in
-    let is_c : y ≡ c = cc (at_c) in
-    ap (λ (z : CaseDecl). Some (if_among t many g z y)) is_d ∙ ap (λ (z : ClosedCase). Some (if_among t many g d z)) is_c
+each-at t many g (x ∷ ds) (y ∷ cs) zero d c at_d at_c = rw (same_Some x d at_d, same_Some y c at_c) refl
 each-at t many g (x ∷ ds) (y ∷ cs) (suc i) d c at_d at_c = each-at t many g ds cs i d c at_d at_c
 
 length-each : (t many : ℕ) (g : ClosedCase → ClosedCase) (ds : List CaseDecl) (cs : List ClosedCase) → length (each_of t many g ds cs) ≡ length cs
@@ -171,150 +112,98 @@ length-each t many g [] cs = refl
 length-each t many g (d ∷ ds) [] = refl
 length-each t many g (d ∷ ds) (c ∷ cs) = ap suc (length-each t many g ds cs)
 
--- the first so many of a list
-take-long : {A : Type 0} (n : ℕ) (xs : List A) → n ≤ length xs → length (take n xs) ≡ n
-take-long zero [] enough = refl
-take-long zero (x ∷ xs) enough = refl
-take-long (suc n) [] enough = absurd (omega (arith, enough))
-take-long (suc n) (x ∷ xs) enough = ap suc (take-long n xs (omega (arith, enough)))
+-- what a case answers; any reply where there is none
+abbrev answer_in : Event → Option ClosedCase → Reply
+answer_in e None = reply.NoCase
+answer_in e (Some c) = case_reply c.machine e
 
-take-got : {A : Type 0} (n : ℕ) (xs : List A) (i : ℕ) → i < n → slice_get (take n xs) i ≡ slice_get xs i
-take-got zero xs i below = absurd (omega (arith, below))
-take-got (suc n) [] i below = refl
-take-got (suc n) (x ∷ xs) zero below = refl
-take-got (suc n) (x ∷ xs) (suc i) below = take-got n xs i (omega (arith, below))
-
-take-past : {A : Type 0} (n : ℕ) (xs : List A) (i : ℕ) → n ≤ i → slice_get (take n xs) i ≡ None
-take-past zero [] zero past = refl
-take-past zero [] (suc i) past = refl
-take-past zero (x ∷ xs) zero past = refl
-take-past zero (x ∷ xs) (suc i) past = refl
-take-past (suc n) [] zero past = absurd (omega (arith, past))
-take-past (suc n) [] (suc i) past = refl
-take-past (suc n) (x ∷ xs) zero past = absurd (omega (arith, past))
-take-past (suc n) (x ∷ xs) (suc i) past = take-past n xs i (omega (arith, past))
-
-and_false : (b : Bool) → (b && false) ≡ false
-and_false true = refl
-and_false false = refl
-
-call-each : (f : File) → IsWorkable f → (a t many : ℕ) (e : Event) (r : Run) → IsRunning f r → many ≤ counted t f.cases →
-    (rs : List Reply) × (length rs ≡ many) × HasGone f (told_each a t e 0 rs) r (each_called f a t many e r)
-call-each f workable a t many e r running enough = (
+call-each : (f : File) → IsWorkable f → (a t many : ℕ) (e : Event) (r : Run) → IsRunning f r → (rs : List Reply) × (length rs ≡ many) × HasGone f (told_each a t e 0 rs) r (each_called f a t many e r)
+call-each f workable a t many e r running = (
   answers,
-  take-long many all (omega (arith, enough, length-replies t e f.cases r.cases running.cases)),
+  length-map-range_with_len answer 0 many,
   record {
-    types = refl;
-    many = length-each t many (call_case a e) f.cases r.cases;
-    kinds = λ u p q at at_then. subst (λ es. KindMade es p q) (sym (each-kind a t e u 0 answers)) (subst (KindMade [] p) (some_one at at_then) (kind_made-none p));
-    cases = λ i d p q at_d at at_then.
-        let now : if_among t many (call_case a e) d p ≡ q = some_one (each-at t many (call_case a e) f.cases r.cases i d p at_d at) at_then in
-        dite (ℕ_discrete t d.id.type_no) (typed i d p q at_d at now) (λ not. passed_over d p q now (by_type d not) (of_others d not));
+    kinds = have-none kind_cells (told_each a t e 0 answers) r.kinds (λ u. each-kind a t e u 0 answers);
+    cases = record {
+      many = length-each t many (call_case a e) f.cases r.cases;
+      each = λ i p q at at_then.
+          let (d, at_d) = there-as r.cases f.cases i p (sym running.cases) at in
+          let now : if_among t many (call_case a e) d p ≡ q = some_one (each-at t many (call_case a e) f.cases r.cases i d p at_d at) at_then in
+          let es : calls_of_case (id_at f i) (told_each a t e 0 answers) ≡ (if is_among t many d then entry a e (case_reply p.machine e) ∷ [] else []) =
+          ap (λ o. calls_of_case (id_in o) (told_each a t e 0 answers)) at_d ∙ made i d p at_d at (d.id.type_no == t) (nat_lt d.id.place many) refl refl in
+          subst (λ es. HasMade (case_cells f) es p q) (sym es) (subst (HasMade (case_cells f) _ p) now (becomes p (is_among t many d)));
+    };
   },
 )
   where
-    all : List Reply
-    all = replies t e f.cases r.cases
+    -- each answers at its place
+    case_in : Option ℕ → Option ClosedCase
+    case_in o = option_and_then (slice_get r.cases) o
+
+    answer : ℕ → Reply
+    answer place = answer_in e (case_in (place_of f (record { type_no = t; place = place })))
 
     answers : List Reply
-    answers = take many all
+    answers = map answer (range_with_len 0 many)
 
-    made : CaseDecl → List CaseEntry
-    made d = calls_of_case d.id (told_each a t e 0 answers)
+    becomes : (p : ClosedCase) (b : Bool) → HasMade (case_cells f) (if b then entry a e (case_reply p.machine e) ∷ [] else []) p (if b then call_case a e p else p)
+    becomes p true = record { takes = (refl, refl); grown = refl }
+    becomes p false = made-none (case_cells f) p
 
-    -- a case of another type, and one that is not among the first
-    by_type : (d : CaseDecl) → t ≢ d.id.type_no → is_among t many d ≡ false
-    by_type d not = ap (λ b. b && nat_lt d.id.place many) (ne_eqb d.id.type_no t (λ is. not (sym is)))
-
-    of_others : (d : CaseDecl) → t ≢ d.id.type_no → made d ≡ []
-    of_others d not = ap (calls_of_case d.id) (each-all a t e 0 answers) ∙ some-other a t e d.id 0 (map (λ x. Some x) answers) (inl not)
-
-    -- the entry of a case of the type, where its place has an answer
-    one : (d : CaseDecl) → t ≡ d.id.type_no → made d ≡ entry_if a e (option_map (λ (x : Reply). Some x) (slice_get answers d.id.place))
-    one d same =
-        ap (calls_of_case d.id) (each-all a t e 0 answers)
-        ∙ (some-at a t e d.id 0 d.id.place (map (λ x. Some x) answers) same (omega arith)
-        ∙ ap (entry_if a e) (slice_get-map (λ x. Some x) answers d.id.place))
-
-    passed_over : (d : CaseDecl) (p q : ClosedCase) → if_among t many (call_case a e) d p ≡ q → is_among t many d ≡ false → made d ≡ [] → CaseMade (made d) p q
-    passed_over d p q now not none =
-        let is_q : p ≡ q = sym (ap (λ (b : Bool). if b then call_case a e p else p) not) ∙ now in
-        subst (λ es. CaseMade es p q) (sym none) (subst (CaseMade [] p) is_q (case_made-none p))
-
-    typed : (i : ℕ) (d : CaseDecl) (p q : ClosedCase) → slice_get f.cases i ≡ Some d → slice_get r.cases i ≡ Some p → if_among t many (call_case a e) d p ≡ q → t ≡ d.id.type_no → CaseMade (made d) p q
-    typed i d p q at_d at now same = by (nat_lt d.id.place many) refl
+    made : (i : ℕ) (d : CaseDecl) (p : ClosedCase) → slice_get f.cases i ≡ Some d → slice_get r.cases i ≡ Some p → (b c : Bool) → (d.id.type_no == t) ≡ b → nat_lt d.id.place many ≡ c
+        → calls_of_case d.id (told_each a t e 0 answers) ≡ (if b && c then entry a e (case_reply p.machine e) ∷ [] else [])
+    made i d p at_d at false c not place = ap (calls_of_case d.id) (each-all a t e 0 answers) ∙ some-other a t e d.id 0 (map (λ x. Some x) answers) (inl (λ same. let is = eq-eqb d.id.type_no t (sym same) in absurd (cc)))
+    made i d p at_d at true c typed place =
+        let same = eqb-true d.id.type_no t typed in
+        ap (calls_of_case d.id) (each-all a t e 0 answers) ∙ (some-at a t e d.id 0 d.id.place (map (λ x. Some x) answers) (sym same) (omega arith) ∙ (ap (entry_if a e) (slice_get-map (λ x. Some x) answers d.id.place) ∙ here c place))
       where
-        of_type : (d.id.type_no == t) ≡ true
-        of_type = eq-eqb d.id.type_no t (sym same)
+        own : answer d.id.place ≡ case_reply p.machine e
+        own =
+            ap (λ n. answer_in e (case_in (place_of f (record { type_no = n; place = d.id.place })))) (sym (eqb-true d.id.type_no t typed))
+            ∙ (ap (λ o. answer_in e (case_in o)) (own-place f workable.placed i d at_d) ∙ ap (answer_in e) at)
 
-        answer : slice_get all d.id.place ≡ Some (case_reply p.machine e)
-        answer =
-            let place : d.id.place ≡ counted t (take i f.cases) = workable.placed i d at_d ∙ ap (λ n. counted n (take i f.cases)) (sym same) in
-            ap (slice_get all) place ∙ reply-at t e f.cases r.cases i d p at_d at (sym same)
-
-        by : (b : Bool) → nat_lt d.id.place many ≡ b → CaseMade (made d) p q
-        by true low =
-            let told_it : made d ≡ entry a e (case_reply p.machine e) ∷ [] =
-            one d same ∙ ap (λ o. entry_if a e (option_map (λ (x : Reply). Some x) o)) (take-got many all d.id.place (ltb-true d.id.place many low) ∙ answer) in
-            let among : is_among t many d ≡ true = and_from _ _ of_type low in
-            let is_q : call_case a e p ≡ q = sym (ap (λ (b : Bool). if b then call_case a e p else p) among) ∙ now in
-            subst (λ es. CaseMade es p q) (sym told_it) (subst (CaseMade (entry a e (case_reply p.machine e) ∷ []) p) is_q (record { takes = (refl, refl); grown = refl }))
-        by false high =
-            let none : made d ≡ [] = one d same ∙ ap (λ o. entry_if a e (option_map (λ (x : Reply). Some x) o)) (take-past many all d.id.place (ltb-false d.id.place many high)) in
-            passed_over d p q now (ap (λ b. (d.id.type_no == t) && b) high ∙ and_false (d.id.type_no == t)) none
+        here : (c : Bool) → nat_lt d.id.place many ≡ c → entry_if a e (option_map (λ (x : Reply). Some x) (slice_get answers d.id.place)) ≡ (if true && c then entry a e (case_reply p.machine e) ∷ [] else [])
+        here true place =
+            let low = ltb-true d.id.place many place in
+            let read = get_or-map-range_with_len answer 0 many d.id.place d.id.place (answer d.id.place) low (omega arith) in
+            ap (λ o. entry_if a e (option_map (λ (x : Reply). Some x) o)) (slice_get_read answers many d.id.place (answer d.id.place) (sym (length-map-range_with_len answer 0 many)) low (sym read)) ∙ ap (λ x. entry a e x ∷ []) own
+        here false place =
+            let past = slice_get_past answers d.id.place (let many' = length-map-range_with_len answer 0 many in let high = ltb-false d.id.place many place in omega arith) in
+            ap (λ o. entry_if a e (option_map (λ (x : Reply). Some x) o)) past
 
 own-each : (a t : ℕ) (e : Event) (place : ℕ) (rs : List Reply) → AllRows (λ c. caller_of c ≡ a) (told_each a t e place rs)
 own-each a t e place [] = tt
 own-each a t e place (r ∷ rs) = (refl, own-each a t e (place + 1) rs)
 
 -- ---- a line
--- the call of a line has made its calls, and no others
-pub record HasCalled (f : File) (a : ℕ) (k : line.Call) (r s : Run) : Type 0 where
-  pub calls : List Call
-  pub fit : AreOf a k calls
-  pub own : AllRows (λ c. caller_of c ≡ a) calls
-  pub gone : HasGone f calls r s
+module _ (f : File) (workable : IsWorkable f) (a : ℕ) where
+  -- a call of a line has made its calls, and no others
+  abbrev pub HasCalled : line.Call → List Call → Run → Run → Type 0
+  HasCalled k calls r s = AreOf a k calls × AllRows (λ c. caller_of c ≡ a) calls × HasGone f calls r s
 
-has-called : (f : File) → IsWorkable f → (a : ℕ) (k : line.Call) (r : Run) → IsRunning f r → IsKnownCall (length f.types) f.cases k → HasCalled f a k r (called f a k r)
-has-called f workable a (call.Kind t e) r running low =
-    let (k, at) = kind-there f r t running low in
-    record {
-      calls = of_kind t (entry a e (kind_reply k.machine e)) ∷ [];
-      fit = (kind_reply k.machine e, refl);
-      own = (refl, tt);
-      gone = call-kind f a t e r k at;
-    }
-has-called f workable a (call.Case c e) r running declared =
-    let (answer, gone) = call-case f workable a c e r running declared in
-    record { calls = told a c e answer ∷ []; fit = (answer, refl); own = (refl, tt); gone = gone }
-has-called f workable a (call.Newest t (tell.Create c)) r running (same, declared) =
-    let (v, is, first) = call-newest f a t r running (subst (λ n. n < length f.types) (sym same) (declared-typed (length f.types) f.cases c workable.typed declared)) in
-    let asking = asked a t v ∷ [] in
-    let between = kind_called a t kind_event.Newest r in
-    let (answer, second) = call-case f workable a c (event.Create v) between (running-still f asking r between first running) declared in
-    let creating = told a c (event.Create v) answer ∷ [] in
-    record {
-      calls = asked a t v ∷ told a c (event.Create v) answer ∷ [];
-      fit = (v, answer, refl);
-      own = (refl, (refl, tt));
-      gone = subst (λ o. HasGone f (asked a t v ∷ told a c (event.Create v) answer ∷ []) r (created f a c o between)) (sym is) (gone-then f asking creating r between (case_called f a c (event.Create v) between) first second);
-    }
-has-called f workable a (call.Newest t (tell.Migrate many)) r running (low, enough) =
-    let (v, is, first) = call-newest f a t r running low in
-    let asking = asked a t v ∷ [] in
-    let between = kind_called a t kind_event.Newest r in
-    let (answers, all, second) = call-each f workable a t many (event.Migrate v) between (running-still f asking r between first running) enough in
-    record {
-      calls = asked a t v ∷ told_each a t (event.Migrate v) 0 answers;
-      fit = (v, answers, all, refl);
-      own = (refl, own-each a t (event.Migrate v) 0 answers);
-      gone = subst (λ o. HasGone f (asked a t v ∷ told_each a t (event.Migrate v) 0 answers) r (migrated f a t many o between)) (sym is)
-          (gone-then f asking (told_each a t (event.Migrate v) 0 answers) r between (each_called f a t many (event.Migrate v) between) first second);
-    }
+  -- a type has answered its newest version, and cases are told it
+  told-newest : (t : ℕ) (w : Told) (v : VersionModel) (r : Run) → IsRunning f r → IsKnownCall (length f.types) f.cases (call.Newest t w)
+      → (calls : List Call) × AreOf a (call.Newest t w) (asked a t v ∷ calls) × AllRows (λ c. caller_of c ≡ a) calls × HasGone f calls r (told_to f a t w (Some v) r)
+  told-newest t (tell.Create c) v r running known =
+      let (answer, gone) = call-case f workable a c (event.Create v) r running known.1 in
+      (told a c (event.Create v) answer ∷ [], (v, answer, refl), (refl, tt), gone)
+  told-newest t (tell.Migrate many) v r running known =
+      let (answers, all, gone) = call-each f workable a t many (event.Migrate v) r running in
+      (told_each a t (event.Migrate v) 0 answers, (v, answers, all, refl), own-each a t (event.Migrate v) 0 answers, gone)
 
--- so has a line
-abbrev pub HasActed : File → ℕ → Act → Run → Run → Type 0
-HasActed f a x r s = HasCalled f a (call_of a (roles_of f a) x) r s
-
-pub has-acted : (f : File) → IsWorkable f → (a : ℕ) (x : Act) (r : Run) → IsRunning f r → IsKnownAct (length f.types) f.cases x → HasActed f a x r (acted f a x r)
-has-acted f workable a x r running known = has-called f workable a (call_of a (roles_of f a) x) r running (known-call a (roles_of f a) (length f.types) f.cases x known)
+  pub has-called : (k : line.Call) (r : Run) → IsRunning f r → IsKnownCall (length f.types) f.cases k → (calls : List Call) × HasCalled k calls r (called f a k r)
+  has-called (call.Kind t e) r running known =
+      let (k, at) = kind-there f r t running known in
+      (of_kind t (entry a e (kind_reply k.machine e)) ∷ [], ((kind_reply k.machine e, refl), (refl, tt), call-kind f a t e r k at))
+  has-called (call.Case c e) r running known = let (answer, gone) = call-case f workable a c e r running known in (told a c e answer ∷ [], ((answer, refl), (refl, tt), gone))
+  has-called (call.Newest t w) r running known =
+      let (k, at) = kind-there f r t running (asked-known (length f.types) f.cases workable.typed (call.Newest t w) t known (asks w)) in
+      let (v, tells) = newest-told k.machine (running.versions t k at) in
+      let between = kind_called a t kind_event.Newest r in
+      let first = subst (λ x. HasGone f (of_kind t (entry a kind_event.Newest x) ∷ []) r between) tells (call-kind f a t kind_event.Newest r k at) in
+      let (calls, fit, own, second) = told-newest t w v between (running-still f (asked a t v ∷ []) r between first running) known in
+      let gone = gone-then f (asked a t v ∷ []) calls r between (told_to f a t w (Some v) between) first second in
+      (asked a t v ∷ calls, (fit, (refl, own), subst (λ o. HasGone f (asked a t v ∷ calls) r (told_to f a t w o between)) (sym (ap newest_in at ∙ ap answered_version tells)) gone))
+    where
+      asks : (w : Told) → asked_among (cells_told t w) ≡ Some t
+      asks (tell.Create c) = refl
+      asks (tell.Migrate many) = refl

@@ -1,20 +1,6 @@
--- The calls of one type, and of one case, among calls one after another.
-use Rattle.legal_run.proofs.Common.{[], ℕ, ◌++◌, ◌==◌, ◌∙◌, ◌∷◌, ◌≡◌, All, All-cons, All-nil, AllRows, ap, Bool, Call, calls_of, calls_of_case, calls_of_kind, CaseId, Entry, eqb, false, filter, filter-append, if◌then◌else◌, is_case, List}
-use Rattle.legal_run.proofs.Common.{of_case, of_kind, refl, sym, true}
-
-split_if : {A : Type 0} (b : Bool) (x : A) (xs ys zs : List A) → xs ≡ ys ++ zs → (if b then x ∷ xs else xs) ≡ (if b then x ∷ ys else ys) ++ zs
-split_if true x xs ys zs e = ap (λ ws. x ∷ ws) e
-split_if false x xs ys zs e = e
-
-pub calls_of_kind-append : (t : ℕ) (xs ys : List Call) → calls_of_kind t (xs ++ ys) ≡ calls_of_kind t xs ++ calls_of_kind t ys
-calls_of_kind-append t [] ys = refl
-calls_of_kind-append t (of_kind u e ∷ xs) ys = split_if (eqb u t) e (calls_of_kind t (xs ++ ys)) (calls_of_kind t xs) (calls_of_kind t ys) (calls_of_kind-append t xs ys)
-calls_of_kind-append t (of_case c e ∷ xs) ys = calls_of_kind-append t xs ys
-
-pub calls_of_case-append : (c : CaseId) (xs ys : List Call) → calls_of_case c (xs ++ ys) ≡ calls_of_case c xs ++ calls_of_case c ys
-calls_of_case-append c [] ys = refl
-calls_of_case-append c (of_kind u e ∷ xs) ys = calls_of_case-append c xs ys
-calls_of_case-append c (of_case d e ∷ xs) ys = split_if (is_case c d) e (calls_of_case c (xs ++ ys)) (calls_of_case c xs) (calls_of_case c ys) (calls_of_case-append c xs ys)
+-- What one machine is told among calls one after another.
+use Rattle.legal_run.proofs.Common.{[], ℕ, ◌++◌, ◌==◌, ◌∙◌, ◌∷◌, ◌≡◌, all-rows-map, AllRows, ap, append_assoc, Bool, Call, calls_of, calls_of-append, calls_of_case, calls_of_kind, CaseId, cond_both, Entry, eqb, false, filter, if◌then◌else◌}
+use Rattle.legal_run.proofs.Common.{is_case, List, of_case, of_kind, refl, rows-append, subst, sym, true}
 
 -- ---- by callers
 abbrev pub caller_of : Call → ℕ
@@ -25,63 +11,70 @@ caller_of (of_case c e) = e.caller
 abbrev pub calls_by : ℕ → List Call → List Call
 calls_by a calls = filter (λ c. caller_of c == a) calls
 
-pub calls_by-append : (a : ℕ) (xs ys : List Call) → calls_by a (xs ++ ys) ≡ calls_by a xs ++ calls_by a ys
-calls_by-append a xs ys = filter-append (λ c. caller_of c == a) xs ys
-
--- what a list becomes with one item more becomes of it where there is a choice
-of_if : {A B : Type 0} (g : List A → B) (b : Bool) (x : A) (xs : List A) → g (if b then x ∷ xs else xs) ≡ (if b then g (x ∷ xs) else g xs)
-of_if g true x xs = refl
-of_if g false x xs = refl
-
-two_tests : {A : Type 0} (b c : Bool) (x : A) (xs : List A) → (if b then (if c then x ∷ xs else xs) else xs) ≡ (if c then (if b then x ∷ xs else xs) else xs)
-two_tests true true x xs = refl
-two_tests true false x xs = refl
-two_tests false true x xs = refl
-two_tests false false x xs = refl
-
--- a caller's entries on a machine are the caller's calls of it
-module _ {M E R W S : Type 0} (on : List Call → List (Entry M E R W S)) (a : ℕ) where
-  one-call : (test : Bool) (call : Call) (e : Entry M E R W S) (calls : List Call) → (caller_of call ≡ e.caller) → (on (call ∷ calls_by a calls) ≡ (if test then e ∷ on (calls_by a calls) else on (calls_by a calls)))
-      → calls_of a (on calls) ≡ on (calls_by a calls) → calls_of a (if test then e ∷ on calls else on calls) ≡ on (calls_by a (call ∷ calls))
-  one-call test call e calls same first rest =
-      let own = on (calls_by a calls) in
-      of_if (calls_of a) test e (on calls)
-      ∙ (ap (λ (xs : List (Entry M E R W S)). if test then (if e.caller == a then e ∷ xs else xs) else xs) rest
-      ∙ (two_tests test (e.caller == a) e own
-      ∙ (ap (λ (xs : List (Entry M E R W S)). if e.caller == a then xs else own) (sym first)
-      ∙ (ap (λ (n : ℕ). if n == a then on (call ∷ calls_by a calls) else own) (sym same)
-      ∙ sym (of_if on (caller_of call == a) call (calls_by a calls))))))
-
-pub kind_calls-by : (t a : ℕ) (calls : List Call) → calls_of a (calls_of_kind t calls) ≡ calls_of_kind t (calls_by a calls)
-kind_calls-by t a [] = refl
-kind_calls-by t a (of_kind u e ∷ calls) = one-call (calls_of_kind t) a (eqb u t) (of_kind u e) e calls refl refl (kind_calls-by t a calls)
-kind_calls-by t a (of_case c e ∷ calls) = kind_calls-by t a calls ∙ sym (of_if (calls_of_kind t) (e.caller == a) (of_case c e) (calls_by a calls) ∙ both (e.caller == a))
+-- of what is all of one caller, all is that caller's, and nothing another's
+pub all-by_one : {X : Type 0} (caller : X → ℕ) (n a : ℕ) (xs : List X) → AllRows (λ x. caller x ≡ n) xs → filter (λ x. caller x == a) xs ≡ (if n == a then xs else [])
+all-by_one caller n a [] own = cond_both (n == a) [] [] (λ ys. [] ≡ ys) (λ _. refl) (λ _. refl)
+all-by_one caller n a (x ∷ xs) (is, own) = rw (is, all-by_one caller n a xs own) (by (n == a))
   where
-    both : (b : Bool) → (if b then calls_of_kind t (calls_by a calls) else calls_of_kind t (calls_by a calls)) ≡ calls_of_kind t (calls_by a calls)
-    both true = refl
-    both false = refl
+    by : (b : Bool) → (if b then x ∷ (if b then xs else []) else (if b then xs else [])) ≡ (if b then x ∷ xs else [])
+    by true = refl
+    by false = refl
 
-pub case_calls-by : (c : CaseId) (a : ℕ) (calls : List Call) → calls_of a (calls_of_case c calls) ≡ calls_of_case c (calls_by a calls)
-case_calls-by c a [] = refl
-case_calls-by c a (of_case d e ∷ calls) = one-call (calls_of_case c) a (is_case c d) (of_case d e) e calls refl refl (case_calls-by c a calls)
-case_calls-by c a (of_kind u e ∷ calls) = case_calls-by c a calls ∙ sym (of_if (calls_of_case c) (e.caller == a) (of_kind u e) (calls_by a calls) ∙ both (e.caller == a))
+-- ---- on a machine
+module _ {M E R W S : Type 0} where
+  calls_of-filter : (a : ℕ) (es : List (Entry M E R W S)) → calls_of a es ≡ filter (λ e. e.caller == a) es
+  calls_of-filter a [] = refl
+  calls_of-filter a (e ∷ es) = ap (λ (xs : List (Entry M E R W S)). if e.caller == a then e ∷ xs else xs) (calls_of-filter a es)
+
+  -- Entries are those of one machine where they are told call by call, each with the caller of its call.
+  pub record IsOn (on : List Call → List (Entry M E R W S)) : Type 0 where
+    pub none : on [] ≡ []
+    pub each : (c : Call) → ((calls : List Call) → on (c ∷ calls) ≡ on (c ∷ []) ++ on calls) × AllRows (λ e. e.caller ≡ caller_of c) (on (c ∷ []))
+
+  module _ (on : List Call → List (Entry M E R W S)) (is : IsOn on) where
+    pub on-append : (xs ys : List Call) → on (xs ++ ys) ≡ on xs ++ on ys
+    on-append [] ys = ap (λ es. es ++ on ys) (sym is.none)
+    on-append (x ∷ xs) ys = rw ((is.each x).0 (xs ++ ys), (is.each x).0 xs, on-append xs ys) (sym (append_assoc (on (x ∷ [])) (on xs) (on ys)))
+
+    -- a caller's entries on it are the caller's calls of it
+    pub on-by : (a : ℕ) (calls : List Call) → calls_of a (on calls) ≡ on (calls_by a calls)
+    on-by a [] = rw (is.none) refl
+    on-by a (c ∷ calls) =
+        let first : calls_of a (on (c ∷ [])) ≡ (if caller_of c == a then on (c ∷ []) else []) =
+        calls_of-filter a (on (c ∷ [])) ∙ all-by_one (λ (e : Entry M E R W S). e.caller) (caller_of c) a (on (c ∷ [])) (is.each c).1 in
+        rw ((is.each c).0 calls, calls_of-append a (on (c ∷ [])) (on calls), first, on-by a calls) (by (caller_of c == a))
+      where
+        by : (b : Bool) → (if b then on (c ∷ []) else []) ++ on (calls_by a calls) ≡ on (if b then c ∷ calls_by a calls else calls_by a calls)
+        by true = sym ((is.each c).0 (calls_by a calls))
+        by false = refl
+
+    -- what holds of the callers of calls holds of those of entries
+    pub on-callers : (P : ℕ → Type 0) (calls : List Call) → AllRows (λ c. P (caller_of c)) calls → AllRows (λ e. P e.caller) (on calls)
+    on-callers P [] all = rw (is.none) tt
+    on-callers P (c ∷ calls) (one, all) =
+        rw ((is.each c).0 calls)
+        (rows-append (λ e. P e.caller) (on (c ∷ [])) (on calls) (all-rows-map (λ e. e.caller ≡ caller_of c) (λ e. P e.caller) (λ e same. subst P (sym same) one) (on (c ∷ [])) (is.each c).1) (on-callers P calls all))
+
+  if_one : (b : Bool) (e : Entry M E R W S) → ((es : List (Entry M E R W S)) → (if b then e ∷ es else es) ≡ (if b then e ∷ [] else []) ++ es) × AllRows (λ x. x.caller ≡ e.caller) (if b then e ∷ [] else [])
+  if_one true e = (λ es. refl, (refl, tt))
+  if_one false e = (λ es. refl, tt)
+
+pub on-kind : (t : ℕ) → IsOn (calls_of_kind t)
+on-kind t = record { none = refl; each = each }
   where
-    both : (b : Bool) → (if b then calls_of_case c (calls_by a calls) else calls_of_case c (calls_by a calls)) ≡ calls_of_case c (calls_by a calls)
-    both true = refl
-    both false = refl
+    each : (c : Call) → ((calls : List Call) → calls_of_kind t (c ∷ calls) ≡ calls_of_kind t (c ∷ []) ++ calls_of_kind t calls) × AllRows (λ e. e.caller ≡ caller_of c) (calls_of_kind t (c ∷ []))
+    each (of_kind u e) = (λ calls. (if_one (eqb u t) e).0 (calls_of_kind t calls), (if_one (eqb u t) e).1)
+    each (of_case c e) = (λ calls. refl, tt)
 
--- what holds of the callers of calls holds of those of entries
-module _ (P : ℕ → Type 0) where
-  all_if : {M E R W S : Type 0} (b : Bool) (e : Entry M E R W S) (es : List (Entry M E R W S)) → P e.caller → All (λ x. P x.caller) es → All (λ x. P x.caller) (if b then e ∷ es else es)
-  all_if true e es p all = All-cons (λ x. P x.caller) e es p all
-  all_if false e es p all = all
+pub on-case : (c : CaseId) → IsOn (calls_of_case c)
+on-case c = record { none = refl; each = each }
+  where
+    each : (k : Call) → ((calls : List Call) → calls_of_case c (k ∷ calls) ≡ calls_of_case c (k ∷ []) ++ calls_of_case c calls) × AllRows (λ e. e.caller ≡ caller_of k) (calls_of_case c (k ∷ []))
+    each (of_kind u e) = (λ calls. refl, tt)
+    each (of_case d e) = (λ calls. (if_one (is_case c d) e).0 (calls_of_case c calls), (if_one (is_case c d) e).1)
 
-  pub kind_callers : (t : ℕ) (calls : List Call) → AllRows (λ c. P (caller_of c)) calls → All (λ e. P e.caller) (calls_of_kind t calls)
-  kind_callers t [] all = All-nil (λ e. P e.caller)
-  kind_callers t (of_kind u e ∷ calls) (p, all) = all_if (eqb u t) e (calls_of_kind t calls) p (kind_callers t calls all)
-  kind_callers t (of_case c e ∷ calls) (p, all) = kind_callers t calls all
+pub calls_of_kind-append : (t : ℕ) (xs ys : List Call) → calls_of_kind t (xs ++ ys) ≡ calls_of_kind t xs ++ calls_of_kind t ys
+calls_of_kind-append t = on-append (calls_of_kind t) (on-kind t)
 
-  pub case_callers : (c : CaseId) (calls : List Call) → AllRows (λ c. P (caller_of c)) calls → All (λ e. P e.caller) (calls_of_case c calls)
-  case_callers c [] all = All-nil (λ e. P e.caller)
-  case_callers c (of_kind u e ∷ calls) (p, all) = case_callers c calls all
-  case_callers c (of_case d e ∷ calls) (p, all) = all_if (is_case c d) e (calls_of_case c calls) p (case_callers c calls all)
+pub calls_of_case-append : (c : CaseId) (xs ys : List Call) → calls_of_case c (xs ++ ys) ≡ calls_of_case c xs ++ calls_of_case c ys
+calls_of_case-append c = on-append (calls_of_case c) (on-case c)

@@ -37,18 +37,10 @@ module _ {X E : Type 0} (Becomes : List E → X → X → Type 0) (stays : (x : 
   pub one-becomes : (xs ys : List X) (i : ℕ) (x y : X) (es : List E) → slice_get xs i ≡ Some x → ys ≡ set xs i y → Becomes es x y
       → (j : ℕ) (p q : X) → slice_get xs j ≡ Some p → slice_get ys j ≡ Some q → Becomes (if i == j then es else []) p q
   one-becomes xs ys i x y es there is becomes j p q at at_then =
+      let in_set : slice_get (set xs i y) j ≡ Some q = ap (λ zs. slice_get zs j) (sym is) ∙ at_then in
       dite (ℕ_discrete i j)
-      (λ (same : i ≡ j). subst (λ b. Becomes (if b then es else []) p q) (sym (eq-eqb i j same)) (here same))
-      (λ (not : i ≢ j). subst (λ b. Becomes (if b then es else []) p q) (sym (ne_eqb i j not)) (elsewhere not))
-    where
-      in_set : slice_get (set xs i y) j ≡ Some q
-      in_set = ap (λ zs. slice_get zs j) (sym is) ∙ at_then
-
-      here : i ≡ j → Becomes es p q
-      here same =
-          let is_p : x ≡ p = some_one there (ap (slice_get xs) same ∙ at) in
-          let is_q : y ≡ q = some_one (set-here xs i y x there) (ap (slice_get (set xs i y)) same ∙ in_set) in
-          subst (λ z. Becomes es z q) is_p (subst (Becomes es x) is_q becomes)
-
-      elsewhere : i ≢ j → Becomes [] p q
-      elsewhere not = let is : p ≡ q = some_one at (sym (set-other xs i j y not) ∙ in_set) in subst (Becomes [] p) is (stays p)
+      (λ (same : i ≡ j).
+      let is_p : x ≡ p = some_one there (ap (slice_get xs) same ∙ at) in
+      let is_q : y ≡ q = some_one (set-here xs i y x there) (ap (slice_get (set xs i y)) same ∙ in_set) in
+      rw (eq-eqb i j same, ← is_p, ← is_q) becomes)
+      (λ (not : i ≢ j). rw (ne_eqb i j not, ← some_one at (sym (set-other xs i j y not) ∙ in_set)) (stays p))

@@ -1,8 +1,6 @@
 -- What the cases of a type are told one after another, as one machine sees it.
-use Rattle.legal_run.proofs.Common.{[], ℕ, ◌&&◌, ◌+◌, ◌-◌, ◌<◌, ◌==◌, ◌∙◌, ◌∷◌, ◌≡◌, ◌≢◌, ◌≤◌, ◌⊎◌, ap, arith, Bool, calls_of_case, calls_of_kind, CaseEntry, CaseId, cases_lt, entry, eq-eqb, Event, false, if◌then◌else◌, inl, inr, length}
-use Rattle.legal_run.proofs.Common.{List, map, ne_eqb, None, Option, refl, Reply, slice_get, Some, subst, suc, sym, told, told_each, told_some, true, zero}
-use mathlib.Core.Logic.{dite}
-use native.Mathlib.Decide.{ℕ_discrete}
+use Rattle.legal_run.proofs.Common.{[], ℕ, ◌&&◌, ◌+◌, ◌<◌, ◌==◌, ◌∙◌, ◌∷◌, ◌≡◌, ◌≢◌, ◌≤◌, ◌⊎◌, and_parts, ap, arith, Bool, calls_of_case, calls_of_kind, CaseEntry, CaseId, entry, eq-eqb, eqb-true, Event, false, if◌then◌else◌, inl, inr}
+use Rattle.legal_run.proofs.Common.{length, List, map, ne_eqb, None, Option, refl, Reply, slice_get, Some, subst, suc, sym, told, told_each, told_some, true, zero}
 
 -- the entry of a case that has answered
 abbrev pub entry_if : ℕ → Event → Option (Option Reply) → List CaseEntry
@@ -22,59 +20,44 @@ module _ (a t : ℕ) (e : Event) where
   some-kind u place (None ∷ answers) = some-kind u (place + 1) answers
   some-kind u place (Some r ∷ answers) = some-kind u (place + 1) answers
 
-  -- nor is a case of another type, or one at an earlier place
-  abbrev IsOther : CaseId → ℕ → Type 0
-  IsOther c place = (t ≢ c.type_no) ⊎ (c.place < place)
+  -- one told at another place, or none, is no call of a case
+  skip : (c : CaseId) (place : ℕ) (o : Option Reply) (answers : List (Option Reply)) → (t ≢ c.type_no) ⊎ (place ≢ c.place)
+      → calls_of_case c (told_some a t e place (o ∷ answers)) ≡ calls_of_case c (told_some a t e (place + 1) answers)
+  skip c place None answers other = refl
+  skip c place (Some r) answers (inl not) = rw (ne_eqb t c.type_no not) refl
+  skip c place (Some r) answers (inr not) = rw (ne_eqb place c.place not) (no_place (t == c.type_no))
+    where
+      no_place : (b : Bool) → (if b && false then entry a e r ∷ calls_of_case c (told_some a t e (place + 1) answers) else calls_of_case c (told_some a t e (place + 1) answers)) ≡ calls_of_case c (told_some a t e (place + 1) answers)
+      no_place true = refl
+      no_place false = refl
 
-  further : (c : CaseId) (place : ℕ) → IsOther c place → IsOther c (place + 1)
-  further c place (inl not) = inl not
-  further c place (inr past) = inr (omega arith)
-
-  no_place : (b : Bool) → (b && false) ≡ false
-  no_place true = refl
-  no_place false = refl
-
-  differs : (c : CaseId) (place : ℕ) → IsOther c place → (t == c.type_no && place == c.place) ≡ false
-  differs c place (inl not) = ap (λ b. b && place == c.place) (ne_eqb t c.type_no not)
-  differs c place (inr past) = ap (λ b. t == c.type_no && b) (ne_eqb place c.place (λ is. omega arith)) ∙ no_place (t == c.type_no)
-
+  -- nor is a case of another type told anything, or one at an earlier place
   pub some-other : (c : CaseId) (place : ℕ) (answers : List (Option Reply)) → (t ≢ c.type_no) ⊎ (c.place < place) → calls_of_case c (told_some a t e place answers) ≡ []
   some-other c place [] other = refl
-  some-other c place (None ∷ answers) other = some-other c (place + 1) answers (further c place other)
-  some-other c place (Some r ∷ answers) other =
-      let rest = calls_of_case c (told_some a t e (place + 1) answers) in
-      ap (λ (b : Bool). if b then entry a e r ∷ rest else rest) (differs c place other) ∙ some-other c (place + 1) answers (further c place other)
+  some-other c place (o ∷ answers) (inl not) = skip c place o answers (inl not) ∙ some-other c (place + 1) answers (inl not)
+  some-other c place (o ∷ answers) (inr past) = skip c place o answers (inr (λ is. omega arith)) ∙ some-other c (place + 1) answers (inr (omega arith))
 
   -- a case of the type is told once, where there is an answer at its place
   pub some-at : (c : CaseId) (place j : ℕ) (answers : List (Option Reply)) → t ≡ c.type_no → c.place ≡ place + j → calls_of_case c (told_some a t e place answers) ≡ entry_if a e (slice_get answers j)
   some-at c place j [] same is = refl
   some-at c place zero (None ∷ answers) same is = some-other c (place + 1) answers (inr (omega arith))
-  some-at c place zero (Some r ∷ answers) same is =
-      let rest = calls_of_case c (told_some a t e (place + 1) answers) in
-      ap (λ (b : Bool). if b then entry a e r ∷ rest else rest) (ap (λ b. b && place == c.place) (eq-eqb t c.type_no same) ∙ eq-eqb place c.place (omega arith))
-      ∙ ap (λ xs. entry a e r ∷ xs) (some-other c (place + 1) answers (inr (omega arith)))
-  some-at c place (suc j) (None ∷ answers) same is = some-at c (place + 1) j answers same (omega arith)
-  some-at c place (suc j) (Some r ∷ answers) same is =
-      let rest = calls_of_case c (told_some a t e (place + 1) answers) in
-      ap (λ (b : Bool). if b then entry a e r ∷ rest else rest) (ap (λ b. b && place == c.place) (eq-eqb t c.type_no same) ∙ ne_eqb place c.place (λ k. omega arith))
-      ∙ some-at c (place + 1) j answers same (omega arith)
-
-  one-at_most : (o : Option (Option Reply)) → length (entry_if a e o) ≤ 1
-  one-at_most (Some (Some r)) = omega arith
-  one-at_most (Some None) = omega arith
-  one-at_most None = omega arith
+  some-at c place zero (Some r ∷ answers) same is = rw (eq-eqb t c.type_no same, eq-eqb place c.place (omega arith)) (ap (λ xs. entry a e r ∷ xs) (some-other c (place + 1) answers (inr (omega arith))))
+  some-at c place (suc j) (o ∷ answers) same is = skip c place o answers (inr (λ k. omega arith)) ∙ some-at c (place + 1) j answers same (omega arith)
 
   pub some-once : (c : CaseId) (place : ℕ) (answers : List (Option Reply)) → length (calls_of_case c (told_some a t e place answers)) ≤ 1
-  some-once c place answers =
-      dite (ℕ_discrete t c.type_no)
-      (λ (same : t ≡ c.type_no). elim (cases_lt c.place place) [
-        | inl past ↦ let none = ap length (some-other c place answers (inr past)) in omega arith
-        | inr low ↦
-            let here = ap length (some-at c place (c.place - place) answers same (omega arith)) in
-            let few = one-at_most (slice_get answers (c.place - place)) in
-            omega arith
-      ])
-      (λ (not : t ≢ c.type_no). let none = ap length (some-other c place answers (inl not)) in omega arith)
+  some-once c place [] = omega arith
+  some-once c place (None ∷ answers) = some-once c (place + 1) answers
+  some-once c place (Some r ∷ answers) = by (t == c.type_no && place == c.place) refl (some-once c (place + 1) answers)
+    where
+      rest : List CaseEntry
+      rest = calls_of_case c (told_some a t e (place + 1) answers)
+
+      by : (b : Bool) → (t == c.type_no && place == c.place) ≡ b → length rest ≤ 1 → length (if b then entry a e r ∷ rest else rest) ≤ 1
+      by true is few =
+          let here : place ≡ c.place = eqb-true place c.place (and_parts (t == c.type_no) (place == c.place) is).1 in
+          let none : length rest ≡ 0 = ap length (some-other c (place + 1) answers (inr (omega arith))) in
+          omega arith
+      by false other few = few
 
   -- so it is with replies of all
   pub each-kind : (u place : ℕ) (rs : List Reply) → calls_of_kind u (told_each a t e place rs) ≡ []

@@ -1,5 +1,5 @@
 -- Which runs of a file are legal.
-use Rattle.std.specs.Prelude.{◌≡◌, ℕ, ◌≤◌, ◌==◌, List, [], ◌∷◌, length, take, flat_map, count_by, slice_get, Some, All}
+use Rattle.std.specs.Prelude.{◌≡◌, ℕ, ◌≤◌, List, [], ◌∷◌, length, take, flat_map, slice_get, Some, All}
 use mathlib.Core.List.{IsPrefix}
 use Rattle.case_core.specs.{CaseModel.not_created, Machine.{case_after, case_reply}}
 use Rattle.legal_run.specs.LineCalls.{Call, calls_of_kind, calls_of_case, AreCallsOfLines, lines_of}
@@ -14,10 +14,6 @@ use Rattle.type_core.specs.declared.replies.KindReply.TheVariants as reply
 -- the numbers of the actors
 abbrev pub IsActor : File → ℕ → Type 0
 IsActor f a = (1 ≤ a) × (a ≤ length f.actors)
-
--- how many cases a type has
-abbrev pub declared_cases : File → ℕ → ℕ
-declared_cases f t = count_by (λ d. d.id.type_no == t) f.cases
 
 -- what each actor did in a phase
 abbrev pub Trace : Type 0
