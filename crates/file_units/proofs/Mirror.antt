@@ -2,6 +2,7 @@
 use Rattle.file_units.proofs.Common.{[], ◌++◌, ◌<◌, ◌∙◌, ◌∷◌, ◌≡◌, ◌≤◌, all_phases, ap, append-nil, append_assoc, arith, Begins, Contents, file_of, Grows, IsFrontOf, IsSettled, length, length-append, List, None, refl, same_Some, slice_get}
 use Rattle.file_units.proofs.Common.{Some, subst, sym}
 use Rattle.file_model.specs.declared.files.File.{File}
+use Rattle.file_units.specs.Units.{settled}
 
 -- ---- a list that begins another is brought up to it
 pub nothing-begins : {A : Type 0} (all : List A) → Begins [] all
@@ -67,3 +68,21 @@ nothing-front f d is format =
       cases = nothing-begins d.cases.items;
       phases = refl;
     })
+
+-- ---- and a file that has as much as contents is theirs
+same-begun : {A : Type 0} (xs all rest : List A) → xs ++ rest ≡ all → length xs ≡ length all → xs ≡ all
+same-begun xs all [] is long = sym (append-nil xs) ∙ is
+same-begun xs all (y ∷ rest) is long = absurd (omega (arith, ap length is, length-append xs (y ∷ rest), long))
+
+begins-same : {A : Type 0} (xs all : List A) → Begins xs all → length xs ≡ length all → xs ≡ all
+begins-same xs all h long = same-begun xs all h.0 h.1 long
+
+pub all_shown : (f : File) (c : Contents) → IsFrontOf f c → length f.nodes ≡ length c.nodes → length f.elements ≡ length c.elements → length f.roles ≡ length c.roles → length f.types ≡ length c.types.items → length f.actors ≡ length c.actors.items → length f.cases ≡ length c.cases.items → f ≡ file_of (settled c)
+all_shown f c h nodes elements roles types actors cases =
+    let nodes-same : f.nodes ≡ c.nodes = begins-same f.nodes c.nodes h.nodes nodes in
+    let elements-same : f.elements ≡ c.elements = begins-same f.elements c.elements h.elements elements in
+    let roles-same : f.roles ≡ c.roles = begins-same f.roles c.roles h.roles roles in
+    let types-same : f.types ≡ c.types.items = begins-same f.types c.types.items h.types types in
+    let actors-same : f.actors ≡ c.actors.items = begins-same f.actors c.actors.items h.actors actors in
+    let cases-same : f.cases ≡ c.cases.items = begins-same f.cases c.cases.items h.cases cases in
+    grind (h.format, h.phases, nodes-same, elements-same, roles-same, types-same, actors-same, cases-same)

@@ -1,5 +1,5 @@
 // The file that contents stand for, kept beside them for those who write of it.
-ghost use Rattle.std.specs.Prelude.{◌≡◌, [], take, OnOk};
+ghost use Rattle.std.specs.Prelude.{◌≡◌, [], take, IsTrue, OnOk};
 ghost use Rattle.wsm_lists.specs.Rows.{AllRows};
 ghost use Rattle.file_model.specs.{Reading.file_of, ShortForms.IsShort};
 ghost use Rattle.file_units.specs.{Facts.HasShortNames, Growing.{Begins, IsFrontOf, file_cut}, Units.{no_units, settled}};
@@ -60,12 +60,29 @@ pub(crate) fn no_file(alloc: Global) -> File
     }
 }
 
+// Whether the file has all that was named and declared. So it is behind most units.
+#[tactic(auto, using(crate::proofs::Mirror::all_shown))]
+fn is_up(file: &File, contents: &Contents) -> bool
+    requires { IsFrontOf file.now contents.now }
+    ensures { IsTrue result → file.now ≡ file_of (settled contents.now) }
+{
+    file.nodes.len() == contents.nodes.len()
+        && file.elements.len() == contents.elements.len()
+        && file.roles.len() == contents.roles.len()
+        && file.types.len() == contents.types.items.len()
+        && file.actors.len() == contents.actors.items.len()
+        && file.cases.len() == contents.cases.items().len()
+}
+
 // Brings the file up to the contents, which have only more of everything.
 pub(crate) fn bring_up(file: &mut File, alloc: Global, contents: &Contents) -> Result<(), NoMemory>
     requires front { IsFrontOf file.old contents.now }
     requires short { HasShortNames contents.now }
     ensures { OnOk result (file.new ≡ file_of (settled contents.now)) }
 {
+    if is_up(file, contents) {
+        return Ok(());
+    }
     add_names(&mut file.nodes, alloc, &contents.nodes)?;
     add_names(&mut file.elements, alloc, &contents.elements)?;
     add_names(&mut file.roles, alloc, &contents.roles)?;
