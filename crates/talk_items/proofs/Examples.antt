@@ -1,6 +1,6 @@
 -- Items, computed from the definitions alone.
-use Rattle.std.specs.Prelude.{◌≡◌, [], Some, None, refl, codes}
-use Rattle.talk_items.proofs.Common.{counted, item_end, kind}
+use Rattle.talk_items.proofs.Common.{counted, item_end, kind, None, refl, Some}
+use Rattle.std.specs.Prelude.{◌≡◌, [], codes}
 use Rattle.talk_items.specs.declared.items.ItemKind.TheVariants as kinds
 
 one_line : item_end [] (codes "actor ann\nactor bob\n") ≡ Some 10

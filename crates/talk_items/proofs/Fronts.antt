@@ -1,9 +1,8 @@
 -- The first words of a line tell all, and the first bytes of a word.
 use Rattle.talk_items.proofs.Common.{[], ℕ, ◌++◌, ◌<◌, ◌==◌, ◌↔◌, ◌∙◌, ◌∷◌, ◌≡◌, ◌≤◌, ap, append-nil, arith, begins_with_change, behind, Bool, Bytes, counted_with, Cut, cut_more, cuts, ends_line, eqb-true, Err, false, filter, first_with}
-use Rattle.talk_items.proofs.Common.{if◌then◌else◌, is_end, is_skipped, is_word, IsOk, ItemKind, Keyword, keyword, kind_of, length, length-append, length-take, List, map, map-append, Ok, OnErr, OnOk, opens, Place, place_behind}
-use Rattle.talk_items.proofs.{Common.{question_opens, refl, Result, subst, suc, sym, take, take-append-le, tell_enough, TellAll, true, unit_opens, what_if_opens, with_last}, PlainWords.not-full}
+use Rattle.talk_items.proofs.Common.{if◌then◌else◌, is_end, is_skipped, is_word, IsOk, ItemKind, Keyword, keyword, kind_of, length, length-append, length-take, List, map, map-append, None, Ok, OnErr, OnOk, opens, Option, Place}
+use Rattle.talk_items.proofs.{Common.{place_behind, Some, question_opens, refl, Result, subst, suc, sym, take, take-append-le, tell_enough, TellAll, true, unit_opens, what_if_opens, with_last}, PlainWords.not-full}
 use Rattle.arrayvec.specs.ArrayVec.{ArrayVec}
-use Rattle.std.specs.Prelude.{Option, Some, None}
 use Rattle.std.proofs.lemmas.List.{take_all}
 use Rattle.talk_items.specs.declared.items.Place.TheVariants as places
 use Rattle.talk_items.specs.declared.keywords.Keyword.TheVariants as keywords
@@ -83,10 +82,12 @@ long-tell front behind long =
 
 pub enough-tell : (front behind : List Keyword) → tell_enough front ≡ true → TellAll front (front ++ behind)
 enough-tell [] behind is = absurd cc
+enough-tell (keywords.Comment ∷ ws) behind is = record { skipped = refl; open_it = refl; end_it = refl; kind = refl }
+enough-tell (keywords.Type ∷ ws) behind is = record { skipped = refl; open_it = refl; end_it = refl; kind = refl }
+enough-tell (keywords.Declaration ∷ ws) behind is = record { skipped = refl; open_it = refl; end_it = refl; kind = refl }
 enough-tell (keywords.Question ∷ ws) behind is = long-tell (keywords.Question ∷ ws) behind (ap suc (eqb-true (length ws) 3 is))
 enough-tell (keywords.Adept ∷ ws) behind is = long-tell (keywords.Adept ∷ ws) behind (ap suc (eqb-true (length ws) 3 is))
 enough-tell (w ∷ []) behind is = absurd cc
-enough-tell (keywords.Comment ∷ v ∷ ws) behind is = record { skipped = refl; open_it = refl; end_it = refl; kind = refl }
 enough-tell (w ∷ v ∷ ws) behind is = record { skipped = refl; open_it = unit-any w v ws (ws ++ behind); end_it = end-any w v ws (ws ++ behind); kind = refl }
 
 pub all-tell : (ws : List Keyword) → TellAll ws ws
@@ -95,6 +96,9 @@ all-tell ws = record { skipped = refl; open_it = refl; end_it = refl; kind = ref
 -- where they do not there are less than four
 pub not-enough : (ws : List Keyword) → tell_enough ws ≡ false → length ws ≤ 4 → length ws < 4
 not-enough [] is few = omega arith
+not-enough (keywords.Comment ∷ ws) is few = absurd cc
+not-enough (keywords.Type ∷ ws) is few = absurd cc
+not-enough (keywords.Declaration ∷ ws) is few = absurd cc
 not-enough (keywords.Question ∷ ws) is few = omega (arith, not-full (length ws) 3 false (sym is) refl (omega (arith, few)))
 not-enough (keywords.Adept ∷ ws) is few = omega (arith, not-full (length ws) 3 false (sym is) refl (omega (arith, few)))
 not-enough (w ∷ []) is few = omega arith

@@ -1,9 +1,9 @@
 -- What is known of the bytes of an item, with more of them.
 use Rattle.talk_items.proofs.Common.{[], ℕ, ◌&&◌, ◌++◌, ◌+◌, ◌==◌, ◌∙◌, ◌∷◌, ◌≡◌, ◌≤◌, ap, append-nil, append_assoc, arith, Bool, Bytes, cases_lt, count_by-le-length, counted, counted_with, drop, drop-drop, ends, ends_line, false, filter}
 use Rattle.talk_items.proofs.Common.{first_kind, first_with, HasNoFeed, if◌then◌else◌, inl, inr, is_skipped, IsScan, item_end, ItemKind, kind_of, le-ltb, length, length-append, length-filter, length-take, lines_of, List, lt-ltb, MAX_ITEM}
-use Rattle.talk_items.proofs.{Common.{nat_lt, None, not, Option, option_map, Place, place_behind, place_of, refl, Some, suc, sym, take, take-add, take-append-drop, take-append-le, true, words, zero-add}, Feeds.IsFirstFeed}
+use Rattle.talk_items.proofs.{Common.{min, nat_lt, None, not, Option, option_map, Place, place_behind, place_of, refl, Some, suc, sym, take, take-add, take-append-drop, take-append-le, true, words, zero-add}, Feeds.IsFirstFeed}
 use Rattle.talk_items.proofs.LinesMore.{lines-byte, lines-feed, lines-few, lines-part}
-use Rattle.std.specs.Prelude.{◌||◌, min}
+use Rattle.std.specs.Prelude.{◌||◌}
 use Rattle.std.proofs.{lemmas.List.take_all, lemmas.List.Elements.filter-append}
 use Rattle.talk_items.specs.declared.items.Place.TheVariants as places
 

@@ -1,19 +1,8 @@
 -- A line as it is cut into words, byte by byte.
-use Rattle.std.specs.Prelude.{◌≡◌, ◌==◌, ℕ, Bool, false, List, [], ◌∷◌, ◌++◌, filter, map, take, if◌then◌else◌}
+use Rattle.std.specs.Prelude.{◌≡◌, ℕ, List, [], ◌∷◌, ◌++◌, filter, map, take, if◌then◌else◌}
 use Rattle.file_words.specs.{Lines.Bytes, Words.{behind, cuts, is_word}, declared.words.Quote.Quote}
 use Rattle.file_words.specs.declared.words.Quote.TheVariants as quotes
-use Rattle.talk_items.specs.{Keywords.keyword, declared.keywords.Keyword.Keyword, declared.words.Stand.Stand}
-use Rattle.talk_items.specs.declared.words.Stand.TheVariants as stands
-
-abbrev pub quoted : Stand → Quote
-quoted stands.Outside = quotes.Outside
-quoted stands.Inside = quotes.Inside
-quoted stands.Escaped = quotes.Escaped
-
--- a quotation mark stands at the front
-abbrev pub begins_quoted : Bytes → Bool
-begins_quoted [] = false
-begins_quoted (b ∷ bs) = b == 34
+use Rattle.talk_items.specs.{Keywords.keyword, declared.keywords.Keyword.Keyword}
 
 -- the words that have ended, what the one that goes on has, and where the next byte stands
 pub record Cut : Type 0 where

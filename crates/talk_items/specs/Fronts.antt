@@ -12,6 +12,9 @@ pub record TellAll (some all : List Keyword) : Type 0 where
 
 -- whether so many do, whatever stands behind them
 abbrev pub tell_enough : List Keyword → Bool
+tell_enough (keywords.Comment ∷ ws) = true
+tell_enough (keywords.Type ∷ ws) = true
+tell_enough (keywords.Declaration ∷ ws) = true
 tell_enough (keywords.Question ∷ ws) = length ws == 3
 tell_enough (keywords.Adept ∷ ws) = length ws == 3
 tell_enough (w ∷ v ∷ ws) = true

@@ -4,11 +4,11 @@
 //! that say nothing. What an item means is not known here.
 #![tactic(auto)]
 
+mod front;
 mod items;
 mod keywords;
 mod limits;
 mod lines;
-mod plain;
 mod scanner;
 mod words;
 

@@ -2,9 +2,9 @@
 ghost use Rattle.std.specs.Prelude.{◌≡◌, ◌==◌, ◌∷◌, ◌++◌, [], length};
 ghost use Rattle.talk_items.specs.{Fronts.TellAll, Items.words};
 
+use crate::front::front_words;
 use crate::keywords::Keyword;
 use crate::limits::WORDS;
-use crate::plain::plain_words;
 use crate::words::Words;
 use arrayvec::ArrayVec;
 use file_words::without_return;
@@ -57,9 +57,7 @@ impl Line {
         ensures next { self.new ≡ [] }
     {
         if self.is_empty() {
-            if let Some(first) = plain_words(without_return(rest)) {
-                return first;
-            }
+            return front_words(without_return(rest));
         }
         let mut line = replace(self, Line::new());
         line.extend(rest);

@@ -7,6 +7,7 @@ use crate::keywords::Keyword;
 use crate::limits::MAX_ITEM;
 use crate::lines::Line;
 use http_server::Log;
+use memchr::memchr;
 use std::marker::Model;
 
 // What an item is, with one line more.
@@ -43,7 +44,7 @@ fn longer(len: usize, more: usize) -> usize
 fn feed_at(bytes: &[u8]) -> Option<usize>
     ensures { result ≡ position (λ byte. byte == 10) bytes.now }
 {
-    bytes.iter().position(|byte| *byte == b'\n')
+    memchr(b'\n', bytes)
 }
 
 // The bytes as proofs see them. It does nothing.

@@ -1,41 +1,15 @@
 // The first words of a line that is read byte by byte.
 ghost use Rattle.std.specs.Prelude.{◌≡◌, ◌∷◌, ◌++◌, [], ℕ, List, filter};
-ghost use Rattle.file_words.specs.Words.{behind, cuts, is_word, words_of};
-ghost use Rattle.talk_items.specs.Cuts.{Cut, IsKept, cut_more, first_letters, first_words, quoted};
+ghost use Rattle.file_words.specs.Words.{is_word, words_of};
+ghost use Rattle.line_words.specs.Standing.{quoted};
+ghost use Rattle.talk_items.specs.Cuts.{Cut, IsKept, cut_more, first_letters, first_words};
 
 use crate::keywords::{Keyword, keyword_of};
 use crate::limits::{LETTERS, WORDS};
 use arrayvec::ArrayVec;
 use http_server::Log;
+use line_words::{Stand, behind, cuts};
 use std::marker::Model;
-
-// Where a byte of a line stands: outside a quoted text, inside one, or there behind a backslash.
-#[derive(Clone, Copy, Debug, PartialEq, Eq)]
-pub(crate) enum Stand {
-    Outside,
-    Inside,
-    Escaped,
-}
-
-// Where the byte behind one stands.
-fn behind(stand: Stand, byte: u8) -> Stand
-    ensures { quoted result ≡ behind (quoted stand) byte }
-{
-    match (stand, byte) {
-        (Stand::Outside, b'"') => Stand::Inside,
-        (Stand::Outside, _) => Stand::Outside,
-        (Stand::Inside, b'\\') => Stand::Escaped,
-        (Stand::Inside, b'"') => Stand::Outside,
-        (Stand::Inside | Stand::Escaped, _) => Stand::Inside,
-    }
-}
-
-// Whether a byte ends a word.
-fn cuts(stand: Stand, byte: u8) -> bool
-    ensures { result ≡ cuts (quoted stand) byte }
-{
-    stand == Stand::Outside && matches!(byte, b' ' | b'\t')
-}
 
 // One word more, where there is room.
 fn add(words: &mut ArrayVec<Keyword, WORDS>, word: &[u8])
@@ -75,7 +49,8 @@ pub(crate) struct Words {
 
 impl Model for Words {
     ghost use Rattle.std.specs.Prelude.{◌≡◌, ℕ, List, map};
-    ghost use Rattle.talk_items.specs.Cuts.{cut, first_letters, first_words, quoted};
+    ghost use Rattle.line_words.specs.Standing.{quoted};
+    ghost use Rattle.talk_items.specs.Cuts.{cut, first_letters, first_words};
 
     ghost Value = { List ℕ };
 

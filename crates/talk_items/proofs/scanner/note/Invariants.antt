@@ -1,5 +1,4 @@
-use Rattle.talk_items.proofs.Common.{◌++◌, ◌≡◌, take}
-use Rattle.std.proofs.Common.{map}
+use Rattle.talk_items.proofs.Common.{◌++◌, ◌≡◌, map, take}
 use Rattle.talk_items.proofs.scanner.note.Given as goal
 
 abbrev pub invariant-loop-byte : goal.invariant-loop-byte

@@ -1,6 +1,5 @@
-use Rattle.talk_items.proofs.{Common.{[], ◌++◌, ◌-◌, ◌==◌, ◌∙◌, ◌∷◌, ◌≡◌, ap, arith, Bytes, drop, ends, HasNoFeed, length, length-drop, None, Some, subst, sym, take, take_all}, Feeds.{first-feed, no-feeds}, Scanned.{scan-all, scan-ends}}
-use Rattle.talk_items.proofs.Scanned.{scan-line, scan-none}
-use Rattle.std.specs.Prelude.{position}
+use Rattle.talk_items.proofs.{Common.{[], ◌++◌, ◌-◌, ◌==◌, ◌∙◌, ◌∷◌, ◌≡◌, ap, arith, Bytes, drop, ends, HasNoFeed, length, length-drop, None, Some, subst, sym, take, take_all, position}, Feeds.{first-feed, no-feeds}, Scanned.scan-all}
+use Rattle.talk_items.proofs.Scanned.{scan-ends, scan-line, scan-none}
 use Rattle.talk_items.proofs.scanner.Scanner.scan.Goals as goal
 
 pub loop-len-init : goal.loop-len-init

@@ -1,5 +1,4 @@
-use Rattle.talk_items.proofs.{Common.{◌∙◌, ap, cut, keyword, map, sym, words_of}, Cutting.words-of-cut}
-use Rattle.std.specs.Prelude.{take}
+use Rattle.talk_items.proofs.{Common.{◌∙◌, ap, cut, keyword, map, sym, words_of, take}, Cutting.words-of-cut}
 use Rattle.talk_items.proofs.words.Words.into_first.Goals as goal
 
 pub returns : goal.returns

@@ -1,5 +1,4 @@
-use Rattle.talk_items.proofs.{Common.{[], ◌∙◌, ◌∷◌, ◌≡◌, ap, behind, cut, cut_more, keyword, map, map-append, quoted, subst, sym}, Cutting.cut-once-more, Fronts.behind-it}
-use Rattle.std.specs.Prelude.{take}
+use Rattle.talk_items.proofs.{Common.{[], ◌∙◌, ◌∷◌, ◌≡◌, ap, behind, cut, cut_more, keyword, map, map-append, quoted, subst, sym, take}, Cutting.cut-once-more, Fronts.behind-it}
 use Rattle.talk_items.proofs.words.Words.push.Goals as goal
 
 pub invariant_of-self : goal.invariant_of-self

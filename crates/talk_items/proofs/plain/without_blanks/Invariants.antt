@@ -1,8 +1,0 @@
-use Rattle.talk_items.proofs.Common.{◌≡◌, length, words_of}
-use Rattle.talk_items.proofs.plain.without_blanks.Given as goal
-
-abbrev pub invariant-loop-rest : goal.invariant-loop-rest
-invariant-loop-rest l = words_of l.rest ≡ words_of l.line
-
-abbrev pub decreases-loop-rest : goal.decreases-loop-rest
-decreases-loop-rest l = length l.rest
