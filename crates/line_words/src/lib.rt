@@ -6,5 +6,5 @@
 mod lists;
 mod words;
 
-pub use lists::{FEW_WORDS, LineWords, line_words};
+pub use lists::{FEW_WORDS, LineWords};
 pub use words::{Stand, behind, cuts, first_word};

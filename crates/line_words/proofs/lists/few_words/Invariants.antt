@@ -1,9 +1,0 @@
-use Rattle.std.proofs.Common.{◌≡◌, ◌++◌, length}
-use Rattle.file_words.specs.{Words.words_of, Shown.shown}
-use Rattle.line_words.proofs.lists.few_words.Given as goal
-
-abbrev pub invariant-loop-word : goal.invariant-loop-word
-invariant-loop-word l = shown l.words.items ++ words_of l.rest ≡ words_of l.line
-
-abbrev pub decreases-loop-word : goal.decreases-loop-word
-decreases-loop-word l = length (words_of l.rest)
