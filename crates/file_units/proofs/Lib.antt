@@ -11,5 +11,6 @@ pub mod LineRoom
 pub mod Mirror
 pub mod SaidLines
 pub mod Refusing
+pub mod ReadLines
 pub mod Saying
 pub mod ShortNames

@@ -136,6 +136,7 @@ fn read_behind(
 }
 
 // Nothing is left of what was read.
+#[inline(never)]
 fn give_up(contents: &mut Contents, file: &mut File, alloc: Global)
     ensures contents { contents.new ≡ record no_units { nodes = [] } }
     ensures file { file.new ≡ file_of contents.new }

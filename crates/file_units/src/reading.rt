@@ -6,7 +6,8 @@ ghost use Rattle.file_units.specs.{Facts.IsHeld, Growing.{Grows, cut, marks_of},
 
 use file_model::{Contents, Counts, FileRefusal, Line, Phases, Section, Stop, Why};
 use file_state::refusal;
-use file_words::{first_line, is_skipped, read_words, without_return};
+use file_words::{first_line, is_skipped, without_return};
+use line_words::LineWords;
 use process_text::step_in;
 use std::alloc::Global;
 
@@ -80,14 +81,15 @@ pub(crate) fn read_unit(
     let mut place = Section::Outside;
     let mut at = 0;
     let mut rest = unit;
-    let mut words = Vec::new(alloc);
+    let mut listed = LineWords::new(alloc);
     while let Some((line, more)) = first_line(rest) {
         let line = without_return(line);
-        if read_words(&mut words, line).is_err() {
+        if listed.read(line).is_err() {
             return Err(FileRefusal::NoMemory);
         }
-        if !is_skipped(&words) {
-            match unit_step(contents, alloc, at, line, &words, place) {
+        let words = listed.as_slice();
+        if !is_skipped(words) {
+            match unit_step(contents, alloc, at, line, words, place) {
                 Ok(next) => place = next,
                 Err(Stop::Refused(why)) => return Err(refusal(contents, alloc, at + 1, why)),
                 Err(Stop::NoMemory) => return Err(FileRefusal::NoMemory),
@@ -126,6 +128,7 @@ impl Marks {
 }
 
 // Takes back what was named and declared behind the marks.
+#[inline(never)]
 pub(crate) fn cut_back(contents: &mut Contents, alloc: Global, marks: Marks)
     ensures { contents.new ≡ cut marks contents.old }
 {

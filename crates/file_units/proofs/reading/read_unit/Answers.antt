@@ -1,47 +1,30 @@
-use Rattle.file_units.proofs.Common.{◌*◌, ◌∙◌, ◌≡◌, ◌≢◌, ◌≤◌, ap, arith, at_place, Bor, Bytes, false, FileRefusal, front_line, Grows, is_skipped, IsHeld, length, length-map, lines_of, Ok, one_left, rules, SaysSome, settled, shown, subst}
-use Rattle.file_units.proofs.{Common.{sym, unit_read, unit_step, without_return, words_of}, LineRoom.words_take, Ending.{ended-held, ended-read, ended-says, on-err, on-ok, some-words}, Inside.{refused-inside, step-inside, step-names}}
-use Rattle.file_units.proofs.SaidLines.{said-left}
+use Rattle.file_units.proofs.Common.{◌*◌, ◌∙◌, ◌≡◌, ◌≢◌, ◌≤◌, arith, at_place, Bytes, false, FileRefusal, front_line, Grows, is_skipped, IsHeld, length, lines_of, Ok, one_left, rules, SaysSome, settled, shown, subst}
+use Rattle.file_units.proofs.{Common.{sym, unit_read, unit_step, without_return, words_of}, LineRoom.words_take, Ending.{ended-held, ended-read, ended-says, on-err, on-ok}, Inside.refused-inside}
+use Rattle.file_units.proofs.ReadLines.{read-on}
 use Rattle.file_model.specs.declared.refusals.FileRefusal.TheVariants as reader
 use Rattle.file_model.specs.declared.states.Section.TheVariants as section
 use Rattle.file_units.proofs.reading.read_unit.Goals as goal
 
 pub unit_step-requires-clause-room : goal.unit_step-requires-clause-room
 unit_step-requires-clause-room c =
-    let are : shown c.read_words.new.words.items ≡ words_of (without_return c.in-Some.line.now) = search rules in
+    let are : shown c.as_slice-words.result.now ≡ words_of (without_return c.in-Some.line.now) = search rules in
     let split : lines_of c.loop-line.rest.now ≡ front_line c.in-Some.line.now (lines_of c.in-Some.more.now) = search rules in
-    let takes = words_take c.read_words.new.words.items c.loop-line.rest.now c.in-Some.line.now c.in-Some.more.now are split in
-    omega (arith, takes, ap length c.deref-then-not-is_skipped.ensures.value, c.loop-line.invariant.room, c.requires.room)
+    let takes = words_take c.as_slice-words.result.now c.loop-line.rest.now c.in-Some.line.now c.in-Some.more.now are split in
+    omega (arith, takes, c.loop-line.invariant.room, c.requires.room)
 
 pub returns-in-Err-Refused-clause-grows : goal.returns-in-Err-Refused-clause-grows
 returns-in-Err-Refused-clause-grows c some =
-    refused-inside c.args.contents.now c.loop-line.at c.loop-line.place c.without_return-line.result.now (shown c.deref-then-not-is_skipped.result.now) c.loop-line.contents
+    refused-inside c.args.contents.now c.loop-line.at c.loop-line.place c.without_return-line.result.now (shown c.as_slice-words.result.now) c.loop-line.contents
     c.unit_step.new.contents c.in-Err-Refused.why (rw c.in-Err-Refused.field-0-is at c.in-Err-Refused.ensures.refused) c.loop-line.invariant.inside
 
--- the line is one of those that say something, and takes two bytes or more
 pub loop-line-preserved-in-Ok : goal.loop-line-preserved-in-Ok
 loop-line-preserved-in-Ok c =
-    let ws = shown c.deref-then-not-is_skipped.result.now in
-    let are : shown c.read_words.new.words.items ≡ words_of (without_return c.in-Some.line.now) = search rules in
+    let ws = c.as_slice-words.result.now in
+    let are : shown ws ≡ words_of (without_return c.in-Some.line.now) = search rules in
     let split : lines_of c.loop-line.rest.now ≡ front_line c.in-Some.line.now (lines_of c.in-Some.more.now) = search rules in
-    let takes = words_take c.read_words.new.words.items c.loop-line.rest.now c.in-Some.line.now c.in-Some.more.now are split in
-    let same = ap length c.deref-then-not-is_skipped.ensures.value in
-    let shown_same : length ws ≡ length c.deref-then-not-is_skipped.result.now = length-map c.deref-then-not-is_skipped.result.now (λ (b : Bor Bytes). b.now) in
-    let own : ws ≡ words_of (without_return c.in-Some.line.now) = ap shown c.deref-then-not-is_skipped.ensures.value ∙ are in
-    let says : is_skipped (words_of (without_return c.in-Some.line.now)) ≡ false = search rules in
-    let some = some-words ws (ap is_skipped own ∙ says) in
-    let stepped : unit_step c.loop-line.at c.loop-line.place (without_return c.in-Some.line.now) ws c.loop-line.contents ≡ Ok (at_place c.in-Ok.next c.unit_step.new.contents) =
-    subst (λ (l : Bytes). unit_step c.loop-line.at c.loop-line.place l ws c.loop-line.contents ≡ Ok (at_place c.in-Ok.next c.unit_step.new.contents)) c.without_return-line.ensures c.in-Ok.ensures.ok in
-    let adds = step-names c.loop-line.at c.loop-line.place c.in-Ok.next (without_return c.in-Some.line.now) ws c.loop-line.contents c.unit_step.new.contents stepped in
-    record {
-      inside =
-          step-inside c.args.contents.now c.loop-line.at c.loop-line.place c.in-Ok.next (without_return c.in-Some.line.now) ws c.loop-line.contents c.unit_step.new.contents stepped
-          c.loop-line.invariant.inside;
-      counted = omega (arith, takes, same, shown_same, some, c.loop-line.invariant.counted);
-      room = omega (arith, takes, same, shown_same, adds, c.loop-line.invariant.room);
-      left =
-          sym (said-left c.loop-line.place c.in-Ok.next c.loop-line.contents c.unit_step.new.contents c.loop-line.at c.loop-line.rest.now c.in-Some.line.now c.in-Some.more.now ws split says own stepped)
-          ∙ c.loop-line.invariant.left;
-    }
+    let says : is_skipped (shown ws) ≡ false = search rules in
+    let stepped = subst (λ (l : Bytes). unit_step c.loop-line.at c.loop-line.place l (shown ws) c.loop-line.contents ≡ Ok (at_place c.in-Ok.next c.unit_step.new.contents)) c.without_return-line.ensures c.in-Ok.ensures.ok in
+    read-on c.loop-line.invariant c.in-Some.line.now c.in-Some.more.now split ws are c.in-Ok.next c.unit_step.new.contents says stepped
 
 pub returns-clause-read : goal.returns-clause-read
 returns-clause-read c =
