@@ -30,10 +30,14 @@ pub enum Keyword {
     Other,
 }
 
-// Whether a word is one of those behind an actor's name that open a group.
+// Whether a word is one of those behind an actor's name that open a group: most words are shorter.
+#[tactic(auto, using(crate::proofs::Changes::short_is_none))]
 fn is_change(word: &[u8]) -> bool
     ensures { result ≡ (is (codes "change") word.now || is (codes "install") word.now) }
 {
+    if word.len() < 6 {
+        return false;
+    }
     word == b"change".as_slice() || word == b"install".as_slice()
 }
 
