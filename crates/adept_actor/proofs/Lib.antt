@@ -2,4 +2,4 @@ pub mod Common
 pub mod Doing
 pub mod Desks
 pub mod Acts
-pub mod Leaving
+pub mod Lines

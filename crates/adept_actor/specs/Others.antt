@@ -2,6 +2,7 @@
 use Rattle.std.specs.Prelude.{◌≡◌, ℕ, Bool, false, List, slice_get}
 use Rattle.adept_server.specs.Desks.{DeskView, case_pass}
 use Rattle.line_calls.specs.Calls as line
+use Rattle.line_calls.specs.declared.calls.Cells.{Cells}
 use Rattle.file_model.specs.{declared.files.Act.Act, declared.files.Line.Line}
 use Rattle.wsm_lists.specs.Rows.{AllRows}
 use Rattle.wsm_sound.specs.declared.versions.CaseId.{CaseId}
@@ -18,10 +19,11 @@ pub record LeavesSuch (SuchKind : ℕ → Type 0) (SuchCase : CaseId → Type 0)
   pub kinds : (t : ℕ) → SuchKind t → slice_get w.kinds t ≡ slice_get v.kinds t
   pub cases : (c : CaseId) → SuchCase c → case_pass w c ≡ case_pass v c
 
--- those that an act does not name, and those that none of these lines names
-abbrev pub LeavesOthers : Act → DeskView → DeskView → Type 0
-LeavesOthers a v w = LeavesSuch (λ t. names_kind t a ≡ false) (λ c. names_case c a ≡ false) v w
+-- those that are none of these cells
+abbrev pub LeavesCells : Cells → DeskView → DeskView → Type 0
+LeavesCells cells v w = LeavesSuch (λ t. line.has_kind t cells ≡ false) (λ c. line.has_case c cells ≡ false) v w
 
+-- those that none of these lines names
 abbrev pub IsUnnamedKind : List Line → ℕ → Type 0
 IsUnnamedKind lines t = AllRows (λ l. names_kind t l.act ≡ false) lines
 

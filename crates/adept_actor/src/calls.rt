@@ -1,11 +1,12 @@
 // The calls of a line.
 ghost use Rattle.std.specs.Prelude.{◌≡◌};
-ghost use Rattle.adept_actor.specs.{Others.LeavesOthers, Work.{Acts, CanAct, first_fault}};
+ghost use Rattle.adept_actor.specs.Work.{Acts, CanAct, CanCall, Makes, first_fault};
 ghost use Rattle.adept_server.specs.Desks.{IsDeskOf, desk_view};
 
 use adept_server::{Desk, Server};
 use case_core::Case;
 use file_model::Act;
+use line_calls::{Call, Told, call_of};
 use std::alloc::Global;
 use std::sync::Wait;
 use std::thread::Threads;
@@ -13,7 +14,7 @@ use turn_batch::Answers;
 use turn_cell::{CallFault, Gate};
 use wsm_lists::RoleList;
 
-/// Makes the calls of an act. The answers of the machines stand in the journals.
+/// Makes the calls of an act, and answers the fault that they met. The answers of the machines stand in the journals.
 pub fn act<R: Threads + Wait + Sync, G: Gate + Sync>(
     rt: &R,
     alloc: Global,
@@ -23,45 +24,50 @@ pub fn act<R: Threads + Wait + Sync, G: Gate + Sync>(
     act: &Act,
     gate: &G,
     line: u32,
-) -> Result<(), CallFault>
+) -> Option<CallFault>
     requires desk { IsDeskOf server.now desk.old }
     requires able { CanAct (desk_view desk.old) act.now }
     ensures desk { IsDeskOf server.now desk.new }
     ensures worked { Acts roles.now act.now result (desk_view desk.old) (desk_view desk.new) }
-    ensures others { LeavesOthers act.now (desk_view desk.old) (desk_view desk.new) }
 {
-    match act {
-        Act::Create { id } => {
-            server.create(rt, alloc, desk, *id, gate, line)?;
-        }
-        Act::Start { id, node } => {
-            server.start(rt, alloc, desk, *id, *node, roles, gate, line)?;
-        }
-        Act::Withdraw { id, node } => {
-            server.withdraw(rt, alloc, desk, *id, *node, gate, line)?;
-        }
-        Act::End {
-            id,
-            node,
-            choice,
-            writes,
-        } => {
-            server.end(rt, alloc, desk, *id, *node, writes, *choice, gate, line)?;
-        }
-        Act::Change { id, ops } => {
-            server.change(rt, alloc, desk, *id, ops, gate, line)?;
-        }
-        Act::Install { type_no, ops } => {
-            server.install(rt, alloc, desk, *type_no, ops, gate, line)?;
-        }
-        Act::Migrate { type_no, many } => {
-            let answers = server.migrate_first(rt, alloc, desk, *type_no, *many, gate, line)?;
-            if let Some(fault) = first_fault(answers) {
-                return Err(fault);
-            }
-        }
+    match call_of(alloc, desk.number(), roles.as_slice(), act) {
+        Ok(call) => make(rt, alloc, server, desk, &call, gate, line),
+        Err(_) => Some(CallFault::NoMemory),
     }
-    Ok(())
+}
+
+// Makes a call, and those that its answer brings.
+fn make<R: Threads + Wait + Sync, G: Gate + Sync>(
+    rt: &R,
+    alloc: Global,
+    server: &Server,
+    desk: &mut Desk,
+    call: &Call,
+    gate: &G,
+    line: u32,
+) -> Option<CallFault>
+    requires desk { IsDeskOf server.now desk.old }
+    requires able { CanCall (desk_view desk.old) call.now }
+    ensures desk { IsDeskOf server.now desk.new }
+    ensures made { Makes call.now result (desk_view desk.old) (desk_view desk.new) }
+{
+    match call {
+        Call::Kind { type_no, event } => server
+            .call_kind(rt, alloc, desk, *type_no, event, gate, line)
+            .err(),
+        Call::Case { id, event } => server
+            .call_case(rt, alloc, desk, *id, event, gate, line)
+            .err(),
+        Call::Newest { type_no, then } => match then {
+            Told::Create(id) => server.create(rt, alloc, desk, *id, gate, line).err(),
+            Told::Migrate(many) => {
+                match server.migrate_first(rt, alloc, desk, *type_no, *many, gate, line) {
+                    Ok(answers) => first_fault(answers),
+                    Err(fault) => Some(fault),
+                }
+            }
+        },
+    }
 }
 
 // The first fault among the answers of cells, in their order.

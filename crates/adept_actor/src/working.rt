@@ -1,5 +1,6 @@
 // The lines of an actor.
-ghost use Rattle.adept_actor.specs.{Others.{LeavesOthers, LeavesUnnamed}, Work.{Acts, CanAct, CanWork, WorksLines}};
+ghost use Rattle.std.specs.Result.{result_err};
+ghost use Rattle.adept_actor.specs.Work.{Acts, CanAct, CanWork, WorksLines};
 ghost use Rattle.adept_server.specs.Desks.{IsDeskOf, desk_view};
 
 use crate::calls::act;
@@ -26,8 +27,7 @@ pub fn work<R: Threads + Wait + Sync, G: Gate + Sync>(
     requires desk { IsDeskOf server.now desk.old }
     requires able { CanWork (desk_view desk.old) lines.now }
     ensures desk { IsDeskOf server.now desk.new }
-    ensures worked { WorksLines roles.now lines.now result (desk_view desk.old) (desk_view desk.new) }
-    ensures others { LeavesUnnamed lines.now (desk_view desk.old) (desk_view desk.new) }
+    ensures worked { WorksLines roles.now lines.now (result_err result) (desk_view desk.old) (desk_view desk.new) }
 {
     for line in lines.as_slice() {
         if line.actor == desk.number() {
@@ -51,12 +51,14 @@ pub fn work_line<R: Threads + Wait + Sync, G: Gate + Sync>(
     requires desk { IsDeskOf server.now desk.old }
     requires able { CanAct (desk_view desk.old) line.now.act }
     ensures desk { IsDeskOf server.now desk.new }
-    ensures worked { Acts roles.now line.now.act result (desk_view desk.old) (desk_view desk.new) }
-    ensures others { LeavesOthers line.now.act (desk_view desk.old) (desk_view desk.new) }
+    ensures worked { Acts roles.now line.now.act (result_err result) (desk_view desk.old) (desk_view desk.new) }
 {
     let actor = desk.number();
     gate.reach(actor, line.order, Side::Before);
-    let outcome = act(rt, alloc, server, desk, roles, &line.act, gate, line.order);
+    let fault = act(rt, alloc, server, desk, roles, &line.act, gate, line.order);
     gate.reach(actor, line.order, Side::After);
-    outcome
+    match fault {
+        None => Ok(()),
+        Some(fault) => Err(fault),
+    }
 }
