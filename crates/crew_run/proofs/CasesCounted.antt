@@ -1,21 +1,18 @@
 -- Counting the cases of each type.
-use Rattle.crew_run.proofs.Common.{ℕ, ◌+◌, ◌<◌, ◌==◌, ◌∙◌, ◌≡◌, ◌≢◌, ◌≤◌, ap, arith, CaseDecl, cases_of_type, count_by_more_no, count_by_more_yes, eq-eqb, false, get-set_same, get_or, get_or-le-sum_by, get_or_from_slice_get, inl, inr}
-use Rattle.crew_run.proofs.Common.{length, length-replicate, length-set, List, ne_eqb, refl, replicate, set, slice_get, Some, stays_or_set, subst, suc, sum, sum_by-set, sym, take, take_all, true, zero}
+use Rattle.crew_run.proofs.Common.{ℕ, ◌+◌, ◌<◌, ◌==◌, ◌∙◌, ◌≡◌, ◌≢◌, ◌≤◌, ap, arith, CaseDecl, cases_of_type, count_by_more_no, count_by_more_yes, eq-eqb, false, get-set_same, get_or, get_or-le-sum_by, get_or_from_slice_get}
+use Rattle.crew_run.proofs.Common.{length, length-replicate, length-set, List, ne_eqb, refl, replicate, set, slice_get, Some, subst, sum, sum_by-set, sym, take, take_all, true}
+use Rattle.crew_run.proofs.Common.{set-other, slice_get-get_or}
+use Rattle.std.proofs.lemmas.List.{get_or-replicate}
+use Rattle.std.proofs.lemmas.List.Folds.{sum_by-replicate}
 use mathlib.Core.Logic.{dite}
 use native.Mathlib.Decide.{ℕ_discrete}
 
 replicate_at : (n t x : ℕ) → t < n → slice_get (replicate n x) t ≡ Some x
-replicate_at zero t x lt = absurd (omega arith)
-replicate_at (suc n) zero x lt = refl
-replicate_at (suc n) (suc t) x lt = replicate_at n t x (omega arith)
-
-zeros-sum : (n : ℕ) → sum (replicate n 0) ≡ 0
-zeros-sum zero = refl
-zeros-sum (suc n) = zeros-sum n
+replicate_at n t x lt = slice_get-get_or (replicate n x) t x (omega (arith, lt, length-replicate n x)) ∙ ap (λ (m : ℕ). Some m) (get_or-replicate n t x x lt)
 
 -- what stands at another place than that which is put
 pub other_at : {A : Type 0} (xs : List A) (i j : ℕ) (x y : A) → j ≢ i → slice_get xs j ≡ Some x → slice_get (set xs i y) j ≡ Some x
-other_at xs i j x y apart is = elim (stays_or_set xs i j y x is) [ inl k ↦ absurd (apart k.0) | inr k ↦ k ]
+other_at xs i j x y apart is = set-other xs i j y (λ same. apart (sym same)) ∙ is
 
 -- a declaration more is one case more of its own type, and of no other
 pub counted-own : (ds : List CaseDecl) (k : ℕ) (d : CaseDecl) → k < length ds → d ≡ get_or ds k d → cases_of_type d.id.type_no (take (k + 1) ds) ≡ cases_of_type d.id.type_no (take k ds) + 1
@@ -31,7 +28,7 @@ pub record CountedUpTo (k n : ℕ) (ds : List CaseDecl) (counts : List ℕ) : Ty
   pub total : sum counts ≡ k
 
 pub none_counted : (n : ℕ) (ds : List CaseDecl) → CountedUpTo 0 n ds (replicate n 0)
-none_counted n ds = record { even = length-replicate n 0; each = λ t lt. replicate_at n t 0 lt; total = zeros-sum n }
+none_counted n ds = record { even = length-replicate n 0; each = λ t lt. replicate_at n t 0 lt; total = (let none = sum_by-replicate (λ x. x) n 0 in omega (arith, none)) }
 
 pub count_at : (k n t : ℕ) (ds : List CaseDecl) (counts : List ℕ) → CountedUpTo k n ds counts → t < n → get_or counts t 0 ≡ cases_of_type t (take k ds)
 count_at k n t ds counts c lt = get_or_from_slice_get counts t (cases_of_type t (take k ds)) 0 (c.each t lt)

@@ -1,5 +1,5 @@
 -- The names that most proofs of the crate cite, passed on from one place. Declares nothing.
-pub use Rattle.adept_actor.specs.{Growth.{DeskHasDone, HasDone}, Others.{IsUnnamedCase, IsUnnamedKind, LeavesUnnamed, names_case, names_kind}, Work.{Acts, CanAct, CanWork, Leaves, SeesFull, WorksLines}}
+pub use Rattle.adept_actor.specs.{Growth.{DeskHasDone, HasDone}, Others.{IsUnnamedCase, IsUnnamedKind, names_case, names_kind}, Work.{CanCall, CanWork, Leaves, SeesFull, WorksLines}}
 pub use Rattle.adept_server.proofs.{Keeping.{has_more, kind_beside, kind_still_defined}, Places.{get-set_same, stays_or_set}, Rows.there_at, Sent.{case-send, case-sync, event-send, event-sync, version-send, version-sync}, Zips.beside}
 pub use Rattle.adept_server.proofs.Zips.{map_of_case, map_there, row_of_case}
 pub use Rattle.adept_server.specs.{Calling.CallsKind, Desks.{at_case, case_count, CasePass, desk_view, DeskView, has_version, in_row, IsDefinedFor, IsDesk, IsDeskOf, KindPass}, Noting.{AllCalled, AreLevelDesks, IsCalledOf, IsCalmCase}}
@@ -7,8 +7,8 @@ pub use Rattle.adept_server.specs.{Noting.{IsCalmKind, rows_of}, Opening.{first_
 pub use Rattle.adept_server.specs.declared.servers.Server.{Server}
 pub use Rattle.case_core.specs.{CaseModel.{CaseModel, not_created}, Instances.CountedCase, Machine.{case_after, case_reply}, declared.events.Event.Event, declared.replies.Reply.Reply, declared.views.View.View}
 pub use Rattle.crew_run.specs.{CaseCounts.AreCounts, Closing.{closed_case, closed_kind, IsRunOf}, Crew.{AreHired, AreMet, Defines, HasMet, HasShape, IsCrew, IsDefinedUpTo, IsHiredAt, IsOneOf, KnowsTypes, SeesMany}, Crew.SeesMany.of_case}
-pub use Rattle.crew_run.specs.{Crew.SeesMany.of_kind, Desks.{all_joined, Beside, case_at, DeskHeard, DeskSame, HasDoneAndHeard, HasPassesOf, HasShapeOf, Heard, IsIdle, IsIdlePass, kind_at, SeenSame}, Phases.{AreFew, ended, HasForgotten}}
-pub use Rattle.crew_run.specs.{Phases.{HasWorked, HasWorkedAll, HasWorkedLines, is_full_fault, IsAlong, IsKept, IsOverfull, IsReadyAt, lines_upto, PhaseWorked, TakesLine, Tries}, declared.workers.Worker.Worker}
+pub use Rattle.crew_run.specs.{Crew.SeesMany.of_kind, Desks.{all_joined, Beside, case_at, DeskHeard, DeskSame, HasDoneAndHeard, HasPassesOf, HasShapeOf, Heard, IsIdle, IsIdlePass, kind_at, SeenSame}, Phases.{AreFew, HasForgotten}}
+pub use Rattle.crew_run.specs.{Phases.{HasWorked, HasWorkedAll, is_full_fault, IsAlong, IsKept, IsOverfull, IsReadyAt, lines_upto, PhaseWorked, TakesLine, Tries}, declared.workers.Worker.Worker}
 pub use Rattle.file_facts.proofs.Cases.{declared-placed, declared-typed, row-at}
 pub use Rattle.file_facts.specs.Facts.{IsDeclared, IsKnown, IsKnownAct, IsSound, IsWorkable, lines_in}
 pub use Rattle.file_model.specs.{CaseCounts.{cases_of_type, has_id}, declared.files.CaseDecl.CaseDecl, declared.files.File.File, declared.files.Line.Line, declared.files.TypeDecl.TypeDecl}

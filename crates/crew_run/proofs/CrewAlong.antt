@@ -1,8 +1,8 @@
 -- A crew before the first phase, and behind one phase more.
 use Rattle.crew_run.proofs.Common.{[], ℕ, ◌++◌, ◌+◌, ◌==◌, ◌∙◌, ◌∷◌, ◌≡◌, ◌≤◌, AllZip, ap, append-nil, AreFew, AreHired, AreMet, AreTraces, arith, at_case, beside, Call, calls_of_case, calls_of_kind, case_after, case_at, case_reply, CaseId}
-use Rattle.crew_run.proofs.Common.{CasePass, Defines, Desk, desk_view, DeskHeard, DeskView, done_by, File, filter-append, flat_map-append, HasShape, Heard, inl, inr, IsActor, IsAlong, IsCrew, IsDefinedUpTo, IsDeskOf, IsTrace, joined}
-use Rattle.crew_run.proofs.Common.{kind_after, kind_at, kind_reply, KindPass, length, length-append, Line, lines_of, lines_upto, List, Option, PhaseWorked, refl, roles_of, SeenSame, Server, slice_get, Some, subst, suc, sym, take, there-as}
-use Rattle.crew_run.proofs.{Common.{Trace, Tries, Worker}, DesksCanWork.shape-of, DesksMeet.beside-shape, OneCell.{IsCell, done-more, kept-first, kept-more}, SideBySide.{beside-case, made-at, made-at_case, zip-back}}
+use Rattle.crew_run.proofs.Common.{CasePass, Defines, Desk, desk_view, DeskHeard, DeskView, done_by, File, filter-append, flat_map-append, HasShape, Heard, inl, inr, IsAlong, IsCrew, IsDefinedUpTo, IsDeskOf, IsTrace, joined}
+use Rattle.crew_run.proofs.Common.{kind_after, kind_at, kind_reply, KindPass, length, length-append, Line, lines_of, lines_upto, List, PhaseWorked, refl, roles_of, SeenSame, Server, slice_get, Some, subst, suc, sym, take, there-as}
+use Rattle.crew_run.proofs.{Common.{Trace, Tries, TypeDecl, Worker}, DesksCanWork.shape-of, DesksMeet.beside-shape, OneCell.{IsCell, done-more, kept-first, kept-more}, SideBySide.{beside-case, made-at, made-at_case, zip-back}}
 use Rattle.crew_run.proofs.TypesDefined.{shape-defined}
 use Rattle.std.specs.Prelude.{flat_map}
 use Rattle.adept_actor.proofs.Desks.{case-there}
@@ -75,9 +75,10 @@ along-first s f done hired v first old crew h d heard met many k = record {
     worker i x at = there-as crew old i x (sym many) at
 
 -- the crew behind the definitions
-pub begun : (s : Server) (f : File) (done : ℕ) (hired : Desk) (v : DeskView) (first : Desk) (old crew : List Worker) → AreHired s hired old → length old ≡ length f.actors → HasShape f (desk_view hired) → Defines f.types done (desk_view hired) v → IsDeskOf s first
-    → DeskHeard v (desk_view first) → AreMet s (desk_view first) old crew → length crew ≡ length old → IsCrew s f first crew × IsAlong f done [] (desk_view first) crew
-begun s f done hired v first old crew h actors shape d desk heard met many =
+pub begun : (s : Server) (f : File) (types : List TypeDecl) (done : ℕ) (hired : Desk) (v : DeskView) (first : Desk) (old crew : List Worker) → AreHired s hired old → length old ≡ length f.actors → HasShape f (desk_view hired) → types ≡ f.types → Defines types done (desk_view hired) v
+    → IsDeskOf s first × DeskHeard v (desk_view first) → AreMet s (desk_view first) old crew → length crew ≡ length old → IsCrew s f first crew × IsAlong f done [] (desk_view first) crew
+begun s f types done hired v first old crew h actors shape same defines (desk, heard) met many =
+    let d = subst (λ ts. Defines ts done (desk_view hired) v) same defines in
     let k = crew-of s f v first old crew desk heard met many actors (shape-defined f done (desk_view hired) v d shape) (d.number ∙ h.number) (d.made ∙ h.made) (d.taken ∙ h.taken) (λ i w at. (h.each i w at).1) in
     (k, along-first s f done hired v first old crew h d heard met many k)
 

@@ -1,10 +1,12 @@
 -- Desks that can work each line of a file.
-use Rattle.crew_run.proofs.Common.{[], ℕ, ◌<◌, ◌∙◌, ◌∷◌, ◌≡◌, ◌≤◌, AllRows, ap, AreCounts, arith, beside, CanAct, CanWork, case_count, cases_of_type, declared-typed, DeskHeard, DeskSame, DeskView, File, get_or_from_slice_get, has_more}
-use Rattle.crew_run.proofs.Common.{has_version, HasShape, HasShapeOf, Heard, IsDefinedFor, IsKnown, IsKnownAct, IsWorkable, kind_at, KindPass, KnowsTypes, length, Line, List, map, None, Option, prefix_self, refl, SeenSame, slice_get, Some}
+use Rattle.crew_run.proofs.Common.{[], ℕ, ◌<◌, ◌∙◌, ◌∷◌, ◌≡◌, ◌≤◌, AllRows, ap, AreCounts, arith, beside, CanCall, CanWork, case_count, cases_of_type, declared-typed, DeskHeard, DeskSame, DeskView, File, get_or_from_slice_get, has_more}
+use Rattle.crew_run.proofs.Common.{has_version, HasShape, HasShapeOf, Heard, IsDefinedFor, IsKnown, IsWorkable, kind_at, KindPass, KnowsTypes, length, Line, List, None, Option, prefix_self, refl, SeenSame, slice_get, Some}
 use Rattle.crew_run.proofs.{Common.{subst, sym}, CasePlaces.{has-declared, row_counted}}
 use mathlib.Core.List.{IsPrefix}
-use Rattle.file_model.specs.declared.files.Act.{Act}
-use Rattle.file_model.specs.declared.files.Act.TheVariants as act
+use Rattle.line_calls.proofs.Facts.{known-call, known-light}
+use Rattle.line_calls.specs.{Calls.{call_of, call_weight}, Known.IsKnownCall, declared.calls.Call.Call}
+use Rattle.line_calls.specs.declared.calls.Call.TheVariants as call
+use Rattle.line_calls.specs.declared.calls.Told.TheVariants as tell
 
 pub shape-of : (f : File) (v w : DeskView) → HasShapeOf v w → HasShape f v → HasShape f w
 shape-of f v w (types, rows) k = record { types = types ∙ k.types; counted = subst (AreCounts f) (sym rows) k.counted }
@@ -28,16 +30,13 @@ module _ (f : File) (workable : IsWorkable f) (v : DeskView) (able : HasShape f 
   many-cases : (t : ℕ) → t < length f.types → case_count v t ≡ cases_of_type t f.cases
   many-cases t low = let (row, at_row, many) = row_counted v.cases t (cases_of_type t f.cases) (able.counted.each t low) in ap length (get_or_from_slice_get v.cases t row [] at_row) ∙ many
 
-  can-act : (x : Act) → IsKnownAct (length f.types) f.cases x → CanAct v x
-  can-act (act.Create c) k = (has-declared f v.cases c workable able.counted k, knows c.type_no (declared-typed (length f.types) f.cases c workable.typed k))
-  can-act (act.Start c node) k = has-declared f v.cases c workable able.counted k
-  can-act (act.Withdraw c node) k = has-declared f v.cases c workable able.counted k
-  can-act (act.End c node choice writes) k = has-declared f v.cases c workable able.counted k
-  can-act (act.Change c ops) (k, few) = (has-declared f v.cases c workable able.counted k, few)
-  can-act (act.Install t ops) (k, few) = ((let e = able.types in omega (arith, k)), few)
-  can-act (act.Migrate t many) (k, enough) = ((let e = able.types in omega (arith, k)), knows t k, omega (arith, enough, many-cases t k))
+  can-call : (k : Call) → IsKnownCall (length f.types) f.cases k → call_weight k ≤ 768 → CanCall v k
+  can-call (call.Kind t e) k light = ((let e = able.types in omega (arith, k)), omega (arith, light))
+  can-call (call.Case c e) k light = (has-declared f v.cases c workable able.counted k, omega (arith, light))
+  can-call (call.Newest t (tell.Create c)) (own, k) light = (own, has-declared f v.cases c workable able.counted k, knows c.type_no (declared-typed (length f.types) f.cases c workable.typed k))
+  can-call (call.Newest t (tell.Migrate many)) (k, enough) light = ((let e = able.types in omega (arith, k)), knows t k, omega (arith, enough, many-cases t k))
 
   -- it can work lines that are known
   pub can-work : (lines : List Line) → AllRows (IsKnown (length f.types) (length f.actors) f.cases) lines → CanWork v lines
   can-work [] all = tt
-  can-work (l ∷ lines) (k, all) = (λ own. can-act l.act k.act, can-work lines all)
+  can-work (l ∷ lines) (k, all) = (λ own a roles. can-call (call_of a roles l.act) (known-call a roles (length f.types) f.cases l.act k.act) (known-light a roles (length f.types) f.cases l.act k.act), can-work lines all)

@@ -1,5 +1,5 @@
 -- What two desks have seen once they have met.
-use Rattle.crew_run.proofs.Common.{[], ℕ, ◌<◌, ◌∙◌, ◌∷◌, ◌≡◌, ◌≤◌, AllCalled, AllZip, AllZip-long, ap, AreLevelDesks, arith, at_case, Beside, Bool, CallFlags, CasePass, DeskHeard, DeskSame, DeskView, Entry, false, first_desk_met, first_met}
+use Rattle.crew_run.proofs.Common.{[], ℕ, ◌∙◌, ◌∷◌, ◌≡◌, AllCalled, AllZip, AllZip-long, ap, AreLevelDesks, arith, at_case, Beside, Bool, CallFlags, CasePass, DeskHeard, DeskSame, DeskView, Entry, false, first_desk_met, first_met}
 use Rattle.crew_run.proofs.Common.{HasPassesOf, HasShapeOf, Heard, if◌then◌else◌, in_row, IsSeenBy, KindPass, length, length-append, List, longer-same, ltb, ltb-true, PassView, prefix_self, prefix_trans, refl, second_desk_met, second_met}
 use Rattle.crew_run.proofs.{Common.{seen_of, SeenSame, SeesMore, slice_get, Some, subst, suc, sym, true, zero, zip_with}, SideBySide.{made-beside, made-first, made-same, made-second, zip-back, zip-rows, zip-self, zip-so, zip-then}}
 use mathlib.Core.List.{IsPrefix}
@@ -89,10 +89,10 @@ pub record Pair (v w x y : DeskView) : Type 0 where
   pub same : DeskSame x y
   pub stays : SeesMore w v → HasPassesOf v x
 
-pub pair-of : (v w x y : DeskView) → x ≡ first_desk_met v w → y ≡ second_desk_met v w → SeesMore v x → SeesMore w x → Pair v w x y
-pair-of v w x y one two more more_too =
-    let a = rw one at more in
-    let b = rw one at more_too in
+pub pair-of : (v w x y : DeskView) → x ≡ first_desk_met v w → y ≡ second_desk_met v w → SeesMore v x × SeesMore w x → Pair v w x y
+pair-of v w x y one two more =
+    let a = rw one at more.0 in
+    let b = rw one at more.1 in
     rw (one, two) (record {
       first = record {
         number = refl;

@@ -1,14 +1,8 @@
 -- What the crew's work in a phase comes to, once all have met.
-use Rattle.crew_run.proofs.Common.{[], ℕ, ◌<◌, ◌∙◌, ◌∷◌, ◌≡◌, ◌≤◌, AllRows, any_passes_from_place, ap, AreBegun, AreCallsOfLines, AreLevelDesks, AreMet, arith, Call, CallFault, CallFlags, CaseId, Desk, desk_view, DeskHasDone, DeskHeard}
-use Rattle.crew_run.proofs.Common.{DeskView, ended, Err, false, File, get_or, get_or_from_slice_get, HasDoneAndHeard, HasWorkedLines, inl, inr, is_full_fault, is_some, IsActor, IsCalmCase, IsCalmKind, IsCrew, IsDeskOf, IsTrace}
-use Rattle.crew_run.proofs.Common.{IsUnnamedCase, IsUnnamedKind, Leaves, length, Line, lines_of, List, list_any, None, Ok, Option, PhaseWorked, refl, Result, roles_of, seen_of, SeesMany, Server, slice_get, slice_get_within, Some, subst}
-use Rattle.crew_run.proofs.{Common.{suc, sym, there-as, there_at, Trace, Tries, true, Worker, WorksLines, zero}, CrewAlong.crew-of, DesksMeet.same-level, FullSeen.full-among, SideBySide.{all-of, chosen}}
-use Rattle.std.specs.Result.{result_err}
-
--- how an actor's work ended, as the worker keeps it
-pub leaves-ended : {A : Type 0} (Whole Begun : List Call → Type 0) (r : Result A CallFault) (o : Option CallFault) (v w : DeskView) → o ≡ result_err r → Leaves Whole Begun r v w → Leaves Whole Begun (ended o) v w
-leaves-ended Whole Begun (Ok a) o v w is k = subst (λ x. Leaves Whole Begun (ended x) v w) (sym is) k
-leaves-ended Whole Begun (Err f) o v w is k = subst (λ x. Leaves Whole Begun (ended x) v w) (sym is) k
+use Rattle.crew_run.proofs.Common.{[], ℕ, ◌<◌, ◌∙◌, ◌≡◌, AllRows, any_passes_from_place, ap, AreBegun, AreCallsOfLines, AreLevelDesks, AreMet, arith, Call, CallFault, CallFlags, CaseId, Desk, desk_view, DeskHasDone, DeskHeard}
+use Rattle.crew_run.proofs.Common.{DeskView, false, File, get_or, get_or_from_slice_get, HasDoneAndHeard, HasWorked, inl, inr, is_full_fault, is_some, IsActor, IsCalmCase, IsCalmKind, IsCrew, IsDeskOf, IsTrace}
+use Rattle.crew_run.proofs.Common.{IsUnnamedCase, IsUnnamedKind, Leaves, length, Line, lines_of, List, list_any, None, Option, PhaseWorked, refl, roles_of, seen_of, SeesMany, Server, slice_get, slice_get_within, Some, subst}
+use Rattle.crew_run.proofs.{Common.{suc, sym, there-as, there_at, Trace, Tries, true, Worker, zero}, CrewAlong.crew-of, DesksMeet.same-level, FullSeen.full-among, SideBySide.{all-of, chosen}}
 
 -- where none met a fault, one did not
 pub no-fault : (new : List Worker) → list_any (λ (w : Worker). is_some w.fault) new ≡ false → (i : ℕ) (x : Worker) → slice_get new i ≡ Some x → x.fault ≡ None
@@ -18,11 +12,11 @@ no-fault new none i x at = by x.fault refl
     by None is = is
     by (Some f) is = absurd (cc (none, any_passes_from_place (λ (w : Worker). is_some w.fault) new i x at (ap is_some is)))
 
-module _ (s : Server) (f : File) (lines : List Line) (first : Desk) (old mid : List Worker) (k : IsCrew s f first old) (many : length mid ≡ length old) (works : (i : ℕ) (d : Worker) → i < length old → HasWorkedLines s f lines (get_or old i d) (get_or mid i d)) where
-  worked : (i : ℕ) (w x : Worker) → slice_get old i ≡ Some w → slice_get mid i ≡ Some x → HasWorkedLines s f lines w x
+module _ (s : Server) (f : File) (lines : List Line) (first : Desk) (old mid : List Worker) (k : IsCrew s f first old) (many : length mid ≡ length old) (works : (i : ℕ) (d : Worker) → i < length old → HasWorked s f lines (get_or old i d) (get_or mid i d)) where
+  worked : (i : ℕ) (w x : Worker) → slice_get old i ≡ Some w → slice_get mid i ≡ Some x → HasWorked s f lines w x
   worked i w x at_w at_x =
-      subst (λ y. HasWorkedLines s f lines y x) (get_or_from_slice_get old i w w at_w)
-      (subst (HasWorkedLines s f lines (get_or old i w)) (get_or_from_slice_get mid i x w at_x) (works i w (slice_get_within old i w at_w)))
+      subst (λ y. HasWorked s f lines y x) (get_or_from_slice_get old i w w at_w)
+      (subst (HasWorked s f lines (get_or old i w)) (get_or_from_slice_get mid i x w at_x) (works i w (slice_get_within old i w at_w)))
 
   worker : (i : ℕ) (x : Worker) → slice_get mid i ≡ Some x → (w : Worker) × (slice_get old i ≡ Some w)
   worker i x at = there-as mid old i x (sym many) at
@@ -35,14 +29,14 @@ module _ (s : Server) (f : File) (lines : List Line) (first : Desk) (old mid : L
   worked-level called kinds cases = all-of (λ w. AreLevelDesks called (desk_view first) (desk_view w.desk)) mid
       (λ i x at.
       let (w, at_w) = worker i x at in
-      let left = (worked i w x at_w at).2 in
+      let left = (worked i w x at_w at).1.1 in
       let level = same-level called (desk_view first) (desk_view w.desk) (k.each i w at_w).same in
       record { kinds = λ t calm. level.kinds t calm ∙ ap seen_of (sym (left.kinds t (kinds t calm))); cases = λ c calm. level.cases c calm ∙ ap seen_of (sym (left.cases c (cases c calm))) })
 
   numbered : (i : ℕ) (x : Worker) → slice_get mid i ≡ Some x → (desk_view x.desk).number ≡ suc i
-  numbered i x at = let (w, at_w) = worker i x at in by w x.fault (worked i w x at_w at).1 ∙ (k.each i w at_w).number
+  numbered i x at = let (w, at_w) = worker i x at in by w x.fault (worked i w x at_w at).1.0 ∙ (k.each i w at_w).number
     where
-      by : (w : Worker) (o : Option CallFault) → WorksLines (roles_of f (desk_view w.desk).number) lines (ended o) (desk_view w.desk) (desk_view x.desk) → (desk_view x.desk).number ≡ (desk_view w.desk).number
+      by : (w : Worker) (o : Option CallFault) → Leaves (AreCallsOfLines (roles_of f (desk_view w.desk).number) (desk_view w.desk).number (lines_of (desk_view w.desk).number lines)) (AreBegun (roles_of f (desk_view w.desk).number) (desk_view w.desk).number (lines_of (desk_view w.desk).number lines)) o (desk_view w.desk) (desk_view x.desk) → (desk_view x.desk).number ≡ (desk_view w.desk).number
       by w None (calls, fit, done) = done.number
       by w (Some e) ((calls, fit, done), full) = done.number
 
@@ -51,7 +45,7 @@ module _ (s : Server) (f : File) (lines : List Line) (first : Desk) (old mid : L
     crew-behind = crew-of s f (desk_view first) then mid new desk heard met many_too (many ∙ k.actors) k.shape k.number (let e = k.made in omega (arith, many, e)) k.taken numbered
 
     pub full-behind : list_any (λ (w : Worker). is_full_fault w.fault) new ≡ true → SeesMany (desk_view then)
-    full-behind any = full-among s f lines (desk_view then) old mid new many many_too any (λ i w x at_w at_x. (worked i w x at_w at_x).1) met
+    full-behind any = full-among s f lines (desk_view then) old mid new many many_too any worked met
 
     -- these are the calls that an actor has made, who has then heard of others'
     record Made (i : ℕ) (calls : List Call) (w x : Worker) : Type 0 where
@@ -63,10 +57,9 @@ module _ (s : Server) (f : File) (lines : List Line) (first : Desk) (old mid : L
     made i w x at_w at_x =
         let (y, at_y) = there-as old mid i w many at_w in
         let m = met i y x at_y at_x in
-        let works : WorksLines (roles_of f (desk_view w.desk).number) lines (ended y.fault) (desk_view w.desk) (desk_view y.desk) = (worked i w y at_w at_y).1 in
-        by (desk_view y.desk) y.fault m.fault (subst (λ n. Leaves (AreCallsOfLines (roles_of f n) n (lines_of n lines)) (AreBegun (roles_of f n) n (lines_of n lines)) (ended y.fault) (desk_view w.desk) (desk_view y.desk)) ((k.each i w at_w).number) works) (λ calls d. record { between = desk_view y.desk; done = d; heard = m.heard })
+        by (desk_view y.desk) y.fault m.fault (subst (λ n. Leaves (AreCallsOfLines (roles_of f n) n (lines_of n lines)) (AreBegun (roles_of f n) n (lines_of n lines)) y.fault (desk_view w.desk) (desk_view y.desk)) ((k.each i w at_w).number) (worked i w y at_w at_y).1.0) (λ calls d. record { between = desk_view y.desk; done = d; heard = m.heard })
       where
-        by : (u : DeskView) (o : Option CallFault) → x.fault ≡ o → Leaves (AreCallsOfLines (roles_of f (suc i)) (suc i) (lines_of (suc i) lines)) (AreBegun (roles_of f (suc i)) (suc i) (lines_of (suc i) lines)) (ended o) (desk_view w.desk) u
+        by : (u : DeskView) (o : Option CallFault) → x.fault ≡ o → Leaves (AreCallsOfLines (roles_of f (suc i)) (suc i) (lines_of (suc i) lines)) (AreBegun (roles_of f (suc i)) (suc i) (lines_of (suc i) lines)) o (desk_view w.desk) u
             → ((calls : List Call) → DeskHasDone calls (desk_view w.desk) u → HasDoneAndHeard calls (desk_view w.desk) (desk_view x.desk)) → (calls : List Call) × Made i calls w x
         by u None is (calls, fit, done) heard = (calls, record { tries = inl fit; whole = λ none. fit; did = heard calls done })
         by u (Some e) is ((calls, fit, done), full) heard = (calls, record { tries = inr fit; whole = λ none. absurd (cc (none, is)); did = heard calls done })
@@ -79,17 +72,10 @@ module _ (s : Server) (f : File) (lines : List Line) (first : Desk) (old mid : L
     phase-worked =
         let (g, each) = chosen [] Made old new (many_too ∙ many) made in (
           by_actor g,
-          record { tries = tries g each; many = many_too ∙ many; each = λ i w x at_w at_x. (each i w x at_w at_x).did },
-          λ well. whole g each well,
+          record { tries = actor g (Tries f lines) (λ i w x at_w at_x. (each i w x at_w at_x).tries); many = many_too ∙ many; each = λ i w x at_w at_x. (each i w x at_w at_x).did },
+          λ well. actor g (λ a. AreCallsOfLines (roles_of f a) a (lines_of a lines)) (λ i w x at_w at_x. (each i w x at_w at_x).whole (well i x at_x)),
         )
       where
-        there : (i : ℕ) → suc i ≤ length f.actors → (w : Worker) × (x : Worker) × (slice_get old i ≡ Some w) × (slice_get new i ≡ Some x)
-        there i high = let (w, at_w) = there_at old i (omega (arith, high, k.actors)) in let (x, at_x) = there-as old new i w (many_too ∙ many) at_w in (w, x, at_w, at_x)
-
-        tries : (g : ℕ → List Call) → ((i : ℕ) (w x : Worker) → slice_get old i ≡ Some w → slice_get new i ≡ Some x → Made i (g i) w x) → (a : ℕ) → IsActor f a → Tries f lines a (by_actor g a)
-        tries g each zero (low, high) = absurd (omega (arith, low))
-        tries g each (suc i) (low, high) = let (w, x, at_w, at_x) = there i high in (each i w x at_w at_x).tries
-
-        whole : (g : ℕ → List Call) → ((i : ℕ) (w x : Worker) → slice_get old i ≡ Some w → slice_get new i ≡ Some x → Made i (g i) w x) → ((i : ℕ) (x : Worker) → slice_get new i ≡ Some x → x.fault ≡ None) → IsTrace f lines (by_actor g)
-        whole g each well zero (low, high) = absurd (omega (arith, low))
-        whole g each well (suc i) (low, high) = let (w, x, at_w, at_x) = there i high in (each i w x at_w at_x).whole (well i x at_x)
+        actor : (g : ℕ → List Call) (P : ℕ → List Call → Type 0) → ((i : ℕ) (w x : Worker) → slice_get old i ≡ Some w → slice_get new i ≡ Some x → P (suc i) (g i)) → (a : ℕ) → IsActor f a → P a (by_actor g a)
+        actor g P each zero (low, high) = absurd (omega (arith, low))
+        actor g P each (suc i) (low, high) = let (w, at_w) = there_at old i (omega (arith, high, k.actors)) in let (x, at_x) = there-as old new i w (many_too ∙ many) at_w in each i w x at_w at_x

@@ -1,14 +1,14 @@
 -- How a run ends: legal, and with no full journal.
-use Rattle.crew_run.proofs.Common.{[], ℕ, ◌++◌, ◌+◌, ◌<◌, ◌∙◌, ◌∷◌, ◌≡◌, ◌≢◌, ◌≤◌, All-from_recursion, all_joined, AllByRecursion, ap, AreFew, AreOfActors, arith, at_case, Call, calls_of, calls_of_case, calls_of_kind, case_after, case_at}
-use Rattle.crew_run.proofs.Common.{case_reply, CaseDecl, CaseId, CaseModel, CasePass, Closed, closed_case, closed_kind, CountedCase, Desk, desk_view, DeskSame, DeskView, done_by, Entry, entry, Event, File, flat_map, HasShape, HasShapeOf}
-use Rattle.crew_run.proofs.Common.{HasWorkedAll, IsActor, IsAlong, IsByPhases, IsClosedServer, IsCrew, IsKept, IsLegal, IsLegalCase, IsLegalKind, IsOverfull, IsRunOf, IsSound, IsWorkable, joined, joined_desk, kind_after, kind_at}
+use Rattle.crew_run.proofs.Common.{[], ℕ, ◌++◌, ◌+◌, ◌∙◌, ◌∷◌, ◌≡◌, ◌≢◌, ◌≤◌, All-from_recursion, all_joined, AllByRecursion, ap, AreOfActors, arith, at_case, Call, calls_of, calls_of_case, calls_of_kind, case_after, case_at}
+use Rattle.crew_run.proofs.Common.{case_reply, CaseDecl, CaseId, CaseModel, CasePass, Closed, closed_case, closed_kind, CountedCase, Desk, desk_view, DeskView, done_by, Entry, entry, Event, File, flat_map, HasShapeOf}
+use Rattle.crew_run.proofs.Common.{HasWorkedAll, IsActor, IsByPhases, IsClosedServer, IsCrew, IsKept, IsLegal, IsLegalCase, IsLegalKind, IsOverfull, IsRunOf, IsSound, IsWorkable, joined, joined_desk, kind_after, kind_at}
 use Rattle.crew_run.proofs.Common.{kind_reply, KindEvent, KindPass, KindReply, Legal, length, length-append, length-map, Line, lines_in, lines_of, lines_upto, List, map, None, not_created, of_case, of_kind, Option, PassView, refl, Reply}
 use Rattle.crew_run.proofs.{Common.{row-at, SeesMany, Server, slice_get, slice_get-map, slice_get_within, Some, some_one, subst, suc, sum_by-cons, sym, take, there-as, Trace, TypeDecl, View, Worker, zero}, CasePlaces.there-for_case}
-use Rattle.crew_run.proofs.{CrewAlong.{case-cell, kind-cell}, DesksCanWork.shape-of, DesksMeet.beside-shape, Journals.{calls-with, no-more, none-of, of-parts, only-first}, OneCell.{HasEnded, has-ended, taken-in}, SideBySide.made-long}
+use Rattle.crew_run.proofs.{CrewAlong.{case-cell, kind-cell}, DesksMeet.beside-shape, Journals.{calls-with, no-more, none-of, of-parts, only-first}, OneCell.{HasEnded, has-ended, taken-in}, SideBySide.made-long}
 use Rattle.crew_run.proofs.SideBySide.{made-rows}
 use Rattle.std.specs.Option.{option_map}
 use Rattle.adept_server.specs.declared.closing.ClosedServer.{ClosedServer}
-use Rattle.script_run.specs.{Serial.program, declared.runs.ClosedCase.ClosedCase, declared.runs.ClosedKind.ClosedKind, declared.runs.Run.Run}
+use Rattle.script_run.specs.{Serial.program, declared.runs.Run.Run}
 use Rattle.turn_cell.specs.declared.limits.TheConstants.{MAX_ENTRIES}
 use Rattle.type_core.proofs.Versions.{sound-defined}
 use Rattle.type_core.specs.KindModel.{KindModel, not_defined}
@@ -32,8 +32,8 @@ take-all u v (w ∷ ws) (types, rows) all =
     let r = take-all u (joined_desk v (desk_view w.desk)) ws (many ∙ types, long ∙ rows) (λ i. all (suc i)) in
     record { number = r.number; made = r.made; taken = (let e = r.taken in omega arith); shape = (r.shape.0 ∙ many, r.shape.1 ∙ long) }
 
-pub has-taken : (s : Server) (f : File) (first : Desk) (crew : List Worker) → IsCrew s f first crew → HasTaken (length crew) (desk_view first) (all_joined (desk_view first) crew)
-has-taken s f first crew k = take-all (desk_view first) (desk_view first) crew (refl, refl) (λ i w at. beside-shape (desk_view first) (desk_view w.desk) (k.each i w at).same)
+pub has-taken : (s : Server) (f : File) (first : Desk) (crew : List Worker) → IsCrew s f first crew → (last : DeskView) → last ≡ all_joined (desk_view first) crew → HasTaken (length crew) (desk_view first) last
+has-taken s f first crew k last joins = subst (HasTaken (length crew) (desk_view first)) (sym joins) (take-all (desk_view first) (desk_view first) crew (refl, refl) (λ i w at. beside-shape (desk_view first) (desk_view w.desk) (k.each i w at).same))
 
 -- ---- one cell
 module _ {M E R W S : Type 0} (f : File) where
@@ -112,7 +112,7 @@ module _ (s : Server) (f : File) (workable : IsWorkable f) (first : Desk) (crew 
   legal-of run (traces, fit, along) is = record {
     traces = traces;
     of_lines = fit;
-    as_many_kinds = ap length is.kinds ∙ (length-map closed.kinds.items closed_kind ∙ (closes.types ∙ (ap (λ (v : DeskView). length v.kinds) joins ∙ ((has-taken s f first crew k).shape.0 ∙ k.shape.types))));
+    as_many_kinds = ap length is.kinds ∙ (length-map closed.kinds.items closed_kind ∙ (closes.types ∙ ((has-taken s f first crew k last joins).shape.0 ∙ k.shape.types)));
     as_many_cases = is.decls;
     kinds = λ t d c at_d at_c.
         let (p, at_p) = there-as f.types (desk_view first).kinds t d k.shape.types at_d in

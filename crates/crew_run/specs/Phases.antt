@@ -1,7 +1,7 @@
 -- The phases of a file, as a crew works them.
-use Rattle.std.specs.Prelude.{◌≡◌, ℕ, suc, ◌+◌, ◌≤◌, ◌⊎◌, Bool, true, false, List, [], ◌∷◌, length, take, flat_map, Option, Some, None, Result, Ok, Err, slice_get}
+use Rattle.std.specs.Prelude.{◌≡◌, ℕ, suc, ◌+◌, ◌≤◌, ◌⊎◌, Bool, true, false, List, [], length, take, flat_map, Option, Some, None, slice_get}
 use mathlib.Core.List.{IsPrefix}
-use Rattle.adept_actor.specs.{Others.{LeavesOthers, LeavesUnnamed}, Work.{Acts, CanWork, WorksLines}}
+use Rattle.adept_actor.specs.Work.{Acts, CanWork, WorksLines}
 use Rattle.adept_server.specs.{Desks.{CasePass, DeskView, IsDeskOf, KindPass, desk_view}, declared.servers.Server.Server}
 use Rattle.crew_run.specs.{Crew.{IsDefinedUpTo, SeesMany}, Desks.{HasDoneAndHeard, IsIdlePass, kind_at, case_at}, declared.workers.Worker.Worker}
 use Rattle.file_model.specs.{declared.files.File.File, declared.files.Line.Line}
@@ -15,27 +15,18 @@ use Rattle.wsm_sound.specs.declared.versions.CaseId.{CaseId}
 abbrev pub IsReadyAt : Server → List Line → ℕ → Worker → Type 0
 IsReadyAt s lines i w = ((desk_view w.desk).number ≡ i + 1) × IsDeskOf s w.desk × CanWork (desk_view w.desk) lines
 
--- how work ended that has perhaps left a fault
-abbrev pub ended : Option CallFault → Result (Unit {0}) CallFault
-ended None = Ok tt
-ended (Some f) = Err f
-
 abbrev pub is_full_fault : Option CallFault → Bool
 is_full_fault (Some fault.Full) = true
 is_full_fault (Some fault.NoMemory) = false
 is_full_fault None = false
 
--- a worker has worked its lines of a phase
-abbrev pub HasWorked : File → List Line → Worker → Worker → Type 0
-HasWorked f lines w x = WorksLines (roles_of f (desk_view w.desk).number) lines (ended x.fault) (desk_view w.desk) (desk_view x.desk)
-
--- so has a worker at its own desk of a server, and no pass of a cell that no line names has changed
-abbrev pub HasWorkedLines : Server → File → List Line → Worker → Worker → Type 0
-HasWorkedLines s f lines w x = IsDeskOf s x.desk × HasWorked f lines w x × LeavesUnnamed lines (desk_view w.desk) (desk_view x.desk)
+-- a worker has worked its lines of a phase, at its own desk of a server
+abbrev pub HasWorked : Server → File → List Line → Worker → Worker → Type 0
+HasWorked s f lines w x = IsDeskOf s x.desk × WorksLines (roles_of f (desk_view w.desk).number) lines x.fault (desk_view w.desk) (desk_view x.desk)
 
 -- a worker takes a line in its turn, where it has met no fault
 abbrev pub TakesLine : List ℕ → Line → Worker → Worker → Option CallFault → Type 0
-TakesLine roles line w x None = Acts roles line.act (ended x.fault) (desk_view w.desk) (desk_view x.desk) × LeavesOthers line.act (desk_view w.desk) (desk_view x.desk)
+TakesLine roles line w x None = Acts roles line.act x.fault (desk_view w.desk) (desk_view x.desk)
 TakesLine roles line w x (Some f) = x ≡ w
 
 -- a worker as it was, but without the fault that it may have met

@@ -2,7 +2,7 @@
 ghost use Rattle.std.specs.{Prelude.{◌≡◌, ◌<◌, None, length, slice_index_or}, List.AllZip};
 ghost use Rattle.adept_actor.specs.Work.{CanAct};
 ghost use Rattle.adept_server.specs.Desks.{IsDeskOf, desk_view};
-ghost use Rattle.crew_run.specs.Phases.{HasForgotten, HasWorkedLines, IsReadyAt, TakesLine};
+ghost use Rattle.crew_run.specs.Phases.{HasForgotten, HasWorked, IsReadyAt, TakesLine};
 ghost use Rattle.file_facts.specs.Facts.{IsKnown};
 ghost use Rattle.wsm_lists.specs.Rows.{AllRows};
 
@@ -29,7 +29,7 @@ pub fn work_in_order<R: Threads + Wait + Sync, G: Gate + Sync>(
     requires actors { length crew.old ≡ length file.now.actors }
     requires known { AllRows (IsKnown (length file.now.types) (length file.now.actors) file.now.cases) lines.now }
     requires ready { (i : _) (d : _) → i < length crew.old → IsReadyAt server.now lines.now i (slice_index_or crew.old i d) }
-    ensures { (i : _) (d : _) → i < length crew.old → HasWorkedLines server.now file.now lines.now (slice_index_or crew.old i d) (slice_index_or crew.new i d) }
+    ensures { (i : _) (d : _) → i < length crew.old → HasWorked server.now file.now lines.now (slice_index_or crew.old i d) (slice_index_or crew.new i d) }
 {
     forget_faults(crew);
     for line in lines.as_slice() {

@@ -1,7 +1,7 @@
 // How a crew works.
 ghost use Rattle.std.specs.{Prelude.{◌≡◌, ◌<◌, [], length, is_some, true, false, IfErr, OnOk, slice_index_or, ◌≤◌, ◌/◌}, List.list_any, Thread.IsSync};
 ghost use Rattle.adept_server.specs.{Desks.desk_view, Noting.{IsCalledOf, rows_of}};
-ghost use Rattle.crew_run.specs.{Crew.{IsCrew, KnowsTypes, SeesMany}, Desks.DeskHeard, Phases.{HasWorkedAll, HasWorkedLines, IsAlong, IsOverfull, IsReadyAt, PhaseWorked, is_full_fault}};
+ghost use Rattle.crew_run.specs.{Crew.{IsCrew, KnowsTypes, SeesMany}, Desks.DeskHeard, Phases.{HasWorkedAll, HasWorked, IsAlong, IsOverfull, IsReadyAt, PhaseWorked, is_full_fault}};
 ghost use Rattle.file_facts.specs.Facts.{IsKnown, IsWorkable};
 ghost use Rattle.legal_run.specs.Legal.{IsTrace, Trace};
 ghost use Rattle.wsm_lists.specs.Rows.{AllRows};
@@ -153,7 +153,7 @@ fn work_lines<R: Threads + Wait + Sync, G: Gate + Sync>(
     requires actors { length crew.old ≡ length file.now.actors }
     requires known { AllRows (IsKnown (length file.now.types) (length file.now.actors) file.now.cases) lines.now }
     requires ready { (i : _) (d : _) → i < length crew.old → IsReadyAt server.now lines.now i (slice_index_or crew.old i d) }
-    ensures { (i : _) (d : _) → i < length crew.old → HasWorkedLines server.now file.now lines.now (slice_index_or crew.old i d) (slice_index_or crew.new i d) }
+    ensures { (i : _) (d : _) → i < length crew.old → HasWorked server.now file.now lines.now (slice_index_or crew.old i d) (slice_index_or crew.new i d) }
 {
     if lines.len() < LINES_OF_A_START {
         work_in_order(rt, alloc, server, file, crew, lines, gate);
@@ -177,11 +177,11 @@ fn work_side_by_side<R: Threads + Wait + Sync, G: Gate + Sync>(
     requires threads { 0 < threads }
     requires actors { length crew.old ≡ length file.now.actors }
     requires ready { (i : _) (d : _) → i < length crew.old → IsReadyAt server.now lines.now i (slice_index_or crew.old i d) }
-    ensures { (i : _) (d : _) → i < length crew.old → HasWorkedLines server.now file.now lines.now (slice_index_or crew.old i d) (slice_index_or crew.new i d) }
+    ensures { (i : _) (d : _) → i < length crew.old → HasWorked server.now file.now lines.now (slice_index_or crew.old i d) (slice_index_or crew.new i d) }
 {
     let work_own = |index: usize, worker: &mut Worker|
         requires { IsSync R.row × IsSync G.row × (index < length file.now.actors) × IsReadyAt server.now lines.now index worker.now }
-        ensures { HasWorkedLines server.entry.now file.entry.now lines.entry.now worker.entry.now worker.exit.now }
+        ensures { HasWorked server.entry.now file.entry.now lines.entry.now worker.entry.now worker.exit.now }
     {
         let roles = &file.actors.as_slice()[index].roles;
         worker.fault = work(rt, alloc, server, &mut worker.desk, roles, lines, gate).err();

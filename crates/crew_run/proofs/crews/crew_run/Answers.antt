@@ -1,4 +1,4 @@
-use Rattle.crew_run.proofs.{Common.{◌+◌, ◌∙◌, ◌≡◌, all_joined, AllRows, ap, AreCounts, AreHired, arith, desk_view, IfOk-weaker, IsDeskOf, length, length-map, map, slice_get, Some, subst, sym, with_items_is, Worker}, DesksCanWork.shape-of}
+use Rattle.crew_run.proofs.{Common.{◌∙◌, all_joined, AllRows, ap, AreCounts, AreHired, arith, desk_view, IfOk-weaker, IsDeskOf, length, length-map, subst, sym, with_items_is, Worker}, DesksCanWork.shape-of}
 use Rattle.crew_run.proofs.{RunEnds.{has-taken, legal-of, never-overfull}, SideBySide.all-of}
 use Rattle.crew_run.proofs.crews.crew_run.Goals as goal
 
@@ -25,56 +25,37 @@ work_file-worked-requires-clause-shape g c κs within =
 
 pub dismiss-requires-clause-desks : goal.dismiss-requires-clause-desks
 dismiss-requires-clause-desks g c =
-    let crew = c.work_file-worked.new.crew in
-    let whole = with_items_is c.in_ok-crew.crew crew (c.work_file-worked.auto.crew ∙ c.deref_mut.ensures.len) in
     let desk = λ (w : Worker). IsDeskOf c.in_ok-server.server w.desk in
-    subst (AllRows desk) (sym whole) (all-of desk crew c.work_file-worked.ensures.crew.desks)
+    subst (AllRows desk) (sym (with_items_is c.in_ok-crew.crew _ (c.work_file-worked.auto.crew ∙ c.deref_mut.ensures.len))) (all-of desk c.work_file-worked.new.crew c.work_file-worked.ensures.crew.desks)
 
 pub close-closed-requires-clause-first : goal.close-closed-requires-clause-first
 close-closed-requires-clause-first g c =
-    let first = c.work_file-worked.new.first in
-    let crew = c.work_file-worked.new.crew in
     let k = c.work_file-worked.ensures.crew in
-    let whole = with_items_is c.in_ok-crew.crew crew (c.work_file-worked.auto.crew ∙ c.deref_mut.ensures.len) in
-    let joined = c.dismiss.ensures.joined ∙ ap (all_joined (desk_view first)) whole in
-    ap (λ w. w.number) joined ∙ ((has-taken c.in_ok-server.server c.args.file.now first crew k).number ∙ k.number)
+    let joined = c.dismiss.ensures.joined ∙ ap (all_joined _) (with_items_is c.in_ok-crew.crew _ (c.work_file-worked.auto.crew ∙ c.deref_mut.ensures.len)) in
+    (has-taken c.in_ok-server.server c.args.file.now c.work_file-worked.new.first c.work_file-worked.new.crew k (desk_view c.dismiss.new.first) joined).number ∙ k.number
 
 pub close-closed-requires-clause-all : goal.close-closed-requires-clause-all
 close-closed-requires-clause-all g c =
-    let first = c.work_file-worked.new.first in
-    let crew = c.work_file-worked.new.crew in
     let k = c.work_file-worked.ensures.crew in
-    let whole = with_items_is c.in_ok-crew.crew crew (c.work_file-worked.auto.crew ∙ c.deref_mut.ensures.len) in
-    let joined = c.dismiss.ensures.joined ∙ ap (all_joined (desk_view first)) whole in
-    let taken = has-taken c.in_ok-server.server c.args.file.now first crew k in
-    let made = ap (λ w. w.made) joined in
-    let took = ap (λ w. w.taken) joined in
-    omega (arith, made, took, taken.made, taken.taken, k.made, k.taken)
+    let joined = c.dismiss.ensures.joined ∙ ap (all_joined _) (with_items_is c.in_ok-crew.crew _ (c.work_file-worked.auto.crew ∙ c.deref_mut.ensures.len)) in
+    let taken = has-taken c.in_ok-server.server c.args.file.now c.work_file-worked.new.first c.work_file-worked.new.crew k (desk_view c.dismiss.new.first) joined in
+    omega (arith, taken.made, taken.taken, k.made, k.taken)
 
 pub run_of-requires-clause-cases : goal.run_of-requires-clause-cases
 run_of-requires-clause-cases g c =
     let f = c.args.file.now in
-    let first = c.work_file-worked.new.first in
-    let crew = c.work_file-worked.new.crew in
     let k = c.work_file-worked.ensures.crew in
-    let whole = with_items_is c.in_ok-crew.crew crew (c.work_file-worked.auto.crew ∙ c.deref_mut.ensures.len) in
-    let joined = c.dismiss.ensures.joined ∙ ap (all_joined (desk_view first)) whole in
-    let shape = (has-taken c.in_ok-server.server f first crew k).shape in
-    subst (AreCounts f) (sym (c.close-closed.ensures.rows ∙ (ap (λ w. map length w.cases) joined ∙ shape.1))) k.shape.counted
+    let joined = c.dismiss.ensures.joined ∙ ap (all_joined _) (with_items_is c.in_ok-crew.crew _ (c.work_file-worked.auto.crew ∙ c.deref_mut.ensures.len)) in
+    let taken = has-taken c.in_ok-server.server f c.work_file-worked.new.first c.work_file-worked.new.crew k (desk_view c.dismiss.new.first) joined in
+    subst (AreCounts f) (sym (c.close-closed.ensures.rows ∙ taken.shape.1)) k.shape.counted
 
 pub no_memory-requires : goal.no_memory-requires
 no_memory-requires g c = λ is.
-    let first = c.work_file-worked.new.first in
-    let crew = c.work_file-worked.new.crew in
-    let whole = with_items_is c.in_ok-crew.crew crew (c.work_file-worked.auto.crew ∙ c.deref_mut.ensures.len) in
-    let joined = c.dismiss.ensures.joined ∙ ap (all_joined (desk_view first)) whole in
-    never-overfull c.in_ok-server.server c.args.file.now c.requires first crew c.work_file-worked.ensures.crew (desk_view c.dismiss.new.first) joined c.close-closed.result c.close-closed.ensures (c.in-Err.ensures.full is)
+    let joined = c.dismiss.ensures.joined ∙ ap (all_joined _) (with_items_is c.in_ok-crew.crew _ (c.work_file-worked.auto.crew ∙ c.deref_mut.ensures.len)) in
+    never-overfull c.in_ok-server.server c.args.file.now c.requires c.work_file-worked.new.first c.work_file-worked.new.crew c.work_file-worked.ensures.crew (desk_view c.dismiss.new.first) joined c.close-closed.result c.close-closed.ensures (c.in-Err.ensures.full is)
 
 pub returns-in-Ok : goal.returns-in-Ok
 returns-in-Ok g c =
-    let first = c.work_file-worked.new.first in
-    let crew = c.work_file-worked.new.crew in
-    let whole = with_items_is c.in_ok-crew.crew crew (c.work_file-worked.auto.crew ∙ c.deref_mut.ensures.len) in
-    let joined = c.dismiss.ensures.joined ∙ ap (all_joined (desk_view first)) whole in
-    let legal = legal-of c.in_ok-server.server c.args.file.now c.requires first crew c.work_file-worked.ensures.crew (desk_view c.dismiss.new.first) joined c.close-closed.result c.close-closed.ensures in
+    let joined = c.dismiss.ensures.joined ∙ ap (all_joined _) (with_items_is c.in_ok-crew.crew _ (c.work_file-worked.auto.crew ∙ c.deref_mut.ensures.len)) in
+    let legal = legal-of c.in_ok-server.server c.args.file.now c.requires c.work_file-worked.new.first c.work_file-worked.new.crew c.work_file-worked.ensures.crew (desk_view c.dismiss.new.first) joined c.close-closed.result c.close-closed.ensures in
     IfOk-weaker c.run_of.result _ _ (λ run is. legal run c.in-Ok.ensures.done is) c.run_of.ensures

@@ -1,5 +1,5 @@
-use Rattle.crew_run.proofs.{Common.{[], ℕ, ◌+◌, ◌-◌, ◌<◌, ◌∙◌, ◌∷◌, ◌≡◌, ap, arith, cut-at, drop, drop_of_length-le, get_or, IsKnown, length, length-set, refl, subst, TakesLine, Worker}, LineByLine.{IsAmong, crew-first, crew-last}}
-use Rattle.crew_run.proofs.LineByLine.{crew-next, row-next, roles-at}
+use Rattle.crew_run.proofs.{Common.{[], ℕ, ◌+◌, ◌-◌, ◌<◌, ◌∙◌, ◌∷◌, ◌≡◌, ap, arith, cut-at, drop, drop_of_length-le, get_or, IsKnown, length, length-set, refl, subst, TakesLine, Worker}, LineByLine.{IsAmong, crew-first, crew-last, crew-next, roles-at}}
+use Rattle.adept_actor.proofs.Lines.{row-next}
 use Rattle.crew_run.proofs.in_order.work_in_order.Goals as goal
 
 pub loop-line-init : goal.loop-line-init

@@ -23,11 +23,8 @@ meet_each-requires t c =
 
 pub returns-clause-first : goal.returns-clause-first
 returns-clause-first t c =
-    let v = desk_view c.args.first.now in
-    let u = desk_view c.meet_called.new.one in
-    let k = c.meet_called.ensures in
-    let pair = pair-of v (desk_view c.in-Some.worker.now.desk) u (desk_view c.meet_called.new.two) k.one k.two k.more.0 k.more.1 in
-    (c.meet_each.ensures.first.0, desk-heard_more v u (desk_view c.meet_each.new.first) pair.first c.meet_each.ensures.first.1)
+    let pair = pair-of (desk_view c.args.first.now) (desk_view c.in-Some.worker.now.desk) (desk_view c.meet_called.new.one) (desk_view c.meet_called.new.two) c.meet_called.ensures.one c.meet_called.ensures.two c.meet_called.ensures.more in
+    (c.meet_each.ensures.first.0, desk-heard_more (desk_view c.args.first.now) (desk_view c.meet_called.new.one) (desk_view c.meet_each.new.first) pair.first c.meet_each.ensures.first.1)
 
 pub returns-clause-calm : goal.returns-clause-calm
 returns-clause-calm t c =
@@ -43,13 +40,12 @@ returns-clause-met t c =
     let u = desk_view c.meet_called.new.one in
     let y = desk_view c.meet_called.new.two in
     let w = desk_view c.meet_each.new.first in
-    let k = c.meet_called.ensures in
-    let pair = pair-of (desk_view c.args.first.now) (desk_view c.in-Some.worker.now.desk) u y k.one k.two k.more.0 k.more.1 in
+    let pair = pair-of (desk_view c.args.first.now) (desk_view c.in-Some.worker.now.desk) (desk_view c.meet_called.new.one) (desk_view c.meet_called.new.two) c.meet_called.ensures.one c.meet_called.ensures.two c.meet_called.ensures.more in
     let rest = c.meet_each.ensures in
     subst (λ ws. AllZip (HasMet c.args.server.now called w) ws (record { desk = c.meet_called.new.two; fault = c.in-Some.worker.now.fault } ∷ c.meet_each.new.crew)) (sym c.in-Some.ensures.cases.0) (
       record {
         fault = refl;
-        desk = k.desks.1;
+        desk = c.meet_called.ensures.desks.1;
         heard = pair.second;
         seen = seen-then y u w (same-is-seen u y pair.same) rest.first.1;
         level = level-then called w u y (level-back called u w rest.calm) (same-level called u y pair.same);
@@ -61,8 +57,7 @@ pub returns-clause-stays : goal.returns-clause-stays
 returns-clause-stays t c = λ all.
     let v = desk_view c.args.first.now in
     let u = desk_view c.meet_called.new.one in
-    let k = c.meet_called.ensures in
-    let pair = pair-of v (desk_view c.in-Some.worker.now.desk) u (desk_view c.meet_called.new.two) k.one k.two k.more.0 k.more.1 in
+    let pair = pair-of (desk_view c.args.first.now) (desk_view c.in-Some.worker.now.desk) (desk_view c.meet_called.new.one) (desk_view c.meet_called.new.two) c.meet_called.ensures.one c.meet_called.ensures.two c.meet_called.ensures.more in
     let seen = subst (AllRows (λ w. SeesMore (desk_view w.desk) v)) c.in-Some.ensures.cases.0 all in
     let stays = pair.stays seen.0 in
     let rest = c.meet_each.ensures.stays (all-rows-map _ _ (λ w k. seen-stays (desk_view w.desk) v u stays k) c.in-Some.rest.now seen.1) in
@@ -72,9 +67,7 @@ pub returns-clause-told : goal.returns-clause-told
 returns-clause-told t c = λ all.
     let v = desk_view c.args.first.now in
     let u = desk_view c.meet_called.new.one in
-    let y = desk_view c.meet_called.new.two in
-    let k = c.meet_called.ensures in
-    let pair = pair-of v (desk_view c.in-Some.worker.now.desk) u y k.one k.two k.more.0 k.more.1 in
+    let pair = pair-of (desk_view c.args.first.now) (desk_view c.in-Some.worker.now.desk) (desk_view c.meet_called.new.one) (desk_view c.meet_called.new.two) c.meet_called.ensures.one c.meet_called.ensures.two c.meet_called.ensures.more in
     let seen = subst (AllRows (λ w. SeesMore (desk_view w.desk) v)) c.in-Some.ensures.cases.0 all in
     let rest = all-rows-map _ _ (λ w k. seen-stays (desk_view w.desk) v u (pair.stays seen.0) k) c.in-Some.rest.now seen.1 in
-    (same-stays u (desk_view c.meet_each.new.first) y (c.meet_each.ensures.stays rest) pair.same, c.meet_each.ensures.told rest)
+    (same-stays u (desk_view c.meet_each.new.first) (desk_view c.meet_called.new.two) (c.meet_each.ensures.stays rest) pair.same, c.meet_each.ensures.told rest)

@@ -1,4 +1,4 @@
-use Rattle.crew_run.proofs.Common.{case-send, case-sync, crosses, desk_view, event-send, event-sync, get_or, HasWorked, HasWorkedLines, IsDeskOf, LeavesUnnamed, subst}
+use Rattle.crew_run.proofs.Common.{case-send, case-sync, crosses, event-send, event-sync, get_or, HasWorked, subst}
 use denote.Param.Send.{IsSync, sendable}
 use denote.Param.{param}
 use Rattle.case_core.proofs.replies.Reply.TheSendSync as reply
@@ -21,9 +21,5 @@ returns g c = λ i d low.
     let f = c.args.file.now in
     let lines = c.args.lines.now in
     let k = (c.for_each_mut.ensures i d low).1 in
-    let call : HasWorkedLines s f lines k.argument.now k.after_call.now = k.call in
-    let new = get_or c.for_each_mut.new.s i d in (
-      subst (λ w. IsDeskOf s w.desk) k.left call.0,
-      subst (λ w. HasWorked f lines w new) k.argument_is (subst (λ w. HasWorked f lines k.argument.now w) k.left call.1),
-      subst (λ w. LeavesUnnamed lines (desk_view w.desk) (desk_view new.desk)) k.argument_is (subst (λ w. LeavesUnnamed lines (desk_view k.argument.now.desk) (desk_view w.desk)) k.left call.2),
-    )
+    let call : HasWorked s f lines k.argument.now k.after_call.now = k.call in
+    subst (λ w. HasWorked s f lines w (get_or c.for_each_mut.new.s i d)) k.argument_is (subst (HasWorked s f lines k.argument.now) k.left call)
