@@ -1,6 +1,6 @@
 """Whether what a script line calls stands in one place: which files tell the acts of script lines apart.
 
-A new event of a case is to have its arm in `line_calls`. So of the files of src/ two at most match on an arm of `Act`, by
+A new event of a case is to have its arm in `line_calls`. So of the files of src/ one at most matches on an arm of `Act`, by
 `match`, `if let` or `matches!`; and of definitions and proofs those of `line_calls`, of the reader and of the crates named
 below have a clause for an act, and no others, but for examples.
 """
@@ -10,14 +10,13 @@ import os
 import re
 
 TOP = os.path.dirname(os.path.dirname(os.path.realpath(__file__)))
-MOST = 2
+MOST = 1
 ARM = re.compile(r"\bAct::[A-Z]\w*")
 CLAUSE = re.compile(r"(?<![.\w])act\.[A-Z]\w*")
 NAMED = re.compile(r"\buse\b[^;]*\bAct(::|\s+as\b)")
 # The reader's make acts from the words of a line, or say which acts a file may have; others still go by acts in proofs.
 READER = {"file_model", "file_facts", "file_state", "file_units", "unit_files", "audit_facts"}
-WITH_CLAUSES = READER | {"line_calls", "adept_actor", "crew_run", "store_calls", "store_runs", "talk_told", "talk_answers",
-                         "talk_state", "case_audit"}
+WITH_CLAUSES = READER | {"line_calls", "store_calls", "store_runs", "talk_told", "talk_answers", "talk_state", "case_audit"}
 # Text, and whether an arm is matched on in it.
 SEEN = [("match act { Act::Start { id, node } => 1, _ => 2 }", True), ("Act::Create { .. } | Act::Migrate { .. } => None,", True),
         ("Act::Install { ops, .. } if ops.is_empty() => 1,", True), ("if let Act::Create { id } = act {", True),
