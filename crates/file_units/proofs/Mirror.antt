@@ -85,4 +85,4 @@ all_shown f c h nodes elements roles types actors cases =
     let types-same : f.types ≡ c.types.items = begins-same f.types c.types.items h.types types in
     let actors-same : f.actors ≡ c.actors.items = begins-same f.actors c.actors.items h.actors actors in
     let cases-same : f.cases ≡ c.cases.items = begins-same f.cases c.cases.items h.cases cases in
-    grind (h.format, h.phases, nodes-same, elements-same, roles-same, types-same, actors-same, cases-same)
+    grind (arith, h.format, h.phases, nodes-same, elements-same, roles-same, types-same, actors-same, cases-same)
