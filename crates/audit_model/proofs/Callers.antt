@@ -1,34 +1,21 @@
 -- The beginning of a line of a journal tells its caller: names hold no space, and actors have names of their own.
-use Rattle.std.proofs.Common.{◌≡◌, ◌≢◌, ℕ, suc, ◌+◌, ◌-◌, ◌≤◌, ◌==◌, ne_eqb, Bool, true, false, List, [], ◌∷◌, ◌++◌, length, take, Option, Some, refl, sym, ap, ◌∙◌, subst, arith, lit≤, inl, inr, append_assoc, if◌then◌else◌, ◌&&◌, eq-eqb}
-use Rattle.std.proofs.{Common.{eqb-true, codes, decimal, slice_get}, lemmas.Slice.Eq.bytes_eq-Decides}
-use Rattle.audit_model.proofs.Common.{actor_name, ActorDecl, AllRows, begins, both_ways, Bytes, caller_from, caller_in, caller_text, case_shown, CaseEntry, cases_Bool, cut-together, ended, ending, event_text, File, IsActor, IsAuditable}
-use Rattle.audit_model.proofs.{Common.{IsNamed, IsOneLine, kind_event_text, kind_reply_text, kind_shown, KindEntry, line_start, lines_of, reply_text, row-at, slice_get_cases}, OneLine.name-without, OneLineTexts.start-one}
+use Rattle.std.proofs.Common.{◌≡◌, ◌≢◌, ℕ, suc, ◌+◌, ◌-◌, ◌≤◌, ◌==◌, ne_eqb, true, false, List, [], ◌∷◌, ◌++◌, length, take, Option, Some, refl, sym, ap, ◌∙◌, subst, arith, lit≤, inl, inr, append_assoc, if◌then◌else◌, ◌&&◌, codes, decimal}
+use Rattle.std.proofs.{Common.{slice_get, drop}, lemmas.Slice.Eq.bytes_eq-Decides, lemmas.Bool.Decides.{Decides-eqb, Decides-like, same_from_decides}, lemmas.List.{append_cancel_left, take-append-drop}}
+use Rattle.audit_model.proofs.Common.{actor_name, ActorDecl, AllRows, begins, Bytes, caller_from, caller_in, caller_text, case_shown, CaseEntry, cut-together, ended, ending, event_text, File, IsActor, IsAuditable, IsNamed, IsOneLine}
+use Rattle.audit_model.proofs.{Common.{kind_event_text, kind_reply_text, kind_shown, KindEntry, line_start, lines_of, reply_text, row-at, slice_get_cases, by-test}, OneLine.name-without, OneLineTexts.start-one}
 
 -- ---- beginnings
 -- what begins a text, and its rest
 begins-with : (front text : Bytes) → begins front text ≡ true → (rest : Bytes) × (text ≡ front ++ rest)
-begins-with front text is = parts front text ((bytes_eq-Decides (take (length front) text) front).0 is)
-  where
-    parts : (front text : Bytes) → take (length front) text ≡ front → (rest : Bytes) × (text ≡ front ++ rest)
-    parts [] text same = (text, refl)
-    parts (x ∷ xs) [] same = absurd (cc (same))
-    parts (x ∷ xs) (y ∷ ys) same =
-        let first : y ≡ x = cc (same) in
-        let more : take (length xs) ys ≡ xs = cc (same) in
-        let (rest, is) = parts xs ys more in
-        (rest, ap (λ z. z ∷ ys) first ∙ ap (λ zs. x ∷ zs) is)
+begins-with front text is =
+    (drop (length front) text, sym (take-append-drop (length front) text) ∙ ap (λ xs. xs ++ drop (length front) text) ((bytes_eq-Decides (take (length front) text) front).0 is))
 
-take-front : (front rest : Bytes) → take (length front) (front ++ rest) ≡ front
+pub take-front : {X : Type 0} (front rest : List X) → take (length front) (front ++ rest) ≡ front
 take-front [] rest = refl
 take-front (x ∷ xs) rest = ap (λ zs. x ∷ zs) (take-front xs rest)
 
 begins-own : (front rest : Bytes) → begins front (front ++ rest) ≡ true
 begins-own front rest = (bytes_eq-Decides (take (length front) (front ++ rest)) front).1 (take-front front rest)
-
--- the same in front of both
-behind-same : (front xs ys : Bytes) → front ++ xs ≡ front ++ ys → xs ≡ ys
-behind-same [] xs ys same = same
-behind-same (x ∷ front) xs ys same = let more : front ++ xs ≡ front ++ ys = cc (same) in behind-same front xs ys more
 
 -- words without a space, each with a space behind it
 abbrev IsSolid : Bytes → Type 0
@@ -69,7 +56,7 @@ module _ (f : File) (auditable : IsAuditable f) where
       let (e, at_b) = actor-at b is_b in
       let (more, same) = begins-with (line_start f k b) (line_start f k a ++ rest) begun in
       let both : (decimal k ++ codes " ") ++ (caller_text f a ++ 32 ∷ rest) ≡ (decimal k ++ codes " ") ++ (caller_text f b ++ 32 ∷ more) = sym (start-parts k a rest) ∙ (same ∙ start-parts k b more) in
-      let names : caller_text f a ++ 32 ∷ rest ≡ caller_text f b ++ 32 ∷ more = behind-same (decimal k ++ codes " ") _ _ both in
+      let names : caller_text f a ++ 32 ∷ rest ≡ caller_text f b ++ 32 ∷ more = append_cancel_left (decimal k ++ codes " ") (caller_text f a ++ 32 ∷ rest) (caller_text f b ++ 32 ∷ more) both in
       let named : d.name ++ 32 ∷ rest ≡ e.name ++ 32 ∷ more = ap (λ n. n ++ 32 ∷ rest) (sym (caller-named a d is_a at_a)) ∙ (names ∙ ap (λ n. n ++ 32 ∷ more) (caller-named b e is_b at_b)) in
       let solid_d = name-without 32 (lit≤ tt) d.name (row-at IsNamed f.actors (a - 1) d auditable.actors at_a) in
       let solid_e = name-without 32 (lit≤ tt) e.name (row-at IsNamed f.actors (b - 1) e auditable.actors at_b) in
@@ -79,20 +66,13 @@ module _ (f : File) (auditable : IsAuditable f) where
   -- ---- the first actor whose beginning the line has
   found : (k a : ℕ) (rest : Bytes) → IsActor f a → (b : ℕ) (ds : List ActorDecl) → 1 ≤ b → b + length ds ≡ suc (length f.actors) → b ≤ a → caller_from f k (line_start f k a ++ rest) b ds ≡ Some a
   found k a rest actor b [] low many near = absurd (omega (arith, many, near, actor.1))
-  found k a rest actor b (d ∷ ds) low many near = by (begins (line_start f k b) line) refl (λ other. found k a rest actor (b + 1) ds (omega (arith, low)) (omega (arith, many)) other)
-    where
-      line : Bytes
-      line = line_start f k a ++ rest
-
-      by : (test : Bool) → begins (line_start f k b) line ≡ test → (b + 1 ≤ a → caller_from f k line (b + 1) ds ≡ Some a) → (if test then Some b else caller_from f k line (b + 1) ds) ≡ Some a
-      by true begun more = ap (λ n. Some n) (sym (same-caller k a b rest actor (low, omega (arith, many)) begun))
-      by false not more = more (near-next (λ same. cc (own same, not)))
-        where
-          own : b ≡ a → begins (line_start f k b) line ≡ true
-          own same = subst (λ n. begins (line_start f k n) line ≡ true) (sym same) (begins-own (line_start f k a) rest)
-
-          near-next : b ≢ a → b + 1 ≤ a
-          near-next other = omega (arith, near, other)
+  found k a rest actor b (d ∷ ds) low many near =
+      let line = line_start f k a ++ rest in
+      by-test (λ test. (if test then Some b else caller_from f k line (b + 1) ds) ≡ Some a) (begins (line_start f k b) line)
+      (λ begun. ap Some (sym (same-caller k a b rest actor (low, omega (arith, many)) begun)))
+      (λ not.
+      let other : b ≢ a = λ same. cc (subst (λ n. begins (line_start f k n) line ≡ true) (sym same) (begins-own (line_start f k a) rest), not) in
+      found k a rest actor (b + 1) ds (omega (arith, low)) (omega (arith, many)) (omega (arith, near, other)))
 
   tells-callers : (k a : ℕ) (rest : Bytes) → IsActor f a → caller_in f k (line_start f k a ++ rest) ≡ Some a
   tells-callers k a rest actor = found k a rest actor 1 f.actors (lit≤ tt) (omega arith) actor.0
@@ -105,11 +85,7 @@ module _ (f : File) (auditable : IsAuditable f) where
 
 -- ---- whose call a line shows is seen at its beginning, whatever stands behind the line
 pub other-way : (x y : ℕ) → (x == y) ≡ (y == x)
-other-way x y =
-    elim (cases_Bool (y == x)) [
-      | inl same ↦ eq-eqb x y (sym (eqb-true y x same)) ∙ sym same
-      | inr other ↦ elim (cases_Bool (x == y)) [ inl too ↦ absurd (both_ways _ other (eq-eqb y x (sym (eqb-true x y too)))) | inr no_more ↦ no_more ∙ sym other ]
-    ]
+other-way x y = same_from_decides (x == y) (y == x) (Decides-eqb x y) (Decides-like (y == x) sym sym (Decides-eqb y x))
 
 -- what holds no line feed begins a line or what begins with the line
 begins-line : (front line more : Bytes) → IsOneLine front → begins front (line ++ 10 ∷ more) ≡ begins front line

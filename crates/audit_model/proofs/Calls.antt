@@ -1,14 +1,13 @@
 -- The calls of one type that an actor's lines stand for are the answers to those of its lines that call the type.
 use Rattle.std.proofs.Common.{◌≡◌, ℕ, zero, suc, ◌==◌, eqb, Bool, true, false, List, [], ◌∷◌, ◌++◌, filter, map, take, Some, refl, sym, ap, ◌∙◌, subst, append_assoc, if◌then◌else◌, ◌≢◌, ◌<◌, eq-eqb, ne_eqb, ◌&&◌, inl, inr, length, Option, None, arith, option_map, nat_lt, slice_get}
 use Rattle.std.proofs.lemmas.Bool.{eqb-true, le-ltb, lt-ltb}
-use Rattle.audit_model.proofs.Common.{Act, all_owed, AllRows, and_from, and_told, AreCallsOf, AreCallsOfLines, AreOf, AreTraces, Asked, asked-known, asked_among, asked_lines, asked_phases, asks, by-append, Call as Made, call_of, calls_case, calls_kind, calls_of_case, calls_of_case-append, calls_of_kind, calls_of_kind-append, case_after}
-use Rattle.audit_model.proofs.Common.{case_event_in as event_in, case_event_of, case_reply, CaseEntry, CaseId, Cells, cells-same, cells_in, cells_of, done_by, drops, each-all, each-kind, entry, entry_if, Event, File, filter-swap, first_of, Fit, has_case, has_kind, is_case, is_install, IsActor, IsKnown, IsKnownAct, IsPlain, IsWorkable, keeps, kind_after}
-use Rattle.audit_model.proofs.Common.{kind_event-same, kind_event_in, kind_event_of, kind_reply, KindEntry, KindEvent, KindReply, known-call, left_to_tell, Line, lines_by, owed_case, plain-call, Reply, rest_of, roles_of, slice_get-map, slice_get_cases, some-at, some-other, Telling, told_at, told_by, told_each, told_in, Trace, version_for, VersionModel}
+use Rattle.audit_model.proofs.Common.{Act, all_owed, AllRows, and_from, and_told, AreCallsOf, AreCallsOfLines, AreOf, AreTraces, Asked, asked-known, asked_among, asked_lines, asked_phases, asks, by-append, call_of, calls_case, calls_kind, calls_of_case, calls_of_case-append, calls_of_kind, calls_of_kind-append, case_after, case_event_of, case_reply, CaseEntry, CaseId, Cells, cells-same, cells_in, cells_of, done_by, each-all, each-kind, entry, entry_if, Event, File, filter-swap, first_of, Fit, has_case, has_kind, is_case, is_install, IsActor, IsKnown, IsKnownAct, IsPlain, IsWorkable, kind_after, kind_event-same, kind_event_in, kind_event_of, kind_reply, KindEntry, KindEvent, KindReply, known-call, left_to_tell, Line, lines_by, owed_case, plain-call, Reply, rest_of, roles_of, slice_get-map, slice_get_cases, some-at, some-other, Telling, told_at, told_by, told_each, told_in, Trace, version_for, VersionModel}
+use Rattle.audit_model.proofs.Common.{Call as Made, case_event_in as event_in}
 use Rattle.legal_run.specs.LineCalls.{lines_of}
 use Rattle.line_calls.specs.declared.calls.Call.{Call}
+use Rattle.audit_model.specs.Asked.{case_event_in}
 use mathlib.Core.Logic.{dite}
 use native.Mathlib.Decide.{ℕ_discrete}
-use Rattle.audit_model.specs.Asked.{case_event_in}
 use Rattle.case_core.specs.declared.events.Event.TheVariants as event
 use Rattle.line_calls.specs.declared.calls.Call.TheVariants as call
 use Rattle.line_calls.specs.declared.calls.Told.TheVariants as tell
@@ -65,8 +64,6 @@ owed_in t phases = map (λ lines. filter (λ l. calls_kind t l.act) lines) phase
 
 pub fit-phases : (f : File) (a t : ℕ) → IsActor f a → (phases : List (List Line)) (traces : List Trace) → AreTraces f phases traces → FitKind (calls_of_kind t (done_by a traces)) (lines_by actor_of a (all_owed (owed_in t phases)))
 fit-phases f a t actor [] [] k = tt
-fit-phases f a t actor [] (trace ∷ traces) k = absurd k
-fit-phases f a t actor (lines ∷ phases) [] k = absurd k
 fit-phases f a t actor (lines ∷ phases) (trace ∷ traces) (here, more) =
     let later = lines_by actor_of a (all_owed (owed_in t phases)) in
     let rest = fit-phases f a t actor phases traces more in
@@ -75,13 +72,13 @@ fit-phases f a t actor (lines ∷ phases) (trace ∷ traces) (here, more) =
     by-append actor_of a (filter (to_kind t) lines) (all_owed (owed_in t phases)) ∙ ap (λ xs. xs ++ later) (filter-swap (λ l. l.actor == a) (to_kind t) lines) in
     subst (λ es. FitKind es (lines_by actor_of a (all_owed (owed_in t (lines ∷ phases))))) (sym (calls_of_kind-append t (trace a) (done_by a traces)))
     (subst (FitKind (calls_of_kind t (trace a) ++ calls_of_kind t (done_by a traces))) (sym own) both)
+fit-phases f a t actor phases traces k = absurd k
 
 pub take-traces : (f : File) (k : ℕ) (phases : List (List Line)) (traces : List Trace) → AreTraces f phases traces → AreTraces f (take k phases) (take k traces)
 take-traces f zero phases traces all = tt
 take-traces f (suc k) [] [] all = tt
-take-traces f (suc k) [] (trace ∷ traces) all = absurd all
-take-traces f (suc k) (lines ∷ phases) [] all = absurd all
 take-traces f (suc k) (lines ∷ phases) (trace ∷ traces) (here, more) = (here, take-traces f k phases traces more)
+take-traces f (suc k) phases traces all = absurd all
 
 -- ---- the calls of one case that an actor's lines stand for are the answers to those of its lines that call the case, with the versions that it was told
 abbrev pub asked_actor : Asked → ℕ
@@ -256,20 +253,13 @@ module _ (f : File) (workable : IsWorkable f) (a : ℕ) (c : CaseId) where
       by (Some t) is =
           let (v, same) = h.some t is in
           let (more, queue) = queue-is q x first rest ver t h to_tell is u low in
-          let self = eq-eqb a a refl in
           dite (ℕ_discrete u t)
           (λ (here : u ≡ t).
-          let one : told_if (Some t) ver u ≡ v ∷ [] = subst (λ n. told_if (Some t) ver n ≡ v ∷ []) (sym here) (told-one t ver v same) in (
-            more,
-            ap (λ test. if test && u == t then rest_of (q a u) else q a u) self ∙ (ap (λ test. if test then rest_of (q a u) else q a u) (eq-eqb u t here)
-                ∙ (ap rest_of queue ∙ ap (λ vs. rest_of (vs ++ (told_in (calls_of_kind u rest) ++ more))) one)),
-          ))
+          let one : told_if (Some t) ver u ≡ v ∷ [] = subst (λ n. told_if (Some t) ver n ≡ v ∷ []) (sym here) (told-one t ver v same) in
+          (more, rw (eq-eqb a a refl, eq-eqb u t here) (ap rest_of queue ∙ ap (λ vs. rest_of (vs ++ (told_in (calls_of_kind u rest) ++ more))) one)))
           (λ (not : u ≢ t).
-          let none : told_if (Some t) ver u ≡ [] = told-other t u ver (λ k. not (sym k)) in (
-            more,
-            ap (λ test. if test && u == t then rest_of (q a u) else q a u) self ∙ (ap (λ test. if test then rest_of (q a u) else q a u) (ne_eqb u t not)
-                ∙ (queue ∙ ap (λ vs. vs ++ (told_in (calls_of_kind u rest) ++ more)) none)),
-          ))
+          let none : told_if (Some t) ver u ≡ [] = told-other t u ver (λ k. not (sym k)) in
+          (more, rw (eq-eqb a a refl, ne_eqb u t not) (queue ∙ ap (λ vs. vs ++ (told_in (calls_of_kind u rest) ++ more)) none)))
 
   told-apart : (q : Telling) (b : ℕ) (o : Option ℕ) (calls : List Made) → a ≢ b → Told q calls → Told (told_at q b o) calls
   told-apart q b None calls not to_tell u low = to_tell u low
@@ -295,44 +285,43 @@ module _ (f : File) (workable : IsWorkable f) (a : ℕ) (c : CaseId) where
     left = subst (λ cs. Told q (cs ++ later)) are to_tell;
     fit = subst (λ cs. FitCase f (calls_of_case c cs) []) (sym are) tt;
   }
-  has-told (l ∷ ls) q calls later (k, known) are to_tell = by (l.actor == a) refl are (λ r cs t. has-told ls r cs later known t)
+  has-told (l ∷ ls) q calls later (k, known) are to_tell =
+      let (left, fit) = by (l.actor == a) refl are (λ r cs t. has-told ls r cs later known t) in
+      record { left = left; fit = fit }
     where
-      More : Type 0
-      More = (r : Telling) (cs : List Made) → AreCallsOfLines (roles_of f a) a (lines_of a ls) cs → Told r (cs ++ later) → HasTold r ls cs later
+      -- the line with its version, and the actor's lines behind it
+      x : Asked
+      x = (l, version_for q l.actor (asks l.act))
 
-      by : (test : Bool) → (l.actor == a) ≡ test → AreCallsOfLines (roles_of f a) a (lines_of a (l ∷ ls)) calls → More → HasTold q (l ∷ ls) calls later
+      onward : Telling
+      onward = told_at q l.actor (asks l.act)
+
+      mine : List Asked
+      mine = filter (λ y. asked_actor y == a) (asked_lines onward ls)
+
+      by : (test : Bool) → (l.actor == a) ≡ test → AreCallsOfLines (roles_of f a) a (if test then l ∷ lines_of a ls else lines_of a ls) calls
+          → ((r : Telling) (cs : List Made) → AreCallsOfLines (roles_of f a) a (lines_of a ls) cs → Told r (cs ++ later) → HasTold r ls cs later)
+          → Told (left_to_tell onward ls) later × FitCase f (calls_of_case c calls) (filter (to_case c) (if test then x ∷ mine else mine))
       by false other are more =
-          let rest : AreCallsOfLines (roles_of f a) a (lines_of a ls) calls = subst (λ xs. AreCallsOfLines (roles_of f a) a xs calls) (drops (λ x. x.actor == a) l ls other) are in
           let not : a ≢ l.actor = λ same. cc (other, eq-eqb l.actor a (sym same)) in
-          let h = more (told_at q l.actor (asks l.act)) calls rest (told-apart q l.actor (asks l.act) (calls ++ later) not to_tell) in
-          let x : Asked = (l, version_for q l.actor (asks l.act)) in
-          record {
-            left = h.left;
-            fit = subst (λ xs. FitCase f (calls_of_case c calls) (filter (to_case c) xs)) (sym (drops (λ y. asked_actor y == a) x (asked_lines (told_at q l.actor (asks l.act)) ls) other)) h.fit;
-          }
-      by true own are more =
-          let (first, others, is, here, rest) = subst (λ xs. AreCallsOfLines (roles_of f a) a xs calls) (keeps (λ x. x.actor == a) l ls own) are in
+          let h = more onward calls are (told-apart q l.actor (asks l.act) (calls ++ later) not to_tell) in
+          (h.left, h.fit)
+      by true own (first, others, is, here, rest) more =
           let (ver, o) = of-act l.act first here in
           let same : l.actor ≡ a = eqb-true l.actor a own in
           let to_tell_then : Told q (first ++ (others ++ later)) = subst (Told q) (ap (λ cs. cs ++ later) is ∙ append_assoc first others later) to_tell in
           let behind = subst (λ b. Told (told_at q b (asks l.act)) (others ++ later)) (sym same) (told-behind q l.act first (others ++ later) ver k.act o to_tell_then) in
-          let h = more (told_at q l.actor (asks l.act)) others rest behind in
-          let x : Asked = (l, version_for q l.actor (asks l.act)) in
+          let h = more onward others rest behind in
           let version : version_for q l.actor (asks l.act) ≡ ver = ap (λ b. version_for q b (asks l.act)) same ∙ version-is q l.act first (others ++ later) ver k.act o to_tell_then in
           let event : case_event_of f x ≡ case_event_in (roles_of f a) a ver l.act = ap (λ v. case_event_in (roles_of f l.actor) l.actor v l.act) version ∙ ap (λ b. case_event_in (roles_of f b) b ver l.act) same in
-          let fit = fit-called x (calls_of_case c others) (filter (to_case c) (filter (λ y. asked_actor y == a) (asked_lines (told_at q l.actor (asks l.act)) ls))) first (case_event_in (roles_of f a) a ver l.act) event o.called h.fit in
-          record {
-            left = h.left;
-            fit = subst (λ es. FitCase f es (filter (to_case c) (filter (λ y. asked_actor y == a) (asked_lines q (l ∷ ls))))) (sym (ap (calls_of_case c) is ∙ calls_of_case-append c first others))
-                (subst (λ xs. FitCase f (calls_of_case c first ++ calls_of_case c others) (filter (to_case c) xs)) (sym (keeps (λ y. asked_actor y == a) x (asked_lines (told_at q l.actor (asks l.act)) ls) own)) fit);
-          }
+          let fit = fit-called x (calls_of_case c others) (filter (to_case c) mine) first (case_event_in (roles_of f a) a ver l.act) event o.called h.fit in
+          (h.left, subst (λ es. FitCase f es (filter (to_case c) (x ∷ mine))) (sym (ap (calls_of_case c) is ∙ calls_of_case-append c first others)) fit)
 
 -- ---- all phases
 fit-append : (f : File) (es fs : List CaseEntry) (xs ys : List Asked) → FitCase f es xs → FitCase f fs ys → FitCase f (es ++ fs) (xs ++ ys)
 fit-append f [] fs [] ys one two = two
-fit-append f [] fs (x ∷ xs) ys one two = absurd one
-fit-append f (e ∷ es) fs [] ys one two = absurd one
 fit-append f (e ∷ es) fs (x ∷ xs) ys (here, more) two = (here, fit-append f es fs xs ys more two)
+fit-append f es fs xs ys one two = absurd one
 
 module _ (f : File) (workable : IsWorkable f) (a : ℕ) (actor : IsActor f a) (c : CaseId) where
   abbrev known_in : List (List Line) → Type 0
@@ -341,8 +330,6 @@ module _ (f : File) (workable : IsWorkable f) (a : ℕ) (actor : IsActor f a) (c
   pub fit-case_phases : (phases : List (List Line)) (traces : List Trace) (q : Telling) → known_in phases → AreTraces f phases traces → Told f workable a c q (done_by a traces)
       → FitCase f (calls_of_case c (done_by a traces)) (lines_by asked_actor a (all_owed (owed_case c (asked_phases q phases))))
   fit-case_phases [] [] q known all to_tell = tt
-  fit-case_phases [] (trace ∷ traces) q known all to_tell = absurd all
-  fit-case_phases (lines ∷ phases) [] q known all to_tell = absurd all
   fit-case_phases (lines ∷ phases) (trace ∷ traces) q (here, known) (made, all) to_tell =
       let h = has-told f workable a c lines q (trace a) (done_by a traces) here (made a actor) to_tell in
       let more = fit-case_phases phases traces (left_to_tell q lines) known all h.left in
@@ -353,3 +340,4 @@ module _ (f : File) (workable : IsWorkable f) (a : ℕ) (actor : IsActor f a) (c
       by-append asked_actor a own_now later ∙ ap (λ xs. xs ++ lines_by asked_actor a later) (filter-swap (λ l. asked_actor l == a) (to_case c) (asked_lines q lines)) in
       subst (λ es. FitCase f es (lines_by asked_actor a (own_now ++ later))) (sym (calls_of_case-append c (trace a) (done_by a traces)))
       (subst (FitCase f (calls_of_case c (trace a) ++ calls_of_case c (done_by a traces))) (sym own) both)
+  fit-case_phases phases traces q known all to_tell = absurd all

@@ -24,9 +24,9 @@ pub use Rattle.line_followers.proofs.{Dues.{AreSame, filled-many, same-follows, 
 pub use Rattle.line_followers.proofs.Rests.{reaches-same, rest-differs, rest-done, rest-line, rest-on, rest-wrong}
 pub use Rattle.line_readers.proofs.{Answers.{Answers, answers, answers-whole, BeginsBy, Fit, FitBy, IsWhole}, Journals.{IsGood, journal-live, journal-takes, lines_from, mapped-live, mapped-takes, takes-journal, takes-mapped}}
 pub use Rattle.line_readers.proofs.{Lines.cut-together, Owed.{by-append, first-is}, Sequences.{expected-live, expected-takes, takes-expected, takes-then, then-live, then-takes}, Taking.Takes}
-pub use Rattle.std.proofs.{lemmas.Bool.{and_from, and_parts, both_ways, cases_Bool, or_cases}, lemmas.List.{drop_all, drop_more, length-map, take-map}, lemmas.List.Elements.filter-append, lemmas.List.Sums.count_by_more_no}
-pub use Rattle.std.proofs.{lemmas.List.Sums.{count_by_more_yes, sum_by-cons}, lemmas.Option.{get_or_from_slice_get, same_Some, slice_get-map, slice_get_cases, slice_get_within}}
+pub use Rattle.std.proofs.{lemmas.Bool.{and_from, and_parts, both_ways, cases_Bool, or_cases}, lemmas.List.{drop_all, drop_more, length-map, take-map}, lemmas.List.Elements.{filter-append, All-from_recursion, recursion_from_All}}
+pub use Rattle.std.proofs.{lemmas.List.Sums.{count_by_more_no, count_by_more_yes, sum_by-cons}, lemmas.Option.{get_or_from_slice_get, same_Some, slice_get-map, slice_get_cases, slice_get_within}}
 pub use Rattle.std.specs.{Fmt.{digit_glyph, digits_onto, signed_decimal}, List.{list_all, list_any}, Option.option_or}
 pub use Rattle.type_core.proofs.Versions.{by-event, newest-told, sound-defined}
 pub use Rattle.wsm_lists.proofs.Lists.{all-rows-map, all_rows, rows-append, rows-map}
-pub use Rattle.audit_model.proofs.Lists.{if-either, keeps, drops, filter-swap, filter-rows, filter-phases, rows-filter, both-phases, rows-All, All-rows, take-known}
+pub use Rattle.audit_model.proofs.Lists.{by-test, if-either, keeps, drops, filter-swap, filter-rows, filter-phases, rows-filter, both-phases, take-known}

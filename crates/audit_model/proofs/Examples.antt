@@ -1,9 +1,10 @@
 -- Reports that are right and wrong.
-use Rattle.std.proofs.Common.{◌≡◌, ℕ, List, [], ◌∷◌, None, Some, ◌++◌, refl, codes}
+use Rattle.std.proofs.Common.{◌≡◌, ℕ, List, [], ◌∷◌, None, Some, ◌++◌, map, refl, codes}
 use Rattle.std.specs.Fmt.{digits}
 use Rattle.audit_model.proofs.Common.{Act, Bytes, CaseDecl, CaseId, File, first_wrong, Line, plain, report_reader, SchemaModel, TypeDecl}
 use Rattle.report_words.specs.Migrations.{has_fate}
-use Rattle.wsm_schema.specs.Tree.{act as activity, nothing, part}
+use Rattle.wsm_schema.specs.Tree.{nothing, part}
+use Rattle.wsm_schema.specs.Tree.{act as activity}
 use Rattle.wsm_sound.specs.Faults.{fault_of}
 use Rattle.file_model.specs.declared.files.Act.TheVariants as act
 
@@ -48,33 +49,13 @@ before_end = begun ++ codes "4 ann start B -> started\n5 ann end B -> ended\nsta
 abbrev last_line : Bytes
 last_line = codes "summary cases=1 finished=1 entries=5 migrated=0 blocked=0 overlap=0"
 
-right_report : first_wrong (report_reader two_nodes) (before_end ++ (last_line ++ codes "\n")) ≡ None
+-- the right report; then with line 9 changed, without its last line, none at all, bytes and a line behind it, and its last line feed missing
+reports_of_two_nodes : map (first_wrong (report_reader two_nodes)) (
+    (before_end ++ (last_line ++ codes "\n")) ∷ (begun ++ codes "4 ann start B -> not-ready N\n5 ann end B -> ended\n") ∷ before_end ∷ []
+    ∷ (before_end ++ (last_line ++ codes "\nx")) ∷ (before_end ++ (last_line ++ codes "\n\n")) ∷ (before_end ++ last_line) ∷ [])
+    ≡ None ∷ Some 9 ∷ Some 15 ∷ Some 1 ∷ Some 16 ∷ Some 16 ∷ Some 15 ∷ []
 unfolding digits fault_of has_fate
-right_report = refl
-
-line_9_changed : first_wrong (report_reader two_nodes) (begun ++ codes "4 ann start B -> not-ready N\n5 ann end B -> ended\n") ≡ Some 9
-unfolding digits fault_of has_fate
-line_9_changed = refl
-
-without_last_line : first_wrong (report_reader two_nodes) before_end ≡ Some 15
-unfolding digits fault_of has_fate
-without_last_line = refl
-
-without_report : first_wrong (report_reader two_nodes) [] ≡ Some 1
-unfolding digits fault_of has_fate
-without_report = refl
-
-bytes_behind : first_wrong (report_reader two_nodes) (before_end ++ (last_line ++ codes "\nx")) ≡ Some 16
-unfolding digits fault_of has_fate
-bytes_behind = refl
-
-line_behind : first_wrong (report_reader two_nodes) (before_end ++ (last_line ++ codes "\n\n")) ≡ Some 16
-unfolding digits fault_of has_fate
-line_behind = refl
-
-last_line_feed_missing : first_wrong (report_reader two_nodes) (before_end ++ last_line) ≡ Some 15
-unfolding digits fault_of has_fate
-last_line_feed_missing = refl
+reports_of_two_nodes = refl
 
 -- Two actors in the second of two phases: either may be first there.
 abbrev two_phases : File
@@ -86,22 +67,13 @@ created = codes "adept report 1\ntype t\n1 - define -> defined\n2 ann newest -> 
 abbrev held_by : Bytes → Bytes
 held_by name = codes "state 1 running own=0\nmarking start=C A=R B=N finish=N\nvalues\nitems A:" ++ (name ++ codes "\nsummary cases=1 finished=0 entries=3 migrated=0 blocked=0 overlap=0\n")
 
-ann_first : first_wrong (report_reader two_phases) (created ++ (codes "2 ann start A -> started\n3 bob start A -> not-ready R\n" ++ held_by (codes "ann"))) ≡ None
+-- ann first, and bob first; then their replies exchanged, a call of the second phase first, and a call of nobody's
+reports_of_two_phases : map (first_wrong (report_reader two_phases)) (
+    (created ++ (codes "2 ann start A -> started\n3 bob start A -> not-ready R\n" ++ held_by (codes "ann")))
+    ∷ (created ++ (codes "2 bob start A -> started\n3 ann start A -> not-ready R\n" ++ held_by (codes "bob")))
+    ∷ (created ++ codes "2 ann start A -> not-ready R\n3 bob start A -> started\n")
+    ∷ codes "adept report 1\ntype t\n1 - define -> defined\n2 ann newest -> is 1\ncase c t\n1 bob start A -> no-case\n2 ann create 1 -> created\n"
+    ∷ (created ++ codes "2 eve start A -> started\n") ∷ [])
+    ≡ None ∷ None ∷ Some 7 ∷ Some 6 ∷ Some 7 ∷ []
 unfolding digits fault_of has_fate
-ann_first = refl
-
-bob_first : first_wrong (report_reader two_phases) (created ++ (codes "2 bob start A -> started\n3 ann start A -> not-ready R\n" ++ held_by (codes "bob"))) ≡ None
-unfolding digits fault_of has_fate
-bob_first = refl
-
-replies_exchanged : first_wrong (report_reader two_phases) (created ++ codes "2 ann start A -> not-ready R\n3 bob start A -> started\n") ≡ Some 7
-unfolding digits fault_of has_fate
-replies_exchanged = refl
-
-too_early : first_wrong (report_reader two_phases) (codes "adept report 1\ntype t\n1 - define -> defined\n2 ann newest -> is 1\ncase c t\n1 bob start A -> no-case\n2 ann create 1 -> created\n") ≡ Some 6
-unfolding digits fault_of has_fate
-too_early = refl
-
-nobody : first_wrong (report_reader two_phases) (created ++ codes "2 eve start A -> started\n") ≡ Some 7
-unfolding digits fault_of has_fate
-nobody = refl
+reports_of_two_phases = refl

@@ -1,6 +1,6 @@
 -- A line of a journal, right or wrong.
 use Rattle.std.proofs.Common.{◌≡◌, ℕ, ◌+◌, ◌<◌, ◌≤◌, ◌==◌, Bool, true, false, List, [], ◌∷◌, ◌++◌, length, Option, Some, None, length-append, refl, sym, ap, ◌∙◌, subst, arith, if◌then◌else◌, option_map}
-use Rattle.audit_model.proofs.Common.{actor_of, ActorDecl, AreTurns, Asked, begins, behind_them, Bytes, caller_from, caller_in, ended, Entry, entry, File, first-is, first_by, Followed, followed, FollowedBy, front_of, GrowsTo, IsActor, IsAuditable, IsOneLine, Journaled, left_of, line_start, LineJudged, next_of, one_taken, queue_of, Reaches, rest, rest-differs, rest-line, rest-wrong, rest_journal, same_front, same_Some, shown, StopsAt}
+use Rattle.audit_model.proofs.Common.{by-test, actor_of, ActorDecl, AreTurns, Asked, begins, behind_them, Bytes, caller_from, caller_in, ended, Entry, entry, File, first-is, first_by, Followed, followed, FollowedBy, front_of, GrowsTo, IsActor, IsAuditable, IsOneLine, Journaled, left_of, line_start, LineJudged, next_of, one_taken, queue_of, Reaches, rest, rest-differs, rest-line, rest-wrong, rest_journal, same_front, same_Some, shown, StopsAt}
 use Rattle.audit_model.proofs.Callers.{caller-of-first}
 use Rattle.line_followers.proofs.JournalLines.{caller-none, event-none, first-none}
 use Rattle.line_followers.proofs.Turns.{IsTurn, turn-none, turn-taken}
@@ -8,11 +8,10 @@ use Rattle.line_followers.proofs.Turns.{IsTurn, turn-none, turn-taken}
 -- ---- a caller that is found is an actor
 caller-range : (f : File) (k : ℕ) (text : Bytes) (a c : ℕ) (ds : List ActorDecl) → caller_from f k text a ds ≡ Some c → (a ≤ c) × (c < a + length ds)
 caller-range f k text a c [] is = absurd (cc (is))
-caller-range f k text a c (d ∷ ds) is = by (begins (line_start f k a) text) is (λ more. caller-range f k text (a + 1) c ds more)
-  where
-    by : (test : Bool) → (if test then Some a else caller_from f k text (a + 1) ds) ≡ Some c → (caller_from f k text (a + 1) ds ≡ Some c → (a + 1 ≤ c) × (c < a + 1 + length ds)) → (a ≤ c) × (c < a + length (d ∷ ds))
-    by true same more = let equal : a ≡ c = cc (same) in (omega (arith, equal), omega (arith, equal))
-    by false same more = let (low, high) = more same in (omega (arith, low), omega (arith, high))
+caller-range f k text a c (d ∷ ds) is =
+    by-test (λ b. (if b then Some a else caller_from f k text (a + 1) ds) ≡ Some c → (a ≤ c) × (c < a + length (d ∷ ds))) (begins (line_start f k a) text)
+    (λ here same. let equal : a ≡ c = cc (same) in (omega (arith, equal), omega (arith, equal)))
+    (λ not same. let (low, high) = caller-range f k text (a + 1) c ds same in (omega (arith, low), omega (arith, high))) is
 
 caller-actor : (f : File) (k : ℕ) (text : Bytes) (a : ℕ) → caller_in f k text ≡ Some a → IsActor f a × (a < length f.actors + 1)
 caller-actor f k text a is = let (low, high) = caller-range f k text 1 a f.actors is in ((low, omega (arith, high)), omega (arith, high))

@@ -1,14 +1,12 @@
 -- A case keeps values that stand in one line, where events bring such: so do its replies.
-use Rattle.std.proofs.Common.{◌≡◌, ℕ, ◌==◌, Bool, true, false, ◌||◌, not, List, [], ◌∷◌, filter_map, fold, map, Option, Some, None, Result, Ok, Err, refl, IfSome, nat_lt}
-use Rattle.audit_model.proofs.Common.{AllRows, card_at, case_after, case_reply, CaseModel, change_with, changed, changed_by, created_on, cut_by, cut_entry, end_on, end_refusal, ended_reply, ended_trail, Event, event_on, failed_at, Fault}
-use Rattle.audit_model.proofs.Common.{flat_of, hold_refusal, holder_of, if-either, is_finished, is_one_of, IsOneLineRead, IsOneLineValue, IsOneLineWrite, KeptCase, KeptEntry, KeptLive, KeptTrail, key_eq, key_lt, later_or, LiveModel}
-use Rattle.audit_model.proofs.Common.{loop_nodes, may_work, migrate_live, rows-filter, migrate_refusal, migrate_with, migrated, misfit, Name, option_or, or_reply, overlap_reply, overlap_with, pushed, put_row, reads_now, repeats}
-use Rattle.audit_model.proofs.Common.{replay_of_case, Reply, rows-append, SchemaModel, ShowsOneLine, start_entry, start_on, start_refusal, state_of, taken, TrailModel, Value, value_below, value_in, value_now, VersionModel, when_reply}
-use Rattle.audit_model.proofs.Common.{with_live, with_trail, withdraw_on, WritesValues, Written, written_by, wrong_reply, wrote}
-use Rattle.case_writes.specs.Writes.{by_element, wrong_elements}
+use Rattle.std.proofs.Common.{◌≡◌, ℕ, ◌==◌, Bool, true, false, not, List, [], ◌∷◌, filter_map, fold, map, Option, Some, None, Result, Ok, Err, refl, IfSome, nat_lt}
+use Rattle.audit_model.proofs.Common.{AllRows, card_at, case_after, case_reply, CaseModel, change_with, changed, changed_by, created_on, cut_by, cut_entry, end_on, end_refusal, ended_reply, ended_trail, Event, event_on, failed_at, Fault, flat_of, hold_refusal, if-either, is_finished, is_one_of, IsOneLineRead, IsOneLineValue, IsOneLineWrite, KeptCase, KeptEntry, KeptLive, KeptTrail, key_eq, key_lt, later_or, LiveModel, loop_nodes, migrate_live, rows-filter, migrate_refusal, migrate_with, migrated, misfit, Name, option_or, or_reply, overlap_reply, pushed, put_row, reads_now, repeats, replay_of_case, Reply, rows-append, SchemaModel, ShowsOneLine, start_entry, start_on, start_refusal, taken, TrailModel, Value, value_below, value_in, value_now, VersionModel, when_reply, with_live, with_trail, withdraw_on, WritesValues, Written, written_by, wrong_reply, wrote}
+use Rattle.case_writes.specs.Writes.{by_element}
 use Rattle.wsm_lists.specs.Keys.{first}
 use Rattle.wsm_ops.specs.declared.operations.Op.{Op}
-use Rattle.wsm_schema.specs.{Marks.is_start_of, Replay.{fits_choice, is_in_state}, declared.cards.Card.Card, declared.entries.Entry.Entry}
+use Rattle.wsm_schema.specs.Marks.{is_start_of}
+use Rattle.wsm_schema.specs.declared.cards.Card.{Card}
+use Rattle.wsm_schema.specs.declared.entries.Entry.{Entry}
 use Rattle.wsm_trail.specs.Withdrawn.{withdrawn}
 use Rattle.case_core.specs.declared.events.Event.TheVariants as event
 use Rattle.case_core.specs.declared.replies.Reply.TheVariants as reply
@@ -65,9 +63,9 @@ sorted-kept (w ∷ ws) sorted all done = sorted-kept ws (put_row first w sorted)
 abbrev GoodStep : LiveModel × Reply → Type 0
 GoodStep step = KeptLive step.0 × ShowsOneLine step.1
 
-or-good : (o : Option Reply) (l : LiveModel) (step : LiveModel × Reply) → IfSome o ShowsOneLine → KeptLive l → GoodStep step → GoodStep (or_reply o l step)
-or-good None l step one kept good = good
-or-good (Some r) l step one kept good = (kept, one)
+or-kept : {X : Type 0} (Kept : X → Type 0) (o : Option Reply) (x : X) (step : X × Reply) → IfSome o ShowsOneLine → Kept x → Kept step.0 × ShowsOneLine step.1 → Kept (or_reply o x step).0 × ShowsOneLine (or_reply o x step).1
+or-kept Kept None x step one kept good = good
+or-kept Kept (Some r) x step one kept good = (kept, one)
 
 when-one : (test : Bool) (r : Reply) → ShowsOneLine r → IfSome (when_reply test r) ShowsOneLine
 when-one true r one = one
@@ -84,25 +82,18 @@ reads-kept l (r ∷ rs) kept = (below-one r.0 l.trail.next l.trail.entries kept,
 start-good : (l : LiveModel) (node user : ℕ) (roles : List ℕ) (o : Option Card) → KeptLive l → GoodStep (start_on l node user roles o)
 start-good l node user roles None kept = (kept, tt)
 start-good l node user roles (Some c) kept =
-    or-good (start_refusal l c node roles) l (with_trail l (pushed (start_entry l c node user) l.trail), reply.Started (reads_now l c))
-    (option-or-one (when_reply (not (is_in_state (state_of l node) state.Activated)) (reply.NotReady (state_of l node))) (when_reply (not (may_work c.role roles)) (reply.NotAllowed c.role))
-    (when-one (not (is_in_state (state_of l node) state.Activated)) (reply.NotReady (state_of l node)) tt) (when-one (not (may_work c.role roles)) (reply.NotAllowed c.role) tt))
-    kept (pushed-kept (start_entry l c node user) l.trail tt kept, reads-kept l c.reads kept)
+    or-kept KeptLive (start_refusal l c node roles) l (with_trail l (pushed (start_entry l c node user) l.trail), reply.Started (reads_now l c)) (search (option-or-one, when-one)) kept
+    (pushed-kept (start_entry l c node user) l.trail tt kept, reads-kept l c.reads kept)
 
 wrong-one : (ds : List ℕ) → IfSome (wrong_reply ds) ShowsOneLine
 wrong-one [] = tt
 wrong-one (d ∷ ds) = tt
 
 hold_refusal-one : (l : LiveModel) (node user : ℕ) → IfSome (hold_refusal l node user) ShowsOneLine
-hold_refusal-one l node user =
-    option-or-one (when_reply (not (is_in_state (state_of l node) state.Running)) (reply.NotRunning (state_of l node))) _ (when-one (not (is_in_state (state_of l node) state.Running)) (reply.NotRunning (state_of l node)) tt)
-    (when-one (not (holder_of l node == user)) (reply.NotHolder (holder_of l node)) tt)
+hold_refusal-one l node user = search (option-or-one, when-one)
 
 end_refusal-one : (l : LiveModel) (c : Card) (node user : ℕ) (writes : Written) (choice : Option ℕ) → IfSome (end_refusal l c node user writes choice) ShowsOneLine
-end_refusal-one l c node user writes choice =
-    option-or-one (hold_refusal l node user) _ (hold_refusal-one l node user)
-    (option-or-one (wrong_reply (wrong_elements l.schema.elements c.writes writes)) _ (wrong-one (wrong_elements l.schema.elements c.writes writes))
-    (when-one (not (fits_choice c choice || repeats c choice)) (reply.NoBranch choice) tt))
+end_refusal-one l c node user writes choice = search (option-or-one, when-one, wrong-one)
 
 ended-kept : (l : LiveModel) (node : ℕ) (writes : Written) (choice : Option ℕ) (again : Bool) → AllRows IsOneLineWrite writes → KeptLive l → KeptTrail (ended_trail l node writes choice again)
 ended-kept l node writes choice false one kept = pushed-kept (entry.End node writes choice) l.trail one kept
@@ -117,21 +108,21 @@ ended-reply-one false = tt
 end-good : (l : LiveModel) (node user : ℕ) (writes : Written) (choice : Option ℕ) (o : Option Card) → AllRows IsOneLineWrite writes → KeptLive l → GoodStep (end_on l node user writes choice o)
 end-good l node user writes choice None one kept = (kept, tt)
 end-good l node user writes choice (Some c) one kept =
-    or-good (end_refusal l c node user writes choice) l (with_trail l (ended_trail l node (by_element writes) choice (repeats c choice)), ended_reply (repeats c choice)) (end_refusal-one l c node user writes choice) kept
+    or-kept KeptLive (end_refusal l c node user writes choice) l (with_trail l (ended_trail l node (by_element writes) choice (repeats c choice)), ended_reply (repeats c choice)) (end_refusal-one l c node user writes choice) kept
     (ended-kept l node (by_element writes) choice (repeats c choice) (sorted-kept writes [] one tt) kept, ended-reply-one (repeats c choice))
 
 -- a start that is taken away takes no value away
 withdraw-good : (l : LiveModel) (node user : ℕ) (o : Option Card) → KeptLive l → GoodStep (withdraw_on l node user o)
 withdraw-good l node user None kept = (kept, tt)
 withdraw-good l node user (Some c) kept =
-    or-good (hold_refusal l node user) l (with_trail l (withdrawn node l.trail), reply.Withdrawn) (hold_refusal-one l node user) kept (rows-filter KeptEntry (λ e. not (is_start_of node e.1)) l.trail.entries kept, tt)
+    or-kept KeptLive (hold_refusal l node user) l (with_trail l (withdrawn node l.trail), reply.Withdrawn) (hold_refusal-one l node user) kept (rows-filter KeptEntry (λ e. not (is_start_of node e.1)) l.trail.entries kept, tt)
 
 misfit-one : (l : LiveModel) (o : Option ℕ) → IfSome (misfit l o) ShowsOneLine
 misfit-one l None = tt
 misfit-one l (Some p) = tt
 
 taken-good : (l new : LiveModel) (r : Reply) → KeptLive l → KeptLive new → ShowsOneLine r → GoodStep (taken l new r)
-taken-good l new r kept kept_new one = or-good (misfit l (failed_at (replay_of_case new))) l (new, r) (misfit-one l (failed_at (replay_of_case new))) kept (kept_new, one)
+taken-good l new r kept kept_new one = or-kept KeptLive (misfit l (failed_at (replay_of_case new))) l (new, r) (misfit-one l (failed_at (replay_of_case new))) kept (kept_new, one)
 
 change-good : (l : LiveModel) (ops : List Op) (o : Result SchemaModel Fault) → KeptLive l → GoodStep (change_with l ops o)
 change-good l ops (Ok schema) kept = taken-good l (changed l ops schema) reply.Changed kept kept tt
@@ -147,32 +138,21 @@ overlap-one (Some name) = tt
 
 migrate_live-good : (l : LiveModel) (v : VersionModel) → KeptLive l → GoodStep (migrate_live l v)
 migrate_live-good l v kept =
-    or-good (migrate_refusal l v) l (migrate_with l v (changed_by v.schema l.own))
-    (option-or-one (when_reply (not (nat_lt l.base.number v.number)) (reply.NotNewer l.base.number)) _ (when-one (not (nat_lt l.base.number v.number)) (reply.NotNewer l.base.number) tt)
-    (option-or-one (when_reply (is_finished l) reply.Finished) _ (when-one (is_finished l) reply.Finished tt) (overlap-one (overlap_with l v))))
-    kept (migrate-good l v (changed_by v.schema l.own) kept)
+    or-kept KeptLive (migrate_refusal l v) l (migrate_with l v (changed_by v.schema l.own)) (search (option-or-one, when-one, overlap-one)) kept (migrate-good l v (changed_by v.schema l.own) kept)
 
 -- ---- a case
 abbrev GoodCase : CaseModel × Reply → Type 0
 GoodCase step = KeptCase step.0 × ShowsOneLine step.1
 
-or-case : (o : Option Reply) (s : CaseModel) (step : CaseModel × Reply) → IfSome o ShowsOneLine → KeptCase s → GoodCase step → GoodCase (or_reply o s step)
-or-case None s step one kept good = good
-or-case (Some r) s step one kept good = (kept, one)
-
 event-good : (s : CaseModel) (o : Option LiveModel) (e : Event) → KeptCase s → IfSome o KeptLive → WritesValues e → GoodCase (event_on s o e)
-event-good s None (event.Create v) kept live good = or-case _ s (with_live s (created_on v, reply.Created)) (when-one (not (v.type_no == s.type_no)) reply.OtherType tt) kept (tt, tt)
-event-good s None (event.Start node user roles) kept live good = (kept, tt)
-event-good s None (event.Withdraw node user) kept live good = (kept, tt)
-event-good s None (event.End node user choice writes) kept live good = (kept, tt)
-event-good s None (event.Change ops) kept live good = (kept, tt)
-event-good s None (event.Migrate v) kept live good = (kept, tt)
+event-good s None (event.Create v) kept live good = or-kept KeptCase _ s (with_live s (created_on v, reply.Created)) (when-one (not (v.type_no == s.type_no)) reply.OtherType tt) kept (tt, tt)
+event-good s None e kept live good = (kept, tt)
 event-good s (Some l) (event.Create v) kept live good = (kept, tt)
 event-good s (Some l) (event.Start node user roles) kept live good = start-good l node user roles (card_at node (flat_of l.schema).cards) live
 event-good s (Some l) (event.Withdraw node user) kept live good = withdraw-good l node user (card_at node (flat_of l.schema).cards) live
 event-good s (Some l) (event.End node user choice writes) kept live good = end-good l node user writes choice (card_at node (flat_of l.schema).cards) good live
-event-good s (Some l) (event.Change ops) kept live good = or-good (when_reply (is_finished l) reply.Finished) l (change_with l ops (changed_by l.schema ops)) (when-one (is_finished l) reply.Finished tt) live (change-good l ops (changed_by l.schema ops) live)
-event-good s (Some l) (event.Migrate v) kept live good = or-case _ s (with_live s (migrate_live l v)) (when-one (not (v.type_no == s.type_no)) reply.OtherType tt) kept (migrate_live-good l v live)
+event-good s (Some l) (event.Change ops) kept live good = or-kept KeptLive (when_reply (is_finished l) reply.Finished) l (change_with l ops (changed_by l.schema ops)) (when-one (is_finished l) reply.Finished tt) live (change-good l ops (changed_by l.schema ops) live)
+event-good s (Some l) (event.Migrate v) kept live good = or-kept KeptCase _ s (with_live s (migrate_live l v)) (when-one (not (v.type_no == s.type_no)) reply.OtherType tt) kept (migrate_live-good l v live)
 
 pub case-kept : (s : CaseModel) (e : Event) → KeptCase s → WritesValues e → KeptCase (case_after s e)
 case-kept s e kept good = (event-good s s.live e kept kept good).0

@@ -1,16 +1,18 @@
 -- What stands first in an actor's queues are the calls of its next line.
-use Rattle.std.proofs.Common.{◌≡◌, ◌≢◌, ℕ, zero, suc, ◌+◌, ◌<◌, ◌≤◌, ◌==◌, eqb, eq-eqb, ne_eqb, Bool, true, false, List, [], ◌∷◌, ◌++◌, filter, length, take, Option, Some, None, refl, sym, ap, ◌∙◌, subst, arith, inl, inr, if◌then◌else◌}
-use Rattle.std.proofs.{Common.{get_or, nat_lt, slice_get}, lemmas.Bool.{eqb-true, lt-ltb}, lemmas.List.take_all}
-use Rattle.audit_model.proofs.Common.{AllRows, and_from, and_told, AreCallsOf, AreCallsOfLines, AreOf, ArePlaced, Asked, asked, asked_among, asks, call_of, calls_case, calls_kind, case_event_in as event_of_case, case_event_of, CaseDecl, CaseEntry, CaseId}
-use Rattle.audit_model.proofs.Common.{cases_of_type, cells-same, cells_in, count_by_more_no, count_by_more_yes, declared-typed, Entry, entry, Event, File, first_of, get_or_from_slice_get, has_case, has_id, has_kind, is_case, is_install}
-use Rattle.audit_model.proofs.{Common.keeps, Calls.{FitCase, not-told, to_case, FitKind, to_kind}, OwnLines.{OwnTelling, asked_own, own_left, own_then, own_version}, Queues.{CaseQueues, KindQueues, calls_along, calls_at, calls_in}}
-use Rattle.audit_model.proofs.Queues.{cases_left, cases_then, id_at, kinds_left, kinds_then, of_each, of_one, of_type}
-use Rattle.audit_model.proofs.Common.{IsDeclared, IsKnownAct, IsKnownCall, IsPlain, IsWorkable, kind_event-same, kind_event_in as event_of_kind, kind_event_of, KindEntry, KindEvent, known-call, Line, plain-call, Reply, rest_of, roles_of, same_Some, slice_get_cases, slice_get_within, told, told_by, told_each, told_in, VersionModel}
-use mathlib.Core.Logic.{dite}
-use native.Mathlib.Decide.{ℕ_discrete}
+use Rattle.std.proofs.Common.{◌≡◌, ◌≢◌, ℕ, zero, suc, ◌+◌, ◌<◌, ◌≤◌, ◌==◌, eqb, eq-eqb, ne_eqb, Bool, true, false, List, [], ◌∷◌, ◌++◌, filter, length, take, Option, Some, None, refl, sym, ap, ◌∙◌, subst, arith, inl, inr, if◌then◌else◌, nat_lt, slice_get}
+use Rattle.std.proofs.lemmas.Bool.{eqb-true, lt-ltb}
+use Rattle.std.proofs.lemmas.List.{take_all}
+use Rattle.audit_model.proofs.Common.{AllRows, and_from, and_told, AreCallsOf, AreCallsOfLines, AreOf, ArePlaced, Asked, asked, asked_among, asks, call_of, calls_case, calls_kind, case_event_of, CaseDecl, CaseEntry, CaseId, cases_of_type, cells-same, cells_in, count_by_more_no, count_by_more_yes, declared-typed, Entry, entry, Event, File, first_of, get_or_from_slice_get, has_case, has_id, has_kind, is_case, is_install, keeps, IsDeclared, IsKnownAct, IsKnownCall, IsPlain, IsWorkable, kind_event-same, kind_event_of, KindEntry, KindEvent, known-call, Line, plain-call, Reply, rest_of, roles_of, same_Some, slice_get_cases, slice_get_within, told, told_by, told_each, told_in, VersionModel, by-test, cases_Bool, case_reply, case_after, kind_reply, kind_after, Fit}
+use Rattle.audit_model.proofs.Common.{case_event_in as event_of_case, kind_event_in as event_of_kind}
+use Rattle.audit_model.proofs.Calls.{FitCase, not-told, to_case, FitKind, to_kind, asked_actor}
+use Rattle.audit_model.proofs.Calls.{actor_of as kind_actor}
+use Rattle.audit_model.proofs.OwnLines.{OwnTelling, asked_own, own_left, own_then, own_version}
+use Rattle.audit_model.proofs.Queues.{CaseQueues, KindQueues, calls_along, calls_at, calls_in, cases_left, cases_then, id_at, kinds_left, kinds_then, of_each, of_one, of_type}
 use Rattle.file_facts.proofs.Lists.{any-at}
 use Rattle.line_calls.specs.declared.calls.Call.{Call}
 use Rattle.audit_model.specs.Asked.{case_event_in, kind_event_in}
+use mathlib.Core.Logic.{dite}
+use native.Mathlib.Decide.{ℕ_discrete}
 use Rattle.case_core.specs.declared.events.Event.TheVariants as event
 use Rattle.line_calls.specs.declared.calls.Call.TheVariants as call
 use Rattle.line_calls.specs.declared.calls.Told.TheVariants as tell
@@ -25,35 +27,23 @@ some-case cases placed t i (suc n) few low = elim (slice_get_cases cases n).1 [
   | inr past ↦ absurd (omega (arith, past.0, few))
 ]
   where
-    Earlier : Type 0
-    Earlier = i < cases_of_type t (take n cases) → IsDeclared (id_at t i) cases
-
-    of_case_at : Earlier → (d : CaseDecl) → slice_get cases n ≡ Some d → IsDeclared (id_at t i) cases
-    of_case_at earlier d at = by (d.id.type_no == t) refl
-      where
-        is_d : get_or cases n d ≡ d
-        is_d = get_or_from_slice_get cases n d d at
-
-        next : n + 1 ≡ suc n
-        next = omega arith
-
-        by : (test : Bool) → (d.id.type_no == t) ≡ test → IsDeclared (id_at t i) cases
-        by false other =
-            let same : cases_of_type t (take (n + 1) cases) ≡ cases_of_type t (take n cases) = count_by_more_no (λ (e : CaseDecl). e.id.type_no == t) cases n d (slice_get_within cases n d at) (ap (λ (e : CaseDecl). e.id.type_no == t) is_d ∙ other) in
-            let low_then : i < cases_of_type t (take (n + 1) cases) = subst (λ m. i < cases_of_type t (take m cases)) (sym next) low in
-            earlier (omega (arith, same, low_then))
-        by true own =
-            let more : cases_of_type t (take (n + 1) cases) ≡ cases_of_type t (take n cases) + 1 = count_by_more_yes (λ (e : CaseDecl). e.id.type_no == t) cases n d (slice_get_within cases n d at) (ap (λ (e : CaseDecl). e.id.type_no == t) is_d ∙ own) in
-            let low_then : i < cases_of_type t (take (n + 1) cases) = subst (λ m. i < cases_of_type t (take m cases)) (sym next) low in
-            let place : d.id.place ≡ cases_of_type d.id.type_no (take n cases) = placed n d at in
-            let of_t : d.id.type_no ≡ t = same_type own in
-            let place_t : d.id.place ≡ cases_of_type t (take n cases) = subst (λ u. d.id.place ≡ cases_of_type u (take n cases)) of_t place in
-            dite (ℕ_discrete i d.id.place)
-            (λ (here : i ≡ d.id.place). any-at (has_id (id_at t i)) cases n d at (and_from (d.id.type_no == t) (d.id.place == i) own (eq-eqb d.id.place i (sym here))))
-            (λ (not : i ≢ d.id.place). earlier (omega (arith, more, low_then, place_t, not)))
-          where
-            same_type : (d.id.type_no == t) ≡ true → d.id.type_no ≡ t
-            same_type is = eqb-true d.id.type_no t is
+    of_case_at : (i < cases_of_type t (take n cases) → IsDeclared (id_at t i) cases) → (d : CaseDecl) → slice_get cases n ≡ Some d → IsDeclared (id_at t i) cases
+    of_case_at earlier d at =
+        let within = slice_get_within cases n d at in
+        let is_d = ap (λ (e : CaseDecl). e.id.type_no == t) (get_or_from_slice_get cases n d d at) in
+        let next : suc n ≡ n + 1 = omega arith in
+        let low_then : i < cases_of_type t (take (n + 1) cases) = subst (λ m. i < cases_of_type t (take m cases)) next low in
+        elim (cases_Bool (d.id.type_no == t)) [
+          | inl own ↦
+              let more : cases_of_type t (take (n + 1) cases) ≡ cases_of_type t (take n cases) + 1 = count_by_more_yes (λ (e : CaseDecl). e.id.type_no == t) cases n d within (is_d ∙ own) in
+              let place : d.id.place ≡ cases_of_type t (take n cases) = subst (λ u. d.id.place ≡ cases_of_type u (take n cases)) (eqb-true d.id.type_no t own) (placed n d at) in
+              dite (ℕ_discrete i d.id.place)
+              (λ (here : i ≡ d.id.place). any-at (has_id (id_at t i)) cases n d at (and_from (d.id.type_no == t) (d.id.place == i) own (eq-eqb d.id.place i (sym here))))
+              (λ (not : i ≢ d.id.place). earlier (omega (arith, more, low_then, place, not)))
+          | inr other ↦
+              let same : cases_of_type t (take (n + 1) cases) ≡ cases_of_type t (take n cases) = count_by_more_no (λ (e : CaseDecl). e.id.type_no == t) cases n d within (is_d ∙ other) in
+              earlier (omega (arith, same, low_then))
+        ]
 
 pub place-declared : (f : File) → IsWorkable f → (t i : ℕ) → i < cases_of_type t f.cases → IsDeclared (id_at t i) f.cases
 place-declared f workable t i low =
@@ -205,13 +195,9 @@ module _ (f : File) (workable : IsWorkable f) (a : ℕ) where
   rest-fits P fits true xs y ys fit = fits xs y ys fit
   rest-fits P fits false xs y ys fit = fit
 
-  kind-rest : (es : List KindEntry) (l : Line) (ls : List Line) → FitKind es (l ∷ ls) → FitKind (rest_of es) ls
-  kind-rest [] l ls fit = absurd fit
-  kind-rest (e ∷ es) l ls fit = fit.1
-
-  case-rest : (es : List CaseEntry) (l : Asked) (ls : List Asked) → FitCase f es (l ∷ ls) → FitCase f (rest_of es) ls
-  case-rest [] l ls fit = absurd fit
-  case-rest (e ∷ es) l ls fit = fit.1
+  fit-rest : {M E R W S L : Type 0} (after : S → E → S) (reply : S → E → R) (by : L → ℕ) (event : L → Option E) (es : List (Entry M E R W S)) (l : L) (ls : List L) → Fit after reply by event es (l ∷ ls) → Fit after reply by event (rest_of es) ls
+  fit-rest after reply by event [] l ls fit = absurd fit
+  fit-rest after reply by event (e ∷ es) l ls fit = fit.1
 
   rest-rows : {X : Type 0} (P : X → Type 0) (test : Bool) (xs : List X) → AllRows P xs → AllRows P (if test then rest_of xs else xs)
   rest-rows P true [] all = tt
@@ -244,25 +230,21 @@ module _ (f : File) (workable : IsWorkable f) (a : ℕ) where
       ap (λ test. if test then rest_of (r t) else r t) (ne_eqb t u not) ∙ (same ∙ sym (ap (λ test. told_in (if test then rest_of (K t) else K t)) no)))
 
   told-then : (K : KindQueues) (r : OwnTelling) (k : Call) (t : ℕ) → IsPlain k → (has_kind t (cells_in k) ≡ true → IsAsked K k t) → r t ≡ told_in (K t) → own_then r (asked_among (cells_in k)) t ≡ told_in (if has_kind t (cells_in k) then rest_of (K t) else K t)
-  told-then K r (call.Kind u e) t plain asked_now same = by (u == t) refl
-    where
-      by : (test : Bool) → (u == t) ≡ test → r t ≡ told_in (if test then rest_of (K t) else K t)
-      by true calls = same ∙ told-install K t u e plain (asked_now calls)
-      by false not = same
+  told-then K r (call.Kind u e) t plain asked_now same = by-test (λ test. r t ≡ told_in (if test then rest_of (K t) else K t)) (u == t) (λ calls. same ∙ told-install K t u e plain (asked_now calls)) (λ not. same)
   told-then K r (call.Case c e) t plain asked_now same = same
   told-then K r (call.Newest u (tell.Create c)) t plain asked_now same = told-asking K r (call.Newest u (tell.Create c)) u t refl refl asked_now same
   told-then K r (call.Newest u (tell.Migrate many)) t plain asked_now same = told-asking K r (call.Newest u (tell.Migrate many)) u t refl refl asked_now same
 
   pub asks-then : (K : KindQueues) (r : OwnTelling) (l : Line) (ls : List Line) → AsksReady K r (l ∷ ls) → AsksReady (kinds_then K l.act) (own_then r (asks l.act)) ls
   asks-then K r l ls ready = record {
-    kinds = λ t low. rest-fits FitKind kind-rest (calls_kind t l.act) (K t) l (filter (to_kind t) ls) (ready.kinds t low);
+    kinds = λ t low. rest-fits FitKind (fit-rest kind_after kind_reply kind_actor kind_event_of) (calls_kind t l.act) (K t) l (filter (to_kind t) ls) (ready.kinds t low);
     own = λ t low. rest-rows IsOfActor (calls_kind t l.act) (K t) (ready.own t low);
     told = λ t low. told-then K r (call_of 0 [] l.act) t (plain-call 0 [] l.act) (λ calls. asked-kind K r l ls ready 0 [] t low calls) (ready.told t low);
   }
 
   pub cases-then : (C : CaseQueues) (r : OwnTelling) (l : Line) (ls : List Line) → CasesReady C r (l ∷ ls) → CasesReady (cases_then C l.act) (own_then r (asks l.act)) ls
   cases-then C r l ls ready = record {
-    cases = λ c declared. rest-fits (FitCase f) case-rest (calls_case c l.act) (C c) (l, own_version r (asks l.act)) (filter (to_case c) (asked_own (own_then r (asks l.act)) ls)) (ready.cases c declared);
+    cases = λ c declared. rest-fits (FitCase f) (fit-rest case_after case_reply asked_actor (case_event_of f)) (calls_case c l.act) (C c) (l, own_version r (asks l.act)) (filter (to_case c) (asked_own (own_then r (asks l.act)) ls)) (ready.cases c declared);
     own = λ c declared. rest-rows OfActor (calls_case c l.act) (C c) (ready.own c declared);
   }
 

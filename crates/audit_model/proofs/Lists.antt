@@ -1,5 +1,5 @@
 -- Facts about tests, about rows of lists, and about those that pass a test.
-use Rattle.std.proofs.{Common.{◌≡◌, ℕ, zero, suc, Bool, true, false, All, List, [], ◌∷◌, filter, map, take, refl, sym, ap, ◌∙◌, if◌then◌else◌}, lemmas.List.Elements.{All-cons, All-head, All-nil, All-tail}}
+use Rattle.std.proofs.Common.{◌≡◌, ℕ, zero, suc, Bool, true, false, List, [], ◌∷◌, filter, map, take, refl, sym, ap, ◌∙◌, if◌then◌else◌}
 use Rattle.wsm_lists.proofs.Lists.{all-rows-map, both_rows, rows-map}
 use Rattle.wsm_lists.specs.Rows.{AllRows}
 
@@ -43,15 +43,6 @@ rows-filter P p xs all = filter-rows P P p (λ x one is. one) xs all
 -- two facts about each row, in lists of lists
 pub both-phases : {X : Type 0} (P Q R : X → Type 0) → ((x : X) → P x → Q x → R x) → (xss : List (List X)) → AllRows (AllRows P) xss → AllRows (AllRows Q) xss → AllRows (AllRows R) xss
 both-phases P Q R h xss p q = both_rows (AllRows P) (AllRows Q) (AllRows R) (λ xs one two. both_rows P Q R h xs one two) xss p q
-
--- ---- rows
-pub rows-All : {X : Type 0} (P : X → Type 0) (xs : List X) → All P xs → AllRows P xs
-rows-All P [] all = tt
-rows-All P (x ∷ xs) all = (All-head P x xs all, rows-All P xs (All-tail P x xs all))
-
-pub All-rows : {X : Type 0} (P : X → Type 0) (xs : List X) → AllRows P xs → All P xs
-All-rows P [] all = All-nil P
-All-rows P (x ∷ xs) (one, all) = All-cons P x xs one (All-rows P xs all)
 
 pub take-known : {X : Type 0} (P : X → Type 0) (n : ℕ) (xs : List X) → AllRows P xs → AllRows P (take n xs)
 take-known P zero xs all = tt

@@ -1,12 +1,13 @@
 -- The reader of a report goes on wherever it stands.
 use Rattle.std.proofs.Common.{◌≡◌, ℕ, ◌+◌, true, List, [], ◌++◌, length, Option, Some, slice_get, refl, ap, sym, subst, option_map}
-use Rattle.audit_model.proofs.Common.{AllRows, and_then, Asked, asked_among, asked_phases, both-phases, Bytes, call_of, call_writes, caller_in, calls_case, calls_kind, case_after, case_event_in as event_of_case, case_event_of, case_head}
-use Rattle.audit_model.proofs.Common.{case_journal, case_made, case_reader, case_reply, case_shown, CaseDecl, CaseId, CaseModel, cases_behind, cases_reader, cells-same, cells_in, ClosedCase, ClosedKind, defined, defined_line, end_text}
-use Rattle.audit_model.proofs.Common.{filter-phases, ended, entry, Event, event_text, expected-live, File, first_line, given, has_case, has_kind, how_many, IsActor, IsAuditable, IsGood, IsLive, IsOneLine, IsOneLineWrite, IsWorkable}
-use Rattle.audit_model.proofs.Common.{journal, journal-live, Line, mapped-live, not_created, owed_case, owed_kind, reply_text, report_reader, roles_of, Run, summary, telling, then-live, type_head, TypeDecl, VersionModel, writes-same}
-use Rattle.audit_model.proofs.{Common.{WritesOneLine, WritesValues}, Calls.{asked_actor, actor_of}, Runs.{phases-asked, known-actors}, Callers.{tells-case, tells-kind}, KeptValues.{case-kept, case-shows}, OneLine.ended-one}
-use Rattle.audit_model.proofs.{OneLineTexts.{event-one, kind_event-one, kind_reply-one, line-one, reply-one}, Ready.{HasVersion, all-have}, Rows.row-live, TakenParts.{KindTaken, kind-at, types-of}}
-use Rattle.audit_model.proofs.Common.{KeptCase, kind_after, kind_behind, kind_event_in as event_of_kind, kind_event_of, kind_event_text, kind_journal, kind_reader, kind_reply, kind_reply_text, kind_shown, KindEvent, KindModel, kinds_reader}
+use Rattle.audit_model.proofs.Common.{AllRows, and_then, Asked, asked_among, asked_phases, both-phases, Bytes, call_of, call_writes, caller_in, calls_case, calls_kind, case_after, case_event_of, case_head, case_journal, case_made}
+use Rattle.audit_model.proofs.Common.{case_reader, case_reply, case_shown, CaseDecl, CaseId, CaseModel, cases_behind, cases_reader, cells-same, cells_in, ClosedCase, ClosedKind, defined, defined_line, end_text, filter-phases, ended, entry}
+use Rattle.audit_model.proofs.Common.{Event, event_text, expected-live, File, first_line, given, has_case, has_kind, how_many, IsActor, IsAuditable, IsGood, IsLive, IsOneLine, IsOneLineWrite, IsWorkable, journal, journal-live, Line}
+use Rattle.audit_model.proofs.Common.{mapped-live, not_created, owed_case, owed_kind, reply_text, report_reader, roles_of, Run, summary, telling, then-live, type_head, TypeDecl, VersionModel, writes-same, WritesOneLine, WritesValues}
+use Rattle.audit_model.proofs.{Common.{KeptCase, kind_after, kind_behind, kind_event_of, kind_event_text, kind_journal, kind_reader, kind_reply, kind_reply_text, kind_shown, KindEvent, KindModel, kinds_reader}, Calls.asked_actor}
+use Rattle.audit_model.proofs.{Calls.actor_of, Runs.{phases-asked, known-actors}, Callers.{tells-case, tells-kind}, KeptValues.{case-kept, case-shows}, OneLine.ended-one, OneLineTexts.{event-one, kind_event-one, kind_reply-one, line-one}}
+use Rattle.audit_model.proofs.{OneLineTexts.reply-one, Ready.{HasVersion, all-have}, Rows.row-live, TakenParts.{KindTaken, kind-at, types-of}}
+use Rattle.audit_model.proofs.Common.{case_event_in as event_of_case, kind_event_in as event_of_kind}
 use Rattle.line_calls.specs.declared.calls.Call.{Call}
 use Rattle.case_core.specs.declared.events.Event.TheVariants as event
 use Rattle.line_calls.specs.declared.calls.Call.TheVariants as call

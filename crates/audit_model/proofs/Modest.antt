@@ -1,9 +1,9 @@
 -- Lines that ask little: what their events weigh, and how old a case is behind them.
-use Rattle.std.proofs.Common.{◌≡◌, ℕ, zero, suc, ◌+◌, ◌<◌, ◌≤◌, ◌==◌, Bool, true, false, List, [], ◌∷◌, ◌++◌, length, length-append, map, Some, refl, sym, ap, ◌∙◌, subst, arith, if◌then◌else◌, filter, slice_set}
-use Rattle.audit_model.proofs.Common.{actor_of, AllRows, AreTurns, Asked, asked_lines, asked_phases, asks, behind_front, both-phases, call_of, calls_kind, case-light as call-case-light, case_after, case_event_of, CaseEntry, ClosedCase, Event, File, filled, filled-many}
-use Rattle.audit_model.proofs.Common.{filter-phases, how_many, if-either, IsAuditable, IsKnown, IsModest, IsModestLine, IsSteady, IsWorkable, KeptCase, kind-light as call-kind-light, kind_event_of, KindEvent, known-light, left_to_tell, Line, line_of, rows-filter}
-use Rattle.audit_model.proofs.Common.{lines_in, not_created, one_taken, owed_kind, queue_of, roles_of, sum_by-cons, Telling, told_at, version_for, weight as kind_weight, WritesOneLine, WritesValues}
-use Rattle.audit_model.proofs.{KeptValues.case-kept, Runs.phases-asked}
+use Rattle.std.proofs.Common.{◌≡◌, ℕ, zero, suc, ◌+◌, ◌<◌, ◌≤◌, ◌==◌, Bool, List, [], ◌∷◌, ◌++◌, length, length-append, map, Some, refl, sym, ap, ◌∙◌, subst, arith, if◌then◌else◌, filter, slice_set}
+use Rattle.audit_model.proofs.Common.{by-test, actor_of, AllRows, AreTurns, Asked, asked_lines, asked_phases, asks, behind_front, both-phases, call_of, calls_kind, case_after, case_event_of, CaseEntry, ClosedCase, Event, File, filled, filled-many, filter-phases, how_many, if-either, IsAuditable, IsKnown, IsModest, IsModestLine, IsSteady, IsWorkable, KeptCase, kind_event_of, KindEvent, known-light, left_to_tell, Line, line_of, rows-filter, lines_in, not_created, one_taken, owed_kind, queue_of, roles_of, sum_by-cons, Telling, told_at, version_for, WritesOneLine, WritesValues}
+use Rattle.audit_model.proofs.Common.{case-light as call-case-light, kind-light as call-kind-light, weight as kind_weight}
+use Rattle.audit_model.proofs.KeptValues.{case-kept}
+use Rattle.audit_model.proofs.Runs.{phases-asked}
 use Rattle.case_core.proofs.AgesOfSteps.{age-next_case}
 use Rattle.case_core.specs.Ages.{weight}
 
@@ -106,11 +106,12 @@ few-asked f q workable = let lines = many-asked q f.phases in omega (arith, line
 -- ---- what is owed to a type, without versions
 lines-again : (q : Telling) (t : ℕ) (lines : List Line) → map line_of (filter (λ (l : Asked). calls_kind t l.0.act) (asked_lines q lines)) ≡ filter (λ (l : Line). calls_kind t l.act) lines
 lines-again q t [] = refl
-lines-again q t (l ∷ ls) = by (calls_kind t l.act) (filter (λ (x : Asked). calls_kind t x.0.act) (asked_lines (told_at q l.actor (asks l.act)) ls)) (filter (λ (x : Line). calls_kind t x.act) ls) (lines-again (told_at q l.actor (asks l.act)) t ls)
-  where
-    by : (test : Bool) (xs : List Asked) (ys : List Line) → map line_of xs ≡ ys → map line_of (if test then (l, version_for q l.actor (asks l.act)) ∷ xs else xs) ≡ (if test then l ∷ ys else ys)
-    by true xs ys same = ap (λ zs. l ∷ zs) same
-    by false xs ys same = same
+lines-again q t (l ∷ ls) =
+    let q_then = told_at q l.actor (asks l.act) in
+    let x : Asked = (l, version_for q l.actor (asks l.act)) in
+    let xs = filter (λ (y : Asked). calls_kind t y.0.act) (asked_lines q_then ls) in
+    let ys = filter (λ (y : Line). calls_kind t y.act) ls in
+    by-test (λ b. map line_of (if b then x ∷ xs else xs) ≡ (if b then l ∷ ys else ys)) (calls_kind t l.act) (λ is. ap (λ zs. l ∷ zs) (lines-again q_then t ls)) (λ not. lines-again q_then t ls)
 
 phases-again : (q : Telling) (t : ℕ) (phases : List (List Line))
     → map (map line_of) (map (λ lines. filter (λ (l : Asked). calls_kind t l.0.act) lines) (asked_phases q phases)) ≡ map (λ lines. filter (λ (l : Line). calls_kind t l.act) lines) phases

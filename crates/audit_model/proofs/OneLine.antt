@@ -25,10 +25,6 @@ is-one (b ∷ bs) is = let (here, more) = and_parts (stays b) (list_all stays bs
 pub one-append : (xs ys : Bytes) → IsOneLine xs → IsOneLine ys → IsOneLine (xs ++ ys)
 one-append xs ys one two = rows-append Stays xs ys one two
 
-pub one-each : {X : Type 0} (g : X → Bytes) (xs : List X) → AllRows (λ x. IsOneLine (g x)) xs → IsOneLine (flat_map g xs)
-one-each g [] all = tt
-one-each g (x ∷ xs) all = one-append (g x) (flat_map g xs) all.0 (one-each g xs all.1)
-
 pub one-all : {X : Type 0} (g : X → Bytes) (xs : List X) → ((x : X) → IsOneLine (g x)) → IsOneLine (flat_map g xs)
 one-all g [] h = tt
 one-all g (x ∷ xs) h = one-append (g x) (flat_map g xs) (h x) (one-all g xs h)

@@ -3,8 +3,8 @@ use Rattle.std.proofs.Common.{◌≡◌, ℕ, ◌-◌, ◌==◌, true, List, [],
 use Rattle.audit_model.proofs.Common.{actor_name, ActorDecl, after_space, AllRows, assigned, block_words, Bytes, caller_text, choice_text, data_words, element, element_is, element_text, entry_text, Event, event_text, Fault, fault_text}
 use Rattle.audit_model.proofs.Common.{fault_words, File, FIRST_NAMED_ROLE, if-either, IsAuditable, IsName, IsNamed, IsOneLine, IsOneLineRead, IsOneLineValue, IsOneLineWrite, kind_event_text, kind_reply_text, KindEvent, KindReply, letter}
 use Rattle.audit_model.proofs.Common.{limit_word, line_start, list_all, listed_element, Name, node, node_and_element, node_and_node, node_text, number, position_text, read_text, Reply, reply_text, role_name, role_text, row-at, said}
-use Rattle.audit_model.proofs.{Common.{shown_line, ShowsOneLine, Value, value_or_none, value_text, why_node, why_word, Word, word_text, WritesValues, Written, wrong_choice}, OneLine.{stays, decimal-one, is-one, name-one, named-one}}
-use Rattle.audit_model.proofs.OneLine.{one-all, one-append, value-one}
+use Rattle.audit_model.proofs.{Common.{shown_line, ShowsOneLine, Value, value_or_none, value_text, why_node, why_word, Word, word_text, WritesValues, Written, wrong_choice, kind_reply}, OneLine.{stays, decimal-one, is-one, name-one}}
+use Rattle.audit_model.proofs.OneLine.{named-one, one-all, one-append, value-one}
 use Rattle.report_words.specs.Names.{name_text}
 use Rattle.wsm_ops.specs.declared.faults.OpWhy.{OpWhy}
 use Rattle.wsm_schema.specs.{declared.entries.Entry.Entry, declared.faults.BlockFault.BlockFault, declared.faults.DataFault.DataFault, declared.faults.LimitKind.LimitKind, declared.states.State.State}
@@ -24,29 +24,15 @@ use Rattle.wsm_sound.specs.declared.faults.Fault.TheVariants as fault
 -- ---- given words
 limit-one : (k : LimitKind) → IsOneLine (limit_word k)
 limit-one limit.Nodes = is-one (codes "nodes") refl
-limit-one limit.Depth = is-one (codes "depth") refl
-limit-one limit.Syncs = is-one (codes "syncs") refl
-limit-one limit.Elements = is-one (codes "elements") refl
-limit-one limit.Reads = is-one (codes "reads") refl
-limit-one limit.Writes = is-one (codes "writes") refl
+limit-one k = is-one (limit_word k) refl
 
 why-one : (w : OpWhy) → IsOneLine (why_word w)
 why-one (why.NoNode n) = is-one (codes "no-node") refl
-why-one (why.NodeThere n) = is-one (codes "node-there") refl
-why-one (why.WrongKind n) = is-one (codes "wrong-kind") refl
-why-one (why.SelfTarget n) = is-one (codes "self-target") refl
-why-one why.NoSync = is-one (codes "no-sync") refl
-why-one why.SyncThere = is-one (codes "sync-there") refl
-why-one why.NoEdge = is-one (codes "no-edge") refl
-why-one why.EdgeThere = is-one (codes "edge-there") refl
-why-one why.ElementThere = is-one (codes "element-there") refl
+why-one w = is-one (why_word w) refl
 
 letter-one : (s : State) → IsOneLine (letter s)
 letter-one state.NotActivated = is-one (codes "N") refl
-letter-one state.Activated = is-one (codes "A") refl
-letter-one state.Running = is-one (codes "R") refl
-letter-one state.Completed = is-one (codes "C") refl
-letter-one state.Skipped = is-one (codes "S") refl
+letter-one s = is-one (letter s) refl
 
 -- a given word in front
 said-first : (word bs : Bytes) → list_all stays word ≡ true → IsOneLine bs → IsOneLine (word ++ bs)
@@ -94,11 +80,7 @@ module _ (f : File) (auditable : IsAuditable f) where
   why-said (why.NodeThere n) = (tt, tt)
   why-said (why.WrongKind n) = (tt, tt)
   why-said (why.SelfTarget n) = (tt, tt)
-  why-said why.NoSync = tt
-  why-said why.SyncThere = tt
-  why-said why.NoEdge = tt
-  why-said why.EdgeThere = tt
-  why-said why.ElementThere = tt
+  why-said w = tt
 
   block-said : (x : BlockFault) → AllRows IsSaid (block_words x)
   block-said (block.Limit k) = (is-one (codes "limit") refl, (limit-one k, tt))
@@ -191,42 +173,29 @@ module _ (f : File) (auditable : IsAuditable f) where
   position-one n = (refl, one-append (decimal n) (codes " ") (decimal-one n) (refl, tt))
 
   pub reply-one : (r : Reply) → ShowsOneLine r → IsOneLine (reply_text f r)
-  reply-one reply.Created one = is-one (codes "created") refl
   reply-one (reply.Started reads) one = said-first (codes "started") _ refl (reads-one reads one)
-  reply-one reply.Ended one = is-one (codes "ended") refl
-  reply-one reply.Repeated one = is-one (codes "repeated") refl
-  reply-one reply.Withdrawn one = is-one (codes "withdrawn") refl
-  reply-one reply.Already one = is-one (codes "already") refl
-  reply-one reply.NoCase one = is-one (codes "no-case") refl
-  reply-one reply.NoNode one = is-one (codes "no-node") refl
   reply-one (reply.NotReady s) one = said-first (codes "not-ready ") _ refl (letter-one s)
   reply-one (reply.NotAllowed role) one = said-first (codes "not-allowed ") _ refl (role-one role)
   reply-one (reply.NotRunning s) one = said-first (codes "not-running ") _ refl (letter-one s)
   reply-one (reply.NotHolder user) one = said-first (codes "not-holder ") _ refl (caller-one user)
   reply-one (reply.WrongWrites elements) one = said-first (codes "wrong-writes") _ refl (one-all (listed_element f) elements listed-one)
   reply-one (reply.NoBranch choice) one = said-first (codes "no-branch") _ refl (wrong-choice-one choice)
-  reply-one reply.OtherType one = is-one (codes "other-type") refl
-  reply-one reply.Changed one = is-one (codes "changed") refl
   reply-one (reply.Migrated n) one = said-first (codes "migrated ") _ refl (decimal-one n)
-  reply-one reply.Finished one = is-one (codes "finished") refl
   reply-one (reply.Unsound x) one = said-first (codes "unsound") _ refl (fault-one x)
   reply-one (reply.Blocked position e) one = said-first (codes "blocked") (position_text position ++ entry_text f e) refl (one-append (position_text position) (entry_text f e) (position-one position) (entry-one e))
   reply-one (reply.NotNewer n) one = said-first (codes "not-newer ") _ refl (decimal-one n)
   reply-one (reply.Overlap n) one = said-first (codes "overlap ") _ refl (name-text-one n)
+  reply-one r one = is-one (reply_text f r) refl
 
   pub kind_event-one : (e : KindEvent) → IsOneLine (kind_event_text e)
-  kind_event-one (kind_event.Define schema) = is-one (codes "define") refl
   kind_event-one (kind_event.Install ops) = said-first (codes "install ") _ refl (decimal-one (length ops))
-  kind_event-one kind_event.Newest = is-one (codes "newest") refl
+  kind_event-one e = is-one (kind_event_text e) refl
 
   pub kind_reply-one : (r : KindReply) → IsOneLine (kind_reply_text f r)
-  kind_reply-one kind_reply.Defined = is-one (codes "defined") refl
   kind_reply-one (kind_reply.Installed n) = said-first (codes "installed ") _ refl (decimal-one n)
   kind_reply-one (kind_reply.Is version) = said-first (codes "is ") _ refl (decimal-one version.number)
-  kind_reply-one kind_reply.Already = is-one (codes "already") refl
-  kind_reply-one kind_reply.NoType = is-one (codes "no-type") refl
-  kind_reply-one kind_reply.VersionLimit = is-one (codes "version-limit") refl
   kind_reply-one (kind_reply.Unsound x) = said-first (codes "unsound") _ refl (fault-one x)
+  kind_reply-one r = is-one (kind_reply_text f r) refl
 
   -- ---- lines
   pub start-one : (k a : ℕ) → IsOneLine (line_start f k a)

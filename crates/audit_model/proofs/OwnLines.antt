@@ -1,6 +1,6 @@
 -- The lines of one actor, with the versions that it was told.
-use Rattle.std.proofs.{Common.{◌≡◌, ◌≢◌, ℕ, ◌==◌, eqb, eq-eqb, ne_eqb, Bool, true, false, ◌&&◌, List, [], ◌∷◌, ◌++◌, filter, Option, Some, None, refl, sym, ap, ◌∙◌, if◌then◌else◌}, lemmas.Bool.eqb-true}
-use Rattle.audit_model.proofs.Common.{drops, keeps, filter-swap, all_owed, Asked, asked_lines, asked_phases, asks, by-append, CaseId, filter-append, first_of, left_to_tell, Line, lines_by, owed_case, rest_of, Telling, told_at, version_for}
+use Rattle.std.proofs.{Common.{◌≡◌, ◌≢◌, ℕ, ◌==◌, eqb, eq-eqb, ne_eqb, false, ◌&&◌, List, [], ◌∷◌, ◌++◌, filter, Option, Some, None, refl, sym, ap, ◌∙◌, if◌then◌else◌}, lemmas.Bool.eqb-true}
+use Rattle.audit_model.proofs.Common.{by-test, filter-swap, all_owed, Asked, asked_lines, asked_phases, asks, by-append, CaseId, filter-append, first_of, left_to_tell, Line, lines_by, owed_case, rest_of, Telling, told_at, version_for}
 use Rattle.audit_model.proofs.{Common.VersionModel, Calls.{asked_actor, to_case, actor_of, owed_in, to_kind}}
 use Rattle.legal_run.specs.LineCalls.{lines_of}
 
@@ -69,37 +69,23 @@ module _ (a : ℕ) where
 
   own-asked : (ls : List Line) (q : Telling) (r : OwnTelling) → Same (q a) r → filter (λ x. asked_actor x == a) (asked_lines q ls) ≡ asked_own r (lines_of a ls)
   own-asked [] q r same = refl
-  own-asked (l ∷ ls) q r same = by (l.actor == a) refl (λ told now. own-asked ls (told_at q l.actor (asks l.act)) told now)
-    where
-      x : Asked
-      x = (l, version_for q l.actor (asks l.act))
-
-      later : Telling
-      later = told_at q l.actor (asks l.act)
-
-      by : (test : Bool) → (l.actor == a) ≡ test → ((told : OwnTelling) → Same (later a) told → filter (λ y. asked_actor y == a) (asked_lines later ls) ≡ asked_own told (lines_of a ls))
-          → filter (λ y. asked_actor y == a) (asked_lines q (l ∷ ls)) ≡ asked_own r (lines_of a (l ∷ ls))
-      by true own more =
-          let is : l.actor ≡ a = eqb-true l.actor a own in
-          keeps (λ y. asked_actor y == a) x (asked_lines later ls) own
-          ∙ (ap (λ (v : Option VersionModel). (l, v) ∷ filter (λ y. asked_actor y == a) (asked_lines later ls)) (own-version q r same l.actor is (asks l.act))
-          ∙ (ap (λ xs. (l, own_version r (asks l.act)) ∷ xs) (more (own_then r (asks l.act)) (own-then q r same l.actor is (asks l.act))) ∙ ap (asked_own r) (sym (keeps (λ (y : Line). y.actor == a) l ls own))))
-      by false other more =
-          drops (λ y. asked_actor y == a) x (asked_lines later ls) other
-          ∙ (more r (other-then q r same l.actor (not-own l.actor other) (asks l.act)) ∙ ap (asked_own r) (sym (drops (λ (y : Line). y.actor == a) l ls other)))
+  own-asked (l ∷ ls) q r same =
+      let later = told_at q l.actor (asks l.act) in
+      let mine = filter (λ (y : Asked). asked_actor y == a) (asked_lines later ls) in
+      by-test (λ test. (if test then (l, version_for q l.actor (asks l.act)) ∷ mine else mine) ≡ asked_own r (if test then l ∷ lines_of a ls else lines_of a ls)) (l.actor == a)
+      (λ own.
+      let is : l.actor ≡ a = eqb-true l.actor a own in
+      ap (λ (v : Option VersionModel). (l, v) ∷ mine) (own-version q r same l.actor is (asks l.act))
+      ∙ ap (λ xs. (l, own_version r (asks l.act)) ∷ xs) (own-asked ls later (own_then r (asks l.act)) (own-then q r same l.actor is (asks l.act))))
+      (λ other. own-asked ls later r (other-then q r same l.actor (not-own l.actor other) (asks l.act)))
 
   own-left : (ls : List Line) (q : Telling) (r : OwnTelling) → Same (q a) r → Same (left_to_tell q ls a) (own_left r (lines_of a ls))
   own-left [] q r same u = same u
-  own-left (l ∷ ls) q r same u = by (l.actor == a) refl (λ told now. own-left ls (told_at q l.actor (asks l.act)) told now u)
-    where
-      later : Telling
-      later = told_at q l.actor (asks l.act)
-
-      by : (test : Bool) → (l.actor == a) ≡ test → ((told : OwnTelling) → Same (later a) told → left_to_tell later ls a u ≡ own_left told (lines_of a ls) u) → left_to_tell q (l ∷ ls) a u ≡ own_left r (lines_of a (l ∷ ls)) u
-      by true own more =
-          let is : l.actor ≡ a = eqb-true l.actor a own in
-          more (own_then r (asks l.act)) (own-then q r same l.actor is (asks l.act)) ∙ ap (λ xs. own_left r xs u) (sym (keeps (λ (y : Line). y.actor == a) l ls own))
-      by false other more = more r (other-then q r same l.actor (not-own l.actor other) (asks l.act)) ∙ ap (λ xs. own_left r xs u) (sym (drops (λ (y : Line). y.actor == a) l ls other))
+  own-left (l ∷ ls) q r same u =
+      let later = told_at q l.actor (asks l.act) in
+      by-test (λ test. left_to_tell later ls a u ≡ own_left r (if test then l ∷ lines_of a ls else lines_of a ls) u) (l.actor == a)
+      (λ own. own-left ls later (own_then r (asks l.act)) (own-then q r same l.actor (eqb-true l.actor a own) (asks l.act)) u)
+      (λ other. own-left ls later r (other-then q r same l.actor (not-own l.actor other) (asks l.act)) u)
 
   -- ---- what is owed to a case, and to a type, of an actor's lines
   pub own-owed_case : (c : CaseId) (phases : List (List Line)) (q : Telling) (r : OwnTelling) → Same (q a) r → lines_by asked_actor a (all_owed (owed_case c (asked_phases q phases))) ≡ filter (to_case c) (asked_own r (own_lines a phases))

@@ -1,10 +1,10 @@
 -- The calls of an actor's lines, taken from what types and cases have of the actor: each line takes the first of those that it calls.
-use Rattle.std.proofs.Common.{◌≡◌, ◌≢◌, ℕ, zero, suc, ◌+◌, ◌<◌, ◌≤◌, ◌==◌, eqb, eq-eqb, ne_eqb, Bool, true, false, ◌&&◌, List, [], ◌∷◌, ◌++◌, append-nil, take, refl, sym, ap, ◌∙◌, subst, arith, append_assoc, if◌then◌else◌, nat_lt}
+use Rattle.std.proofs.Common.{◌≡◌, ◌≢◌, ℕ, zero, suc, ◌+◌, ◌<◌, ◌≤◌, ◌==◌, eqb, eq-eqb, ne_eqb, Bool, true, false, ◌&&◌, List, [], ◌∷◌, ◌++◌, append-nil, take, refl, sym, ap, ◌∙◌, arith, append_assoc, if◌then◌else◌, nat_lt}
 use Rattle.std.proofs.lemmas.Bool.{eqb-true, ltb-false, ltb-true}
-use Rattle.audit_model.proofs.Common.{Act, and_from, and_parts, Call, calls_case, calls_kind, calls_of_case, calls_of_case-append, calls_of_kind, calls_of_kind-append, CaseEntry, CaseId, Cells, cells_of, done_by, has_case, has_kind, is_case, KindEntry, Line, of_case, of_kind, rest_of, Trace}
+use Rattle.audit_model.proofs.Common.{by-test, if-either, Act, and_from, and_parts, Call, calls_case, calls_kind, calls_of_case, calls_of_case-append, calls_of_kind, calls_of_kind-append, CaseEntry, CaseId, Cells, cells_of, done_by, has_case, has_kind, is_case, KindEntry, Line, of_case, of_kind, rest_of, Trace}
+use Rattle.legal_run.specs.LineCalls.{lines_of}
 use mathlib.Core.Logic.{dite}
 use native.Mathlib.Decide.{ℕ_discrete}
-use Rattle.legal_run.specs.LineCalls.{lines_of}
 use Rattle.line_calls.specs.declared.calls.Cells.TheVariants as cells
 
 abbrev pub KindQueues : Type 0
@@ -45,19 +45,12 @@ abbrev pub cases_then : CaseQueues → Act → CaseQueues
 cases_then C x c = if calls_case c x then rest_of (C c) else C c
 
 -- ---- calls of types
-type-same : (t : ℕ) (es : List KindEntry) → calls_of_kind t (of_type t es) ≡ ahead es
-type-same t [] = refl
-type-same t (e ∷ es) = ap (λ test. if test then e ∷ [] else []) (eq-eqb t t refl)
-
-type-other : (t u : ℕ) → u ≢ t → (es : List KindEntry) → calls_of_kind t (of_type u es) ≡ []
-type-other t u not [] = refl
-type-other t u not (e ∷ es) = ap (λ test. if test then e ∷ [] else []) (ne_eqb u t not)
+type-if : (t u : ℕ) (es : List KindEntry) → calls_of_kind t (of_type u es) ≡ (if eqb u t then ahead es else [])
+type-if t u [] = if-either (λ ys. [] ≡ ys) (eqb u t) [] [] (λ is. refl) (λ not. refl)
+type-if t u (e ∷ es) = refl
 
 type-at : (K : KindQueues) (t u : ℕ) → calls_of_kind t (of_type u (K u)) ≡ (if eqb u t then ahead (K t) else [])
-type-at K t u =
-    dite (ℕ_discrete u t)
-    (λ (same : u ≡ t). subst (λ n. calls_of_kind t (of_type n (K n)) ≡ (if eqb n t then ahead (K t) else [])) (sym same) (type-same t (K t) ∙ ap (λ test. if test then ahead (K t) else []) (sym (eq-eqb t t refl))))
-    (λ (not : u ≢ t). type-other t u not (K u) ∙ ap (λ test. if test then ahead (K t) else []) (sym (ne_eqb u t not)))
+type-at K t u = type-if t u (K u) ∙ by-test (λ b. (if b then ahead (K u) else []) ≡ (if b then ahead (K t) else [])) (eqb u t) (λ is. ap (λ n. ahead (K n)) (eqb-true u t is)) (λ not. refl)
 
 one-no_kind : (t : ℕ) (c : CaseId) (es : List CaseEntry) → calls_of_kind t (of_one c es) ≡ []
 one-no_kind t c [] = refl
@@ -74,25 +67,18 @@ type-no_case : (c : CaseId) (t : ℕ) (es : List KindEntry) → calls_of_case c 
 type-no_case c t [] = refl
 type-no_case c t (e ∷ es) = refl
 
-case-own : (c : CaseId) (es : List CaseEntry) → calls_of_case c (of_one c es) ≡ ahead es
-case-own c [] = refl
-case-own c (e ∷ es) = ap (λ test. if test then e ∷ [] else []) (and_from (c.type_no == c.type_no) (c.place == c.place) (eq-eqb c.type_no c.type_no refl) (eq-eqb c.place c.place refl))
-
-case-other : (c d : CaseId) → is_case c d ≡ false → (es : List CaseEntry) → calls_of_case c (of_one d es) ≡ []
-case-other c d not [] = refl
-case-other c d not (e ∷ es) = ap (λ test. if test then e ∷ [] else []) not
-
 pub same-id : (c d : CaseId) → is_case c d ≡ true → d ≡ c
 same-id c d is =
     let (types, places) = and_parts (d.type_no == c.type_no) (d.place == c.place) is in
     ap (λ t. id_at t d.place) (eqb-true d.type_no c.type_no types) ∙ ap (λ p. id_at c.type_no p) (eqb-true d.place c.place places)
 
+case-if : (c d : CaseId) (es : List CaseEntry) → calls_of_case c (of_one d es) ≡ (if is_case c d then ahead es else [])
+case-if c d [] = if-either (λ ys. [] ≡ ys) (is_case c d) [] [] (λ is. refl) (λ not. refl)
+case-if c d (e ∷ es) = refl
+
 case-at : (C : CaseQueues) (c d : CaseId) → calls_of_case c (of_one d (C d)) ≡ (if is_case c d then ahead (C c) else [])
-case-at C c d = by (is_case c d) refl
-  where
-    by : (test : Bool) → is_case c d ≡ test → calls_of_case c (of_one d (C d)) ≡ (if test then ahead (C c) else [])
-    by true is = let same = same-id c d is in subst (λ x. calls_of_case c (of_one x (C x)) ≡ ahead (C c)) (sym same) (case-own c (C c))
-    by false not = case-other c d not (C d)
+case-at C c d =
+    case-if c d (C d) ∙ by-test (λ b. (if b then ahead (C d) else []) ≡ (if b then ahead (C c) else [])) (is_case c d) (λ is. ap (λ x. ahead (C x)) (same-id c d is)) (λ not. refl)
 
 other-type : (t p : ℕ) (c : CaseId) → t ≢ c.type_no → is_case c (id_at t p) ≡ false
 other-type t p c not = ap (λ test. test && p == c.place) (ne_eqb t c.type_no not)
@@ -104,28 +90,24 @@ other-place t p c not = both (t == c.type_no) (p == c.place) (ne_eqb p c.place n
     both true y is = is
     both false y is = refl
 
-each-parts : (C : CaseQueues) (c : CaseId) (t place n : ℕ) → calls_of_case c (of_each C t place (suc n)) ≡ calls_of_case c (of_one (id_at t place) (C (id_at t place))) ++ calls_of_case c (of_each C t (place + 1) n)
-each-parts C c t place n = calls_of_case-append c (of_one (id_at t place) (C (id_at t place))) (of_each C t (place + 1) n)
+each-more : (C : CaseQueues) (c : CaseId) (t place n : ℕ) (called : Bool) → is_case c (id_at t place) ≡ called →
+    calls_of_case c (of_each C t place (suc n)) ≡ (if called then ahead (C c) else []) ++ calls_of_case c (of_each C t (place + 1) n)
+each-more C c t place n called is =
+    calls_of_case-append c (of_one (id_at t place) (C (id_at t place))) (of_each C t (place + 1) n)
+    ∙ ap (λ xs. xs ++ calls_of_case c (of_each C t (place + 1) n)) (case-at C c (id_at t place) ∙ ap (λ b. if b then ahead (C c) else []) is)
 
 each-other : (C : CaseQueues) (c : CaseId) (t place n : ℕ) → ((p : ℕ) → place ≤ p → p < place + n → is_case c (id_at t p) ≡ false) → calls_of_case c (of_each C t place n) ≡ []
 each-other C c t place zero other = refl
-each-other C c t place (suc n) other =
-    each-parts C c t place n
-    ∙ (ap (λ xs. xs ++ calls_of_case c (of_each C t (place + 1) n)) (case-other c (id_at t place) (other place (omega arith) (omega arith)) (C (id_at t place)))
-    ∙ each-other C c t (place + 1) n (λ p low high. other p (omega (arith, low)) (omega (arith, high))))
+each-other C c t place (suc n) other = each-more C c t place n false (other place (omega arith) (omega arith)) ∙ each-other C c t (place + 1) n (λ p low high. other p (omega (arith, low)) (omega (arith, high)))
 
 each-own : (C : CaseQueues) (c : CaseId) (t place n : ℕ) → t ≡ c.type_no → place ≤ c.place → c.place < place + n → calls_of_case c (of_each C t place n) ≡ ahead (C c)
 each-own C c t place zero same low high = absurd (omega (arith, low, high))
 each-own C c t place (suc n) same low high =
     dite (ℕ_discrete place c.place)
     (λ (here : place ≡ c.place).
-    let is : id_at t place ≡ c = ap (λ u. id_at u place) same ∙ ap (λ p. id_at c.type_no p) here in
-    each-parts C c t place n
-    ∙ (ap (λ xs. calls_of_case c (of_one (id_at t place) (C (id_at t place))) ++ xs) (each-other C c t (place + 1) n (λ p past end. other-place t p c (λ there. omega (arith, here, there, past))))
-    ∙ (append-nil (calls_of_case c (of_one (id_at t place) (C (id_at t place)))) ∙ subst (λ x. calls_of_case c (of_one x (C x)) ≡ ahead (C c)) (sym is) (case-own c (C c)))))
-    (λ (not : place ≢ c.place).
-    each-parts C c t place n
-    ∙ (ap (λ xs. xs ++ calls_of_case c (of_each C t (place + 1) n)) (case-other c (id_at t place) (other-place t place c not) (C (id_at t place))) ∙ each-own C c t (place + 1) n same (omega (arith, low, not)) (omega (arith, high))))
+    each-more C c t place n true (and_from (t == c.type_no) (place == c.place) (eq-eqb t c.type_no same) (eq-eqb place c.place here))
+    ∙ (ap (λ xs. ahead (C c) ++ xs) (each-other C c t (place + 1) n (λ p past end. other-place t p c (λ there. omega (arith, here, there, past)))) ∙ append-nil (ahead (C c))))
+    (λ (not : place ≢ c.place). each-more C c t place n false (other-place t place c not) ∙ each-own C c t (place + 1) n same (omega (arith, low, not)) (omega (arith, high)))
 
 -- the case is called where it is one of the first so many
 each-taken : (C : CaseQueues) (c : CaseId) (t many : ℕ) → calls_of_case c (of_each C t 0 many) ≡ (if t == c.type_no && nat_lt c.place many then ahead (C c) else [])

@@ -1,43 +1,27 @@
 -- Types and cases as journals whose lines are read.
-use Rattle.std.proofs.Common.{◌≡◌, ℕ, ◌+◌, ◌<◌, ◌==◌, Bool, true, false, List, [], ◌∷◌, ◌++◌, length, map, Option, Some, None, refl, sym, ap, ◌∙◌, subst, arith, if◌then◌else◌, IfSome}
+use Rattle.std.proofs.Common.{◌≡◌, ℕ, ◌+◌, ◌<◌, ◌==◌, List, [], ◌∷◌, ◌++◌, length, map, Option, Some, None, refl, sym, ap, ◌∙◌, subst, arith, if◌then◌else◌, IfSome, option_map}
 use Rattle.audit_model.proofs.Common.{actor_of, AllRows, Asked, call_of, call_writes, case_event_in, case_event_of, case_journal, case_made, CaseDecl, CaseEntry, cases, ClosedCase, ClosedKind, Event, File, filled, first_by, Followed}
 use Rattle.audit_model.proofs.Common.{Follows, follows-mapped, GrowsTo, IsAuditable, IsOneLineWrite, IsWorkable, KeptCase, kind_behind, kind_journal, KindEntry, KindEvent, KindModel, kinds, Line, line_of, not_created, owed_case, owed_kind}
-use Rattle.audit_model.proofs.{Common.{roles_of, StopsAt, version_event, VersionModel, with_others, writes-same, WritesOneLine, WritesValues}, JournalRight.IsReadable, Live.{case-line-one, kind-line-one}, Callers.{tells-case, tells-kind}}
-use Rattle.audit_model.proofs.{Phases.{journal-stopped, journal-whole, journal_from}, Texts.{case-line, kind-line}}
+use Rattle.audit_model.proofs.{Common.{roles_of, StopsAt, version_event, VersionModel, with_others, writes-same, WritesOneLine, WritesValues, by-test}, JournalRight.IsReadable, Live.{case-line-one, kind-line-one}, Callers.tells-case}
+use Rattle.audit_model.proofs.{Callers.tells-kind, Phases.{journal-stopped, journal-whole, journal_from}, Texts.{case-line, kind-line}}
 use Rattle.line_calls.specs.{declared.calls.Call.Call, declared.calls.Told.Told}
 use Rattle.line_calls.specs.declared.calls.Call.TheVariants as call
 use Rattle.line_calls.specs.declared.calls.Told.TheVariants as tell
 
 -- ---- the first line of an actor, without what was told
-first-line : (a : ℕ) (phase : List Asked) (c : Asked) (others : List Asked) → first_by actor_of a phase ≡ Some (c, others) → first_by (λ (l : Line). l.actor) a (map line_of phase) ≡ Some (line_of c, map line_of others)
-first-line a [] c others is = absurd (cc (is))
-first-line a (x ∷ xs) c others is = by (actor_of x == a) (first_by actor_of a xs) refl is (λ d rest more. first-line a xs d rest more)
-  where
-    by : (test : Bool) (o : Option (Asked × List Asked)) → first_by actor_of a xs ≡ o → (if test then Some (x, xs) else with_others actor_of x o) ≡ Some (c, others)
-        → ((d : Asked) (rest : List Asked) → first_by actor_of a xs ≡ Some (d, rest) → first_by (λ (l : Line). l.actor) a (map line_of xs) ≡ Some (line_of d, map line_of rest))
-        → (if test then Some (line_of x, map line_of xs) else with_others (λ (l : Line). l.actor) (line_of x) (first_by (λ (l : Line). l.actor) a (map line_of xs))) ≡ Some (line_of c, map line_of others)
-    by true o first same more = ap (λ (q : Option (Asked × List Asked)). option_line q) same
-      where
-        option_line : Option (Asked × List Asked) → Option (Line × List Line)
-        option_line None = None
-        option_line (Some p) = Some (line_of p.0, map line_of p.1)
-    by false None first same more = absurd (cc (same))
-    by false (Some p) first same more = ap (with_others (λ (l : Line). l.actor) (line_of x)) (more p.0 p.1 first) ∙ ap (λ (q : Option (Asked × List Asked)). option_line q) same
-      where
-        option_line : Option (Asked × List Asked) → Option (Line × List Line)
-        option_line None = None
-        option_line (Some p) = Some (line_of p.0, map line_of p.1)
+abbrev without_told : Asked × List Asked → Line × List Line
+without_told p = (line_of p.0, map line_of p.1)
 
-first-line-none : (a : ℕ) (phase : List Asked) → first_by actor_of a phase ≡ None → first_by (λ (l : Line). l.actor) a (map line_of phase) ≡ None
-first-line-none a [] is = refl
-first-line-none a (x ∷ xs) is = by (actor_of x == a) (first_by actor_of a xs) refl is (λ more. first-line-none a xs more)
-  where
-    by : (test : Bool) (o : Option (Asked × List Asked)) → first_by actor_of a xs ≡ o → (if test then Some (x, xs) else with_others actor_of x o) ≡ None
-        → (first_by actor_of a xs ≡ None → first_by (λ (l : Line). l.actor) a (map line_of xs) ≡ None)
-        → (if test then Some (line_of x, map line_of xs) else with_others (λ (l : Line). l.actor) (line_of x) (first_by (λ (l : Line). l.actor) a (map line_of xs))) ≡ None
-    by true o first none more = absurd (cc (none))
-    by false None first none more = ap (with_others (λ (l : Line). l.actor) (line_of x)) (more first)
-    by false (Some p) first none more = absurd (cc (none))
+with-others : (x : Asked) (o : Option (Asked × List Asked)) → with_others (λ (l : Line). l.actor) (line_of x) (option_map without_told o) ≡ option_map without_told (with_others actor_of x o)
+with-others x None = refl
+with-others x (Some p) = refl
+
+first-line : (a : ℕ) (phase : List Asked) → first_by (λ (l : Line). l.actor) a (map line_of phase) ≡ option_map without_told (first_by actor_of a phase)
+first-line a [] = refl
+first-line a (x ∷ xs) =
+    let rest = first_by (λ (l : Line). l.actor) a (map line_of xs) in
+    by-test (λ b. (if b then Some (line_of x, map line_of xs) else with_others (λ (l : Line). l.actor) (line_of x) rest) ≡ option_map without_told (if b then Some (x, xs) else with_others actor_of x (first_by actor_of a xs))) (actor_of x == a)
+    (λ own. refl) (λ other. ap (with_others (λ (l : Line). l.actor) (line_of x)) (first-line a xs) ∙ with-others x (first_by actor_of a xs))
 
 -- an event writes what its line writes
 told-writes : (w : Told) (v : VersionModel) → WritesValues (version_event w v)
@@ -66,8 +50,8 @@ Any x = Unit {0}
 module _ (f : File) (workable : IsWorkable f) (auditable : IsAuditable f) where
   pub kinds-readable : IsReadable (λ (s : KindModel). Any s) (λ (e : KindEvent). Any e) (kinds f)
   kinds-readable = record {
-    first = first-line;
-    none = first-line-none;
+    first = λ a phase c others is. first-line a phase ∙ ap (option_map without_told) is;
+    none = λ a phase is. first-line a phase ∙ ap (option_map without_told) is;
     some = some-lines;
     one = λ k a s e actor kept good. kind-line-one f workable auditable k a s e actor tt tt;
     tells = tells-kind f auditable;

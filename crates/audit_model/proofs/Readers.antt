@@ -1,10 +1,10 @@
 -- The report of a legal run is taken by the reader, whole: its types, its cases, and all of it.
 use Rattle.std.proofs.Common.{◌≡◌, ℕ, ◌+◌, List, [], ◌∷◌, ◌++◌, length, Some, slice_get, sym, ap, ◌∙◌, subst, arith, append_assoc}
-use Rattle.audit_model.proofs.Common.{and_then, AreTraces, Asked, asked_phases, Bytes, caller_in, case_after, case_event_of, case_head, case_journal, case_line, case_made, case_reader, case_reply, case_shown, case_text, CaseDecl, CaseEntry}
-use Rattle.audit_model.proofs.Common.{cases_behind, cases_reader, cases_text, ClosedCase, ClosedKind, defined, defined_line, end_text, ended, ending, entry, expected-takes, File, first_line, given, how_many, IsActor, IsAuditable}
-use Rattle.audit_model.proofs.Common.{IsLegalCase, rows-All, IsLegalKind, IsReport, IsWorkable, journal, journal-takes, kind_after, kind_behind, kind_event_of, kind_journal, kind_line, kind_reader, kind_reply, kind_shown, kind_text}
-use Rattle.audit_model.proofs.Common.{KindEntry, kinds_reader, kinds_text, Legal, lines_from, mapped-takes, not_created, not_defined, numbered, owed_case, owed_kind, program, report_reader, Run, summary, Takes, telling, text, then-takes}
-use Rattle.audit_model.proofs.{Common.{Trace, type_head, TypeDecl}, Calls.{actor_of, asked_actor}, Runs.{kind-answers, kind-journal, case-answers, case-callers}, Callers.{tells-case, tells-kind}, Rows.{IsTaken, row-takes}}
+use Rattle.audit_model.proofs.Common.{and_then, AreTraces, Asked, asked_phases, Bytes, caller_in, case_after, case_event_of, case_head, case_journal, case_line, case_made, case_reader, case_reply, case_shown, case_text, CaseDecl, CaseEntry, cases_behind, cases_reader, cases_text, ClosedCase, ClosedKind, defined, defined_line, end_text, ended, ending, entry, expected-takes, File, first_line, given, how_many, IsActor, IsAuditable, IsLegalCase, recursion_from_All, IsLegalKind, IsReport, IsWorkable, journal, journal-takes, kind_after, kind_behind, kind_event_of, kind_journal, kind_line, kind_reader, kind_reply, kind_shown, kind_text, KindEntry, kinds_reader, kinds_text, Legal, lines_from, mapped-takes, not_created, not_defined, numbered, owed_case, owed_kind, program, report_reader, Run, summary, Takes, telling, text, then-takes, Trace, type_head, TypeDecl}
+use Rattle.audit_model.proofs.Calls.{actor_of, asked_actor}
+use Rattle.audit_model.proofs.Runs.{kind-answers, kind-journal, case-answers, case-callers}
+use Rattle.audit_model.proofs.Callers.{tells-case, tells-kind}
+use Rattle.audit_model.proofs.Rows.{IsTaken, row-takes}
 use Rattle.audit_model.proofs.Texts.{ending-append, kind-line, numbered-lines, whole-lines, case-line, ending-lines, end-ends, head-ends, header-ends, summary-ends}
 use Rattle.type_core.specs.declared.events.KindEvent.TheVariants as event
 
@@ -38,7 +38,7 @@ module _ (f : File) (workable : IsWorkable f) (auditable : IsAuditable f) (trace
   kind-taken t d k legal =
       let front = kind_front f t d in
       let entries = kind_lines f 2 legal.others in
-      let callers = rows-All (λ (e : KindEntry). IsActor f e.caller) legal.others legal.callers in
+      let callers = recursion_from_All (λ (e : KindEntry). IsActor f e.caller) legal.others legal.callers in
       let taken = journal-takes kind_after kind_reply actor_of kind_event_of (caller_in f) (kind_shown f) (IsActor f) (tells-kind f auditable) (how_many (owed_kind f t)) 2 (defined t d).machine (owed_kind f t) legal.others k.machine (omega arith) callers
       (kind-answers f workable traces of_lines t d k legal) in
       let made = mapped-takes (kind_behind (defined t d)) (journal kind_after kind_reply actor_of kind_event_of (caller_in f) (kind_shown f) (how_many (owed_kind f t)) 2 (defined t d).machine (owed_kind f t)) entries (legal.others, k.machine) taken in
@@ -63,13 +63,8 @@ case-whole f d c =
     let entries = case_lines f 1 c.journal in
     let end = ended (end_text f c.machine.live) in
     let journal_is = numbered-lines case_after case_reply asked_actor (case_event_of f) (caller_in f) (case_line f) (case_shown f) (case-line f) 1 c.journal in
-    let head_is = sym (ending-lines (case_head f d) (head-ends f d)) in
-    let end_is = sym (ending-lines (end_text f c.machine.live) (end-ends f c.machine.live)) in
-    sym (append_assoc (case_head f d) (numbered (case_line f) 1 c.journal) (end_text f c.machine.live))
-    ∙ (ap (λ bs. (bs ++ numbered (case_line f) 1 c.journal) ++ end_text f c.machine.live) head_is
-    ∙ (ap (λ bs. (ending head ++ bs) ++ end_text f c.machine.live) journal_is
-    ∙ (ap (λ bs. (ending head ++ ending entries) ++ bs) end_is
-    ∙ (ap (λ bs. bs ++ ending end) (sym (ending-append head entries)) ∙ sym (ending-append (head ++ entries) end)))))
+    rw (ending-append (head ++ entries) end, ending-append head entries, ending-lines (case_head f d) (head-ends f d), ending-lines (end_text f c.machine.live) (end-ends f c.machine.live), ← journal_is)
+    (sym (append_assoc (case_head f d) (numbered (case_line f) 1 c.journal) (end_text f c.machine.live)))
 
 module _ (f : File) (workable : IsWorkable f) (auditable : IsAuditable f) (traces : List Trace) (of_lines : AreTraces f f.phases traces) (kinds : List ClosedKind) (many : length kinds ≡ length f.types)
     (legal_kinds : (t : ℕ) (d : TypeDecl) (k : ClosedKind) → slice_get f.types t ≡ Some d → slice_get kinds t ≡ Some k → IsLegalKind f traces t d k) where
@@ -97,14 +92,8 @@ pub report-whole : (f : File) (r : Run) (ks cs : List Bytes) → kinds_text f f.
 report-whole f r ks cs b c =
     let header = ended (first_line f) in
     let last = ended (summary f r) in
-    ap (λ x. x ++ (kinds_text f f.types r.kinds ++ (cases_text f f.cases r.cases ++ summary f r))) (sym (ending-lines (first_line f) (header-ends f)))
-    ∙ (ap (λ x. ending header ++ (x ++ (cases_text f f.cases r.cases ++ summary f r))) b
-    ∙ (ap (λ x. ending header ++ (ending ks ++ (x ++ summary f r))) c
-    ∙ (ap (λ x. ending header ++ (ending ks ++ (ending cs ++ x))) (sym (ending-lines (summary f r) (summary-ends f r)))
-    ∙ (sym (append_assoc (ending header) (ending ks) (ending cs ++ ending last))
-    ∙ (sym (append_assoc (ending header ++ ending ks) (ending cs) (ending last))
-    ∙ (ap (λ x. (x ++ ending cs) ++ ending last) (sym (ending-append header ks))
-    ∙ (ap (λ x. x ++ ending last) (sym (ending-append (header ++ ks) cs)) ∙ sym (ending-append ((header ++ ks) ++ cs) last))))))))
+    rw (ending-append ((header ++ ks) ++ cs) last, ending-append (header ++ ks) cs, ending-append header ks, ending-lines (first_line f) (header-ends f), ending-lines (summary f r) (summary-ends f r), ← b, ← c)
+    (sym (append_assoc (first_line f) (kinds_text f f.types r.kinds) (cases_text f f.cases r.cases ++ summary f r)) ∙ sym (append_assoc (first_line f ++ kinds_text f f.types r.kinds) (cases_text f f.cases r.cases) (summary f r)))
 
 run-taken : (f : File) → IsWorkable f → IsAuditable f → (r : Run) → Legal f r → IsTaken (Takes (report_reader f)) (text f r) r
 run-taken f workable auditable r legal =

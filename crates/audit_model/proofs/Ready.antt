@@ -1,10 +1,11 @@
 -- The types that are read have told each actor what its lines ask for.
-use Rattle.std.proofs.{Common.{◌≡◌, ℕ, ◌<◌, ◌==◌, eq-eqb, Bool, true, false, List, [], ◌∷◌, ◌++◌, filter, length, Some, slice_get, inl, inr, refl, sym, ap, ◌∙◌, subst, arith}, lemmas.Bool.eqb-true}
-use Rattle.audit_model.proofs.Common.{AllRows, answers-whole, Asked, asked-known, asked_among, asked_lines, asked_phases, asks, by-event, Bytes, call_of, calls_of, cells_in, ClosedKind, defined, drops, Entry, entry, File, has_kind}
-use Rattle.audit_model.proofs.{Common.{if-either, IsActor, IsKnown, owed_kind, program, row-at, slice_get_cases, sound-defined, Telling, telling, there-as, told_at, TypeDecl, version_for, VersionModel}, Calls.{FitKind, actor_of, to_kind}}
-use Rattle.audit_model.proofs.{Runs.{not-own, owed-actors}, LineQueues.{AsksReady, IsOfActor, TellsVersion, asks-then, version-there}, OwnLines.{OwnTelling, Same, other-then, own-owed_kind, own-then, own-version, own_lines, own_then}}
+use Rattle.std.proofs.{Common.{◌≡◌, ℕ, ◌<◌, ◌==◌, eq-eqb, true, List, [], ◌∷◌, ◌++◌, filter, length, Some, slice_get, inl, inr, refl, sym, ap, ◌∙◌, subst, arith, if◌then◌else◌}, lemmas.Bool.eqb-true}
+use Rattle.audit_model.proofs.Common.{AllRows, answers-whole, Asked, asked-known, asked_among, asked_lines, asked_phases, asks, by-event, Bytes, call_of, calls_of, cells_in, ClosedKind, defined, Entry, entry, File, has_kind, by-test}
+use Rattle.audit_model.proofs.Common.{if-either, IsActor, IsKnown, owed_kind, program, row-at, slice_get_cases, sound-defined, Telling, telling, there-as, told_at, TypeDecl, version_for, VersionModel, IsLegal, IsSound, IsWhole, IsWorkable}
+use Rattle.audit_model.proofs.{Common.{journal_of, keeps, kind_after, kind_event_of, kind_reply, KindEntry, KindModel, known-call, left_to_tell, Line, newest-told, newest_of, not_defined}, Calls.{FitKind, actor_of, to_kind}, Runs.not-own}
+use Rattle.audit_model.proofs.{Runs.owed-actors, LineQueues.{AsksReady, IsOfActor, TellsVersion, asks-then, version-there}, OwnLines.{OwnTelling, Same, other-then, own-owed_kind, own-then, own-version, own_lines, own_then}}
 use Rattle.audit_model.proofs.{Queues.{KindQueues, kinds_then}, TakenParts.KindTaken}
-use Rattle.audit_model.proofs.Common.{IsLegal, IsSound, IsWhole, IsWorkable, journal_of, keeps, kind_after, kind_event_in as event_of_kind, kind_event_of, kind_reply, KindEntry, KindModel, known-call, left_to_tell, Line, newest-told, newest_of, not_defined}
+use Rattle.audit_model.proofs.Common.{kind_event_in as event_of_kind}
 use Rattle.legal_run.specs.LineCalls.{lines_of}
 use Rattle.line_calls.specs.declared.calls.Call.{Call}
 use Rattle.line_calls.specs.declared.calls.Call.TheVariants as call
@@ -96,10 +97,9 @@ module _ (f : File) (workable : IsWorkable f) where
 
   -- a call that asks a type calls it for its newest version
   asks-calls : (k : Call) (t : ℕ) → asked_among (cells_in k) ≡ Some t → (has_kind t (cells_in k) ≡ true) × (event_of_kind k ≡ Some kind_event.Newest)
-  asks-calls (call.Kind u e) t is = absurd (cc (is))
-  asks-calls (call.Case c e) t is = absurd (cc (is))
   asks-calls (call.Newest u (tell.Create c)) t is = (eq-eqb u t (cc (is)), refl)
   asks-calls (call.Newest u (tell.Migrate many)) t is = (eq-eqb u t (cc (is)), refl)
+  asks-calls k t is = absurd (cc (is))
 
   own-front : (a : ℕ) (l : Line) (ls later : List Line) → l.actor ≡ a → lines_of a (l ∷ ls) ++ later ≡ l ∷ (lines_of a ls ++ later)
   own-front a l ls later own = ap (λ xs. xs ++ later) (keeps (λ (x : Line). x.actor == a) l ls (eq-eqb l.actor a own))
@@ -116,24 +116,16 @@ module _ (f : File) (workable : IsWorkable f) where
       (v, own-version a q h.told h.same a refl (asks l.act) ∙ is)
 
   ready-then : (q : Telling) (l : Line) (ls : List Line) (later : List (List Line)) → AllReady q (l ∷ ls) later → AllReady (told_at q l.actor (asks l.act)) ls later
-  ready-then q l ls later all a actor = by (l.actor == a) refl (all a actor)
-    where
-      by : (test : Bool) → (l.actor == a) ≡ test → IsReadyFor q a (lines_of a (l ∷ ls) ++ own_lines a later) → IsReadyFor (told_at q l.actor (asks l.act)) a (lines_of a ls ++ own_lines a later)
-      by true own h =
-          let is : l.actor ≡ a = eqb-true l.actor a own in
-          let ready = subst (AsksReady f workable a h.queues h.told) (own-front a l ls (own_lines a later) is) h.ready in
-          record {
-            queues = kinds_then h.queues l.act;
-            told = own_then h.told (asks l.act);
-            same = own-then a q h.told h.same l.actor is (asks l.act);
-            ready = asks-then f workable a h.queues h.told l (lines_of a ls ++ own_lines a later) ready;
-          }
-      by false other h = record {
-        queues = h.queues;
-        told = h.told;
-        same = other-then a q h.told h.same l.actor (λ is. cc (other, eq-eqb l.actor a is)) (asks l.act);
-        ready = subst (λ xs. AsksReady f workable a h.queues h.told (xs ++ own_lines a later)) (drops (λ (x : Line). x.actor == a) l ls other) h.ready;
-      }
+  ready-then q l ls later all a actor =
+      by-test (λ test. IsReadyFor q a ((if test then l ∷ lines_of a ls else lines_of a ls) ++ own_lines a later) → IsReadyFor (told_at q l.actor (asks l.act)) a (lines_of a ls ++ own_lines a later)) (l.actor == a)
+      (λ own h. record {
+        queues = kinds_then h.queues l.act;
+        told = own_then h.told (asks l.act);
+        same = own-then a q h.told h.same l.actor (eqb-true l.actor a own) (asks l.act);
+        ready = asks-then f workable a h.queues h.told l (lines_of a ls ++ own_lines a later) h.ready;
+      })
+      (λ other h. record { queues = h.queues; told = h.told; same = other-then a q h.told h.same l.actor (λ is. cc (other, eq-eqb l.actor a is)) (asks l.act); ready = h.ready })
+      (all a actor)
 
   record LinesHave (q : Telling) (ls : List Line) (later : List (List Line)) : Type 0 where
     lines : AllRows HasVersion (asked_lines q ls)

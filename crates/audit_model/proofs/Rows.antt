@@ -21,8 +21,6 @@ module _ {D A : Type 0} (one : ℕ → D → Reader A) where
   pub row-takes : (shown : D → A → Bytes) (n : ℕ) (ds : List D) (xs : List A) → length xs ≡ length ds
       → ((i : ℕ) (d : D) (a : A) → slice_get ds i ≡ Some d → slice_get xs i ≡ Some a → IsTaken (Takes (one (n + i) d)) (shown d a) a) → IsTaken (Takes (in_row one n ds)) (side_by_side shown ds xs) xs
   row-takes shown n [] [] many each = record { lines = []; taken = refl; whole = refl }
-  row-takes shown n [] (x ∷ xs) many each = absurd (omega arith)
-  row-takes shown n (d ∷ ds) [] many each = absurd (omega arith)
   row-takes shown n (d ∷ ds) (x ∷ xs) many each =
       let same : n + 0 ≡ n = omega arith in
       let here = subst (λ m. IsTaken (Takes (one m d)) (shown d x) x) same (each 0 d x refl refl) in
@@ -33,6 +31,7 @@ module _ {D A : Type 0} (one : ℕ → D → Reader A) where
             (mapped-takes (λ (ys : List A). x ∷ ys) (in_row one (n + 1) ds) more.lines xs more.taken);
         whole = ap (λ bs. bs ++ side_by_side shown ds xs) here.whole ∙ (ap (λ bs. ending here.lines ++ bs) more.whole ∙ sym (ending-append here.lines more.lines));
       }
+  row-takes shown n ds xs many each = absurd (omega arith)
 
   -- ---- where each goes on, all do
   pub row-live : (n : ℕ) (ds : List D) → ((m : ℕ) (d : D) → IsLive (one m d)) → IsLive (in_row one n ds)

@@ -2,10 +2,9 @@
 use Rattle.std.proofs.Common.{◌≡◌, ℕ, ◌≤◌, ne_eqb, List, [], ◌∷◌, ◌++◌, filter, length, take, refl, sym, ap, ◌∙◌, subst, arith, if◌then◌else◌, zero, suc, append-nil, drop, Some, slice_get, inl, inr, append_assoc}
 use Rattle.std.proofs.lemmas.List.{take-append-drop}
 use Rattle.std.proofs.lemmas.List.Concat.{flat_map-append}
-use Rattle.audit_model.proofs.Common.{all-rows-map, all_owed, AllRows, Answers, answers, AreTraces, Asked, asked_lines, asked_phases, asks, BeginsBy, Call, calls_case, calls_kind, calls_of, calls_of_case, calls_of_kind, calls_of_kind-append, case_after, case_event_of, case_reply, CaseDecl, CaseEntry, CaseId, ClosedCase, ClosedKind, defined, done_by, entry, File, Fit, FitBy, HasCalls, IsActor, IsKnown}
-use Rattle.audit_model.proofs.Common.{IsLegal, IsLegalCase, IsLegalKind, IsWorkable, journal_of, kind_after, kind_event_of, kind_reply, KindEntry, left_to_tell, length-map, Line, lines_by, not_created, not_defined, owed_case, owed_kind, program, rows-All, rows-filter, rows-map, slice_get_cases, state_after, take-known, take-map, Telling, telling, there-as, told_at, told_in, Trace, TypeDecl}
-use mathlib.Core.List.{IsPrefix}
+use Rattle.audit_model.proofs.Common.{all-rows-map, all_owed, AllRows, Answers, answers, AreTraces, Asked, asked_lines, asked_phases, asks, BeginsBy, Call, calls_case, calls_kind, calls_of, calls_of_case, calls_of_kind, calls_of_kind-append, case_after, case_event_of, case_reply, CaseDecl, CaseEntry, CaseId, ClosedCase, ClosedKind, defined, done_by, entry, File, Fit, FitBy, HasCalls, IsActor, IsKnown, IsLegal, IsLegalCase, IsLegalKind, IsWorkable, journal_of, kind_after, kind_event_of, kind_reply, KindEntry, left_to_tell, length-map, Line, lines_by, not_created, not_defined, owed_case, owed_kind, program, recursion_from_All, rows-filter, rows-map, slice_get_cases, state_after, take-known, take-map, Telling, telling, there-as, told_at, told_in, Trace, TypeDecl}
 use Rattle.audit_model.proofs.Calls.{actor_of, fit-phases, owed_in, take-traces, Told, asked_actor, fit-case_phases, told-append}
+use mathlib.Core.List.{IsPrefix}
 use Rattle.type_core.specs.declared.events.KindEvent.TheVariants as event
 use Rattle.type_core.specs.declared.replies.KindReply.TheVariants as reply
 
@@ -61,7 +60,7 @@ module _ (f : File) (workable : IsWorkable f) (traces : List Trace) (of_lines : 
   pub kind-answers : Answers kind_after kind_reply actor_of kind_event_of (defined t d).machine (owed_kind f t) legal.others k.machine
   kind-answers =
       let all : IsLegal kind_after kind_reply (not_defined t) (definition ∷ legal.others) = subst (IsLegal kind_after kind_reply (not_defined t)) legal.defined legal.legal in
-      let found = answers kind_after kind_reply actor_of kind_event_of (IsActor f) legal.others (defined t d).machine (owed_kind f t) all.1 (rows-All (λ (e : KindEntry). IsActor f e.caller) legal.others legal.callers)
+      let found = answers kind_after kind_reply actor_of kind_event_of (IsActor f) legal.others (defined t d).machine (owed_kind f t) all.1 (recursion_from_All (λ (e : KindEntry). IsActor f e.caller) legal.others legal.callers)
       (owed-actors f t workable) whole-fit begins-fit in
       let end : k.machine ≡ state_after kind_after (defined t d).machine legal.others = legal.machine ∙ ap (state_after kind_after (not_defined t)) legal.defined in
       subst (Answers kind_after kind_reply actor_of kind_event_of (defined t d).machine (owed_kind f t) legal.others) (sym end) found
@@ -150,7 +149,7 @@ module _ (f : File) (workable : IsWorkable f) (traces : List Trace) (of_lines : 
         (start, prefix, subst (λ ls. FitCaseBy f start (all_owed ls)) front fit)
 
     pub case-callers : AllRows (λ (e : CaseEntry). IsActor f e.caller) c.journal
-    case-callers = rows-All (λ (e : CaseEntry). IsActor f e.caller) c.journal legal.callers
+    case-callers = recursion_from_All (λ (e : CaseEntry). IsActor f e.caller) c.journal legal.callers
 
     pub case-answers : Answers case_after case_reply asked_actor (case_event_of f) (not_created d.id.type_no) owed c.journal c.machine
     case-answers =

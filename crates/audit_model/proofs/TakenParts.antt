@@ -1,9 +1,9 @@
 -- What the reader of a report takes of types and of cases.
 use Rattle.std.proofs.Common.{◌≡◌, ℕ, ◌+◌, List, ◌++◌, Some, slice_get, sym, ap, ◌∙◌, subst, arith}
-use Rattle.audit_model.proofs.Common.{and_then, Answers, Asked, asked_phases, Bytes, caller_in, case_after, case_event_of, case_head, case_journal, case_made, case_reader, case_reply, case_shown, case_text, CaseDecl, cases_behind}
-use Rattle.audit_model.proofs.Common.{cases_reader, ClosedCase, ClosedKind, defined, defined_line, end_text, ended, ending, File, first_line, given, how_many, journal, kind_after, kind_behind, kind_event_of, kind_journal, kind_reader}
-use Rattle.audit_model.proofs.Common.{kind_reply, kind_shown, kind_text, KindEntry, kinds_reader, not_created, owed_case, owed_kind, report_reader, Run, summary, Takes, takes-expected, takes-journal, takes-mapped, takes-then, telling}
-use Rattle.audit_model.proofs.{Common.{type_head, TypeDecl}, Calls.{asked_actor, actor_of}, Readers.{case_lines, case-whole, whole_case, kind_front, kind_lines, kind-whole}, Rows.{RowTaken, row-of}}
+use Rattle.audit_model.proofs.Common.{and_then, Answers, Asked, asked_phases, Bytes, caller_in, case_after, case_event_of, case_head, case_journal, case_made, case_reader, case_reply, case_shown, case_text, CaseDecl, cases_behind, cases_reader, ClosedCase, ClosedKind, defined, defined_line, end_text, ended, ending, File, first_line, given, how_many, journal, kind_after, kind_behind, kind_event_of, kind_journal, kind_reader, kind_reply, kind_shown, kind_text, KindEntry, kinds_reader, not_created, owed_case, owed_kind, report_reader, Run, summary, Takes, takes-expected, takes-journal, takes-mapped, takes-then, telling, type_head, TypeDecl}
+use Rattle.audit_model.proofs.Calls.{asked_actor, actor_of}
+use Rattle.audit_model.proofs.Readers.{case_lines, case-whole, whole_case, kind_front, kind_lines, kind-whole}
+use Rattle.audit_model.proofs.Rows.{RowTaken, row-of}
 
 -- ---- a type
 pub record KindTaken (f : File) (t : ℕ) (d : TypeDecl) (ls : List Bytes) (k : ClosedKind) : Type 0 where
@@ -113,17 +113,5 @@ run-of f ls r is =
     let lines : ls ≡ ((header f ++ types.part) ++ inner.rest) ++ ended (summary f all.value) =
     all.lines ∙ (ap (λ xs. xs ++ all.rest) inner.lines ∙ (ap (λ xs. (xs ++ inner.rest) ++ all.rest) types.lines ∙ ap (λ xs. ((header f ++ types.part) ++ inner.rest) ++ xs) last_is)) in
     let lines_r : ls ≡ ((header f ++ types.part) ++ inner.rest) ++ ended (summary f r) = subst (λ (x : Run). ls ≡ ((header f ++ types.part) ++ inner.rest) ++ ended (summary f x)) (sym value) lines in
-    whole inner.value cs types.part inner.rest types.kinds cases (value ∙ same) lines_r
-  where
-    whole : (ks : List ClosedKind) (cs : List ClosedCase) (kind_part case_part : List Bytes) → KindsTaken f 0 f.types kind_part ks → CasesTaken f (asked_phases (telling ks) f.phases) case_part cs → r ≡ record { kinds = ks; cases = cs }
-        → ls ≡ ((header f ++ kind_part) ++ case_part) ++ ended (summary f r) → RunTaken f ls r
-    whole ks cs kind_part case_part kinds cases same lines =
-        let same_kinds : r.kinds ≡ ks = ap (λ (x : Run). x.kinds) same in
-        let same_cases : r.cases ≡ cs = ap (λ (x : Run). x.cases) same in
-        record {
-          kind_part = kind_part;
-          case_part = case_part;
-          kinds = subst (KindsTaken f 0 f.types kind_part) (sym same_kinds) kinds;
-          cases = subst (λ xs. CasesTaken f (asked_phases (telling xs) f.phases) case_part r.cases) (sym same_kinds) (subst (CasesTaken f (asked_phases (telling ks) f.phases) case_part) (sym same_cases) cases);
-          lines = lines;
-        }
+    subst (λ (x : Run). ls ≡ ((header f ++ types.part) ++ inner.rest) ++ ended (summary f x) → RunTaken f ls x) (sym (value ∙ same))
+    (λ lines. record { kind_part = types.part; case_part = inner.rest; kinds = types.kinds; cases = cases; lines = lines }) lines_r

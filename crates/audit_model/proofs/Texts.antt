@@ -1,8 +1,6 @@
 -- Texts as the lines that they are.
 use Rattle.std.proofs.Common.{◌≡◌, ℕ, ◌+◌, ◌==◌, Bool, true, false, List, [], ◌∷◌, ◌++◌, append-nil, Option, refl, sym, ap, ◌∙◌, append_assoc, flat_map, Some, None, codes, decimal, sum_by}
-use Rattle.audit_model.proofs.Common.{Bytes, case_head, case_line, case_shown, case_totals, CaseDecl, CaseEntry, cut-together, CutLines, end_text, ended, ending, Entry, event_text, File, first_line, item_text, items_line, journal_line}
-use Rattle.audit_model.proofs.Common.{kind_event_text, kind_line, kind_reply_text, kind_shown, KindEntry, line_start, lines_from, lines_of, LiveModel, marking_line, numbered, onto_lines, reply_text, Run, shown_line, state_line, summary, type_text}
-use Rattle.audit_model.proofs.Common.{values_line, with_fate}
+use Rattle.audit_model.proofs.Common.{Bytes, case_head, case_line, case_shown, case_totals, CaseDecl, CaseEntry, cut-together, CutLines, end_text, ended, ending, Entry, event_text, File, first_line, item_text, items_line, journal_line, kind_event_text, kind_line, kind_reply_text, kind_shown, KindEntry, line_start, lines_from, lines_of, LiveModel, marking_line, numbered, onto_lines, reply_text, Run, shown_line, state_line, summary, type_text, values_line, with_fate}
 use Rattle.case_core.specs.Shown.{items_of}
 use Rattle.report_words.specs.declared.totals.Fate.TheVariants as fate
 

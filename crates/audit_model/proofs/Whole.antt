@@ -1,37 +1,31 @@
 -- What is taken of the report is the report of a legal run.
-use Rattle.std.proofs.Common.{◌≡◌, ℕ, zero, suc, ◌≤◌, ◌==◌, eq-eqb, Bool, true, false, List, [], ◌∷◌, ◌++◌, append-nil, filter, length, take, Option, Some, None, slice_get, inl, inr, refl, sym, ap, ◌∙◌, subst, arith, if◌then◌else◌}
+use Rattle.std.proofs.Common.{◌≡◌, ℕ, zero, suc, ◌≤◌, ◌==◌, eq-eqb, true, false, List, [], ◌∷◌, ◌++◌, append-nil, filter, length, take, Option, Some, None, slice_get, inl, inr, refl, sym, ap, ◌∙◌, subst, arith, if◌then◌else◌}
 use Rattle.std.proofs.lemmas.Bool.{eqb-true}
-use Rattle.audit_model.proofs.Common.{All-rows, all-rows-map, all_owed, all_rows, AllRows, and_from, answers-whole, AreTraces, Asked, asked_phases, Bytes, calls_case, calls_kind, calls_of, calls_of_case, calls_of_kind, case_after}
+use Rattle.audit_model.proofs.Common.{All-from_recursion, all-rows-map, all_owed, all_rows, AllRows, and_from, answers-whole, AreTraces, Asked, asked_phases, Bytes, calls_case, calls_kind, calls_of, calls_of_case, calls_of_kind, case_after}
 use Rattle.audit_model.proofs.Common.{case_event_of, case_reply, CaseDecl, CaseEntry, CaseId, ClosedCase, ClosedKind, done_by, ending, Entry, entry, File, filter-rows, first_wrong, Fit, has_id, HasCalls, ids-distinct, IsActor, IsAuditable}
 use Rattle.audit_model.proofs.Common.{IsDeclared, IsFirstWrong, take-known, IsKnown, IsLegal, IsLegalCase, IsLegalKind, IsReport, IsSound, IsWhole, IsWorkable, kind_after, kind_event_of, kind_reply, KindEntry, Legal, length-map, Line}
-use Rattle.audit_model.proofs.{Common.{lines_by, list_any, not_created, not_defined, or_cases, owed_case, owed_kind, program, report_reader, row-at, Run, sound-defined, state_after, take-map, Takes, telling, Trace, TypeDecl}, Calls.FitCase}
-use Rattle.audit_model.proofs.{Calls.{asked_actor, fit-case_phases, to_case, actor_of, fit-phases, owed_in, take-traces}, Readers.{report-whole, report-taken}, Runs.{case-actors, length-asked, take-asked, told-all, told-front, not-own}}
-use Rattle.audit_model.proofs.{LineQueues.{AsksReady, CasesReady, KnownOwn, lines-done}, Live.report-live, OwnLines.{OwnTelling, asked_own, own-owed_case, own_left, own_lines}, Queues.{CaseQueues, KindQueues, cases-begin, cases_left}}
-use Rattle.audit_model.proofs.{Queues.{kinds-begin, kinds_left, same-id, take-traces_of, traces_of}, Ready.{calls-rows, kind_queues, kinds-ready, whole-kind}, TakenParts.{CaseTaken, CasesTaken, KindTaken, KindsTaken, kind-at, run-of}}
-use mathlib.Core.List.{IsPrefix}
+use Rattle.audit_model.proofs.Common.{lines_by, list_any, not_created, not_defined, or_cases, owed_case, owed_kind, program, report_reader, row-at, Run, sound-defined, state_after, take-map, Takes, telling, Trace, TypeDecl, if-either}
+use Rattle.audit_model.proofs.{Calls.{FitCase, asked_actor, fit-case_phases, to_case, actor_of, fit-phases, owed_in, take-traces}, Readers.{report-whole, report-taken}, Runs.{case-actors, length-asked, take-asked, told-all, told-front}}
+use Rattle.audit_model.proofs.{Runs.not-own, LineQueues.{AsksReady, CasesReady, KnownOwn, lines-done}, Live.report-live, OwnLines.{OwnTelling, asked_own, own-owed_case, own_left, own_lines}, Queues.{CaseQueues, KindQueues, cases-begin}}
+use Rattle.audit_model.proofs.{Queues.{cases_left, kinds-begin, kinds_left, same-id, take-traces_of, traces_of}, Ready.{calls-rows, kind_queues, kinds-ready, whole-kind}, TakenParts.{CaseTaken, CasesTaken, KindTaken, KindsTaken, kind-at}}
+use Rattle.audit_model.proofs.{TakenParts.run-of, Callers.take-front}
 use Rattle.legal_run.specs.LineCalls.{lines_of}
 use Rattle.turn_cell.proofs.Histories.{calls_of-append}
 use Rattle.line_readers.proofs.FirstWrong.{first-wrong}
+use mathlib.Core.List.{IsPrefix}
 use Rattle.type_core.specs.declared.events.KindEvent.TheVariants as kind_event
 use Rattle.type_core.specs.declared.replies.KindReply.TheVariants as kind_answer
 
 -- ---- beginnings of one list that are equally long
 same-beginnings : {X : Type 0} (xs ys left more zs : List X) → xs ++ left ≡ zs → ys ++ more ≡ zs → length xs ≡ length ys → xs ≡ ys
-same-beginnings [] [] left more zs one two same = refl
-same-beginnings [] (y ∷ ys) left more zs one two same = absurd (omega (arith, same))
-same-beginnings (x ∷ xs) [] left more zs one two same = absurd (omega (arith, same))
-same-beginnings (x ∷ xs) (y ∷ ys) left more zs one two same =
-    let both : x ∷ (xs ++ left) ≡ y ∷ (ys ++ more) = one ∙ sym two in
-    let first : x ≡ y = cc (both) in
-    let rest : xs ++ left ≡ ys ++ more = cc (both) in
-    ap (λ z. z ∷ xs) first ∙ ap (λ zs2. y ∷ zs2) (same-beginnings xs ys left more (ys ++ more) rest refl (omega (arith, same)))
+same-beginnings {X} xs ys left more zs one two same =
+    sym (take-front xs left) ∙ (ap (take (length xs)) (one ∙ sym two) ∙ (ap (λ n. take n (ys ++ more)) same ∙ take-front ys more))
 
 module _ {M E R W S L : Type 0} (after : S → E → S) (reply : S → E → R) (actor_of : L → ℕ) (event_of : L → Option E) where
   fit-length : (es : List (Entry M E R W S)) (ls : List L) → Fit after reply actor_of event_of es ls → length es ≡ length ls
   fit-length [] [] fit = refl
-  fit-length [] (l ∷ ls) fit = absurd fit
-  fit-length (e ∷ es) [] fit = absurd fit
   fit-length (e ∷ es) (l ∷ ls) fit = ap suc (fit-length es ls fit.1)
+  fit-length es ls fit = absurd fit
 
   -- entries that fit the same lines, of which both are beginnings of one list
   fit-same : (xs ys left more zs : List (Entry M E R W S)) (ls : List L) → xs ++ left ≡ zs → ys ++ more ≡ zs → Fit after reply actor_of event_of xs ls → Fit after reply actor_of event_of ys ls → xs ≡ ys
@@ -52,17 +46,15 @@ for-declared : (P : CaseId → List CaseEntry → Type 0) (ds : List CaseDecl) (
     → (c : CaseId) → IsDeclared c ds → P c (journal_for c ds ks)
 for-declared P [] ks many each c declared = absurd (cc (declared))
 for-declared P (d ∷ ds) [] many each c declared = absurd (omega (arith, many))
-for-declared P (d ∷ ds) (k ∷ ks) many each c declared = by (has_id c d) refl (λ there. for-declared P ds ks (omega (arith, many)) (λ i e j at_d at_k. each (suc i) e j at_d at_k) c there)
+for-declared P (d ∷ ds) (k ∷ ks) many each c declared =
+    if-either (P c) (has_id c d) k.journal (journal_for c ds ks) (λ is. subst (λ x. P x k.journal) (same-id c d.id is) (each 0 d k refl refl))
+    (λ not. for-declared P ds ks (omega (arith, many)) (λ i e j at_d at_k. each (suc i) e j at_d at_k) c (later not))
   where
     later : has_id c d ≡ false → IsDeclared c ds
     later not = elim (or_cases (has_id c d) (list_any (has_id c) ds) declared) [
       | inl here ↦ absurd (cc (here, not))
       | inr more ↦ more
     ]
-
-    by : (test : Bool) → has_id c d ≡ test → (IsDeclared c ds → P c (journal_for c ds ks)) → P c (if test then k.journal else journal_for c ds ks)
-    by true is more = subst (λ x. P x k.journal) (same-id c d.id is) (each 0 d k refl refl)
-    by false not more = more (later not)
 
 -- at an index, where no case before has the id
 journal-at : (ds : List CaseDecl) (ks : List ClosedCase) (i : ℕ) (d : CaseDecl) (k : ClosedCase) → slice_get ds i ≡ Some d → slice_get ks i ≡ Some k → ((j : ℕ) (e : CaseDecl) → slice_get ds j ≡ Some e → e.id ≡ d.id → j ≡ i) → journal_for d.id ds ks ≡ k.journal
@@ -73,11 +65,9 @@ journal-at (e ∷ ds) (j ∷ ks) zero d k at_d at_k apart =
     let same_k : j ≡ k = cc (at_k) in
     let own : has_id d.id e ≡ true = subst (λ x. has_id d.id x ≡ true) (sym same_d) (and_from (d.id.type_no == d.id.type_no) (d.id.place == d.id.place) (eq-eqb d.id.type_no d.id.type_no refl) (eq-eqb d.id.place d.id.place refl)) in
     ap (λ test. if test then j.journal else journal_for d.id ds ks) own ∙ ap (λ (x : ClosedCase). x.journal) same_k
-journal-at (e ∷ ds) (j ∷ ks) (suc i) d k at_d at_k apart = by (has_id d.id e) refl (journal-at ds ks i d k at_d at_k (λ n x at_x same. let next = apart (suc n) x at_x same in omega (arith, next)))
-  where
-    by : (test : Bool) → has_id d.id e ≡ test → journal_for d.id ds ks ≡ k.journal → (if test then j.journal else journal_for d.id ds ks) ≡ k.journal
-    by true is more = let same = apart 0 e refl (same-id d.id e.id is) in absurd (omega (arith, same))
-    by false not more = more
+journal-at (e ∷ ds) (j ∷ ks) (suc i) d k at_d at_k apart =
+    if-either (λ es. es ≡ k.journal) (has_id d.id e) j.journal (journal_for d.id ds ks) (λ is. let same = apart 0 e refl (same-id d.id e.id is) in absurd (omega (arith, same)))
+    (λ not. journal-at ds ks i d k at_d at_k (λ n x at_x same. let next = apart (suc n) x at_x same in omega (arith, next)))
 
 module _ (f : File) (workable : IsWorkable f) where
   -- ---- traces of lines
@@ -191,7 +181,7 @@ module _ (f : File) (workable : IsWorkable f) where
             machine = whole.state ∙ sym (ap (state_after kind_after (not_defined t)) taken.journal);
             others = taken.others;
             defined = taken.journal ∙ ap (λ x. entry program (kind_event.Define d.schema) x ∷ taken.others) answer;
-            callers = All-rows (λ (e : KindEntry). IsActor f e.caller) taken.others whole.callers;
+            callers = All-from_recursion (λ (e : KindEntry). IsActor f e.caller) taken.others whole.callers;
             calls = record { whole = kind-whole-calls; behind = kind-behind };
           }
 
@@ -237,7 +227,7 @@ module _ (f : File) (workable : IsWorkable f) where
       legal-case = record {
         legal = whole-here.legal;
         machine = whole-here.state;
-        callers = All-rows (λ (e : CaseEntry). IsActor f e.caller) c.journal whole-here.callers;
+        callers = All-from_recursion (λ (e : CaseEntry). IsActor f e.caller) c.journal whole-here.callers;
         calls = record { whole = case-whole-calls; behind = case-behind };
       }
 
