@@ -1,6 +1,6 @@
 -- The calls of a file that is read can be written as payloads: no block of a sound type stands too deep.
 use Rattle.std.proofs.{Common.{◌≡◌, ℕ, ◌+◌, Bool, true, false, List, [], ◌∷◌, ◌++◌, fold, Option, Some, None, refl, arith}, lemmas.Bool.Decides.nat_tests}
-use Rattle.std.specs.{Prelude.{nat_le, nat_lt, option_map, if◌then◌else◌}, List.AllByRecursion, Option.option_or}
+use Rattle.std.specs.{Prelude.{nat_le, nat_lt, option_map, if◌then◌else◌}, List.AllByRecursion}
 use Rattle.case_core.specs.declared.events.Event.{Event}
 use Rattle.case_core.specs.declared.events.Event.TheVariants as event
 use Rattle.file_facts.specs.Facts.{IsSound, IsWorkable}
@@ -16,6 +16,7 @@ use Rattle.store_room.specs.Room.{IsPayable}
 use Rattle.type_core.specs.{KindModel.KindModel, declared.events.KindEvent.KindEvent}
 use Rattle.type_core.specs.declared.events.KindEvent.TheVariants as kind_event
 use Rattle.wsm_lists.specs.Rows.{AllRows}
+use Rattle.wsm_ops.proofs.Distinct.{first_none}
 use Rattle.wsm_schema.specs.{SchemaModel.SchemaModel, Sound.{block_fault, data_fault, over_limit, parts_depth, when}}
 use Rattle.wsm_sound.specs.{Faults.fault_of, declared.versions.CaseId.CaseId}
 use Rattle.wsm_sound.specs.declared.faults.Fault.TheVariants as fault
@@ -26,15 +27,6 @@ All cs = AllByRecursion IsPayable cs
 all-append : (xs ys : List Recorded) → All xs → All ys → All (xs ++ ys)
 all-append [] ys one two = two
 all-append (x ∷ xs) ys one two = (one.0, all-append xs ys one.1 two)
-
--- none of two is there
-no-first : {X : Type 0} (a b : Option X) → option_or a b ≡ None → a ≡ None
-no-first None b is = refl
-no-first (Some x) b is = absurd cc
-
-no-second : {X : Type 0} (a b : Option X) → option_or a b ≡ None → b ≡ None
-no-second None b is = is
-no-second (Some x) b is = absurd cc
 
 not-mapped : {X Y : Type 0} (f : X → Y) (o : Option X) → option_map f o ≡ None → o ≡ None
 not-mapped f None is = refl
@@ -47,9 +39,9 @@ not-when false x is = refl
 sound-shallow : (s : SchemaModel) → fault_of s ≡ None → nat_le (parts_depth s.body) 64 ≡ true
 unfolding fault_of
 sound-shallow s sound =
-    let blocks : block_fault s ≡ None = not-mapped fault.Block (block_fault s) (no-first (option_map fault.Block (block_fault s)) (option_map fault.Data (data_fault s)) sound) in
-    let limits : over_limit s ≡ None = no-first (over_limit s) _ blocks in
-    let shallow : nat_lt 64 (parts_depth s.body) ≡ false = not-when (nat_lt 64 (parts_depth s.body)) _ (no-first _ _ (no-second _ _ limits)) in
+    let blocks : block_fault s ≡ None = not-mapped fault.Block (block_fault s) (first_none (option_map fault.Block (block_fault s)) (option_map fault.Data (data_fault s)) sound).0 in
+    let limits : over_limit s ≡ None = (first_none (over_limit s) _ blocks).0 in
+    let shallow : nat_lt 64 (parts_depth s.body) ≡ false = not-when (nat_lt 64 (parts_depth s.body)) _ (first_none _ _ (first_none _ _ limits).1).0 in
     grind (arith, nat_tests, shallow)
 
 pub definitions-payable : (t : ℕ) (ds : List TypeDecl) → AllRows IsSound ds → All (definitions t ds)

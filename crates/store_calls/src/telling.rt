@@ -4,7 +4,7 @@ ghost use Rattle.file_facts.specs.Facts.{IsWorkable};
 ghost use Rattle.file_model.specs.Sizes.{IsBounded, is_small, line_effort, phase_effort};
 ghost use Rattle.line_calls.specs.Calls.{call_weight};
 ghost use Rattle.script_run.specs.{Serial.program, Verdicts.defined_kind};
-ghost use Rattle.store_calls.specs.{Calls.{calls, create_calls, by, migrate_calls, migrations, newest_number, phase_ends, stored_kind, told_call, told_line, told_phase, told_types}, Told.{told_of, with_call, with_calls}};
+ghost use Rattle.store_calls.specs.{Calls.{calls, by, migrations, newest_number, phase_ends, stored_kind, told_call, told_line, told_phase, told_types}, Told.{told_of, with_call, with_calls}};
 ghost use Rattle.store_room.specs.Room.{IsPayable};
 ghost use Rattle.type_core.specs.Machine.{weight as kind_weight};
 ghost use Rattle.wsm_schema.specs.Flat.{cards_of};
@@ -126,10 +126,9 @@ impl Telling {
         match call {
             Call::Kind { type_no, event } => self.tell_kind(alloc, caller, type_no, event),
             Call::Case { id, event } => self.note(caller, Stored::Case(id, event)),
-            Call::Newest { type_no, then } => match then {
-                Told::Create(id) => self.create(caller, type_no, id),
-                Told::Migrate(many) => self.migrate(caller, type_no, many, file.cases.as_slice()),
-            },
+            Call::Newest { type_no, then } => {
+                self.tell_newest(caller, type_no, then, file.cases.as_slice())
+            }
         }
     }
 
@@ -150,33 +149,24 @@ impl Telling {
         self.note(caller, stored_kind(type_no, event))
     }
 
-    // The type is asked for its newest version, and the case is created on it.
-    fn create(&mut self, caller: u32, type_no: u32, id: CaseId) -> Result<(), NoMemory>
-        ensures { OnOk result (told_of self.new ≡ with_calls (by caller (Stored.Newest type_no) ∷ create_calls caller id (newest_number type_no self.old.kinds.items)) (told_of self.old)) }
-    {
-        let newest = self.newest_number(type_no);
-        self.note(caller, Stored::Newest(type_no))?;
-        match newest {
-            None => Ok(()),
-            Some(number) => self.note(caller, Stored::Create(id, number)),
-        }
-    }
-
-    // The type is asked for its newest version, and each of its first so many cases is to move to it.
-    fn migrate(
+    // The type is asked for its newest version, on which the case is created, or to which each of its first so many cases is to move.
+    fn tell_newest(
         &mut self,
         caller: u32,
         type_no: u32,
-        many: u32,
+        then: Told,
         cases: &[CaseDecl],
     ) -> Result<(), NoMemory>
-        ensures { OnOk result (told_of self.new ≡ with_calls (by caller (Stored.Newest type_no) ∷ migrate_calls caller type_no many cases.now (newest_number type_no self.old.kinds.items)) (told_of self.old)) }
+        ensures { OnOk result (told_of self.new ≡ told_call cases.now caller (Call.Newest type_no then) (told_of self.old)) }
     {
         let newest = self.newest_number(type_no);
         self.note(caller, Stored::Newest(type_no))?;
         match newest {
             None => Ok(()),
-            Some(number) => self.migrate_to(caller, type_no, many, number, cases),
+            Some(number) => match then {
+                Told::Create(id) => self.note(caller, Stored::Create(id, number)),
+                Told::Migrate(many) => self.migrate_to(caller, type_no, many, number, cases),
+            },
         }
     }
 
