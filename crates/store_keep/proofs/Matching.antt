@@ -1,42 +1,32 @@
 -- Records that are compared with calls one after another.
-use Rattle.store_keep.proofs.Common.{[], ℕ, ◌++◌, ◌+◌, ◌<◌, ◌^◌, ◌∙◌, ◌∷◌, ◌≡◌, ◌≤◌, all_framed, all_short, ap, append_assoc, arith, Bytes, bytes_eq, closed, closes, drop, EndsAt, false, finds, frame, framed, framed-more, frames}
-use Rattle.store_keep.proofs.Common.{frames_from, if◌then◌else◌, is_call, IsFrame, length, length-append, length-drop, length-take-le, List, map, map_push, None, one_framed, Option, payload_of, Recorded, refl, slice_get, Some, subst, suc}
-use Rattle.store_keep.proofs.Common.{sym, take, true, with_gate, zero}
+use Rattle.store_keep.proofs.Common.{[], ℕ, ◌++◌, ◌+◌, ◌<◌, ◌^◌, ◌∙◌, ◌∷◌, ◌≡◌, ◌≤◌, all_framed, all_short, ap, append_assoc, arith, Bool, Bytes, closed, closes, drop, EndsAt, false, finds, frame, framed, framed-more, frames, frames_from}
+use Rattle.store_keep.proofs.Common.{if◌then◌else◌, is_call, IsFrame, length, length-append, length-drop, length-take-le, List, map, map_push, None, one_framed, Option, payload_of, Recorded, refl, slice_get, Some, subst, suc, sym, take}
+use Rattle.store_keep.proofs.Common.{true, with_gate, zero}
 use Rattle.std.specs.List.{AllByRecursion}
 use Rattle.std.proofs.lemmas.Slice.Eq.{bytes_eq-Decides}
 use Rattle.store_disk.specs.declared.frames.Frame.TheVariants as front
+use Rattle.store_disk.specs.Image.{Frames}
+use Rattle.store_keep.specs.declared.finding.Found.{Found}
 use Rattle.store_keep.specs.declared.finding.Found.TheVariants as found
 
--- an item of a list by its index
-pub all-get : {X : Type 0} (P : X → Type 0) (xs : List X) (i : ℕ) (x : X) → AllByRecursion P xs → slice_get xs i ≡ Some x → P x
-all-get P [] zero x all is = absurd cc
-all-get P [] (suc i) x all is = absurd cc
-all-get P (y ∷ ys) zero x all is = let same : y ≡ x = cc in subst P same all.0
-all-get P (y ∷ ys) (suc i) x all is = all-get P ys i x all.1 is
+-- an item of a list, and what stands before it
+item : {X : Type 0} (xs : List X) (i : ℕ) (x : X) → slice_get xs i ≡ Some x → (suc i ≤ length xs) × (take (suc i) xs ≡ take i xs ++ x ∷ [])
+item [] zero x is = absurd cc
+item [] (suc i) x is = absurd cc
+item (y ∷ ys) zero x is = let same : y ≡ x = cc in (omega arith, ap (λ z. z ∷ []) same)
+item (y ∷ ys) (suc i) x is = let more = item ys i x is in (omega (arith, more.0), ap (λ zs. y ∷ zs) more.1)
 
-take-suc : {X : Type 0} (xs : List X) (i : ℕ) (x : X) → slice_get xs i ≡ Some x → take (suc i) xs ≡ take i xs ++ x ∷ []
-take-suc [] zero x is = absurd cc
-take-suc [] (suc i) x is = absurd cc
-take-suc (y ∷ ys) zero x is = let same : y ≡ x = cc in ap (λ z. z ∷ []) same
-take-suc (y ∷ ys) (suc i) x is = ap (λ zs. y ∷ zs) (take-suc ys i x is)
+-- one record more is compared
+found-at : (n : ℕ) (calls : List Recorded) (i : ℕ) (p : Bytes) (others : Frames) (place : ℕ)
+    → finds n (map payload_of (drop i calls)) (frame place p others) ≡ (if is_call (slice_get calls i) p then finds (n + 1) (map payload_of (drop (suc i) calls)) others else found.Differs (n + 1))
+found-at n [] zero p others place = refl
+found-at n [] (suc i) p others place = refl
+found-at n (c ∷ cs) zero p others place = refl
+found-at n (c ∷ cs) (suc i) p others place = found-at n cs i p others place
 
-drop-suc : {X : Type 0} (xs : List X) (i : ℕ) (x : X) → slice_get xs i ≡ Some x → drop i xs ≡ x ∷ drop (suc i) xs
-drop-suc [] zero x is = absurd cc
-drop-suc [] (suc i) x is = absurd cc
-drop-suc (y ∷ ys) zero x is = let same : y ≡ x = cc in ap (λ z. z ∷ ys) same
-drop-suc (y ∷ ys) (suc i) x is = drop-suc ys i x is
-
-drop-none : {X : Type 0} (xs : List X) (i : ℕ) → slice_get xs i ≡ None → drop i xs ≡ []
-drop-none [] zero is = refl
-drop-none [] (suc i) is = refl
-drop-none (y ∷ ys) zero is = absurd cc
-drop-none (y ∷ ys) (suc i) is = drop-none ys i is
-
-get-within : {X : Type 0} (xs : List X) (i : ℕ) (x : X) → slice_get xs i ≡ Some x → suc i ≤ length xs
-get-within [] zero x is = absurd cc
-get-within [] (suc i) x is = absurd cc
-get-within (y ∷ ys) zero x is = omega arith
-get-within (y ∷ ys) (suc i) x is = omega (arith, get-within ys i x is)
+called : (o : Option Recorded) (p : Bytes) → is_call o p ≡ true → (r : Recorded) × (o ≡ Some r) × (payload_of r ≡ p)
+called None p same = absurd cc
+called (Some r) p same = (r, refl, (bytes_eq-Decides (payload_of r) p).0 same)
 
 -- bytes of an image that was looked at as a disk with a gate are framed from their front
 frames-whole : (image : List ℕ) → with_gate image ≡ image → frames_from 0 0 image ≡ frames image
@@ -96,44 +86,35 @@ module _ (calls : List Recorded) (image rest : List ℕ) (count place : ℕ) (so
     first : frames_from place 0 rest ≡ frame place p (frames_from (place + (5 + length p)) 0 after)
     first = ap (frames_from place 0) cut ∙ one_framed p after place (omega (arith, size, here.1))
 
+    abbrev next : Bool → Found
+    next b = if b then finds (count + 1) (map payload_of (drop (suc count) calls)) (frames_from (place + (5 + length p)) 0 after) else found.Differs (count + 1)
+
+    compared : (b : Bool) → is_call (slice_get calls count) p ≡ b → next b ≡ finds 0 (map payload_of calls) (frames image)
+    compared b is =
+        ap next (sym is) ∙ sym (found-at count calls count p (frames_from (place + (5 + length p)) 0 after) place)
+        ∙ ap (finds count (map payload_of (drop count calls))) (sym first) ∙ so_far.found
+
     -- it is not that call
     pub differs-here : is_call (slice_get calls count) p ≡ false → found.Differs (count + 1) ≡ finds 0 (map payload_of calls) (frames image)
-    differs-here differs = go (slice_get calls count) refl differs ∙ ap (finds count (map payload_of (drop count calls))) (sym first) ∙ so_far.found
-      where
-        go : (o : Option Recorded) → slice_get calls count ≡ o → is_call o p ≡ false
-            → found.Differs (count + 1) ≡ finds count (map payload_of (drop count calls)) (frame place p (frames_from (place + (5 + length p)) 0 after))
-        go None is other = sym (ap (λ rs. finds count (map payload_of rs) (frame place p (frames_from (place + (5 + length p)) 0 after))) (drop-none calls count is))
-        go (Some r) is other =
-            sym (ap (λ rs. finds count (map payload_of rs) (frame place p (frames_from (place + (5 + length p)) 0 after))) (drop-suc calls count r is)
-            ∙ ap (λ b. if b then finds (count + 1) (map payload_of (drop (suc count) calls)) (frames_from (place + (5 + length p)) 0 after) else found.Differs (count + 1)) other)
+    differs-here differs = compared false differs
 
     -- it is that call
-    go-on : (r : Recorded) → slice_get calls count ≡ Some r → bytes_eq (payload_of r) p ≡ true → Matched calls image after (suc count) (place + (5 + length p))
-    go-on r is same =
-        let q : payload_of r ≡ p = (bytes_eq-Decides (payload_of r) p).0 same in
+    pub goes-on : (one at : ℕ) → one ≡ count + 1 → at ≡ place + (5 + len) → is_call (slice_get calls count) p ≡ true → Matched calls image after one at
+    goes-on one at counts stands same =
+        let hit = called (slice_get calls count) p same in
+        let there = item calls count hit.0 hit.1 in
         let more : firsts calls (suc count) ≡ firsts calls count ++ p ∷ [] =
-        ap (map payload_of) (take-suc calls count r is) ∙ map_push payload_of (take count calls) r ∙ ap (λ x. firsts calls count ++ x ∷ []) q in
+        ap (map payload_of) there.1 ∙ map_push payload_of (take count calls) hit.0 ∙ ap (λ q. firsts calls count ++ q ∷ []) hit.2 in
         let longer : all_framed (firsts calls (suc count)) ≡ all_framed (firsts calls count) ++ framed p = ap all_framed more ∙ framed-more (firsts calls count) p in
-        let next : ℕ = place + (5 + length p) in
         let plus : suc count ≡ count + 1 = omega arith in
-        record {
-          within = get-within calls count r is;
+        let reached : place + (5 + length p) ≡ at = omega (arith, stands, size) in
+        subst (λ n. Matched calls image after n at) (plus ∙ sym counts)
+        (record {
+          within = there.0;
           parts = so_far.parts ∙ ap (λ l. all_framed (firsts calls count) ++ l) cut ∙ sym (append_assoc (all_framed (firsts calls count)) (framed p) after) ∙ ap (λ l. l ++ after) (sym longer);
-          stands = omega (arith, so_far.stands, ap length longer, length-append (all_framed (firsts calls count)) (framed p));
+          stands = omega (arith, reached, so_far.stands, ap length longer, length-append (all_framed (firsts calls count)) (framed p));
           short = subst (AllByRecursion (λ x. length x < 2 ^ 32)) (sym more) (all_short (firsts calls count) p so_far.short (omega (arith, size, here.1)));
           found =
-              ap (λ n. finds n (map payload_of (drop (suc count) calls)) (frames_from next 0 after)) plus
-              ∙ sym (ap (λ rs. finds count (map payload_of rs) (frame place p (frames_from next 0 after))) (drop-suc calls count r is)
-              ∙ ap (λ b. if b then finds (count + 1) (map payload_of (drop (suc count) calls)) (frames_from next 0 after) else found.Differs (count + 1)) same)
-              ∙ ap (finds count (map payload_of (drop count calls))) (sym first) ∙ so_far.found;
-        }
-
-    pub goes-on : (one at : ℕ) → one ≡ count + 1 → at ≡ place + (5 + len) → is_call (slice_get calls count) p ≡ true → Matched calls image after one at
-    goes-on one at counts stands same = go (slice_get calls count) refl same
-      where
-        go : (o : Option Recorded) → slice_get calls count ≡ o → is_call o p ≡ true → Matched calls image after one at
-        go None is other = absurd cc
-        go (Some r) is same =
-            let plus : suc count ≡ one = omega (arith, counts) in
-            subst (λ n. Matched calls image after n at) plus
-            (subst (Matched calls image after (suc count)) (omega (arith, stands, size)) (go-on r is same))
+              ap (λ n. finds n (map payload_of (drop (suc count) calls)) (frames_from at 0 after)) plus
+              ∙ ap (λ g. finds (count + 1) (map payload_of (drop (suc count) calls)) (frames_from g 0 after)) (sym reached) ∙ compared true same;
+        })

@@ -3,7 +3,7 @@ use Rattle.store_keep.proofs.Common.{[], ℕ, ◌++◌, ◌∙◌, ◌∷◌, �
 use Rattle.store_keep.proofs.Common.{IsErrOf, IsLeft, IsSettled, IsStored, LeavesOnly, length, length-map, length-take-le, List, map, Ok, Only, Overflows, payload_of, payloads_in, Recorded, refl, Result, subst, suc, sym, take, Tells}
 use Rattle.store_keep.proofs.{Common.{weaker, with_gate, zero}, Held.{gate-frames, held-list, rest-again, same-frames, whole-list}, Matching.firsts}
 use Rattle.std.specs.Prelude.{Err}
-use Rattle.store_keep.specs.declared.faults.KeepFault.{KeepFault}
+use Rattle.store_keep.specs.{Finding.HoldsFound, declared.faults.KeepFault.KeepFault, declared.finding.Found.Found}
 use Rattle.store_keep.specs.declared.faults.KeepFault.TheVariants as fault
 use Rattle.store_keep.specs.declared.finding.Found.TheVariants as found
 
@@ -52,7 +52,14 @@ module _ {D : Type 0} (content : D → List ℕ) (may_leave : D → List ℕ →
           images = λ c left. subst (may_leave old) (sym (settled.leaves c left ∙ kept)) (stays old);
         }
 
-    module _ (calls : List Recorded) (count gate : ℕ) (within : count ≤ length calls) (ends : EndsAt image (firsts calls count) gate) where
+    -- the bytes hold the first so many of the calls
+    module _ (bytes : List ℕ) (shown : bytes ≡ image) (calls : List Recorded) (f : Found) (holds : HoldsFound calls bytes f) (count gate : ℕ) (arm : f ≡ found.Beginning count gate) where
+      there : HoldsFound calls image (found.Beginning count gate)
+      there = subst (λ b. HoldsFound calls b (found.Beginning count gate)) shown (subst (HoldsFound calls bytes) arm holds)
+
+      ends : EndsAt image (firsts calls count) gate
+      ends = there.1
+
       list : HasList (firsts calls count) (content old)
       list = sym image-frames ∙ ap frames ends.bytes ∙ frames_at (firsts calls count) ends.gate ends.behind ends.shut ends.short
 
@@ -95,7 +102,7 @@ module _ {D : Type 0} (content : D → List ℕ) (may_leave : D → List ℕ →
       at = ap (λ ps. length (all_framed ps)) held-old ∙ sym ends.stands
 
       many : length (held (content old)) ≡ count
-      many = ap length held-old ∙ firsts-length calls count within
+      many = ap length held-old ∙ firsts-length calls count there.0
 
       pub overflow-told : (limit : ℕ) → Overflows limit gate (drop count calls) → Tells limit calls (content old) fault.Full
       overflow-told limit over = subst (λ g. Overflows limit g (drop (length (held (content old))) calls)) (sym at) (subst (λ n. Overflows limit gate (drop n calls)) (sym many) over)
@@ -104,17 +111,8 @@ module _ {D : Type 0} (content : D → List ℕ) (may_leave : D → List ℕ →
       told-overflows limit full = subst (λ n. Overflows limit gate (drop n calls)) many (subst (λ g. Overflows limit g (drop (length (held (content old))) calls)) at full)
 
 -- what a fault of storing says
-no-add : {e : KeepFault} {X : Type 0} → (e ≡ fault.Full → ⊥) → (e ≡ fault.NoMemory → ⊥) → (e ≡ fault.Disk → ⊥) → IsAddFault e → X
-no-add full memory disk (inl is) = absurd (full is)
-no-add full memory disk (inr (inl is)) = absurd (memory is)
-no-add full memory disk (inr (inr is)) = absurd (disk is)
-
 pub add-tells : {X : Type 0} (limit : ℕ) (calls : List Recorded) (image : List ℕ) (r : Result X KeepFault) → IfErr r (λ e. IsAddFault e) → (IsErrOf r fault.Full → Tells limit calls image fault.Full) → IfErr r (λ e. Tells limit calls image e)
 add-tells limit calls image (Ok x) others full = tt
-add-tells limit calls image (Err fault.Disk) others full = tt
-add-tells limit calls image (Err fault.NoMemory) others full = tt
-add-tells limit calls image (Err fault.Full) others full = full refl
-add-tells limit calls image (Err fault.TooLong) others full = no-add (λ e. absurd cc) (λ e. absurd cc) (λ e. absurd cc) others
-add-tells limit calls image (Err (fault.Damaged place)) others full = no-add (λ e. absurd cc) (λ e. absurd cc) (λ e. absurd cc) others
-add-tells limit calls image (Err (fault.Differs number)) others full = no-add (λ e. absurd cc) (λ e. absurd cc) (λ e. absurd cc) others
-add-tells limit calls image (Err fault.Unwritten) others full = tt
+add-tells limit calls image (Err e) (inl is) full = subst (Tells limit calls image) (sym is) (full (ap Err is))
+add-tells limit calls image (Err e) (inr (inl is)) full = subst (Tells limit calls image) (sym is) tt
+add-tells limit calls image (Err e) (inr (inr is)) full = subst (Tells limit calls image) (sym is) tt

@@ -1,5 +1,5 @@
-use Rattle.store_keep.proofs.Common.{◌++◌, ◌+◌, ◌-◌, ◌∙◌, ◌≡◌, all_framed, ap, arith, drop, Err, err_from_is_err_and, HasNoneOrAll, held, IsAtRest, LeavesOnly, length, length-map, length-take-le, map, Overflows, payload_of, refl, subst}
-use Rattle.store_keep.proofs.{Common.{sym, take, take-append-drop}, Additions.{Progress, group-more, moments, nothing-yet, room-full, split-group, stays}, Held.{begins-self, rest-again}}
+use Rattle.store_keep.proofs.Common.{◌++◌, ◌+◌, ◌-◌, ◌∙◌, ◌≡◌, all_framed, ap, arith, drop, Err, err_from_is_err_and, held, HoldsBeginning, length, length-map, length-take-le, map, Overflows, payload_of, refl, started, subst}
+use Rattle.store_keep.proofs.{Common.{sym, take, take-append-drop}, Additions.{group-more, moments, room-full, split-group}, Held.{beginning, begins-self, rest-image}}
 use Rattle.store_room.specs.declared.faults.RoomFault.TheVariants as room
 use Rattle.store_room.proofs.Grouped.{behind, over-behind, over-first, over-here}
 use Rattle.store_keep.proofs.adding.add_all.Goals as goal
@@ -9,14 +9,13 @@ loop-stored-init g c =
     let k = g.D.Disk in
     let disk = c.args.disk.now in
     let least = held (k.content disk) in
-    let left = drop c.args.stored c.args.calls.now in
+    let left = map payload_of (drop c.args.stored c.args.calls.now) in
     record {
-      progress = nothing-yet k.content k.may_leave k.moment k.left_since disk left c.args.gate c.requires.rest;
+      progress = record { rest = c.requires.rest; parts = refl; begins = begins-self least };
       short = c.requires.short;
       within = λ le. le;
-      moments =
-          stays k.content k.may_leave k.moment k.left_since g.met.D.Disk.only_now disk least (least ++ map payload_of left) least c.args.gate c.requires.rest
-          (map payload_of left, refl) (begins-self least);
+      moments = started k.moment k.left_since disk (HoldsBeginning (least ++ left) least)
+          (λ now held. beginning (least ++ left) least least now (rest-image k.content k.may_leave disk least c.args.gate c.requires.rest now (g.met.D.Disk.only_now disk now held)) (left, refl) (begins-self least));
       over = λ o. o;
       fits = λ o. o;
       steady = refl;
@@ -40,24 +39,17 @@ append_group-requires g c κs within =
     let phase = take (c.next_end-end.result.0 - l.stored) (drop l.stored c.args.calls.now) in
     let many : length c.in_ok-group.group ≡ c.in_ok-group.count =
     ap length first.are ∙ length-map (take c.in_ok-group.count phase) payload_of ∙ length-take-le c.in_ok-group.count phase first.within in
-    (search, (rest-again k.content k.may_leave l.disk l.invariant.progress.ps l.gate l.invariant.progress.rest, (omega (arith, many, first.some), omega (arith, l.invariant.short))))
+    (search, (l.invariant.progress.rest, (omega (arith, many, first.some), omega (arith, l.invariant.short))))
 
 pub returns-in_err-gate-clause-any_moment : goal.returns-in_err-gate-clause-any_moment
 returns-in_err-gate-clause-any_moment g c =
     let k = g.D.Disk in
     let l = c.loop-stored in
     let calls = c.args.calls.now in
-    let count = c.in_ok-group.count in
     let first = c.in_ok-group.ensures.first in
-    let n = c.next_end-end.result.0 - l.stored in
     let least = held (k.content c.args.disk.now) in
-    let all = least ++ map payload_of (drop c.args.stored calls) in
-    let group = take count (take n (drop l.stored calls)) in
-    let rest = drop (l.stored + count) calls in
-    let so_far : Progress k.content k.may_leave least all (group ++ rest) l.disk l.gate =
-    subst (λ left. Progress k.content k.may_leave least all left l.disk l.gate) (split-group count n l.stored calls first.within) l.invariant.progress in
-    moments k.content k.may_leave k.moment k.left_since least all group rest l.disk l.gate so_far c.args.disk.now c.append_group.new.disk l.invariant.moments
-    (subst (λ ps. LeavesOnly k.moment k.left_since l.disk c.append_group.new.disk (HasNoneOrAll (held (k.content l.disk)) ps)) first.are c.append_group.ensures.any_moment)
+    moments k.content k.may_leave k.moment k.left_since least (least ++ map payload_of (drop c.args.stored calls)) _ _ _ c.in_ok-group.group l.disk l.gate l.invariant.progress
+    (split-group c.in_ok-group.count (c.next_end-end.result.0 - l.stored) l.stored calls first.within) first.are c.args.disk.now c.append_group.new.disk l.invariant.moments c.append_group.ensures.any_moment
 
 pub loop-stored-preserved : goal.loop-stored-preserved
 loop-stored-preserved g c =
@@ -76,17 +68,15 @@ loop-stored-preserved g c =
     let next = c.in_ok-gate.gate in
     let added = c.in_ok-gate.ensures in
     let split = split-group count n l.stored calls first.within in
-    let so_far : Progress k.content k.may_leave least all (group ++ rest) l.disk l.gate = subst (λ left. Progress k.content k.may_leave least all left l.disk l.gate) split l.invariant.progress in
     let at : next ≡ behind l.gate group = added.next ∙ ap (λ ps. l.gate + length (all_framed ps)) first.are in
     record {
       progress =
-          group-more k.content k.may_leave k.moment k.left_since least all group rest l.disk l.gate so_far new next
-          (subst (λ ps. IsAtRest k.content k.may_leave new (held (k.content l.disk) ++ ps) next) first.are added.acknowledged);
+          group-more k.content k.may_leave k.moment k.left_since least all (drop l.stored calls) group rest c.in_ok-group.group l.disk l.gate l.invariant.progress split first.are new next added.acknowledged;
       short = omega (arith, added.next, first.short);
       within = λ le. omega (arith, added.size, l.invariant.within le, first.short);
       moments =
-          moments k.content k.may_leave k.moment k.left_since least all group rest l.disk l.gate so_far c.args.disk.now new l.invariant.moments
-          (subst (λ ps. LeavesOnly k.moment k.left_since l.disk new (HasNoneOrAll (held (k.content l.disk)) ps)) first.are c.append_group.ensures.any_moment);
+          moments k.content k.may_leave k.moment k.left_since least all (drop l.stored calls) group rest c.in_ok-group.group l.disk l.gate l.invariant.progress split first.are c.args.disk.now new l.invariant.moments
+          c.append_group.ensures.any_moment;
       over = λ o. l.invariant.over (subst (Overflows limit l.gate) (sym split) (over-here limit l.gate group rest (subst (λ g. Overflows limit g rest) at o)));
       fits = λ o. subst (λ g. Overflows limit g rest) (sym at) (over-behind limit l.gate group rest first.fits (subst (Overflows limit l.gate) split (l.invariant.fits o)));
       steady = added.no_fault ∙ l.invariant.steady;
