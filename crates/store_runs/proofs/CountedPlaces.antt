@@ -72,6 +72,9 @@ pub counts-size : (s : ℕ) (xs : List TypeDecl) (ds : List CaseDecl) → length
 counts-size s [] ds = refl
 counts-size s (x ∷ xs) ds = ap suc (counts-size (s + 1) xs ds)
 
+pub same-id : (c d : CaseId) → d.type_no ≡ c.type_no → d.place ≡ c.place → d ≡ c
+same-id c d types places = ap (λ t. record { type_no = t; place = d.place }) types ∙ ap (λ p. record { type_no = c.type_no; place = p }) places
+
 abbrev pub place-number : File → CaseId → ℕ
 place-number f c = sum-upto c.type_no (case_counts f) + c.place
 
@@ -90,7 +93,7 @@ module _ (f : File) (workable : IsWorkable f) where
   same-place c d one two is =
       let types : c.type_no ≡ d.type_no = one-place (case_counts f) c.type_no d.type_no c.place d.place _ _ (count-of c one) (count-of d two) (declared-placed f.cases c workable.placed one) (declared-placed f.cases d workable.placed two) is in
       let places : c.place ≡ d.place = omega (arith, is, ap (λ t. sum-upto t (case_counts f)) types) in
-      ap (λ t. record { type_no = t; place = c.place }) types ∙ ap (λ p. record { type_no = d.type_no; place = p }) places
+      same-id d c types places
 
 -- a fresh case
 abbrev fresh-of : ℕ → Option ClosedCase

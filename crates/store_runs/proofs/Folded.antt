@@ -1,11 +1,18 @@
 -- What a store makes of a file's calls is the serial run.
-use Rattle.store_runs.proofs.Common.{[], ℕ, ◌++◌, ◌+◌, ◌∙◌, ◌∷◌, ◌≡◌, AllRows, and_parts, ap, append_assoc, arith, Bool, by, Call, call_of, called, case_at, case_counts, CaseDecl, CaseId, cases_order, changed-seam, ClosedCase, ClosedKind}
-use Rattle.store_runs.proofs.Common.{cond, create_calls, defined, defined_from, defined_kind, definitions, drop, eq-eqb, eqb-true, false, File, fold, folded, fresh, fresh_cases, fresh_kinds, get-changed, get-other, get_or}
-use Rattle.store_runs.proofs.Common.{get_or_from_slice_get, has_id, ids-distinct, if◌then◌else◌, inl, inr, is_among, IsDeclared, IsKnown, IsKnownCall, IsSameRun, IsWorkable, KindEvent, kinds_behind, kinds_from, known-call, length}
-use Rattle.store_runs.proofs.Common.{length-append, Line, List, list_any, migrate_calls, migrations, None, not_defined, on_version, opening, Option, option_map, or_cases, phase_worked, place_of, position, position_from, program, Recorded}
-use Rattle.store_runs.proofs.Common.{records, refl, roles_of, Run, same_Some, serial, slice_get, slice_get-map, slice_get_within, Some, starts_of, stored_kind, stored_run, subst, suc, sym, take, Told, told_line, told_phase, told_types}
-use Rattle.store_runs.proofs.{Common.{true, TypeDecl, uncalled, version_of, version_of_kind, VersionModel, zero}, CountedPlaces.{counts-size, declared-place, fresh-at, place-number, same-place}, Machines.{kinds-changed, kinds-same}}
+use Rattle.store_runs.proofs.Common.{[], ℕ, ◌++◌, ◌+◌, ◌<◌, ◌||◌, ◌∙◌, ◌∷◌, ◌≡◌, ◌≤◌, AllByRecursion, AllRows, and_from, and_parts, ap, append_assoc, arith, Bool, by, Call, call_of, called, calls, case_at, case_counts, CaseDecl, CaseId}
+use Rattle.store_runs.proofs.Common.{cases_order, changed-seam, ClosedCase, ClosedKind, cond, create_calls, declared-typed, defined, defined_from, defined_kind, definitions, drop, eq-eqb, eqb-true, false, File, fold, folded, fresh}
+use Rattle.store_runs.proofs.Common.{fresh_cases, fresh_kinds, get-changed, get-other, get_or, get_or_from_slice_get, has_case, has_id, has_names, ids-distinct, if◌then◌else◌, inl, inr, is_among, IsDeclared, IsKnown, IsKnownCall, IsPlain}
+use Rattle.store_runs.proofs.Common.{IsSameRun, IsWorkable, KindEvent, kinds_behind, kinds_from, known-call, length, length-append, Line, List, list_any, migrate_calls, migrations, nat_lt, nat_tests, newest_number, None, not_defined}
+use Rattle.store_runs.proofs.Common.{on_version, opening, Option, option_map, phase_worked, place_of, plain-call, position, position_from, program, Recorded, records, refl, roles_of, Run, same_Some, serial, slice_get, slice_get-map}
+use Rattle.store_runs.proofs.Common.{slice_get_within, Some, starts_of, stored_kind, stored_run, subst, suc, sym, take, Told, told_line, told_phase, told_types}
+use Rattle.store_runs.proofs.{Common.{true, TypeDecl, uncalled, version_of, version_of_kind, VersionModel, zero}, CountedPlaces.{counts-size, declared-place, fresh-at, place-number, same-id, same-place}, Machines.{kinds-changed, kinds-same}}
 use Rattle.store_runs.proofs.{Machines.{machines, newest-is, number}, Numbers.{AllCounted, counted-call, counted-changed, found-by-number, found-when-asked, none-counted}}
+use Rattle.std.specs.Option.{is_some}
+use Rattle.case_store.proofs.Staying.{AreThere, all-types-stay, known-append, known-there}
+use Rattle.case_store.specs.Standing.{AreKnown}
+use Rattle.store_calls.proofs.Payable.{call-payable, definitions-payable}
+use Rattle.store_form.specs.Stored.{is_shallow}
+use Rattle.store_room.specs.Room.{IsPayable}
 use Rattle.std.proofs.{lemmas.List.Sums.fold-append, lemmas.Map.Keys.any_passes_from_place}
 use Rattle.case_core.specs.declared.events.Event.{Event}
 use Rattle.case_core.specs.declared.events.Event.TheVariants as event
@@ -39,44 +46,31 @@ record Found (c : CaseId) (ds : List CaseDecl) (start : ℕ) : Type 0 where
   there : slice_get ds at ≡ Some decl
   has : has_id c decl ≡ true
 
-true-not : true ≡ false → ⊥
-true-not is = absurd cc
-
-later : (c : CaseId) (d : CaseDecl) (ds : List CaseDecl) → has_id c d ≡ false → IsDeclared c (d ∷ ds) → IsDeclared c ds
-later c d ds differ any =
-    elim (or_cases (has_id c d) (list_any (has_id c) ds) any) [
-      | inl here ↦ absurd (true-not (sym here ∙ differ))
-      | inr behind ↦ behind
-    ]
-
 chosen : {P : Type 0} (b : Bool) → (b ≡ true → P) → (b ≡ false → P) → P
 chosen true is_so is_not = is_so refl
 chosen false is_so is_not = is_not refl
 
-found-here : (c : CaseId) (d : CaseDecl) (ds : List CaseDecl) (start : ℕ) → has_id c d ≡ true → Found c (d ∷ ds) start
-found-here c d ds start is = record {
-  at = 0;
-  decl = d;
-  first = ap (λ b. cond b (Some start) (position_from (has_id c) (start + 1) ds)) is ∙ ap (λ n. Some n) (omega arith);
-  there = refl;
-  has = is;
-}
-
-found-later : (c : CaseId) (d : CaseDecl) (ds : List CaseDecl) (start : ℕ) → has_id c d ≡ false → Found c ds (start + 1) → Found c (d ∷ ds) start
-found-later c d ds start is more = record {
-  at = suc more.at;
-  decl = more.decl;
-  first = ap (λ b. cond b (Some start) (position_from (has_id c) (start + 1) ds)) is ∙ more.first ∙ ap (λ n. Some n) (omega arith);
-  there = more.there;
-  has = more.has;
-}
-
 find : (c : CaseId) (ds : List CaseDecl) (start : ℕ) → IsDeclared c ds → Found c ds start
 find c [] start any = absurd cc
-find c (d ∷ ds) start any = chosen (has_id c d) (found-here c d ds start) (λ is. found-later c d ds start is (find c ds (start + 1) (later c d ds is any)))
-
-same-id : (c d : CaseId) → d.type_no ≡ c.type_no → d.place ≡ c.place → d ≡ c
-same-id c d types places = ap (λ t. record { type_no = t; place = d.place }) types ∙ ap (λ p. record { type_no = c.type_no; place = p }) places
+find c (d ∷ ds) start any = go (has_id c d) refl any (find c ds (start + 1))
+  where
+    go : (b : Bool) → has_id c d ≡ b → (b || list_any (has_id c) ds) ≡ true → (list_any (has_id c) ds ≡ true → Found c ds (start + 1)) → Found c (d ∷ ds) start
+    go true is any later = record {
+      at = 0;
+      decl = d;
+      first = ap (λ b. cond b (Some start) (position_from (has_id c) (start + 1) ds)) is ∙ ap (λ n. Some n) (omega arith);
+      there = refl;
+      has = is;
+    }
+    go false is any later =
+        let more = later any in
+        record {
+          at = suc more.at;
+          decl = more.decl;
+          first = ap (λ b. cond b (Some start) (position_from (has_id c) (start + 1) ds)) is ∙ more.first ∙ ap (λ n. Some n) (omega arith);
+          there = more.there;
+          has = more.has;
+        }
 
 id-is : (c : CaseId) (d : CaseDecl) → has_id c d ≡ true → d.id ≡ c
 id-is c d is = let both = and_parts _ _ is in same-id c d.id (eqb-true d.id.type_no c.type_no both.0) (eqb-true d.id.place c.place both.1)
@@ -84,20 +78,39 @@ id-is c d is = let both = and_parts _ _ is in same-id c d.id (eqb-true d.id.type
 own-id : (d : CaseDecl) → has_id d.id d ≡ true
 own-id d = rw (eq-eqb d.id.type_no d.id.type_no refl, eq-eqb d.id.place d.id.place refl)
 
+-- ---- calls of what is there
+each-item : {X : Type 0} (P : X → Type 0) (xs : List X) → ((k : ℕ) (x : X) → slice_get xs k ≡ Some x → P x) → AllByRecursion P xs
+each-item P [] all = tt
+each-item P (x ∷ xs) all = (all 0 x refl, each-item P xs (λ k y at. all (suc k) y at))
+
+below : (t n : ℕ) → t < n → nat_lt t n ≡ true
+below t n lt = grind (arith, nat_tests, lt)
+
+fresh-size : (t : ℕ) (ns : List ℕ) → length (fresh_kinds t ns) ≡ length ns
+fresh-size t [] = refl
+fresh-size t (n ∷ ns) = ap suc (fresh-size (t + 1) ns)
+
+-- one call, and those behind it
+first-known : (starts : List ℕ) (held : Run) (r : Recorded) (rs : List Recorded) → has_names starts held r.event ≡ true → IsPayable r → AreKnown starts (called starts held r) rs → AreKnown starts held (r ∷ rs)
+first-known starts held r rs named payable more = (and_from (has_names starts held r.event) (is_shallow r.event) named payable.0, payable.1, more)
+
 module _ (f : File) (workable : IsWorkable f) where
   abbrev starts : List ℕ
   starts = starts_of (case_counts f)
 
-  pub declared-at : (k : ℕ) (d : CaseDecl) → slice_get f.cases k ≡ Some d → IsDeclared d.id f.cases
+  abbrev begun : Run
+  begun = fresh (case_counts f)
+
+  declared-at : (k : ℕ) (d : CaseDecl) → slice_get f.cases k ≡ Some d → IsDeclared d.id f.cases
   declared-at k d at = any_passes_from_place (has_id d.id) f.cases k d at (own-id d)
 
   -- the cases of a run in order of declaration are those by type and place
   abbrev Alike : List ClosedCase → List ClosedCase → Type 0
   Alike cs held = (k : ℕ) (d : CaseDecl) → slice_get f.cases k ≡ Some d → slice_get held (place-number f d.id) ≡ slice_get cs k
 
-  pub record Same (run held : Run) : Type 0 where
-    pub kinds : held.kinds ≡ run.kinds
-    pub cases : Alike run.cases held.cases
+  record Same (run held : Run) : Type 0 where
+    kinds : held.kinds ≡ run.kinds
+    cases : Alike run.cases held.cases
 
   called-at : (g : ClosedCase → ClosedCase) (j : ℕ) (d : CaseDecl) (cs held : List ClosedCase) → slice_get f.cases j ≡ Some d → Alike cs held
       → Alike (changed_at g j cs) (changed_at g (place-number f d.id) held)
@@ -132,13 +145,13 @@ module _ (f : File) (workable : IsWorkable f) where
       (subst (λ o. Alike (changed_at g at.at cs) (changed_where g o held)) (sym place) (called-at g at.at at.decl cs held at.there alike))
 
   -- ---- a call of each
-  pub on-kind : (a t : ℕ) (e : KindEvent) (run held : Run) → Same run held → Same (on_kind a t e run) (on_kind a t e held)
+  on-kind : (a t : ℕ) (e : KindEvent) (run held : Run) → Same run held → Same (on_kind a t e run) (on_kind a t e held)
   on-kind a t e run held same = record { kinds = ap (changed_at (call_kind a e) t) same.kinds; cases = same.cases }
 
   on-case : (a : ℕ) (c : CaseId) (e : Event) (run held : Run) → IsDeclared c f.cases → Same run held → Same (on_case f a c e run) (on_stored starts a c e held)
   on-case a c e run held declared same = record { kinds = same.kinds; cases = called-id (call_case a e) c run.cases held.cases declared same.cases }
 
-  pub has-version : (run held : Run) (t : ℕ) (v : VersionModel) → Same run held → version_of run t v.number ≡ Some v → version_of held t v.number ≡ Some v
+  has-version : (run held : Run) (t : ℕ) (v : VersionModel) → Same run held → version_of run t v.number ≡ Some v → version_of held t v.number ≡ Some v
   has-version run held t v same has = ap (λ ks. version_of_kind v.number (slice_get ks t)) same.kinds ∙ has
 
   abbrev all : Run → List Recorded → Run
@@ -185,9 +198,6 @@ module _ (f : File) (workable : IsWorkable f) where
         let at = dropped f.cases i d ds is in
         (at.0, ap (λ n. drop n f.cases) next ∙ at.1)
 
-    none-left : (i : ℕ) → drop i f.cases ≡ [] → take i f.cases ≡ f.cases
-    none-left i is = all-taken f.cases i is
-
     abbrev Done : Run → Type 0
     Done held = Same (record { kinds = kinds; cases = each_of t many moved f.cases cs }) held
 
@@ -196,7 +206,7 @@ module _ (f : File) (workable : IsWorkable f) where
 
     moves : (ds : List CaseDecl) (i : ℕ) (held : Run) → drop i f.cases ≡ ds → Same (upto i) held
         → Done (all held (migrations a t many v.number ds))
-    moves [] i held left same = subst (λ xs. Same (record { kinds = kinds; cases = each_of t many moved xs cs }) held) (none-left i left) same
+    moves [] i held left same = subst (λ xs. Same (record { kinds = kinds; cases = each_of t many moved xs cs }) held) (all-taken f.cases i left) same
     moves (d ∷ ds) i held left same =
         let next = behind i d ds left in
         chosen (is_among t many d)
@@ -209,7 +219,7 @@ module _ (f : File) (workable : IsWorkable f) where
   migrates a t many None run held has same = same
   migrates a t many (Some v) run held has same = moves a t many v run.kinds (has v refl) run.cases f.cases 0 held refl same
 
-  -- ---- a line, a phase, the file
+  -- ---- the calls of a line's call
   kind-stored : (a t : ℕ) (e : KindEvent) (held : Run) → called starts held (by a (stored_kind t e)) ≡ on_kind a t e held
   kind-stored a t (kind_event.Define schema) held = refl
   kind-stored a t (kind_event.Install ops) held = refl
@@ -228,54 +238,132 @@ module _ (f : File) (workable : IsWorkable f) where
       (migrates a t many (newest t run) (on_kind a t kind_event.Newest run) (on_kind a t kind_event.Newest held)
       (λ v is. found-when-asked a t v.number run ∙ found-by-number run t v counted is) (on-kind a t kind_event.Newest run held same))
 
-  created-counted : (a : ℕ) (c : CaseId) (o : Option VersionModel) (run : Run) → AllCounted run.kinds → AllCounted (created f a c o run).kinds
-  created-counted a c None run all = all
-  created-counted a c (Some v) run all = all
+  created-kinds : (a : ℕ) (c : CaseId) (o : Option VersionModel) (run : Run) → (created f a c o run).kinds ≡ run.kinds
+  created-kinds a c None run = refl
+  created-kinds a c (Some v) run = refl
 
-  migrated-counted : (a t many : ℕ) (o : Option VersionModel) (run : Run) → AllCounted run.kinds → AllCounted (migrated f a t many o run).kinds
-  migrated-counted a t many None run all = all
-  migrated-counted a t many (Some v) run all = all
+  migrated-kinds : (a t many : ℕ) (o : Option VersionModel) (run : Run) → (migrated f a t many o run).kinds ≡ run.kinds
+  migrated-kinds a t many None run = refl
+  migrated-kinds a t many (Some v) run = refl
 
   counted : (a : ℕ) (k : Call) (run : Run) → AllCounted run.kinds → AllCounted (run_called f a k run).kinds
   counted a (call.Kind t e) run all = counted-changed a t e run.kinds all
   counted a (call.Case c e) run all = all
-  counted a (call.Newest t (told.Create c)) run all = created-counted a c (newest t run) (on_kind a t kind_event.Newest run) (counted-changed a t kind_event.Newest run.kinds all)
-  counted a (call.Newest t (told.Migrate many)) run all = migrated-counted a t many (newest t run) (on_kind a t kind_event.Newest run) (counted-changed a t kind_event.Newest run.kinds all)
+  counted a (call.Newest t (told.Create c)) run all =
+      subst AllCounted (sym (created-kinds a c (newest t run) (on_kind a t kind_event.Newest run))) (counted-changed a t kind_event.Newest run.kinds all)
+  counted a (call.Newest t (told.Migrate many)) run all =
+      subst AllCounted (sym (migrated-kinds a t many (newest t run) (on_kind a t kind_event.Newest run))) (counted-changed a t kind_event.Newest run.kinds all)
 
   -- the types that the calls are told by are those of the run
   kinds-told : (a : ℕ) (k : Call) (run : Run) → kinds_behind k (machines run.kinds) ≡ machines (run_called f a k run).kinds
   kinds-told a (call.Kind t e) run = sym (kinds-changed a t e run.kinds)
   kinds-told a (call.Case c e) run = refl
-  kinds-told a (call.Newest t (told.Create c)) run = by_answer (newest t run)
-    where
-      by_answer : (o : Option VersionModel) → machines run.kinds ≡ machines (created f a c o (on_kind a t kind_event.Newest run)).kinds
-      by_answer None = sym (kinds-same a t run)
-      by_answer (Some v) = sym (kinds-same a t run)
-  kinds-told a (call.Newest t (told.Migrate many)) run = by_answer (newest t run)
-    where
-      by_answer : (o : Option VersionModel) → machines run.kinds ≡ machines (migrated f a t many o (on_kind a t kind_event.Newest run)).kinds
-      by_answer None = sym (kinds-same a t run)
-      by_answer (Some v) = sym (kinds-same a t run)
+  kinds-told a (call.Newest t (told.Create c)) run = sym (ap machines (created-kinds a c (newest t run) (on_kind a t kind_event.Newest run)) ∙ kinds-same a t run)
+  kinds-told a (call.Newest t (told.Migrate many)) run = sym (ap machines (migrated-kinds a t many (newest t run) (on_kind a t kind_event.Newest run)) ∙ kinds-same a t run)
 
-  pub record IsMade (run : Run) (s : Told) : Type 0 where
-    pub same : Same run (folded (case_counts f) s.calls)
-    pub counts : AllCounted run.kinds
-    pub kinds : s.kinds ≡ machines run.kinds
+  -- a type and a case that are known are there
+  abbrev HasTypes : Run → Type 0
+  HasTypes held = length held.kinds ≡ length f.types
 
-  abbrev pub Known : Line → Type 0
+  type-there : (t : ℕ) (held : Run) → HasTypes held → t < length f.types → nat_lt t (length held.kinds) ≡ true
+  type-there t held types lt = below t (length held.kinds) (omega (arith, types, lt))
+
+  kind-there : (t : ℕ) (e : KindEvent) (held : Run) → HasTypes held → t < length f.types → has_names starts held (stored_kind t e) ≡ true
+  kind-there t (kind_event.Define schema) held types lt = type-there t held types lt
+  kind-there t (kind_event.Install ops) held types lt = type-there t held types lt
+  kind-there t kind_event.Newest held types lt = type-there t held types lt
+
+  case-there : (c : CaseId) → IsDeclared c f.cases → has_case starts c ≡ true
+  case-there c declared = ap is_some (declared-place f workable c declared)
+
+  version-there : (c : CaseId) (t : ℕ) (v : VersionModel) (held : Run) → IsDeclared c f.cases → c.type_no ≡ t → version_of held t v.number ≡ Some v
+      → has_names starts held (stored.Migrate c v.number) ≡ true
+  version-there c t v held declared own found =
+      and_from (has_case starts c) (is_some (version_of held c.type_no v.number)) (case-there c declared) (ap (λ u. is_some (version_of held u v.number)) own ∙ ap is_some found)
+
+  -- the calls that an answer brings
+  creates-known : (a : ℕ) (c : CaseId) (o : Option VersionModel) (held : Run) → IsDeclared c f.cases → ((v : VersionModel) → o ≡ Some v → version_of held c.type_no v.number ≡ Some v)
+      → AreKnown starts held (create_calls a c (number o))
+  creates-known a c None held declared found = tt
+  creates-known a c (Some v) held declared found = first-known starts held (by a (stored.Create c v.number)) [] (version-there c c.type_no v held declared refl (found v refl)) (refl, tt) tt
+
+  moves-there : (a t many : ℕ) (v : VersionModel) (held : Run) → version_of held t v.number ≡ Some v → (ds : List CaseDecl) → AllByRecursion (λ (d : CaseDecl). IsDeclared d.id f.cases) ds
+      → AreThere starts held (migrations a t many v.number ds)
+  moves-there a t many v held found [] declared = tt
+  moves-there a t many v held found (d ∷ ds) declared = one (is_among t many d) refl (moves-there a t many v held found ds declared.1)
+    where
+      one : (b : Bool) → is_among t many d ≡ b → AreThere starts held (migrations a t many v.number ds)
+          → AreThere starts held (if b then by a (stored.Migrate d.id v.number) ∷ migrations a t many v.number ds else migrations a t many v.number ds)
+      one true among rest =
+          let own : d.id.type_no ≡ t = eqb-true d.id.type_no t (and_parts _ _ among).0 in
+          ((and_from _ true (version-there d.id t v held declared.0 own found) refl, tt), rest)
+      one false other rest = rest
+
+  migrates-known : (a t many : ℕ) (o : Option VersionModel) (held : Run) → ((v : VersionModel) → o ≡ Some v → version_of held t v.number ≡ Some v)
+      → AreKnown starts held (migrate_calls a t many f.cases (number o))
+  migrates-known a t many None held found = tt
+  migrates-known a t many (Some v) held found =
+      known-there starts held (migrations a t many v.number f.cases)
+      (moves-there a t many v held (found v refl) f.cases (each-item (λ (d : CaseDecl). IsDeclared d.id f.cases) f.cases declared-at))
+
+  answered : (a t : ℕ) (run held : Run) (v : VersionModel) → AllCounted run.kinds → Same run held → newest t run ≡ Some v
+      → version_of (on_kind a t kind_event.Newest held) t v.number ≡ Some v
+  answered a t run held v counted same is =
+      has-version (on_kind a t kind_event.Newest run) (on_kind a t kind_event.Newest held) t v (on-kind a t kind_event.Newest run held same)
+      (found-when-asked a t v.number run ∙ found-by-number run t v counted is)
+
+  records-known : (a : ℕ) (k : Call) (run held : Run) → IsKnownCall (length f.types) f.cases k → IsPlain k → AllCounted run.kinds → Same run held → HasTypes held
+      → AreKnown starts held (records f.cases a (machines run.kinds) k)
+  records-known a (call.Kind t e) run held known plain counted same types =
+      first-known starts held (by a (stored_kind t e)) [] (kind-there t e held types known) (call-payable f.cases a (machines run.kinds) (call.Kind t e) plain).0 tt
+  records-known a (call.Case c e) run held known plain counted same types =
+      first-known starts held (by a (stored.Case c e)) [] (case-there c known) (call-payable f.cases a (machines run.kinds) (call.Case c e) plain).0 tt
+  records-known a (call.Newest t (told.Create c)) run held (own, known) plain counted same types =
+      first-known starts held (by a (stored.Newest t)) (create_calls a c (newest_number t (machines run.kinds)))
+      (type-there t held types (subst (λ u. u < length f.types) (sym own) (declared-typed (length f.types) f.cases c workable.typed known))) (refl, tt)
+      (subst (λ o. AreKnown starts (on_kind a t kind_event.Newest held) (create_calls a c o)) (sym (newest-is t run))
+      (creates-known a c (newest t run) (on_kind a t kind_event.Newest held) known
+      (λ v is. subst (λ u. version_of (on_kind a t kind_event.Newest held) u v.number ≡ Some v) own (answered a t run held v counted same is))))
+  records-known a (call.Newest t (told.Migrate many)) run held known plain counted same types =
+      first-known starts held (by a (stored.Newest t)) (migrate_calls a t many f.cases (newest_number t (machines run.kinds))) (type-there t held types known.0) (refl, tt)
+      (subst (λ o. AreKnown starts (on_kind a t kind_event.Newest held) (migrate_calls a t many f.cases o)) (sym (newest-is t run))
+      (migrates-known a t many (newest t run) (on_kind a t kind_event.Newest held) (λ v is. answered a t run held v counted same is)))
+
+  has-types : (rs : List Recorded) → HasTypes (folded (case_counts f) rs)
+  has-types rs = all-types-stay starts begun rs ∙ fresh-size 0 (case_counts f) ∙ counts-size 0 f.types f.cases
+
+  definitions-known : (t : ℕ) (ds : List TypeDecl) (held : Run) → t + length ds ≤ length f.types → HasTypes held → AllByRecursion IsPayable (definitions t ds) → AreKnown starts held (definitions t ds)
+  definitions-known t [] held within types payable = tt
+  definitions-known t (d ∷ ds) held within types payable =
+      let r : Recorded = by program (stored.Define t d.schema) in
+      first-known starts held r (definitions (t + 1) ds) (type-there t held types (omega (arith, within))) payable.0
+      (definitions-known (t + 1) ds (called starts held r) (omega (arith, within)) (all-types-stay starts held (r ∷ []) ∙ types) payable.1)
+
+  -- ---- a line, a phase, the file
+  record IsMade (run : Run) (s : Told) : Type 0 where
+    same : Same run (folded (case_counts f) s.calls)
+    counts : AllCounted run.kinds
+    kinds : s.kinds ≡ machines run.kinds
+    known : AreKnown starts begun s.calls
+
+  abbrev Known : Line → Type 0
   Known l = IsKnown (length f.types) (length f.actors) f.cases l
 
-  pub line-made : (l : Line) (run : Run) (s : Told) → Known l → IsMade run s → IsMade (worked f run l) (told_line f s l)
+  line-made : (l : Line) (run : Run) (s : Told) → Known l → IsMade run s → IsMade (worked f run l) (told_line f s l)
   line-made l run s known made =
       let a = l.actor in
       let k = call_of a (roles_of f a) l.act in
       let held = folded (case_counts f) s.calls in
-      let all_made = subst (λ ks. Same (worked f run l) (all held (records f.cases a ks k))) (sym made.kinds)
-      (makes a k run held (known-call a (roles_of f a) (length f.types) f.cases l.act known.act) made.counts made.same) in
+      let known_call = known-call a (roles_of f a) (length f.types) f.cases l.act known.act in
+      let all_made = subst (λ ks. Same (worked f run l) (all held (records f.cases a ks k))) (sym made.kinds) (makes a k run held known_call made.counts made.same) in
       record {
         same = subst (Same (worked f run l)) (sym (fold-append (called starts) (fresh (case_counts f)) s.calls (records f.cases a s.kinds k))) all_made;
         counts = counted a k run made.counts;
         kinds = ap (kinds_behind k) made.kinds ∙ kinds-told a k run;
+        known =
+            known-append starts begun s.calls (records f.cases a s.kinds k) made.known
+            (subst (λ ks. AreKnown starts held (records f.cases a ks k)) (sym made.kinds)
+            (records-known a k run held known_call (plain-call a (roles_of f a) l.act) made.counts made.same (has-types s.calls)));
       }
 
   lines-made : (lines : List Line) (run : Run) (s : Told) → AllRows Known lines → IsMade run s → IsMade (phase_worked f run lines) (told_phase f s lines)
@@ -307,7 +395,7 @@ module _ (f : File) (workable : IsWorkable f) where
   types-same t [] = refl
   types-same t (d ∷ ds) = ap (λ ks. defined_kind t d ∷ ks) (types-same (t + 1) ds)
 
-  pub opens : IsMade (opening f) (told_types f.types)
+  opens : IsMade (opening f) (told_types f.types)
   opens =
       let is = defines [] 0 f.types (case_counts f) (fresh_cases 0 (case_counts f)) refl (counts-size 0 f.types f.cases) in
       record {
@@ -315,13 +403,19 @@ module _ (f : File) (workable : IsWorkable f) where
             (record { kinds = refl; cases = λ k d at. fresh-at f workable d.id (declared-at k d at) ∙ sym (slice_get-map uncalled f.cases k ∙ ap (option_map uncalled) at) });
         counts = defined-counted 0 f.types;
         kinds = types-same 0 f.types;
+        known = definitions-known 0 f.types begun (omega arith) (has-types []) (definitions-payable 0 f.types workable.sound);
       }
+
+  made : IsMade (serial f) (fold (told_phase f) (told_types f.types) f.phases)
+  made = phases-made f.phases (opening f) (told_types f.types) workable.known opens
 
   -- so a store that holds the calls of a file has the types and the cases of its serial run, journals and all
   pub stored-serial : IsSameRun starts f.cases (serial f) (stored_run f)
-  stored-serial =
-      let same = (phases-made f.phases (opening f) (told_types f.types) workable.known opens).same in
-      record {
-        kinds = same.kinds;
-        cases = λ k d at. ap (case_at (stored_run f)) (declared-place f workable d.id (declared-at k d at)) ∙ same.cases k d at;
-      }
+  stored-serial = record {
+    kinds = made.same.kinds;
+    cases = λ k d at. ap (case_at (stored_run f)) (declared-place f workable d.id (declared-at k d at)) ∙ made.same.cases k d at;
+  }
+
+  -- and a store of its types and cases may make them
+  pub file-calls : AreKnown starts begun (calls f)
+  file-calls = made.known

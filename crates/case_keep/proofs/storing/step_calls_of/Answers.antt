@@ -1,6 +1,6 @@
 use Rattle.case_keep.proofs.{Common.{◌∙◌, ◌≡◌, AreKnown, calls, fresh, IsStore, on_ok_weaker, payloads, starts_of, subst, sym}, Stepped.{none-stepped, same-run}}
 use Rattle.case_keep.proofs.storing.step_calls_of.Goals as goal
-use Rattle.store_runs.proofs.Known.{file-calls}
+use Rattle.store_runs.proofs.Folded.{file-calls}
 
 pub returns-in_err-told-clause-any_moment : goal.returns-in_err-told-clause-any_moment
 returns-in_err-told-clause-any_moment g c =
