@@ -12,15 +12,12 @@ module _ (v : VersionModel) (name : Bytes) where
   abbrev stopped : CaseModel → ℕ → ℕ → Reply → ProgressModel
   stopped s events fits r = record { name = name; machine = s; events = events; fits = fits; next = Some r }
 
-  counted : (events more fits : ℕ) (next : Option Reply) → ◌≡◌ {A = CaseFit} (record { case = name; events = events + 1 + more; fits = fits; next = next }) (record { case = name; events = events + suc more; fits = fits; next = next })
-  counted events more fits next = ap (λ n. record { case = name; events = n; fits = fits; next = next }) (omega arith)
-
   same_fit : (a b c d : ℕ) (next : Option Reply) → a ≡ b → c ≡ d → ◌≡◌ {A = CaseFit} (record { case = name; events = a; fits = c; next = next }) (record { case = name; events = b; fits = d; next = next })
   same_fit a b c d next e f = rw (e, f) refl
 
   still : (s : CaseModel) (events fits : ℕ) (r : Reply) (es : List LogEvent) → fit_of (fold (reach v) (stopped s events fits r) es) ≡ record { case = name; events = events + length es; fits = fits; next = Some r }
   still s events fits r [] = same_fit events (events + 0) fits fits (Some r) (omega arith) refl
-  still s events fits r (e ∷ es) = still s (events + 1) fits r es ∙ counted events (length es) fits (Some r)
+  still s events fits r (e ∷ es) = still s (events + 1) fits r es ∙ same_fit (events + 1 + length es) (events + suc (length es)) fits fits (Some r) (omega arith) refl
 
   gone : (s : CaseModel) (events fits : ℕ) (es : List LogEvent)
       → fit_of (fold (reach v) (going s events fits) es) ≡ record { case = name; events = events + length es; fits = fits + accepted (replies v s es); next = refusal (replies v s es) }

@@ -2,6 +2,7 @@
 use Rattle.std.specs.Prelude.{ℕ, Bool, ◌&&◌, nat_lt, nat_le, List, [], ◌∷◌, Option, Some, None, if◌then◌else◌}
 use Rattle.file_names.specs.ShortNames.{is_short_name}
 use Rattle.file_words.specs.{Lines.Bytes, Numbers.{are_digits, value_from}}
+use Rattle.log_fit.specs.declared.asking.Asked.{Asked}
 
 pub record Question : Type 0 where
   pub name : Bytes
@@ -19,3 +20,7 @@ asked [] = None
 asked (w ∷ []) = None
 asked (w ∷ v ∷ []) = two_words w v
 asked (w ∷ v ∷ u ∷ us) = None
+
+-- a question that a call hands out, without where its name lies in memory
+abbrev pub shown_question : Asked → Question
+shown_question a = record { name = a.name.now; number = a.number }

@@ -1,13 +1,10 @@
 pub mod Fit
-pub mod ProgressModel
 pub mod Progress
 pub mod Rows
 pub mod Outcomes
 pub mod Versions
 pub mod Parts
 pub mod Asked
-pub mod Shown
 pub mod Table
 pub mod Answer
 pub mod Endings
-pub mod Statuses

@@ -1,6 +1,7 @@
 -- An input: a process file, a line `log`, and a log.
-use Rattle.std.specs.Prelude.{List, [], ◌∷◌, ◌++◌, Option, Some, None, if◌then◌else◌, codes}
+use Rattle.std.specs.Prelude.{List, [], ◌∷◌, ◌++◌, Option, Some, None, if◌then◌else◌, codes, option_map}
 use Rattle.file_words.specs.{Lines.{Bytes, lines_of, without_return}, Words.is}
+use Rattle.log_fit.specs.declared.parts.InputParts.{InputParts}
 
 -- the bytes of the file, and those of the log where there is one
 pub record Parts : Type 0 where
@@ -24,3 +25,7 @@ parts_from (l ∷ ls) left =
 
 abbrev pub parts_of : Bytes → Parts
 parts_of bytes = parts_from (lines_of bytes).ended (lines_of bytes).left
+
+-- parts that a call hands out, without where they lie in memory
+abbrev pub shown_parts : InputParts → Parts
+shown_parts p = record { file = p.file.now; log = option_map (λ l. l.now) p.log }

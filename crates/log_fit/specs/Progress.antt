@@ -1,10 +1,18 @@
 -- A case of a log while its records are taken.
-use Rattle.std.specs.Prelude.{◌+◌, Option, Some, None, if◌then◌else◌}
+use Rattle.std.specs.Prelude.{ℕ, ◌+◌, Option, Some, None, if◌then◌else◌}
 use Rattle.case_core.specs.{CaseModel.CaseModel, declared.replies.Reply.Reply}
 use Rattle.file_words.specs.Lines.{Bytes}
-use Rattle.log_fit.specs.{Fit.{answered, goes_on, opened}, declared.fits.CaseFit.CaseFit, ProgressModel.ProgressModel}
+use Rattle.log_fit.specs.{Fit.{answered, goes_on, opened}, declared.fits.CaseFit.CaseFit}
 use Rattle.log_records.specs.declared.records.LogEvent.{LogEvent}
 use Rattle.wsm_sound.specs.VersionModel.{VersionModel}
+
+-- its name and state, how many records it had, how many of these fit, and what was answered to the one that did not
+pub record ProgressModel : Type 0 where
+  pub name : Bytes
+  pub machine : CaseModel
+  pub events : ℕ
+  pub fits : ℕ
+  pub next : Option Reply
 
 abbrev pub opened_row : VersionModel → Bytes → ProgressModel
 opened_row v name = record { name = name; machine = opened v; events = 0; fits = 0; next = None }

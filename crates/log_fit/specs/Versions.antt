@@ -1,8 +1,7 @@
 -- The versions of a file's types: the first, and what the lines that install make of it, in file order.
-use Rattle.std.specs.Prelude.{ℕ, ◌==◌, Bool, bytes_eq, List, map, fold, slice_get, Option, Some, None, if◌then◌else◌}
-use Rattle.file_names.specs.Names.{place_of}
+use Rattle.std.specs.Prelude.{ℕ, ◌==◌, Bool, bytes_eq, List, fold, position, slice_get, Option, Some, None, if◌then◌else◌}
 use Rattle.file_words.specs.Lines.{Bytes}
-use Rattle.file_model.specs.{declared.files.Act.Act, declared.files.File.File, declared.files.Line.Line, declared.files.TypeDecl.TypeDecl}
+use Rattle.file_model.specs.{declared.files.File.File, declared.files.Line.Line, declared.files.TypeDecl.TypeDecl}
 use Rattle.line_calls.specs.Calls.{installed}
 use Rattle.script_run.specs.Verdicts.{defined_kind}
 use Rattle.type_core.specs.{KindModel.KindModel, Machine.{next_kind, version_in}}
@@ -18,11 +17,8 @@ abbrev pub installed_ops : ℕ → KindModel → Option (ℕ × List Op) → Kin
 installed_ops t k None = k
 installed_ops t k (Some i) = if i.0 == t then (next_kind k (kind_event.Install i.1)).0 else k
 
-abbrev pub installed_act : ℕ → KindModel → Act → KindModel
-installed_act t k x = installed_ops t k (installed x)
-
 abbrev pub installed_line : ℕ → KindModel → Line → KindModel
-installed_line t k l = installed_act t k l.act
+installed_line t k l = installed_ops t k (installed l.act)
 
 abbrev pub installed_lines : ℕ → KindModel → List Line → KindModel
 installed_lines t k lines = fold (installed_line t) k lines
@@ -42,4 +38,4 @@ version_at f number (Some t) = version_in_type f number t (slice_get f.types t)
 
 -- the version with a number of the type with a name
 abbrev pub version_of : File → Bytes → ℕ → Option VersionModel
-version_of f name number = version_at f number (place_of (map (λ d. d.name) f.types) name)
+version_of f name number = version_at f number (position (is_named name) f.types)

@@ -1,7 +1,7 @@
 // The words of the command line.
 ghost use Rattle.std.specs.{Prelude.{◌≡◌, map, string_bytes, Some, None, if◌then◌else◌}, Option.option_map};
 ghost use Rattle.file_words.specs.Numbers.{value_from};
-ghost use Rattle.log_fit.specs.{Asked.{asked, is_version_number, two_words}, Shown.shown_question};
+ghost use Rattle.log_fit.specs.Asked.{asked, is_version_number, shown_question, two_words};
 
 use file_names::is_short_name;
 use file_words::code;
@@ -32,7 +32,7 @@ impl<'a> Asked<'a> {
         ensures { option_map shown_question result ≡ asked (map string_bytes words.now) }
     {
         match words {
-            [_] => None,
+            [_name] => None,
             [name, number] => Asked::of_two(name.as_bytes(), number.as_bytes()),
             _ => None,
         }

@@ -1,11 +1,11 @@
 // A fit from the bytes of an input to those of a table.
 ghost use Rattle.std.specs.Prelude.{◌≡◌, ◌≤◌, length, map, string_bytes, Ok, Err, None, IfSome, option_map};
 ghost use Rattle.file_model.specs.Sizes.{HasNumbers, IsBounded};
-ghost use Rattle.log_fit.specs.{Answer.{answer, most_input, with_file, with_log}, Asked.asked, Endings.{FitEnds, IsAnswered}, Shown.shown_question, Statuses.of_file, Table.table};
+ghost use Rattle.log_fit.specs.{Answer.{answer, most_input, with_file}, Asked.{asked, shown_question}, Endings.{FitEnds, IsAnswered}, Outcomes.of_file};
 ghost use Rattle.log_fit.specs.declared.unfit.Unfit.TheVariants as unfit;
 
 use crate::asking::Asked;
-use crate::fits::{FitRefusal, Fits};
+use crate::fits::FitRefusal;
 use crate::fitting::fit;
 use crate::parts::parts_of;
 use crate::unfit::Unfit;
@@ -16,7 +16,6 @@ use file_limits::MAX_FILE_BYTES;
 use file_model::{File, FileRefusal};
 use process_text::read_file;
 use std::alloc::Global;
-use wsm_sound::Version;
 
 /// The most bytes that an input may have.
 const MOST_INPUT: usize = 33_554_432;
@@ -97,41 +96,17 @@ fn fit_file<K: Sink>(
     requires log { IfSome log (λ l. length l.now ≤ most_input) }
     ensures { IsAnswered K.written K.faults (with_file (shown_question asked.entry) (option_map (λ l. l.now) log.entry) (Ok file.now)) sink.old sink.new result }
 {
-    match version_of(alloc, file, asked.name, asked.number) {
-        Ok(Some(version)) => fit_version(alloc, file, &version, log, sink),
-        Ok(None) => Err(Unfit::NoVersion),
-        Err(_) => Err(Unfit::NoMemory),
-    }
-}
-
-// Writes what a log comes to on a version.
-fn fit_version<K: Sink>(
-    alloc: Global,
-    file: &File,
-    version: &Version,
-    log: Option<&[u8]>,
-    sink: &mut K,
-) -> Result<(), Unfit>
-    requires numbers { HasNumbers file.now }
-    requires log { IfSome log (λ l. length l.now ≤ most_input) }
-    ensures { IsAnswered K.written K.faults (with_log file.now version.now (option_map (λ l. l.now) log.entry)) sink.old sink.new result }
-{
+    let version = match version_of(alloc, file, asked.name, asked.number) {
+        Ok(Some(version)) => version,
+        Ok(None) => return Err(Unfit::NoVersion),
+        Err(_) => return Err(Unfit::NoMemory),
+    };
     let Some(log) = log else {
         return Err(Unfit::NoLog);
     };
-    match fit(alloc, version, file, log) {
-        Ok(fits) => put_table(file, &fits, sink),
+    match fit(alloc, &version, file, log) {
+        Ok(fits) => write_fits(file, &fits, sink),
         Err(FitRefusal::Wrong(record)) => Err(Unfit::Wrong(record)),
         Err(FitRefusal::NoMemory) => Err(Unfit::NoMemory),
-    }
-}
-
-// Writes the table of a log.
-fn put_table<K: Sink>(file: &File, fits: &Fits, sink: &mut K) -> Result<(), Unfit>
-    ensures { IsAnswered K.written K.faults (Ok (table file.now fits.now)) sink.old sink.new result }
-{
-    match write_fits(file, fits, sink) {
-        Ok(()) => Ok(()),
-        Err(_) => Err(Unfit::Unwritten),
     }
 }

@@ -4,7 +4,6 @@
 //! event that is refused ends what fits of it.
 #![tactic(auto)]
 
-mod answers;
 mod asking;
 mod fits;
 mod fitting;
@@ -12,7 +11,6 @@ mod inputs;
 mod parts;
 mod progress;
 mod tables;
-mod taking;
 mod unfit;
 mod versions;
 mod writing;

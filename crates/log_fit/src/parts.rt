@@ -1,6 +1,6 @@
 // The parts of an input.
 ghost use Rattle.std.specs.Prelude.{◌≡◌, ◌≤◌, length, IfSome};
-ghost use Rattle.log_fit.specs.{Parts.parts_of, Shown.shown_parts};
+ghost use Rattle.log_fit.specs.Parts.{parts_of, shown_parts};
 
 use file_words::{first_line, without_return};
 

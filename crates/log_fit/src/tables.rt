@@ -1,10 +1,9 @@
 // The cases of a log while its records are taken.
-ghost use Rattle.std.specs.Prelude.{◌≡◌, ◌++◌, ◌∷◌, [], ◌<◌, ◌≤◌, true, not, nat_lt, length, map, slice_set, slice_get, if◌then◌else◌, IfOk, OnOk, ℕ};
-ghost use Rattle.file_names.specs.Names.{noted};
+ghost use Rattle.std.specs.Prelude.{◌≡◌, [], ◌≤◌, true, not, length, map, IfOk, OnOk};
 ghost use Rattle.file_limits.specs.declared.TheConstants.{MAX_CASES};
-ghost use Rattle.log_fit.specs.{Progress.{fit_of, opened_row, reach}, Rows.{TakesRecord, rows_with}};
+ghost use Rattle.file_names.specs.Names.{noted};
+ghost use Rattle.log_fit.specs.{Progress.fit_of, Rows.{AreFew, TakesRecord, rows_with}};
 ghost use Rattle.log_records.specs.Told.{are_too_many};
-ghost use Rattle.wsm_lists.specs.Rows.{AllRows};
 
 use crate::fits::{CaseFit, Fits};
 use crate::progress::Progress;
@@ -59,10 +58,9 @@ impl CaseTable {
         version: &Version,
         logged: LogRecord,
     ) -> Result<bool, NoMemory>
-        requires even { length self.old.rows.items ≡ length self.old.names }
         requires names { length self.old.names ≤ MAX_CASES }
-        requires events { AllRows (λ p. p.events < 4000000000) self.old.rows.items }
-        ensures room { IfOk result (λ ok. ok ≡ not (are_too_many (noted self.old.names logged.case))) }
+        requires table { AreFew version.now self.old.names self.old.rows.items }
+        ensures room { IfOk result (λ ok. are_too_many (noted self.old.names logged.case) ≡ not ok) }
         ensures names { IfOk result (λ ok. ok ≡ true → self.new.names ≡ noted self.old.names logged.case) }
         ensures rows { IfOk result (λ ok. ok ≡ true → TakesRecord version.now logged self.old.names self.old.rows.items self.new.names self.new.rows.items) }
     {

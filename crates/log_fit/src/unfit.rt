@@ -1,6 +1,6 @@
 // Why no table of fits is written.
 ghost use Rattle.std.specs.Prelude.{◌≡◌};
-ghost use Rattle.log_fit.specs.Statuses.{status_of};
+ghost use Rattle.log_fit.specs.Outcomes.{status_of};
 
 use log_records::WrongRecord;
 

@@ -1,7 +1,6 @@
 // The versions of a file's types.
-ghost use Rattle.std.specs.Prelude.{◌≡◌, ◌≤◌, length, map, position, IfOk, OnOk};
+ghost use Rattle.std.specs.Prelude.{◌≡◌, ◌≤◌, length, position, IfOk, OnOk};
 ghost use Rattle.file_model.specs.Sizes.{IsBounded, line_effort, phase_effort};
-ghost use Rattle.file_names.specs.Names.{place_of};
 ghost use Rattle.log_fit.specs.Versions.{installed_line, installed_lines, is_named, kind_of, version_of};
 ghost use Rattle.wsm_schema.specs.Flat.{cards_of};
 
@@ -20,17 +19,11 @@ fn is_named(decl: &TypeDecl, name: &[u8]) -> bool
     name == decl.name.bytes()
 }
 
-fn first_named(types: &[TypeDecl], name: &[u8]) -> Option<usize>
+// The place of the first type with a name.
+fn place_of_type(types: &[TypeDecl], name: &[u8]) -> Option<usize>
     ensures { result ≡ position (is_named name.now) types.now }
 {
     types.iter().position(|decl| is_named(decl, name))
-}
-
-// The place of the type with a name.
-fn place_of_type(types: &[TypeDecl], name: &[u8]) -> Option<usize>
-    ensures { result ≡ place_of (map (λ d. d.name) types.now) name.now }
-{
-    first_named(types, name)
 }
 
 // The type behind a line.

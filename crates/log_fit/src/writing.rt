@@ -1,10 +1,11 @@
 // Writing how far cases go.
-ghost use Rattle.std.specs.{Prelude.{◌≡◌, ◌++◌, codes, decimal, flat_map, OnErr, OnOk}, Io.KnownBytes.Appends, Option.option_copied};
-ghost use Rattle.adept_io.specs.{Counts.Rose, Written.{AppendsPrefix, Gives}};
-ghost use Rattle.log_fit.specs.Table.{answer_text, fit_line, holder, next_text, table};
+ghost use Rattle.std.specs.{Prelude.{◌≡◌, ◌++◌, codes, decimal, flat_map, Ok}, Option.option_copied};
+ghost use Rattle.adept_io.specs.Written.{Gives};
+ghost use Rattle.log_fit.specs.{Endings.IsAnswered, Table.{answer_text, fit_line, holder, next_text, table}};
 
 use crate::fits::{CaseFit, Fits};
-use adept_io::{Failed, Sink, Text, put, put_number, write_gathered};
+use crate::unfit::Unfit;
+use adept_io::{Sink, Text, put, put_number, write_gathered};
 use case_core::Reply;
 use file_model::File;
 use report_text::put_reply;
@@ -25,13 +26,14 @@ impl Text for Table<'_> {
     }
 }
 
-/// Writes a row for each case. Where a write fails, the first bytes of the table may have been written. Takes no memory.
-pub(crate) fn write_fits<K: Sink>(file: &File, fits: &Fits, sink: &mut K) -> Result<(), Failed>
-    ensures all { OnOk result (Appends (K.written sink.old) (K.written sink.new) (table file.now fits.now)) }
-    ensures part { OnErr result (AppendsPrefix (K.written sink.old) (K.written sink.new) (table file.now fits.now)) }
-    ensures rose { OnErr result (Rose (K.faults sink.old) (K.faults sink.new)) }
+/// Writes a row for each case. Takes no memory.
+pub(crate) fn write_fits<K: Sink>(file: &File, fits: &Fits, sink: &mut K) -> Result<(), Unfit>
+    ensures { IsAnswered K.written K.faults (Ok (table file.now fits.now)) sink.old sink.new result }
 {
-    write_gathered(sink, &Table { file, fits })
+    match write_gathered(sink, &Table { file, fits }) {
+        Ok(()) => Ok(()),
+        Err(_) => Err(Unfit::Unwritten),
+    }
 }
 
 fn put_fits<K: Sink>(sink: &mut K, ok: bool, file: &File, fits: &[CaseFit]) -> bool
