@@ -14,5 +14,7 @@ pub use Rattle.wsm_lists.specs.Rows.{AllRows}
 pub use Rattle.file_model.specs.{CaseCounts.{cases_of_type, has_id, is_among}, declared.files.CaseDecl.CaseDecl, declared.files.File.File, declared.files.Line.Line, declared.files.TypeDecl.TypeDecl}
 pub use Rattle.line_calls.specs.{Calls.call_of, Files.roles_of, Known.{IsKnownCall, IsPlain}, declared.calls.Call.Call}
 pub use Rattle.script_run.specs.{Calls.{answered_version, call_kind, changed_at, newest, newest_in, on_kind, worked}, Serial.{defined, kinds_from, opening, phase_worked, program, serial, uncalled}, Verdicts.{defined_from, defined_kind}}
+pub use Rattle.script_run.specs.{Verdicts.stepped, declared.runs.ClosedKind.ClosedKind, declared.runs.Run.Run, declared.runs.ClosedCase.ClosedCase}
 pub use Rattle.std.specs.{List.{AllByRecursion, list_any, position_from}, Prelude.{if◌then◌else◌, nat_lt, option_map, position, slice_get}}
 pub use Rattle.type_core.specs.{KindModel.{KindModel, not_defined}, Machine.{defined_by, event_on, installed_by, newest_of, next_kind, version_in, with_version}, declared.events.KindEvent.KindEvent}
+pub use Rattle.wsm_sound.specs.{VersionModel.VersionModel, declared.versions.CaseId.CaseId}
