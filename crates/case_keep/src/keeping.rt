@@ -1,5 +1,5 @@
 // The work of a file over a disk.
-ghost use Rattle.std.specs.{Prelude.{◌≡◌, ◌≢◌, ◌⊎◌, ◌≤◌, ◌^◌, length, IfErr, OnOk, IsErrOf}, Io.KnownBytes.Appends};
+ghost use Rattle.std.specs.{Prelude.{◌≡◌, ◌≢◌, ◌⊎◌, ◌≤◌, ◌^◌, IfErr, OnOk, IsErrOf}, Io.KnownBytes.Appends};
 ghost use Rattle.adept_io.specs.{Counts.Rose, Written.AppendsPrefix};
 ghost use Rattle.file_facts.specs.Facts.{IsWorkable};
 ghost use Rattle.file_model.specs.Sizes.{IsBounded};
@@ -7,7 +7,7 @@ ghost use Rattle.report_text.specs.Report.{text};
 ghost use Rattle.script_run.specs.Serial.{serial};
 ghost use Rattle.store_calls.specs.Calls.{calls, payloads};
 ghost use Rattle.store_disk.specs.{Disk.{LeavesOnly, Only}, Opening.HoldsAsBefore};
-ghost use Rattle.store_keep.specs.{Keeping.{IsBegun, IsLeft, IsStored, KeepsBeginning}, Refusals.{IsJudgement, IsKeepFault, IsRefusal, Tells}};
+ghost use Rattle.store_keep.specs.{Keeping.{IsBegun, IsLeft, IsStored, KeepsBeginning}, Refusals.{IsJudgement, IsRefusal, Tells}};
 
 use adept_io::Sink;
 use file_model::File;
@@ -76,37 +76,9 @@ pub fn keep_file_within<K: Sink, D: Disk>(
     ensures sink_failed { IsErrOf result KeepFault.Unwritten → Rose (K.faults sink.old) (K.faults sink.new) }
     ensures untouched { IfErr result (λ e. e ≢ KeepFault.Unwritten → sink.new ≡ sink.old) }
 {
-    store_calls_of(alloc, file, limit, disk)?;
-    report(alloc, file, sink)
-}
-
-// Stores those of a file's calls that the disk does not hold yet, in an image of at most so many bytes.
-fn store_calls_of<D: Disk>(
-    alloc: Global,
-    file: &File,
-    limit: u64,
-    disk: &mut D,
-) -> Result<(), KeepFault>
-    requires bounded { IsBounded file.now }
-    requires workable { IsWorkable file.now }
-    requires limit { limit ≤ 2 ^ 30 }
-    requires settled { Only (D.content disk.old) (D.may_leave disk.old) }
-    ensures all { OnOk result (IsStored D.content D.may_leave disk.new (payloads file.now)) }
-    ensures begun { OnOk result (IsBegun (payloads file.now) (D.content disk.old)) }
-    ensures within { OnOk result (length (D.content disk.new) ≤ 2 ^ 30) }
-    ensures fits { OnOk result (Tells limit (calls file.now) (D.content disk.old) KeepFault.Full → ⊥) }
-    ensures any_moment { KeepsBeginning D.content D.moment D.left_since (payloads file.now) disk.old disk.new }
-    ensures refused { IfErr result (λ e. Tells limit (calls file.now) (D.content disk.old) e) }
-    ensures left { IfErr result (λ e. IsJudgement e → IsLeft D.content D.may_leave disk.old disk.new) }
-    ensures same_records { IfErr result (λ e. IsRefusal e → LeavesOnly D.moment D.left_since disk.old disk.new (HoldsAsBefore (D.may_leave disk.old))) }
-    ensures others { IfErr result (λ e. IsKeepFault e) }
-    ensures rose { IsErrOf result KeepFault.Disk → Rose (D.faults disk.old) (D.faults disk.new) }
-    ensures no_fault { OnOk result (D.faults disk.new ≡ D.faults disk.old) }
-    ensures no_other_fault { IfErr result (λ e. e ≢ KeepFault.Disk → D.faults disk.new ≡ D.faults disk.old) }
-    ensures never_falls { D.faults disk.old ≤ D.faults disk.new }
-{
     let told = calls(alloc, file)?;
-    keep(alloc, &told.calls, &told.ends, limit, disk)
+    keep(alloc, &told.calls, &told.ends, limit, disk)?;
+    report(alloc, file, sink)
 }
 
 // Works the lines of a file in order, and writes the report.
