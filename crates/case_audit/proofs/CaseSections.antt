@@ -22,12 +22,6 @@ are-owed f owed script file (modest, few) same = record {
 
 module _ (f : File) (owed : List Owed) where
   -- ---- one case
-  -- as it was judged where it was judged from here
-  pub section-at : (i : ℕ) (s : Section) (text : Bytes) (old new : Followed) → IsSection f owed text i s → old ≡ record { text = text; at = s.start } → new ≡ record { text = text; at = s.end } → IsCaseAt f owed i old new s.case
-  section-at i s text old new section here there =
-      subst (λ (from : Followed). IsCaseAt f owed i from new s.case) (sym here)
-      (subst (λ (to : Followed). IsCaseAt f owed i (record { text = text; at = s.start }) to s.case) (sym there) section.case)
-
   -- as it is judged now
   pub judged-at : {E : Type 0} (i : ℕ) (decl : CaseDecl) (o : Owed) (old new : Followed) (r : Result (Option ClosedCase) E) → i < length f.cases → decl ≡ get_or f.cases i decl → i < length owed → o ≡ get_or owed i o
       → ((phases : List (List Asked)) → owed_of o ≡ filled (owed_case decl.id phases) → IfOk r (Follows (case_reader f phases decl) old new)) → IfOk r (IsCaseAt f owed i old new)

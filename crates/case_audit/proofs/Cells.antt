@@ -11,9 +11,6 @@ use Rattle.line_calls.specs.declared.calls.Cells.TheVariants as cells
 abbrev Numbered : Type 0
 Numbered = List (ℕ × List Asked)
 
-none-kind : (f : Numbered → Numbered) (l : Asked) (ts : List ℕ) (xs : List Numbered) → ((t : ℕ) → calls_number t l ≡ false) → xs ≡ put_where (λ t. calls_number t l) f ts xs
-none-kind f l ts xs none = sym (put-none (λ t. calls_number t l) f ts xs (λ i t is. none t))
-
 kind-put-line : (n p : ℕ) (xs : List Numbered) (l : Asked) → length xs ≤ n → kind_put p xs l ≡ put_line calls_number (range_with_len 0 n) p xs l
 kind-put-line n p xs l few = by (cells_of l.0.act)
   where

@@ -24,9 +24,6 @@ module _ {A X : Type 0} (view : A → List X) where
       → map view (set items i d) ≡ slice_set (map view items) i (h (queue_of (map view items) i))
   queue-changed h items i c d low is new = map-set view items i d ∙ ap (slice_set (map view items) i) (new ∙ ap h (sym (queue-at items i c low is)))
 
-  pub queue-same : (items : List A) (i : ℕ) (c : A) → i < length items → c ≡ get_or items i c → map view (set items i c) ≡ slice_set (map view items) i (queue_of (map view items) i)
-  queue-same items i c low is = queue-changed (λ q. q) items i c c low is refl
-
 -- nothing is taken from a queue that is not there
 pub none-taken : {L : Type 0} (queues : List (List L)) (a : ℕ) → length queues ≤ a → one_taken a queues ≡ queues
 none-taken queues a past = set_past queues a (behind_front (queue_of queues a)) past
@@ -54,10 +51,6 @@ module _ {L : Type 0} (p : ℕ) (l : L) where
   pub last-none : (qs : List (ℕ × List L)) → length qs ≡ 0 → qs ++ (p, l ∷ []) ∷ [] ≡ with_line p l qs
   last-none [] none = refl
   last-none (x ∷ xs) none = absurd (omega (arith, none))
-
-pub replicate-more : {X : Type 0} (n : ℕ) (x : X) → replicate n x ++ x ∷ [] ≡ replicate (suc n) x
-replicate-more zero x = refl
-replicate-more (suc n) x = ap (λ xs. x ∷ xs) (replicate-more n x)
 
 pub nothing-each : {C X : Type 0} (cs : List C) (x : X) → replicate (length cs) x ≡ map (λ c. x) cs
 nothing-each [] x = refl

@@ -1,6 +1,6 @@
 -- What is known where a line was judged: whose turn it is, and how a call went.
-use Rattle.case_audit.proofs.Common.{ℕ, ◌+◌, ◌∙◌, ◌≡◌, AllRows, ap, Asked, AskedLine, Bytes, caller_in, Err, File, front-row, IfOk, IsModest, length, List, next-is, next_of, Ok, one_taken, OnOk, Option, option_map, Result, shown_of, Some}
-use Rattle.case_audit.proofs.Common.{subst, sym, taken-rows}
+use Rattle.case_audit.proofs.Common.{ℕ, ◌+◌, ◌∙◌, ◌≡◌, AllRows, ap, Asked, AskedLine, Bytes, caller_in, Err, File, front-row, IfOk, IsModest, length, List, next-is, next_of, Ok, OnOk, Option, option_map, Result, shown_of, Some}
+use Rattle.case_audit.proofs.Common.{sym}
 
 -- the call that the rest of a report shows, behind so many entries
 pub shows-in : {X : Type 0} (f : File) (queues : List (List Asked)) (r s : Option (ℕ × AskedLine)) (place : ℕ) (es made : List X) (rest text : Bytes) → option_map shown_of r ≡ next_of queues (caller_in f place rest)
@@ -11,10 +11,6 @@ shows-in {X} f queues r s place es made rest text is at same there shown =
 -- and that one is modest
 pub shown-modest : (queues : List (List Asked)) (o : Option ℕ) (a : ℕ) (l : Asked) → next_of queues o ≡ Some (a, l) → AllRows (AllRows IsModest) queues → IsModest l
 shown-modest queues o a l is all = let (caller, ls, queue) = next-is queues o a l is in front-row IsModest queues a l ls all queue
-
--- queues of which one was taken from are modest still
-pub taken-modest : (queues new : List (List Asked)) (a : ℕ) → new ≡ one_taken a queues → AllRows (AllRows IsModest) queues → AllRows (AllRows IsModest) new
-taken-modest queues new a is all = subst (AllRows (AllRows IsModest)) (sym is) (taken-rows IsModest queues a all)
 
 -- what holds of each good outcome
 pub on-good : {X E : Type 0} {M J : Type 0} {L Q : X → Type 0} (r : Result X E) → ((x : X) → M → J → L x → Q x) → OnOk r M → OnOk r J → IfOk r L → IfOk r Q

@@ -1,5 +1,5 @@
 -- The length of a process file in front of a report, line by line.
-use Rattle.case_audit.proofs.Common.{ℕ, ◌++◌, ◌+◌, ◌∙◌, ◌∷◌, ◌≡◌, ap, append_assoc, arith, before_report, begins_report, Bytes, CutLines, ending, file_length, front_line, if◌then◌else◌, length, length-append, lines_of, one_left, suc, sym}
+use Rattle.case_audit.proofs.Common.{ℕ, ◌++◌, ◌+◌, ◌∙◌, ◌∷◌, ◌≡◌, ap, append_assoc, arith, before_report, begins_report, Bytes, CutLines, ending, file_length, front_line, if◌then◌else◌, length, length-append, lines_of, suc, sym}
 use Rattle.line_readers.proofs.Lines.{cut-together}
 
 abbrev before : CutLines → ℕ
@@ -7,9 +7,6 @@ before cut = before_report cut.ended cut.left
 
 pub line-length : (rest line more : Bytes) → lines_of rest ≡ front_line line (lines_of more) → file_length rest ≡ (if begins_report line then 0 else length line + suc (file_length more))
 line-length rest line more is = ap before is
-
-pub last-length : (rest : Bytes) → lines_of rest ≡ one_left rest → file_length rest ≡ (if begins_report rest then 0 else length rest)
-last-length rest is = ap before is
 
 -- the line, its line feed, and the rest
 pub line-and-rest : (rest line more : Bytes) → lines_of rest ≡ front_line line (lines_of more) → length rest ≡ length line + 1 + length more
