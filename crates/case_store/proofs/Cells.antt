@@ -1,7 +1,8 @@
 -- Where cases stand, and what types and cases are before any call.
 use Rattle.case_store.proofs.Common.{[], ℕ, ◌++◌, ◌+◌, ◌-◌, ◌<◌, ◌∙◌, ◌∷◌, ◌≡◌, ◌≤◌, age, AllByRecursion, answer_of_case, ap, append_assoc, arith, Bool, call_case, case_answer, case_at, CaseId, changed_at, changed_where, ClosedKind, drop}
 use Rattle.case_store.proofs.Common.{drop_more, Event, false, Fits, fresh_cases, fresh_kinds, HasNoVersion, Held, if◌then◌else◌, length, length-append, length-replicate, List, ltb-true, nat_lt, None, not_created, not_defined, on_case}
-use Rattle.case_store.proofs.Common.{Option, place_between, place_of, put_back, refl, replicate, Run, set, slice_get, Some, starts_from, Stored, subst, suc, sum, sum_by-cons, sym, true, weight, zero}
+use Rattle.case_store.proofs.Common.{Option, place_between, place_of, put_back, refl, replicate, set, slice_get, Some, starts_from, Stored, subst, suc, sum, sum_by-cons, sym, true, weight, zero}
+use Rattle.std.proofs.{Common.get_or, lemmas.Option.slice_get_read}
 use Rattle.case_core.specs.{Machine.next_case, declared.replies.Reply.Reply}
 use Rattle.case_core.specs.declared.events.Event.TheVariants as event
 use Rattle.script_run.proofs.Aging.{age-oldest, oldest-changed_at}
@@ -87,40 +88,46 @@ cases-next {k} out new total count i t pushed machine journal lt so_far =
     let same : k ≡ uncalled_of t = same-case k t machine journal in
     ap (λ n. n ++ rest) pushed ∙ append_assoc out (k ∷ []) rest ∙ ap (λ q. out ++ q ∷ rest) same ∙ ap (λ n. out ++ replicate n (uncalled_of t)) (sym left) ∙ so_far
 
--- the case at a place, called
-set-is-called : (f : ClosedCase → ClosedCase) (cases : List ClosedCase) (i : ℕ) (old new : ClosedCase) → slice_get cases i ≡ Some old → new ≡ f old → set cases i new ≡ changed_at f i cases
-set-is-called f cases i old new is made = ap (set cases i) made ∙ ap (put_back f i cases) (sym is)
-
 abbrev held_of : List ℕ → List ClosedKind → List ClosedCase → Held
 held_of starts kinds cases = record { starts = starts; run = record { kinds = kinds; cases = cases } }
 
 abbrev with_cases : Held → List ClosedCase → Held
 with_cases h cases = record h { run = record { kinds = h.run.kinds; cases = cases } }
 
-pub case-called : (now : Held) (starts : List ℕ) (kinds : List ClosedKind) (cases : List ClosedCase) (caller : ℕ) (c : CaseId) (e : Event) (i : ℕ) (old new : ClosedCase)
-    → held_of starts kinds cases ≡ now → place_of now.starts c ≡ Some i → slice_get cases i ≡ Some old → new ≡ call_case caller e old
-    → held_of starts kinds (set cases i new) ≡ record now { run = on_case now.starts caller c e now.run }
-case-called now starts kinds cases caller c e i old new view at is made =
-    let f = call_case caller e in
-    let called : set cases i new ≡ changed_where f (place_of now.starts c) cases = set-is-called f cases i old new is made ∙ ap (λ p. changed_where f p cases) (sym at) in
-    ap (held_of starts kinds) called
-    ∙ ap (λ h. with_cases h (changed_where f (place_of now.starts c) h.run.cases)) view
+-- the case at a place, called
+module _ (now : Held) (starts : List ℕ) (kinds : List ClosedKind) (cases : List ClosedCase) (c : CaseId) (i : ℕ) (view : held_of starts kinds cases ≡ now)
+    (inside : AllByRecursion (λ s. s ≤ length cases) starts) (at : place_of now.starts c ≡ Some i) where
+  pub place-there : i < length cases
+  place-there = place-within starts c (length cases) i inside (ap (λ (h : Held). place_of h.starts c) view ∙ at)
 
-pub case-answers : (starts : List ℕ) (run : Run) (cases : List ClosedCase) (c : CaseId) (e : Event) (i : ℕ) (old : ClosedCase) (reply : Reply) → cases ≡ run.cases → place_of starts c ≡ Some i
-    → slice_get cases i ≡ Some old → reply ≡ (next_case old.machine e).1 → answer_of_case starts c run e ≡ Some (answer.Case reply)
-case-answers starts run cases c e i old reply same at is made =
-    ap (λ p. case_answer e (case_at run p)) at ∙ ap (λ cs. case_answer e (slice_get cs i)) (sym same) ∙ ap (case_answer e) is ∙ ap (λ r. Some (answer.Case r)) (sym made)
+  same : cases ≡ now.run.cases
+  same = ap (λ (h : Held). h.run.cases) view
 
-pub case-older : (run : Run) (cases : List ClosedCase) (caller : ℕ) (e : Event) (i : ℕ) (old new : ClosedCase) → cases ≡ run.cases → slice_get cases i ≡ Some old → new ≡ call_case caller e old
-    → oldest (set cases i new) ≤ oldest run.cases + weight e
-case-older run cases caller e i old new same is made =
-    let changed : oldest (changed_at (call_case caller e) i cases) ≤ oldest cases + weight e = oldest-changed_at caller e i cases in
-    subst (λ cs. oldest (set cases i new) ≤ oldest cs + weight e) same
-    (subst (λ cs. oldest cs ≤ oldest cases + weight e) (sym (set-is-called (call_case caller e) cases i old new is made)) changed)
+  module _ (e : Event) (old : ClosedCase) (value : old ≡ get_or cases i old) where
+    is : slice_get cases i ≡ Some old
+    is = slice_get_read cases (length cases) i old refl place-there value
 
-pub case-young : (run : Run) (cases : List ClosedCase) (e : Event) (i : ℕ) (old : ClosedCase) → cases ≡ run.cases → slice_get cases i ≡ Some old → oldest run.cases + weight e ≤ 4000000000
-    → age old.machine + weight e ≤ 4000000000
-case-young run cases e i old same is young = omega (arith, age-oldest cases i old is, ap oldest same, young)
+    pub case-young : oldest now.run.cases + weight e ≤ 4000000000 → age old.machine + weight e ≤ 4000000000
+    case-young young = omega (arith, age-oldest cases i old is, ap oldest same, young)
+
+    pub case-answers : (reply : Reply) → reply ≡ (next_case old.machine e).1 → answer_of_case now.starts c now.run e ≡ Some (answer.Case reply)
+    case-answers reply made =
+        ap (λ p. case_answer e (case_at now.run p)) at ∙ ap (λ cs. case_answer e (slice_get cs i)) (sym same) ∙ ap (case_answer e) is ∙ ap (λ r. Some (answer.Case r)) (sym made)
+
+    module _ (caller : ℕ) (new : ClosedCase) (made : new ≡ call_case caller e old) where
+      called : set cases i new ≡ changed_at (call_case caller e) i cases
+      called = ap (set cases i) made ∙ ap (put_back (call_case caller e) i cases) (sym is)
+
+      pub case-called : held_of starts kinds (set cases i new) ≡ record now { run = on_case now.starts caller c e now.run }
+      case-called =
+          let f = call_case caller e in
+          ap (held_of starts kinds) (called ∙ ap (λ p. changed_where f p cases) (sym at))
+          ∙ ap (λ h. with_cases h (changed_where f (place_of now.starts c) h.run.cases)) view
+
+      pub case-older : oldest (set cases i new) ≤ oldest now.run.cases + weight e
+      case-older =
+          let changed : oldest (changed_at (call_case caller e) i cases) ≤ oldest cases + weight e = oldest-changed_at caller e i cases in
+          subst (λ cs. oldest (set cases i new) ≤ oldest cs + weight e) same (subst (λ cs. oldest cs ≤ oldest cases + weight e) (sym called) changed)
 
 -- what has a payload has no version in it
 pub fits-plain : (e : Stored) → Fits e → HasNoVersion e

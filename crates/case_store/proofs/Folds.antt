@@ -15,7 +15,7 @@ calls-append : (starts : List ℕ) (run : Run) (rs qs : List Recorded) → AreCa
 calls-append starts run [] qs are more = more
 calls-append starts run (r ∷ rs) qs are more = (are.0, are.1, calls-append starts (called starts run r) rs qs are.2 more)
 
-pub folds-more : (counts : List ℕ) (old new : Held) (rs qs : List Recorded) → IsFoldOf counts old rs → AreCalls old.starts old.run qs
+folds-more : (counts : List ℕ) (old new : Held) (rs qs : List Recorded) → IsFoldOf counts old rs → AreCalls old.starts old.run qs
     → new ≡ record old { run = fold (called old.starts) old.run qs } → IsFoldOf counts new (rs ++ qs)
 folds-more counts old new rs qs f more made =
     subst (λ h. IsFoldOf counts h (rs ++ qs)) (sym made)
@@ -27,10 +27,6 @@ folds-more counts old new rs qs f more made =
       calls = calls-append (starts_of counts) (fresh counts) rs qs f.calls
           (subst (λ run. AreCalls (starts_of counts) run qs) f.run (subst (λ s. AreCalls s old.run qs) f.starts more));
     })
-
-pub fold-more : (counts : List ℕ) (old new : Held) (rs : List Recorded) (r : Recorded) (bytes : Bytes) → IsFoldOf counts old rs → IsTaken old.starts old.run bytes r
-    → new ≡ record old { run = called old.starts old.run r } → IsFoldOf counts new (rs ++ r ∷ [])
-fold-more counts old new rs r bytes f taken made = folds-more counts old new rs (r ∷ []) f (taken.1, own-payload bytes r taken.0, tt) made
 
 -- how far an image has been taken in
 pub record Reached (counts image : List ℕ) (held : Held) (rest : List ℕ) (place : ℕ) : Type 0 where
@@ -59,13 +55,6 @@ module _ (counts image : List ℕ) (held new : Held) (rest after : List ℕ) (pl
   first : frames_from place 0 rest ≡ frame place p (frames_from (place + (5 + length p)) 0 after)
   first = ap (frames_from place 0) split ∙ one_framed p after place short
 
-  -- a record that is refused is the damage
-  pub stops : IsRefused held.starts held.run p → IsDamagedFrom (starts_of counts) (fresh counts) (frames_from 0 0 image) place
-  stops refused =
-      so_far.damage place
-      (subst (λ f. IsDamagedFrom (starts_of counts) held.run f place) (sym first)
-      (inl (subst (λ s. IsRefused s held.run p) so_far.fold.starts refused, refl)))
-
   -- a record that is taken in is one more
   pub goes_on : (r : Recorded) → IsTaken held.starts held.run p r → new ≡ record held { run = called held.starts held.run r }
       → oldest new.run.cases ≤ oldest held.run.cases + length p → Reached counts image new after (place + (5 + length p))
@@ -76,7 +65,7 @@ module _ (counts image : List ℕ) (held new : Held) (rest after : List ℕ) (pl
       let bytes : all_framed (map payload_of (so_far.records ++ r ∷ [])) ≡ all_framed ps ++ framed p = ap all_framed more ∙ framed-more ps p in
       record {
         records = so_far.records ++ r ∷ [];
-        fold = fold-more counts held new so_far.records r p so_far.fold taken made;
+        fold = folds-more counts held new so_far.records (r ∷ []) so_far.fold (taken.1, own-payload p r taken.0, tt) made;
         parts = so_far.parts ∙ ap (λ l. all_framed ps ++ l) split ∙ sym (append_assoc (all_framed ps) (framed p) after) ∙ ap (λ l. l ++ after) (sym bytes);
         stands = omega (arith, so_far.stands, ap length bytes, length-append (all_framed ps) (framed p));
         short = subst (AllByRecursion (λ q. length q < 2 ^ 32)) (sym more) (all_short ps p so_far.short short);
@@ -122,8 +111,11 @@ module _ (counts image : List ℕ) (held : Held) (rest : List ℕ) (place : ℕ)
 
   pub is-refused : (p after : List ℕ) → with_gate image ≡ image → length p < 2 ^ 32 → rest ≡ framed p ++ after → IsRefused held.starts held.run p → IsDamaged counts image place
   is-refused p after gate short split refused =
+      let first : frames_from place 0 rest ≡ frame place p (frames_from (place + (5 + length p)) 0 after) = ap (frames_from place 0) split ∙ one_framed p after place short in
       subst (λ f. IsDamagedFrom (starts_of counts) (fresh counts) f place) (frames-whole image gate)
-      (stops counts image held held rest after place p so_far short split refused)
+      (so_far.damage place
+      (subst (λ f. IsDamagedFrom (starts_of counts) held.run f place) (sym first)
+      (inl (subst (λ s. IsRefused s held.run p) so_far.fold.starts refused, refl))))
 
 -- a record of an image that was taken in, and one that was refused; p is where its payload stands, and after what stands behind it
 pub goes-further : (counts image : List ℕ) (held new : Held) (rest after : List ℕ) (place len here : ℕ) (p : Bytes) → Reached counts image held rest place → IsFrame rest (front.Record len)
@@ -154,14 +146,8 @@ pub fresh-old : (cases : List ℕ) (held : Held) → held ≡ record { starts = 
 fresh-old cases held is = ap (λ h. oldest h.run.cases) is ∙ fresh-young 0 cases
 
 -- there is room in each machine for what finds room on the disk
-pub room : (caller : ℕ) (e : Stored) (p : Bytes) (gate old : ℕ) → payload caller e ≡ p → old ≤ gate → gate + (6 + length p) ≤ 2 ^ 30 → old + stored_weight e ≤ 4000000000
-room caller e p gate old same young fits = omega (arith, weight-below caller e, ap length same, young, fits)
-
 pub room-for : (caller : ℕ) (e : Stored) (p : Bytes) (old : ℕ) → payload caller e ≡ p → old + length p ≤ 2 ^ 30 → old + stored_weight e ≤ 4000000000
 room-for caller e p old same fits = omega (arith, weight-below caller e, ap length same, fits)
-
-pub no-older : (caller : ℕ) (e : Stored) (p : Bytes) (old new : ℕ) → payload caller e ≡ p → new ≤ old + stored_weight e → new ≤ old + length p
-no-older caller e p old new same le = omega (arith, weight-below caller e, ap length same, le)
 
 -- what is made of the bytes of a recorded call
 pub takes-in : {E : Type 0} (held new : Held) (p : Bytes) (r : Recorded) (q : Result Bool E) → IsPayloadOf p r.caller r.event → IfOk q (λ named. named ≡ has held.starts held.run r.event)
@@ -171,7 +157,7 @@ takes-in held new p r (Ok false) pays named made = (inr (r, pays, sym named), ma
 takes-in held new p r (Err e) pays named made = tt
 
 pub none-older : {E : Type 0} (caller : ℕ) (e : Stored) (p : Bytes) (old new : ℕ) (q : Result Bool E) → payload caller e ≡ p → IfOk q (λ _. new ≤ old + stored_weight e) → IfOk q (λ _. new ≤ old + length p)
-none-older caller e p old new (Ok b) same le = no-older caller e p old new same le
+none-older caller e p old new (Ok b) same le = omega (arith, weight-below caller e, ap length same, le)
 none-older caller e p old new (Err x) same le = tt
 
 -- there is room in each machine for calls that find room on the disk

@@ -1,14 +1,14 @@
 -- What is there stays there, whatever is called. So calls of which each names what is there may be made one after another.
-use Rattle.case_store.proofs.Common.{[], ℕ, ◌&&◌, ◌++◌, ◌+◌, ◌-◌, ◌==◌, ◌∙◌, ◌∷◌, ◌≡◌, AllByRecursion, and_from, and_parts, ap, AreKnown, Bool, call_kind, called, CaseId, changed_at, ClosedKind, Err, Event, false, fold, has, has_case}
-use Rattle.case_store.proofs.Common.{has_names, HasNoVersion, if◌then◌else◌, is_shallow, KindModel, length, length-set, List, made, nat_lt, None, Ok, on_version, Op, Option, put_back, Recorded, refl, Result, Run, slice_get, Some, Stored}
-use Rattle.case_store.proofs.{Common.{suc, true, version_of, version_of_kind, zero}, Changes.changed-later}
+use Rattle.case_store.proofs.Common.{[], ℕ, ◌&&◌, ◌++◌, ◌+◌, ◌-◌, ◌==◌, ◌∙◌, ◌∷◌, ◌≡◌, AllByRecursion, and_from, and_parts, ap, AreKnown, Bool, call_kind, called, CaseId, changed_at, ClosedKind, Event, false, fold, has, has_case}
+use Rattle.case_store.proofs.Common.{has_names, HasNoVersion, if◌then◌else◌, is_shallow, length, length-set, List, made, nat_lt, None, on_version, Option, put_back, Recorded, refl, Run, slice_get, Some, Stored}
+use Rattle.case_store.proofs.{Common.{◌≤◌, arith, suc, true, version_of, version_of_kind, zero}, Changes.changed-later}
 use Rattle.std.specs.Option.{is_some}
 use Rattle.case_core.specs.declared.events.Event.TheVariants as event
 use Rattle.store_form.specs.declared.stored.Stored.TheVariants as stored
-use Rattle.type_core.specs.{Machine.{defined_by, event_on, install_on, installed_by, newest_of, version_in, with_version}, declared.events.KindEvent.KindEvent}
+use Rattle.type_core.proofs.Versions.{by-event}
+use Rattle.type_core.specs.{Machine.{newest_of, version_in}, declared.events.KindEvent.KindEvent}
 use Rattle.type_core.specs.declared.events.KindEvent.TheVariants as kind_event
-use Rattle.type_core.specs.declared.replies.KindReply.TheVariants as reply
-use Rattle.wsm_sound.specs.{VersionModel.VersionModel, Versions.{evolved, first_of}, declared.faults.Fault.Fault}
+use Rattle.wsm_sound.specs.VersionModel.{VersionModel}
 
 -- so many items as before
 changed-length : {X : Type 0} (f : X → X) (i : ℕ) (xs : List X) → length (changed_at f i xs) ≡ length xs
@@ -18,49 +18,22 @@ changed-length {X = X} f i xs = go (slice_get xs i)
     go None = refl
     go (Some x) = length-set xs i (f x)
 
--- a version more behind the others
-item-stays : {X : Type 0} (xs : List X) (x : X) (i : ℕ) → is_some (slice_get xs i) ≡ true → is_some (slice_get (xs ++ x ∷ []) i) ≡ true
-item-stays [] x i there = absurd cc
-item-stays (y ∷ xs) x zero there = refl
-item-stays (y ∷ xs) x (suc i) there = item-stays xs x i there
+-- an item and a version that are there stay, where there are no fewer
+item-stays : {X : Type 0} (xs ys : List X) (i : ℕ) → length xs ≤ length ys → is_some (slice_get xs i) ≡ true → is_some (slice_get ys i) ≡ true
+item-stays [] ys i le there = absurd cc
+item-stays (x ∷ xs) [] i le there = absurd (omega (arith, le))
+item-stays (x ∷ xs) (y ∷ ys) zero le there = refl
+item-stays (x ∷ xs) (y ∷ ys) (suc i) le there = item-stays xs ys i (omega (arith, le)) there
 
-unfoldable Has : ℕ → KindModel → Type 0
-Has n k = is_some (version_in k.versions n) ≡ true
-
-more-has : (n : ℕ) (k : KindModel) (v : VersionModel) → Has n k → Has n (with_version k v)
-unfolding Has
-more-has n k v there = go (n == 0) there
+versions-stay : (n : ℕ) (vs ws : List VersionModel) → length vs ≤ length ws → is_some (version_in vs n) ≡ true → is_some (version_in ws n) ≡ true
+versions-stay n vs ws le there = go (n == 0) there
   where
-    go : (b : Bool) → is_some (if b then None else slice_get k.versions (n - 1)) ≡ true → is_some (if b then None else slice_get (k.versions ++ v ∷ []) (n - 1)) ≡ true
+    go : (b : Bool) → is_some (if b then None else slice_get vs (n - 1)) ≡ true → is_some (if b then None else slice_get ws (n - 1)) ≡ true
     go true there = absurd cc
-    go false there = item-stays k.versions v (n - 1) there
-
-defined-has : (n : ℕ) (k : KindModel) (r : Result VersionModel Fault) → Has n k → Has n (defined_by k r).0
-defined-has n k (Ok v) there = more-has n k v there
-defined-has n k (Err f) there = there
-
-installed-has : (n : ℕ) (k : KindModel) (r : Result VersionModel Fault) → Has n k → Has n (installed_by k r).0
-installed-has n k (Ok v) there = more-has n k v there
-installed-has n k (Err f) there = there
-
-install-has : (n : ℕ) (k : KindModel) (newest : VersionModel) (ops : List Op) → Has n k → Has n (install_on k newest ops).0
-install-has n k newest ops there = go (nat_lt 255 (length k.versions))
-  where
-    go : (b : Bool) → Has n (if b then (k, reply.VersionLimit) else installed_by k (evolved newest ops)).0
-    go true = there
-    go false = installed-has n k (evolved newest ops) there
-
-event-has : (n : ℕ) (k : KindModel) (o : Option VersionModel) (e : KindEvent) → Has n k → Has n (event_on k o e).0
-event-has n k None (kind_event.Define schema) there = defined-has n k (first_of k.type_no schema) there
-event-has n k None (kind_event.Install ops) there = there
-event-has n k None kind_event.Newest there = there
-event-has n k (Some newest) (kind_event.Define schema) there = there
-event-has n k (Some newest) (kind_event.Install ops) there = install-has n k newest ops there
-event-has n k (Some newest) kind_event.Newest there = there
+    go false there = item-stays vs ws (n - 1) le there
 
 kind-has : (caller n : ℕ) (e : KindEvent) (k : ClosedKind) → is_some (version_in k.machine.versions n) ≡ true → is_some (version_in (call_kind caller e k).machine.versions n) ≡ true
-unfolding Has
-kind-has caller n e k there = event-has n k.machine (newest_of k.machine.versions) e there
+kind-has caller n e k there = versions-stay n k.machine.versions (call_kind caller e k).machine.versions (by-event k.machine (newest_of k.machine.versions) e) there
 
 kinds-have : (caller n u t : ℕ) (e : KindEvent) (kinds : List ClosedKind) → is_some (version_of_kind n (slice_get kinds t)) ≡ true
     → is_some (version_of_kind n (slice_get (changed_at (call_kind caller e) u kinds) t)) ≡ true

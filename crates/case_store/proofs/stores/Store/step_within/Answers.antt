@@ -1,4 +1,4 @@
-use Rattle.case_store.proofs.{Common.{[], ◌∙◌, ◌∷◌, ◌≡◌, ◌≤◌, ap, appended, arith, false, has, IsBeforeOrAfter, IsStore, LeavesOnly, map, oldest, Passes, payload, payload_of, subst, sym, true}, Folds.{one-step, room, stays}}
+use Rattle.case_store.proofs.{Common.{[], ◌∙◌, ◌∷◌, ◌≡◌, ◌≤◌, ap, appended, arith, false, has, IsBeforeOrAfter, IsStore, LeavesOnly, map, oldest, Passes, payload, payload_of, subst, sym, true}, Folds.{one-step, room-for, stays}}
 use Rattle.case_store.proofs.stores.Store.step_within.Goals as goal
 
 pub returns-in_err-framed-clause-any_moment : goal.returns-in_err-framed-clause-any_moment
@@ -14,8 +14,8 @@ call-requires-clause-young g c =
     let whole : c.args.self.now.is_broken ≡ false = sym (ap (λ s. s.is_broken) view) ∙ c.if-self.false in
     let store = c.requires.1.0 whole in
     let found = c.in_ok-framed.ensures.framed in
-    room c.args.caller c.args.event.now c.in_ok-framed.framed c.self.inside.gate (oldest c.self.inside.held.run.cases) found.0.same
-    (subst (λ s. oldest s.held.run.cases ≤ s.gate) (sym view) store.young) (omega (arith, found.1, c.requires.1.1.1.1))
+    room-for c.args.caller c.args.event.now c.in_ok-framed.framed (oldest c.self.inside.held.run.cases) found.0.same
+    (omega (arith, subst (λ s. oldest s.held.run.cases ≤ s.gate) (sym view) store.young, found.1, c.requires.1.1.1.1))
 
 pub returns-in_err-reply-clause-any_moment : goal.returns-in_err-reply-clause-any_moment
 returns-in_err-reply-clause-any_moment g c =
