@@ -1,6 +1,6 @@
 -- A crew that is hired one after another.
-use Rattle.crew_run.proofs.Common.{[], ℕ, ◌++◌, ◌+◌, ◌∙◌, ◌∷◌, ◌≡◌, ◌⊎◌, ap, AreHired, arith, at_case, Desk, desk_view, DeskView, HasShapeOf, inl, inr, IsDeskOf, IsHiredAt, IsIdle, IsIdlePass, length, length-append, length-map, List, map}
-use Rattle.crew_run.proofs.Common.{map_of_case, map_there, new_desk, None, parent_desk, PassView, refl, Server, slice_get, Some, split_from, split_off, subst, suc, sym, Worker, zero}
+use Rattle.crew_run.proofs.Common.{[], ℕ, ◌++◌, ◌+◌, ◌∙◌, ◌∷◌, ◌≡◌, ◌⊎◌, ap, AreHired, arith, Desk, desk_view, DeskView, HasShapeOf, inl, inr, IsDeskOf, IsHiredAt, IsIdle, length, length-append, length-map, List, map}
+use Rattle.crew_run.proofs.Common.{map_of_case, map_there, new_desk, None, parent_desk, refl, Server, slice_get, Some, split_from, split_off, subst, suc, sym, Worker, zero}
 
 pushed : {A : Type 0} (xs : List A) (y : A) (i : ℕ) (x : A) → slice_get (xs ++ y ∷ []) i ≡ Some x → (slice_get xs i ≡ Some x) ⊎ ((i ≡ length xs) × (x ≡ y))
 pushed [] y zero x at = inr (refl, cc)

@@ -1,5 +1,5 @@
 -- What a journal has of each of its callers, who are a first one and some others.
-use Rattle.crew_run.proofs.Common.{[], ℕ, ◌++◌, ◌+◌, ◌<◌, ◌==◌, ◌∙◌, ◌∷◌, ◌≡◌, ◌≢◌, ◌≤◌, AllByRecursion, ap, arith, Bool, calls_of, Entry, eq-eqb, false, filter, if◌then◌else◌, length, List, ne_eqb, refl, subst, suc, sym, true, zero}
+use Rattle.crew_run.proofs.Common.{[], ℕ, ◌++◌, ◌+◌, ◌==◌, ◌∙◌, ◌∷◌, ◌≡◌, ◌≢◌, ◌≤◌, AllByRecursion, ap, arith, Bool, calls_of, Entry, eq-eqb, false, filter, if◌then◌else◌, length, List, ne_eqb, refl, suc, sym, true, zero}
 use mathlib.Core.Logic.{dite}
 use native.Mathlib.Decide.{ℕ_discrete}
 

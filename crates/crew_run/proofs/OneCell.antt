@@ -1,8 +1,8 @@
 -- One cell while a crew works: what its journal has of each actor, phase by phase.
-use Rattle.crew_run.proofs.Common.{[], ℕ, ◌++◌, ◌+◌, ◌<◌, ◌∙◌, ◌∷◌, ◌≡◌, ◌≤◌, ◌⊎◌, All, All-push, all_joined, AllByRecursion, Any, ap, append-nil, append_assoc, arith, Call, calls_of, cases_lt, desk_view, DeskHasDone, DeskHeard, DeskSame}
-use Rattle.crew_run.proofs.Common.{DeskView, done_by, Entry, File, flat_map-append, get_or, HasCalls, HasDone, HasDoneAndHeard, Heard, inl, inr, IsActor, IsByPhases, IsClosed, IsDesk, IsIdlePass, IsKept, IsLegal, IsLegalFrom, IsLegalView}
+use Rattle.crew_run.proofs.Common.{[], ℕ, ◌++◌, ◌+◌, ◌∙◌, ◌∷◌, ◌≡◌, ◌≤◌, ◌⊎◌, All, All-push, all_joined, AllByRecursion, Any, ap, append-nil, arith, Call, calls_of, cases_lt, desk_view, DeskHasDone, DeskHeard, DeskSame}
+use Rattle.crew_run.proofs.Common.{DeskView, done_by, Entry, File, flat_map-append, get_or, HasCalls, HasDone, HasDoneAndHeard, Heard, inl, inr, IsByPhases, IsClosed, IsDesk, IsIdlePass, IsKept, IsLegal, IsLegalFrom, IsLegalView}
 use Rattle.crew_run.proofs.Common.{IsOneOf, IsStateAfter, joined, joined_desk, length, length-append, List, longer-same, Option, PassView, prefix_self, prefix_trans, recursion_from_All, refl, SeenSame, slice_get, slice_get_within, Some}
-use Rattle.crew_run.proofs.Common.{some_one, state_after, subst, suc, sym, take, take-append-le, take_all, there-as, there_at, Trace, Worker, zero}
+use Rattle.crew_run.proofs.Common.{some_one, state_after, subst, suc, sym, take-append-le, take_all, there-as, there_at, Trace, Worker, zero}
 use mathlib.Core.List.{IsPrefix}
 
 -- one phase more of what an actor did

@@ -1,6 +1,6 @@
 -- Lists side by side, item by item.
-use Rattle.crew_run.proofs.Common.{[], ℕ, ◌++◌, ◌+◌, ◌<◌, ◌∙◌, ◌∷◌, ◌≡◌, AllRows, AllZip, AllZip-long, ap, arith, at_case, beside, CaseId, get_or, in_row, length, List, map, Option, refl, row_of_case, same_Some, slice_get, Some, subst, suc}
-use Rattle.crew_run.proofs.Common.{sym, take, zero, zip_with}
+use Rattle.crew_run.proofs.Common.{[], ℕ, ◌++◌, ◌+◌, ◌<◌, ◌∙◌, ◌∷◌, ◌≡◌, AllRows, AllZip, AllZip-long, ap, arith, at_case, beside, CaseId, get_or, in_row, length, List, map, refl, row_of_case, same_Some, slice_get, Some, subst, suc}
+use Rattle.crew_run.proofs.Common.{sym, take, there-as, zero, zip_with}
 use Rattle.turn_rows.proofs.Lists.{take_item}
 
 -- what holds at each place holds of all
@@ -32,6 +32,13 @@ chosen {A} {C} c P (x ∷ xs) (y ∷ ys) many some =
     each d g here rest zero u v at_u at_v = subst (λ a. P 0 d a v) (same_Some x u at_u) (subst (P 0 d x) (same_Some y v at_v) here)
     each d g here rest (suc i) u v at_u at_v = rest i u v at_u at_v
 
+-- what holds at each place of two lists that are as long
+pub zip-from : {A B : Type 0} (R : A → B → Type 0) (xs : List A) (ys : List B) → length ys ≡ length xs → ((i : ℕ) (x : A) (y : B) → slice_get xs i ≡ Some x → slice_get ys i ≡ Some y → R x y) → AllZip R xs ys
+zip-from R [] [] even each = tt
+zip-from R [] (y ∷ ys) even each = absurd (omega (arith, even))
+zip-from R (x ∷ xs) [] even each = absurd (omega (arith, even))
+zip-from R (x ∷ xs) (y ∷ ys) even each = (each 0 x y refl refl, zip-from R xs ys (omega (arith, even)) (λ i. each (suc i)))
+
 module _ {A B : Type 0} (R : A → B → Type 0) where
   -- items at one place
   pub zip-both : (xs : List A) (ys : List B) → AllZip R xs ys → (i : ℕ) (x : A) (y : B) → slice_get xs i ≡ Some x → slice_get ys i ≡ Some y → R x y
@@ -40,22 +47,13 @@ module _ {A B : Type 0} (R : A → B → Type 0) where
       subst (R x) (same_Some found.0 y (sym found.1 ∙ at_y)) found.2
 
   pub zip-second : (P : B → Type 0) → ((x : A) (y : B) → R x y → P y) → (xs : List A) (ys : List B) → AllZip R xs ys → AllRows P ys
-  zip-second P so [] [] z = tt
-  zip-second P so [] (y ∷ ys) z = absurd z
-  zip-second P so (x ∷ xs) [] z = tt
-  zip-second P so (x ∷ xs) (y ∷ ys) (r, z) = (so x y r, zip-second P so xs ys z)
+  zip-second P so xs ys z = all-of P ys (λ i y at. let (x, at_x) = there-as ys xs i y (sym (AllZip-long R xs ys z)) at in so x y (zip-both xs ys z i x y at_x at))
 
   pub zip-so : (Q : A → B → Type 0) → ((x : A) (y : B) → R x y → Q x y) → (xs : List A) (ys : List B) → AllZip R xs ys → AllZip Q xs ys
-  zip-so Q so [] [] z = tt
-  zip-so Q so [] (y ∷ ys) z = absurd z
-  zip-so Q so (x ∷ xs) [] z = absurd z
-  zip-so Q so (x ∷ xs) (y ∷ ys) (r, z) = (so x y r, zip-so Q so xs ys z)
+  zip-so Q so xs ys z = zip-from Q xs ys (AllZip-long R xs ys z) (λ i x y at_x at_y. so x y (zip-both xs ys z i x y at_x at_y))
 
   pub zip-back : (Q : B → A → Type 0) → ((x : A) (y : B) → R x y → Q y x) → (xs : List A) (ys : List B) → AllZip R xs ys → AllZip Q ys xs
-  zip-back Q so [] [] z = tt
-  zip-back Q so [] (y ∷ ys) z = absurd z
-  zip-back Q so (x ∷ xs) [] z = absurd z
-  zip-back Q so (x ∷ xs) (y ∷ ys) (r, z) = (so x y r, zip-back Q so xs ys z)
+  zip-back Q so xs ys z = zip-from Q ys xs (sym (AllZip-long R xs ys z)) (λ i y x at_y at_x. so x y (zip-both xs ys z i x y at_x at_y))
 
   -- rows side by side are as long
   pub zip-rows : (xs : List (List A)) (ys : List (List B)) → AllZip (AllZip R) xs ys → map length ys ≡ map length xs
@@ -75,12 +73,8 @@ module _ {A B : Type 0} (R : A → B → Type 0) where
 -- what two relations give together
 pub zip-then : {A B C : Type 0} (R : A → B → Type 0) (Q : B → C → Type 0) (P : A → C → Type 0) → ((x : A) (y : B) (z : C) → R x y → Q y z → P x z)
     → (xs : List A) (ys : List B) (zs : List C) → AllZip R xs ys → AllZip Q ys zs → AllZip P xs zs
-zip-then R Q P both [] [] [] r q = tt
-zip-then R Q P both [] [] (z ∷ zs) r q = absurd q
-zip-then R Q P both [] (y ∷ ys) zs r q = absurd r
-zip-then R Q P both (x ∷ xs) [] zs r q = absurd r
-zip-then R Q P both (x ∷ xs) (y ∷ ys) [] r q = absurd q
-zip-then R Q P both (x ∷ xs) (y ∷ ys) (z ∷ zs) (r, rs) (q, qs) = (both x y z r q, zip-then R Q P both xs ys zs rs qs)
+zip-then R Q P both xs ys zs r q =
+    zip-from P xs zs (AllZip-long Q ys zs q ∙ AllZip-long R xs ys r) (λ i x z at_x at_z. let (y, at_y, here) = beside R xs ys i x r at_x in both x y z here (zip-both Q ys zs q i y z at_y at_z))
 
 pub zip-self : {A : Type 0} (R : A → A → Type 0) → ((x : A) → R x x) → (xs : List A) → AllZip R xs xs
 zip-self R self [] = tt

@@ -1,5 +1,5 @@
 -- What the definitions of types leave of the first desk.
-use Rattle.crew_run.proofs.Common.{[], ℕ, ◌++◌, ◌+◌, ◌<◌, ◌∙◌, ◌∷◌, ◌≡◌, ◌≢◌, ◌≤◌, ap, AreCounts, arith, CallFault, CallsKind, CasePass, Defines, DeskView, entry, Err, File, HasShape, IsDefinedFor, IsDefinedUpTo, IsDesk, IsIdle}
+use Rattle.crew_run.proofs.Common.{[], ℕ, ◌++◌, ◌+◌, ◌∙◌, ◌∷◌, ◌≡◌, ◌≢◌, ap, AreCounts, arith, CallFault, CallsKind, CasePass, Defines, DeskView, entry, Err, File, HasShape, IsDefinedFor, IsDefinedUpTo, IsDesk, IsIdle}
 use Rattle.crew_run.proofs.Common.{kind_beside, kind_still_defined, KindEvent, KindPass, KindReply, KnowsTypes, length, length-set, List, map, Ok, refl, Result, set-here, set-other, slice_get, Some, some_one, subst, sym, TypeDecl}
 use mathlib.Core.Logic.{dite}
 use native.Mathlib.Decide.{ℕ_discrete}

@@ -6,6 +6,7 @@ use Rattle.adept_server.specs.{Desks.{CasePass, DeskView, IsDesk, KindPass, case
 use Rattle.crew_run.specs.declared.workers.Worker.{Worker}
 use Rattle.legal_run.specs.LineCalls.{Call}
 use Rattle.turn_cell.specs.Passes.{PassView}
+use Rattle.wsm_lists.specs.Rows.{AllRows}
 use Rattle.wsm_sound.specs.declared.versions.CaseId.{CaseId}
 
 -- the pass of a type, and of a case
@@ -48,6 +49,10 @@ pub record DeskHeard (v w : DeskView) : Type 0 where
 -- a desk has the same passes as another
 abbrev pub HasPassesOf : DeskView → DeskView → Type 0
 HasPassesOf v w = (w.kinds ≡ v.kinds) × (w.cases ≡ v.cases)
+
+-- so it has, and each of a crew has seen what it has
+abbrev pub HasTold : DeskView → DeskView → List Worker → Type 0
+HasTold v w crew = HasPassesOf v w × AllRows (λ x. DeskSame w (desk_view x.desk)) crew
 
 -- it has as many passes of types, and of each type's cases
 abbrev pub HasShapeOf : DeskView → DeskView → Type 0

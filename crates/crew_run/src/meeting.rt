@@ -1,7 +1,7 @@
 // How a crew meets.
 ghost use Rattle.std.specs.List.{AllZip};
 ghost use Rattle.adept_server.specs.{Desks.{IsDeskOf, desk_view}, Noting.{AreLevelDesks, IsCalledOf}, Opening.SeesMore};
-ghost use Rattle.crew_run.specs.{Crew.{AreMet, HasMet}, Desks.{DeskHeard, DeskSame, HasPassesOf}};
+ghost use Rattle.crew_run.specs.{Crew.{AreMet, HasMet}, Desks.{DeskHeard, HasTold}};
 ghost use Rattle.wsm_lists.specs.Rows.{AllRows};
 
 use crate::workers::Worker;
@@ -31,8 +31,7 @@ fn meet_each(server: &Server, called: &CallFlags, first: &mut Desk, crew: &mut [
     ensures first { IsDeskOf server.now first.new × DeskHeard (desk_view first.old) (desk_view first.new) }
     ensures calm { AreLevelDesks called.now (desk_view first.old) (desk_view first.new) }
     ensures met { AllZip (HasMet server.now called.now (desk_view first.new)) crew.old crew.new }
-    ensures stays { AllRows (λ w. SeesMore (desk_view w.desk) (desk_view first.old)) crew.old → HasPassesOf (desk_view first.old) (desk_view first.new) }
-    ensures told { AllRows (λ w. SeesMore (desk_view w.desk) (desk_view first.old)) crew.old → AllRows (λ w. DeskSame (desk_view first.new) (desk_view w.desk)) crew.new }
+    ensures stays { AllRows (λ w. SeesMore (desk_view w.desk) (desk_view first.old)) crew.old → HasTold (desk_view first.old) (desk_view first.new) crew.new }
 {
     let Some((worker, rest)) = crew.split_first_mut() else {
         return;

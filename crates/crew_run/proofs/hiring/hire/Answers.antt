@@ -1,4 +1,4 @@
-use Rattle.crew_run.proofs.{Common.{◌+◌, ◌∙◌, ◌≡◌, ap, AreHired, arith, desk_view, length, length_push, subst, sym}, Hired.{hired-push, parent-shape}}
+use Rattle.crew_run.proofs.{Common.{◌+◌, ◌∙◌, ap, AreHired, arith, desk_view, length, length_push, subst, sym}, Hired.{hired-push, parent-shape}}
 use Rattle.crew_run.proofs.hiring.hire.Goals as goal
 
 pub desk-requires-clause-few : goal.desk-requires-clause-few

@@ -61,13 +61,4 @@ returns-clause-stays t c = λ all.
     let seen = subst (AllRows (λ w. SeesMore (desk_view w.desk) v)) c.in-Some.ensures.cases.0 all in
     let stays = pair.stays seen.0 in
     let rest = c.meet_each.ensures.stays (all-rows-map _ _ (λ w k. seen-stays (desk_view w.desk) v u stays k) c.in-Some.rest.now seen.1) in
-    (rest.0 ∙ stays.0, rest.1 ∙ stays.1)
-
-pub returns-clause-told : goal.returns-clause-told
-returns-clause-told t c = λ all.
-    let v = desk_view c.args.first.now in
-    let u = desk_view c.meet_called.new.one in
-    let pair = pair-of (desk_view c.args.first.now) (desk_view c.in-Some.worker.now.desk) (desk_view c.meet_called.new.one) (desk_view c.meet_called.new.two) c.meet_called.ensures.one c.meet_called.ensures.two c.meet_called.ensures.more in
-    let seen = subst (AllRows (λ w. SeesMore (desk_view w.desk) v)) c.in-Some.ensures.cases.0 all in
-    let rest = all-rows-map _ _ (λ w k. seen-stays (desk_view w.desk) v u (pair.stays seen.0) k) c.in-Some.rest.now seen.1 in
-    (same-stays u (desk_view c.meet_each.new.first) (desk_view c.meet_called.new.two) (c.meet_each.ensures.stays rest) pair.same, c.meet_each.ensures.told rest)
+    ((rest.0.0 ∙ stays.0, rest.0.1 ∙ stays.1), (same-stays u (desk_view c.meet_each.new.first) (desk_view c.meet_called.new.two) rest.0 pair.same, rest.1))

@@ -29,5 +29,5 @@ returns-clause-met c = λ i w x at_w at_x.
       fault = l.fault ∙ k.fault;
       desk = l.desk;
       heard = desk-heard_more (desk_view w.desk) (desk_view y.desk) (desk_view x.desk) k.heard l.heard;
-      same = row-at (λ z. DeskSame first (desk_view z.desk)) new i x (c.meet_each-2.ensures.told seen) at_x;
+      same = row-at (λ z. DeskSame first (desk_view z.desk)) new i x (c.meet_each-2.ensures.stays seen).1 at_x;
     }

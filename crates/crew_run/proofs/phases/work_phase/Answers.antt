@@ -1,4 +1,4 @@
-use Rattle.crew_run.proofs.{Common.{◌+◌, ◌∙◌, arith, desk_view, get_or, IfErr-weaker, length, on_ok_weaker, slice_get-get_or}, DesksCanWork.{can-work, knows-same, shape-of}, DesksMeet.beside-shape, PhaseWorked.{crew-behind, full-behind}}
+use Rattle.crew_run.proofs.{Common.{◌∙◌, arith, desk_view, get_or, IfErr-weaker, length, on_ok_weaker, slice_get-get_or}, DesksCanWork.{can-work, knows-same, shape-of}, DesksMeet.beside-shape, PhaseWorked.{crew-behind, full-behind}}
 use Rattle.crew_run.proofs.PhaseWorked.{no-fault, phase-worked, worked-desks, worked-level}
 use Rattle.crew_run.proofs.phases.work_phase.Goals as goal
 
