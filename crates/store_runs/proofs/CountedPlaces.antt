@@ -1,6 +1,6 @@
 -- Where the cases of a file stand by type and place: no two at one place.
 use Rattle.store_runs.proofs.Common.{[], ℕ, ◌+◌, ◌<◌, ◌∙◌, ◌∷◌, ◌≡◌, ◌≤◌, ap, arith, case_counts, CaseDecl, CaseId, cases_of_type, cases_order, ClosedCase, counts_from, declared-placed, declared-typed, File, fresh_cases, get-behind}
-use Rattle.store_runs.proofs.Common.{get-replica, if◌then◌else◌, inl, inr, IsDeclared, IsWorkable, length, List, nat_lt, nat_tests, None, Option, place_between, place_of, refl, same_Some, slice_get, Some, starts_from, starts_of, suc, sym}
+use Rattle.store_runs.proofs.Common.{get-replica, if◌then◌else◌, inl, inr, IsDeclared, IsWorkable, length, List, nat_lt, nat_tests, None, Option, place_between, place_of, refl, same_Some, slice_get, slice_get_within, Some, starts_from, starts_of, suc, sym}
 use Rattle.store_runs.proofs.Common.{true, TypeDecl, zero}
 use Rattle.case_core.specs.CaseModel.{not_created}
 
@@ -30,11 +30,6 @@ starts-get s (suc t) [] le = absurd (omega (arith, le))
 starts-get s zero (n ∷ ns) le = some-at (omega arith)
 starts-get s (suc t) (n ∷ ns) le = starts-get (s + n) t ns (omega (arith, le)) ∙ some-at (omega arith)
 
-get-within : (t n : ℕ) (ns : List ℕ) → slice_get ns t ≡ Some n → t < length ns
-get-within t n [] at = absurd cc
-get-within zero n (m ∷ ns) at = omega arith
-get-within (suc t) n (m ∷ ns) at = omega (arith, get-within t n ns at)
-
 between : (p a n : ℕ) → p < n → place_between p (Some a) (Some (a + n)) ≡ Some (a + p)
 between p a n lt =
     let within : nat_lt (a + p) (a + n) ≡ true = grind (arith, nat_tests, lt) in
@@ -42,7 +37,7 @@ between p a n lt =
 
 pub placed-at : (ns : List ℕ) (c : CaseId) (n : ℕ) → slice_get ns c.type_no ≡ Some n → c.place < n → place_of (starts_of ns) c ≡ Some (sum-upto c.type_no ns + c.place)
 placed-at ns c n at lt =
-    let within = get-within c.type_no n ns at in
+    let within = slice_get_within ns c.type_no n at in
     let one : slice_get (starts_of ns) c.type_no ≡ Some (sum-upto c.type_no ns) = starts-get 0 c.type_no ns (omega (arith, within)) ∙ some-at (omega arith) in
     let next : c.type_no + 1 ≡ suc c.type_no = omega arith in
     let two : slice_get (starts_of ns) (c.type_no + 1) ≡ Some (sum-upto c.type_no ns + n) =

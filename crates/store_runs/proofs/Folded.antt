@@ -1,48 +1,40 @@
 -- What a store makes of a file's calls is the serial run.
-use Rattle.store_runs.proofs.Common.{[], ℕ, ◌++◌, ◌+◌, ◌<◌, ◌||◌, ◌∙◌, ◌∷◌, ◌≡◌, ◌≤◌, AllByRecursion, AllRows, and_from, and_parts, ap, append_assoc, arith, Bool, by, Call, call_of, called, calls, case_at, case_counts, CaseDecl, CaseId}
-use Rattle.store_runs.proofs.Common.{cases_order, changed-seam, ClosedCase, ClosedKind, cond, create_calls, declared-typed, defined, defined_from, defined_kind, definitions, drop, eq-eqb, eqb-true, false, File, fold, folded, fresh}
+use Rattle.store_runs.proofs.Common.{[], ℕ, ◌++◌, ◌+◌, ◌<◌, ◌∙◌, ◌∷◌, ◌≡◌, ◌≤◌, AllByRecursion, AllRows, and_from, and_parts, ap, append_assoc, arith, Bool, by, Call, call_of, called, calls, case_at, case_counts, CaseDecl, CaseId}
+use Rattle.store_runs.proofs.Common.{changed-seam, ClosedCase, ClosedKind, create_calls, declared-typed, defined, defined_from, defined_kind, definitions, drop, eq-eqb, eqb-true, false, File, fold, folded, fresh}
 use Rattle.store_runs.proofs.Common.{fresh_cases, fresh_kinds, get-changed, get-other, get_or, get_or_from_slice_get, has_case, has_id, has_names, ids-distinct, if◌then◌else◌, inl, inr, is_among, IsDeclared, IsKnown, IsKnownCall, IsPlain}
-use Rattle.store_runs.proofs.Common.{IsSameRun, IsWorkable, KindEvent, kinds_behind, kinds_from, known-call, length, length-append, Line, List, list_any, migrate_calls, migrations, nat_lt, nat_tests, newest_number, None, not_defined}
-use Rattle.store_runs.proofs.Common.{on_version, opening, Option, option_map, phase_worked, place_of, plain-call, position, position_from, program, Recorded, records, refl, roles_of, Run, same_Some, serial, slice_get, slice_get-map}
+use Rattle.store_runs.proofs.Common.{IsSameRun, IsWorkable, KindEvent, kinds_behind, kinds_from, known-call, length, length-append, Line, List, migrate_calls, migrations, nat_lt, nat_tests, newest_number, None, not_defined}
+use Rattle.store_runs.proofs.Common.{on_version, opening, Option, option_map, phase_worked, place_of, plain-call, position, program, Recorded, records, refl, roles_of, Run, same_Some, serial, slice_get, slice_get-map}
 use Rattle.store_runs.proofs.Common.{slice_get_within, Some, starts_of, stored_kind, stored_run, subst, suc, sym, take, Told, told_line, told_phase, told_types}
 use Rattle.store_runs.proofs.{Common.{true, TypeDecl, uncalled, version_of, version_of_kind, VersionModel, zero}, CountedPlaces.{counts-size, declared-place, fresh-at, place-number, same-id, same-place}, Machines.{kinds-changed, kinds-same}}
-use Rattle.store_runs.proofs.{Machines.{machines, newest-is, number}, Numbers.{AllCounted, counted-call, counted-changed, found-by-number, found-when-asked, none-counted}}
+use Rattle.store_runs.proofs.{Machines.{machines, newest-is, number}, Numbers.{AllCounted, counted-call, counted-changed, found-by-number, found-when-asked, fresh-counted}}
 use Rattle.std.specs.Option.{is_some}
 use Rattle.case_store.proofs.Staying.{AreThere, all-types-stay, known-append, known-there}
 use Rattle.case_store.specs.Standing.{AreKnown}
 use Rattle.store_calls.proofs.Payable.{call-payable, definitions-payable}
 use Rattle.store_form.specs.Stored.{is_shallow}
 use Rattle.store_room.specs.Room.{IsPayable}
-use Rattle.std.proofs.{lemmas.List.Sums.fold-append, lemmas.Map.Keys.any_passes_from_place}
+use Rattle.std.proofs.{Common.lt-ltb, Math.ListN.drop_of_length-le, Math.Seq.take-length, lemmas.Bool.{ltb-false, ltb-true}, lemmas.List.drop_more, lemmas.List.Folds.Any-from_list_any, lemmas.Map.Keys.any_passes_from_place}
+use Rattle.std.proofs.{lemmas.List.Sums.{fails_before_first, fold-append, passes_at_first}, lemmas.Option.{slice_get-get_or, slice_get_cases}}
+use Rattle.std.specs.List.{position_or_len}
+use mathlib.Core.Logic.{dite}
+use native.Mathlib.Decide.{ℕ_discrete}
 use Rattle.case_core.specs.declared.events.Event.{Event}
 use Rattle.case_core.specs.declared.events.Event.TheVariants as event
 use Rattle.case_store.specs.Folding.{on_case as on_stored}
 use Rattle.script_run.proofs.Each.{each-called, each-passed}
-use Rattle.line_calls.proofs.Places.{position-from_0}
 use Rattle.line_calls.specs.declared.calls.Call.TheVariants as call
+use Rattle.line_calls.specs.declared.calls.Told.{Told as ToldCases}
 use Rattle.line_calls.specs.declared.calls.Told.TheVariants as told
-use Rattle.script_run.specs.Calls.{call_case, call_kind, called as run_called, changed_at, changed_where, created, each_of, migrated, newest, on_case, on_kind, worked}
+use Rattle.script_run.specs.Calls.{call_case, call_kind, called as run_called, changed_at, changed_where, created, each_of, migrated, newest, on_case, on_kind, told_to, worked}
 use Rattle.store_form.specs.declared.stored.Stored.TheVariants as stored
 use Rattle.type_core.specs.declared.events.KindEvent.TheVariants as kind_event
 
--- ---- what is left of a list
-dropped : {X : Type 0} (xs : List X) (i : ℕ) (y : X) (ys : List X) → drop i xs ≡ y ∷ ys → (slice_get xs i ≡ Some y) × (drop (suc i) xs ≡ ys)
-dropped [] zero y ys is = absurd cc
-dropped [] (suc i) y ys is = absurd cc
-dropped (x ∷ xs) zero y ys is = (cc, cc)
-dropped (x ∷ xs) (suc i) y ys is = dropped xs i y ys is
-
-all-taken : {X : Type 0} (xs : List X) (i : ℕ) → drop i xs ≡ [] → take i xs ≡ xs
-all-taken [] zero is = refl
-all-taken [] (suc i) is = refl
-all-taken (x ∷ xs) zero is = absurd cc
-all-taken (x ∷ xs) (suc i) is = ap (λ ys. x ∷ ys) (all-taken xs i is)
-
 -- ---- the case of an id
-record Found (c : CaseId) (ds : List CaseDecl) (start : ℕ) : Type 0 where
+-- the first that has it
+record Found (c : CaseId) (ds : List CaseDecl) : Type 0 where
   at : ℕ
   decl : CaseDecl
-  first : position_from (has_id c) start ds ≡ Some (start + at)
+  first : position (has_id c) ds ≡ Some at
   there : slice_get ds at ≡ Some decl
   has : has_id c decl ≡ true
 
@@ -50,27 +42,18 @@ chosen : {P : Type 0} (b : Bool) → (b ≡ true → P) → (b ≡ false → P) 
 chosen true is_so is_not = is_so refl
 chosen false is_so is_not = is_not refl
 
-find : (c : CaseId) (ds : List CaseDecl) (start : ℕ) → IsDeclared c ds → Found c ds start
-find c [] start any = absurd cc
-find c (d ∷ ds) start any = go (has_id c d) refl any (find c ds (start + 1))
-  where
-    go : (b : Bool) → has_id c d ≡ b → (b || list_any (has_id c) ds) ≡ true → (list_any (has_id c) ds ≡ true → Found c ds (start + 1)) → Found c (d ∷ ds) start
-    go true is any later = record {
-      at = 0;
-      decl = d;
-      first = ap (λ b. cond b (Some start) (position_from (has_id c) (start + 1) ds)) is ∙ ap (λ n. Some n) (omega arith);
-      there = refl;
-      has = is;
-    }
-    go false is any later =
-        let more = later any in
-        record {
-          at = suc more.at;
-          decl = more.decl;
-          first = ap (λ b. cond b (Some start) (position_from (has_id c) (start + 1) ds)) is ∙ more.first ∙ ap (λ n. Some n) (omega arith);
-          there = more.there;
-          has = more.has;
-        }
+find : (c : CaseId) (ds : List CaseDecl) → IsDeclared c ds → Found c ds
+find c ds declared =
+    let (i, d, low, is, here) = Any-from_list_any (has_id c) ds declared in
+    let n = position_or_len (has_id c) ds in
+    chosen (nat_lt n (length ds))
+    (λ within.
+    let lt = ltb-true n (length ds) within in
+    record { at = n; decl = get_or ds n d; first = rw within refl; there = slice_get-get_or ds n d lt; has = passes_at_first (has_id c) ds d lt })
+    (λ past.
+    let le = ltb-false n (length ds) past in
+    let not = fails_before_first (has_id c) ds i d (omega (arith, low, le)) in
+    absurd (cc (not, ap (has_id c) is ∙ here)))
 
 id-is : (c : CaseId) (d : CaseDecl) → has_id c d ≡ true → d.id ≡ c
 id-is c d is = let both = and_parts _ _ is in same-id c d.id (eqb-true d.id.type_no c.type_no both.0) (eqb-true d.id.place c.place both.1)
@@ -82,9 +65,6 @@ own-id d = rw (eq-eqb d.id.type_no d.id.type_no refl, eq-eqb d.id.place d.id.pla
 each-item : {X : Type 0} (P : X → Type 0) (xs : List X) → ((k : ℕ) (x : X) → slice_get xs k ≡ Some x → P x) → AllByRecursion P xs
 each-item P [] all = tt
 each-item P (x ∷ xs) all = (all 0 x refl, each-item P xs (λ k y at. all (suc k) y at))
-
-below : (t n : ℕ) → t < n → nat_lt t n ≡ true
-below t n lt = grind (arith, nat_tests, lt)
 
 fresh-size : (t : ℕ) (ns : List ℕ) → length (fresh_kinds t ns) ≡ length ns
 fresh-size t [] = refl
@@ -115,13 +95,7 @@ module _ (f : File) (workable : IsWorkable f) where
   called-at : (g : ClosedCase → ClosedCase) (j : ℕ) (d : CaseDecl) (cs held : List ClosedCase) → slice_get f.cases j ≡ Some d → Alike cs held
       → Alike (changed_at g j cs) (changed_at g (place-number f d.id) held)
   called-at g j d cs held at alike k e at_k =
-      elim (cases_order k j) [
-        | inl equal ↦ here equal
-        | inr differ ↦ elim differ [
-          | inl before ↦ there (λ is. omega (arith, before, is))
-          | inr behind ↦ there (λ is. omega (arith, behind, is))
-        ]
-      ]
+      dite (ℕ_discrete k j) here there
     where
       there : (k ≡ j → ⊥) → slice_get (changed_at g (place-number f d.id) held) (place-number f e.id) ≡ slice_get (changed_at g j cs) k
       there other =
@@ -138,10 +112,9 @@ module _ (f : File) (workable : IsWorkable f) where
   called-id : (g : ClosedCase → ClosedCase) (c : CaseId) (cs held : List ClosedCase) → IsDeclared c f.cases → Alike cs held
       → Alike (changed_where g (position (has_id c) f.cases) cs) (changed_where g (place_of starts c) held)
   called-id g c cs held declared alike =
-      let at = find c f.cases 0 declared in
-      let first : position (has_id c) f.cases ≡ Some at.at = sym (position-from_0 (has_id c) f.cases) ∙ at.first ∙ ap (λ n. Some n) (omega arith) in
+      let at = find c f.cases declared in
       let place : place_of starts c ≡ Some (place-number f at.decl.id) = declared-place f workable c declared ∙ ap (λ x. Some (place-number f x)) (sym (id-is c at.decl at.has)) in
-      subst (λ o. Alike (changed_where g o cs) (changed_where g (place_of starts c) held)) (sym first)
+      subst (λ o. Alike (changed_where g o cs) (changed_where g (place_of starts c) held)) (sym at.first)
       (subst (λ o. Alike (changed_at g at.at cs) (changed_where g o held)) (sym place) (called-at g at.at at.decl cs held at.there alike))
 
   -- ---- a call of each
@@ -156,14 +129,6 @@ module _ (f : File) (workable : IsWorkable f) where
 
   abbrev all : Run → List Recorded → Run
   all held rs = fold (called starts) held rs
-
-  -- a case that is created on the version that was answered
-  creates : (a : ℕ) (c : CaseId) (o : Option VersionModel) (run held : Run) → IsDeclared c f.cases → ((v : VersionModel) → o ≡ Some v → version_of run c.type_no v.number ≡ Some v) → Same run held
-      → Same (created f a c o run) (all held (create_calls a c (number o)))
-  creates a c None run held declared has same = same
-  creates a c (Some v) run held declared has same =
-      subst (λ o. Same (on_case f a c (event.Create v) run) (on_version starts a c event.Create o held)) (sym (has-version run held c.type_no v same (has v refl)))
-      (on-case a c (event.Create v) run held declared same)
 
   -- each of the first so many cases of a type moves, one after another
   module _ (a t many : ℕ) (v : VersionModel) (kinds : List ClosedKind) (has : version_of_kind v.number (slice_get kinds t) ≡ Some v) (cs : List ClosedCase) where
@@ -192,32 +157,28 @@ module _ (f : File) (workable : IsWorkable f) where
         let is : d ≡ get_or f.cases i d = sym (get_or_from_slice_get f.cases i d d at) in
         subst (λ xs. Same (record { kinds = kinds; cases = xs }) held) (sym (each-passed t many moved f.cases cs i d within is other)) same
 
-    behind : (i : ℕ) (d : CaseDecl) (ds : List CaseDecl) → drop i f.cases ≡ d ∷ ds → (slice_get f.cases i ≡ Some d) × (drop (i + 1) f.cases ≡ ds)
-    behind i d ds is =
-        let next : i + 1 ≡ suc i = omega arith in
-        let at = dropped f.cases i d ds is in
-        (at.0, ap (λ n. drop n f.cases) next ∙ at.1)
-
     abbrev Done : Run → Type 0
     Done held = Same (record { kinds = kinds; cases = each_of t many moved f.cases cs }) held
 
     abbrev more : CaseDecl → List CaseDecl → Bool → List Recorded
     more d ds b = if b then by a (stored.Migrate d.id v.number) ∷ migrations a t many v.number ds else migrations a t many v.number ds
 
-    moves : (ds : List CaseDecl) (i : ℕ) (held : Run) → drop i f.cases ≡ ds → Same (upto i) held
-        → Done (all held (migrations a t many v.number ds))
-    moves [] i held left same = subst (λ xs. Same (record { kinds = kinds; cases = each_of t many moved xs cs }) held) (all-taken f.cases i left) same
-    moves (d ∷ ds) i held left same =
-        let next = behind i d ds left in
-        chosen (is_among t many d)
-        (λ is. subst (λ b. Done (all held (more d ds b))) (sym is)
-        (moves ds (i + 1) (called starts held (by a (stored.Migrate d.id v.number))) next.1 (one-moves i d held next.0 is same)))
-        (λ is. subst (λ b. Done (all held (more d ds b))) (sym is) (moves ds (i + 1) held next.1 (one-stays i d held next.0 is same)))
-
-  migrates : (a t many : ℕ) (o : Option VersionModel) (run held : Run) → ((v : VersionModel) → o ≡ Some v → version_of run t v.number ≡ Some v) → Same run held
-      → Same (migrated f a t many o run) (all held (migrate_calls a t many f.cases (number o)))
-  migrates a t many None run held has same = same
-  migrates a t many (Some v) run held has same = moves a t many v run.kinds (has v refl) run.cases f.cases 0 held refl same
+    moves : (n i : ℕ) (held : Run) → n + i ≡ length f.cases → Same (upto i) held → Done (all held (migrations a t many v.number (drop i f.cases)))
+    moves zero i held left same =
+        let end : i ≡ length f.cases = omega (arith, left) in
+        subst (λ ds. Done (all held (migrations a t many v.number ds))) (sym (drop_of_length-le f.cases (omega (arith, left))))
+        (subst (λ xs. Same (record { kinds = kinds; cases = each_of t many moved xs cs }) held) (ap (λ k. take k f.cases) end ∙ take-length f.cases) same)
+    moves (suc n) i held left same =
+        elim (slice_get_cases f.cases i).1 [
+          | inl (d, low, at, is) ↦
+              let cut : drop i f.cases ≡ d ∷ drop (i + 1) f.cases = drop_more f.cases i d low ∙ ap (λ x. x ∷ drop (i + 1) f.cases) is in
+              subst (λ ds. Done (all held (migrations a t many v.number ds))) (sym cut)
+              (chosen (is_among t many d)
+              (λ among. subst (λ b. Done (all held (more d (drop (i + 1) f.cases) b))) (sym among)
+              (moves n (i + 1) (called starts held (by a (stored.Migrate d.id v.number))) (omega (arith, left)) (one-moves i d held at among same)))
+              (λ other. subst (λ b. Done (all held (more d (drop (i + 1) f.cases) b))) (sym other) (moves n (i + 1) held (omega (arith, left)) (one-stays i d held at other same))))
+          | inr past ↦ absurd (omega (arith, left, past.0))
+        ]
 
   -- ---- the calls of a line's call
   kind-stored : (a t : ℕ) (e : KindEvent) (held : Run) → called starts held (by a (stored_kind t e)) ≡ on_kind a t e held
@@ -225,48 +186,30 @@ module _ (f : File) (workable : IsWorkable f) where
   kind-stored a t (kind_event.Install ops) held = refl
   kind-stored a t kind_event.Newest held = refl
 
-  makes : (a : ℕ) (k : Call) (run held : Run) → IsKnownCall (length f.types) f.cases k → AllCounted run.kinds → Same run held → Same (run_called f a k run) (all held (records f.cases a (machines run.kinds) k))
-  makes a (call.Kind t e) run held known counted same = subst (Same (on_kind a t e run)) (sym (kind-stored a t e held)) (on-kind a t e run held same)
-  makes a (call.Case c e) run held known counted same = on-case a c e run held known same
-  makes a (call.Newest t (told.Create c)) run held (own, known) counted same =
-      subst (λ n. Same (run_called f a (call.Newest n (told.Create c)) run) (all held (records f.cases a (machines run.kinds) (call.Newest n (told.Create c))))) (sym own)
-      (subst (λ o. Same (run_called f a (call.Newest c.type_no (told.Create c)) run) (all (on_kind a c.type_no kind_event.Newest held) (create_calls a c o))) (sym (newest-is c.type_no run))
-      (creates a c (newest c.type_no run) (on_kind a c.type_no kind_event.Newest run) (on_kind a c.type_no kind_event.Newest held) known
-      (λ v is. found-when-asked a c.type_no v.number run ∙ found-by-number run c.type_no v counted is) (on-kind a c.type_no kind_event.Newest run held same)))
-  makes a (call.Newest t (told.Migrate many)) run held known counted same =
-      subst (λ o. Same (run_called f a (call.Newest t (told.Migrate many)) run) (all (on_kind a t kind_event.Newest held) (migrate_calls a t many f.cases o))) (sym (newest-is t run))
-      (migrates a t many (newest t run) (on_kind a t kind_event.Newest run) (on_kind a t kind_event.Newest held)
-      (λ v is. found-when-asked a t v.number run ∙ found-by-number run t v counted is) (on-kind a t kind_event.Newest run held same))
-
-  created-kinds : (a : ℕ) (c : CaseId) (o : Option VersionModel) (run : Run) → (created f a c o run).kinds ≡ run.kinds
-  created-kinds a c None run = refl
-  created-kinds a c (Some v) run = refl
-
-  migrated-kinds : (a t many : ℕ) (o : Option VersionModel) (run : Run) → (migrated f a t many o run).kinds ≡ run.kinds
-  migrated-kinds a t many None run = refl
-  migrated-kinds a t many (Some v) run = refl
+  told-kinds : (a t : ℕ) (w : ToldCases) (o : Option VersionModel) (run : Run) → (told_to f a t w o run).kinds ≡ run.kinds
+  told-kinds a t (told.Create c) None run = refl
+  told-kinds a t (told.Create c) (Some v) run = refl
+  told-kinds a t (told.Migrate many) None run = refl
+  told-kinds a t (told.Migrate many) (Some v) run = refl
 
   counted : (a : ℕ) (k : Call) (run : Run) → AllCounted run.kinds → AllCounted (run_called f a k run).kinds
   counted a (call.Kind t e) run all = counted-changed a t e run.kinds all
   counted a (call.Case c e) run all = all
-  counted a (call.Newest t (told.Create c)) run all =
-      subst AllCounted (sym (created-kinds a c (newest t run) (on_kind a t kind_event.Newest run))) (counted-changed a t kind_event.Newest run.kinds all)
-  counted a (call.Newest t (told.Migrate many)) run all =
-      subst AllCounted (sym (migrated-kinds a t many (newest t run) (on_kind a t kind_event.Newest run))) (counted-changed a t kind_event.Newest run.kinds all)
+  counted a (call.Newest t w) run all =
+      subst AllCounted (sym (told-kinds a t w (newest t run) (on_kind a t kind_event.Newest run))) (counted-changed a t kind_event.Newest run.kinds all)
 
   -- the types that the calls are told by are those of the run
   kinds-told : (a : ℕ) (k : Call) (run : Run) → kinds_behind k (machines run.kinds) ≡ machines (run_called f a k run).kinds
   kinds-told a (call.Kind t e) run = sym (kinds-changed a t e run.kinds)
   kinds-told a (call.Case c e) run = refl
-  kinds-told a (call.Newest t (told.Create c)) run = sym (ap machines (created-kinds a c (newest t run) (on_kind a t kind_event.Newest run)) ∙ kinds-same a t run)
-  kinds-told a (call.Newest t (told.Migrate many)) run = sym (ap machines (migrated-kinds a t many (newest t run) (on_kind a t kind_event.Newest run)) ∙ kinds-same a t run)
+  kinds-told a (call.Newest t w) run = sym (ap machines (told-kinds a t w (newest t run) (on_kind a t kind_event.Newest run)) ∙ kinds-same a t run)
 
   -- a type and a case that are known are there
   abbrev HasTypes : Run → Type 0
   HasTypes held = length held.kinds ≡ length f.types
 
   type-there : (t : ℕ) (held : Run) → HasTypes held → t < length f.types → nat_lt t (length held.kinds) ≡ true
-  type-there t held types lt = below t (length held.kinds) (omega (arith, types, lt))
+  type-there t held types lt = lt-ltb t (length held.kinds) (omega (arith, types, lt))
 
   kind-there : (t : ℕ) (e : KindEvent) (held : Run) → HasTypes held → t < length f.types → has_names starts held (stored_kind t e) ≡ true
   kind-there t (kind_event.Define schema) held types lt = type-there t held types lt
@@ -281,12 +224,21 @@ module _ (f : File) (workable : IsWorkable f) where
   version-there c t v held declared own found =
       and_from (has_case starts c) (is_some (version_of held c.type_no v.number)) (case-there c declared) (ap (λ u. is_some (version_of held u v.number)) own ∙ ap is_some found)
 
-  -- the calls that an answer brings
-  creates-known : (a : ℕ) (c : CaseId) (o : Option VersionModel) (held : Run) → IsDeclared c f.cases → ((v : VersionModel) → o ≡ Some v → version_of held c.type_no v.number ≡ Some v)
-      → AreKnown starts held (create_calls a c (number o))
-  creates-known a c None held declared found = tt
-  creates-known a c (Some v) held declared found = first-known starts held (by a (stored.Create c v.number)) [] (version-there c c.type_no v held declared refl (found v refl)) (refl, tt) tt
+  -- calls that a store may make, and the run that they make
+  abbrev Goes : Run → Run → List Recorded → Type 0
+  Goes run held rs = AreKnown starts held rs × Same run (all held rs)
 
+  -- a case that is created on the version that was answered
+  creates : (a : ℕ) (c : CaseId) (o : Option VersionModel) (run held : Run) → IsDeclared c f.cases → ((v : VersionModel) → o ≡ Some v → version_of run c.type_no v.number ≡ Some v) → Same run held
+      → Goes (created f a c o run) held (create_calls a c (number o))
+  creates a c None run held declared has same = (tt, same)
+  creates a c (Some v) run held declared has same =
+      let there = has-version run held c.type_no v same (has v refl) in (
+        first-known starts held (by a (stored.Create c v.number)) [] (version-there c c.type_no v held declared refl there) (refl, tt) tt,
+        subst (λ o. Same (on_case f a c (event.Create v) run) (on_version starts a c event.Create o held)) (sym there) (on-case a c (event.Create v) run held declared same),
+      )
+
+  -- and cases that are moved to it
   moves-there : (a t many : ℕ) (v : VersionModel) (held : Run) → version_of held t v.number ≡ Some v → (ds : List CaseDecl) → AllByRecursion (λ (d : CaseDecl). IsDeclared d.id f.cases) ds
       → AreThere starts held (migrations a t many v.number ds)
   moves-there a t many v held found [] declared = tt
@@ -299,35 +251,40 @@ module _ (f : File) (workable : IsWorkable f) where
           ((and_from _ true (version-there d.id t v held declared.0 own found) refl, tt), rest)
       one false other rest = rest
 
-  migrates-known : (a t many : ℕ) (o : Option VersionModel) (held : Run) → ((v : VersionModel) → o ≡ Some v → version_of held t v.number ≡ Some v)
-      → AreKnown starts held (migrate_calls a t many f.cases (number o))
-  migrates-known a t many None held found = tt
-  migrates-known a t many (Some v) held found =
-      known-there starts held (migrations a t many v.number f.cases)
-      (moves-there a t many v held (found v refl) f.cases (each-item (λ (d : CaseDecl). IsDeclared d.id f.cases) f.cases declared-at))
+  migrates : (a t many : ℕ) (o : Option VersionModel) (run held : Run) → ((v : VersionModel) → o ≡ Some v → version_of run t v.number ≡ Some v) → Same run held
+      → Goes (migrated f a t many o run) held (migrate_calls a t many f.cases (number o))
+  migrates a t many None run held has same = (tt, same)
+  migrates a t many (Some v) run held has same = (
+    known-there starts held (migrations a t many v.number f.cases)
+        (moves-there a t many v held (has-version run held t v same (has v refl)) f.cases (each-item (λ (d : CaseDecl). IsDeclared d.id f.cases) f.cases declared-at)),
+    moves a t many v run.kinds (has v refl) run.cases (length f.cases) 0 held (omega arith) same,
+  )
 
-  answered : (a t : ℕ) (run held : Run) (v : VersionModel) → AllCounted run.kinds → Same run held → newest t run ≡ Some v
-      → version_of (on_kind a t kind_event.Newest held) t v.number ≡ Some v
-  answered a t run held v counted same is =
-      has-version (on_kind a t kind_event.Newest run) (on_kind a t kind_event.Newest held) t v (on-kind a t kind_event.Newest run held same)
-      (found-when-asked a t v.number run ∙ found-by-number run t v counted is)
+  -- a type is asked first
+  asked : (a t : ℕ) (run now held : Run) (rest : Option ℕ → List Recorded) → nat_lt t (length held.kinds) ≡ true → Goes now (on_kind a t kind_event.Newest held) (rest (number (newest t run)))
+      → Goes now held (by a (stored.Newest t) ∷ rest (newest_number t (machines run.kinds)))
+  asked a t run now held rest there more =
+      subst (λ o. Goes now held (by a (stored.Newest t) ∷ rest o)) (sym (newest-is t run)) (first-known starts held (by a (stored.Newest t)) (rest (number (newest t run))) there (refl, tt) more.0, more.1)
 
-  records-known : (a : ℕ) (k : Call) (run held : Run) → IsKnownCall (length f.types) f.cases k → IsPlain k → AllCounted run.kinds → Same run held → HasTypes held
-      → AreKnown starts held (records f.cases a (machines run.kinds) k)
-  records-known a (call.Kind t e) run held known plain counted same types =
-      first-known starts held (by a (stored_kind t e)) [] (kind-there t e held types known) (call-payable f.cases a (machines run.kinds) (call.Kind t e) plain).0 tt
-  records-known a (call.Case c e) run held known plain counted same types =
-      first-known starts held (by a (stored.Case c e)) [] (case-there c known) (call-payable f.cases a (machines run.kinds) (call.Case c e) plain).0 tt
-  records-known a (call.Newest t (told.Create c)) run held (own, known) plain counted same types =
-      first-known starts held (by a (stored.Newest t)) (create_calls a c (newest_number t (machines run.kinds)))
-      (type-there t held types (subst (λ u. u < length f.types) (sym own) (declared-typed (length f.types) f.cases c workable.typed known))) (refl, tt)
-      (subst (λ o. AreKnown starts (on_kind a t kind_event.Newest held) (create_calls a c o)) (sym (newest-is t run))
-      (creates-known a c (newest t run) (on_kind a t kind_event.Newest held) known
-      (λ v is. subst (λ u. version_of (on_kind a t kind_event.Newest held) u v.number ≡ Some v) own (answered a t run held v counted same is))))
-  records-known a (call.Newest t (told.Migrate many)) run held known plain counted same types =
-      first-known starts held (by a (stored.Newest t)) (migrate_calls a t many f.cases (newest_number t (machines run.kinds))) (type-there t held types known.0) (refl, tt)
-      (subst (λ o. AreKnown starts (on_kind a t kind_event.Newest held) (migrate_calls a t many f.cases o)) (sym (newest-is t run))
-      (migrates-known a t many (newest t run) (on_kind a t kind_event.Newest held) (λ v is. answered a t run held v counted same is)))
+  answered : (a t : ℕ) (run : Run) (v : VersionModel) → AllCounted run.kinds → newest t run ≡ Some v → version_of (on_kind a t kind_event.Newest run) t v.number ≡ Some v
+  answered a t run v counted is = found-when-asked a t v.number run ∙ found-by-number run t v counted is
+
+  makes : (a : ℕ) (k : Call) (run held : Run) → IsKnownCall (length f.types) f.cases k → IsPlain k → AllCounted run.kinds → Same run held → HasTypes held
+      → Goes (run_called f a k run) held (records f.cases a (machines run.kinds) k)
+  makes a (call.Kind t e) run held known plain counted same types = (
+    first-known starts held (by a (stored_kind t e)) [] (kind-there t e held types known) (call-payable f.cases a (machines run.kinds) (call.Kind t e) plain).0 tt,
+    subst (Same (on_kind a t e run)) (sym (kind-stored a t e held)) (on-kind a t e run held same),
+  )
+  makes a (call.Case c e) run held known plain counted same types =
+      (first-known starts held (by a (stored.Case c e)) [] (case-there c known) (call-payable f.cases a (machines run.kinds) (call.Case c e) plain).0 tt, on-case a c e run held known same)
+  makes a (call.Newest t (told.Create c)) run held (own, known) plain counted same types =
+      asked a t run (run_called f a (call.Newest t (told.Create c)) run) held (create_calls a c)
+      (type-there t held types (subst (λ u. u < length f.types) (sym own) (declared-typed (length f.types) f.cases c workable.typed known)))
+      (creates a c (newest t run) (on_kind a t kind_event.Newest run) (on_kind a t kind_event.Newest held) known
+      (λ v is. subst (λ u. version_of (on_kind a t kind_event.Newest run) u v.number ≡ Some v) own (answered a t run v counted is)) (on-kind a t kind_event.Newest run held same))
+  makes a (call.Newest t (told.Migrate many)) run held known plain counted same types =
+      asked a t run (run_called f a (call.Newest t (told.Migrate many)) run) held (migrate_calls a t many f.cases) (type-there t held types known.0)
+      (migrates a t many (newest t run) (on_kind a t kind_event.Newest run) (on_kind a t kind_event.Newest held) (λ v. answered a t run v counted) (on-kind a t kind_event.Newest run held same))
 
   has-types : (rs : List Recorded) → HasTypes (folded (case_counts f) rs)
   has-types rs = all-types-stay starts begun rs ∙ fresh-size 0 (case_counts f) ∙ counts-size 0 f.types f.cases
@@ -355,15 +312,13 @@ module _ (f : File) (workable : IsWorkable f) where
       let k = call_of a (roles_of f a) l.act in
       let held = folded (case_counts f) s.calls in
       let known_call = known-call a (roles_of f a) (length f.types) f.cases l.act known.act in
-      let all_made = subst (λ ks. Same (worked f run l) (all held (records f.cases a ks k))) (sym made.kinds) (makes a k run held known_call made.counts made.same) in
+      let goes = subst (λ ks. Goes (worked f run l) held (records f.cases a ks k)) (sym made.kinds)
+      (makes a k run held known_call (plain-call a (roles_of f a) l.act) made.counts made.same (has-types s.calls)) in
       record {
-        same = subst (Same (worked f run l)) (sym (fold-append (called starts) (fresh (case_counts f)) s.calls (records f.cases a s.kinds k))) all_made;
+        same = subst (Same (worked f run l)) (sym (fold-append (called starts) (fresh (case_counts f)) s.calls (records f.cases a s.kinds k))) goes.1;
         counts = counted a k run made.counts;
         kinds = ap (kinds_behind k) made.kinds ∙ kinds-told a k run;
-        known =
-            known-append starts begun s.calls (records f.cases a s.kinds k) made.known
-            (subst (λ ks. AreKnown starts held (records f.cases a ks k)) (sym made.kinds)
-            (records-known a k run held known_call (plain-call a (roles_of f a) l.act) made.counts made.same (has-types s.calls)));
+        known = known-append starts begun s.calls (records f.cases a s.kinds k) made.known goes.0;
       }
 
   lines-made : (lines : List Line) (run : Run) (s : Told) → AllRows Known lines → IsMade run s → IsMade (phase_worked f run lines) (told_phase f s lines)
@@ -389,7 +344,7 @@ module _ (f : File) (workable : IsWorkable f) where
 
   defined-counted : (t : ℕ) (ds : List TypeDecl) → AllCounted (kinds_from t ds)
   defined-counted t [] = tt
-  defined-counted t (d ∷ ds) = (counted-call program (kind_event.Define d.schema) (record { machine = not_defined t; journal = [] }) (none-counted (not_defined t) refl), defined-counted (t + 1) ds)
+  defined-counted t (d ∷ ds) = (counted-call program (kind_event.Define d.schema) (record { machine = not_defined t; journal = [] }) (fresh-counted t), defined-counted (t + 1) ds)
 
   types-same : (t : ℕ) (ds : List TypeDecl) → defined_from t ds ≡ machines (kinds_from t ds)
   types-same t [] = refl

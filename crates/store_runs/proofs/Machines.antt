@@ -1,21 +1,14 @@
 -- The types of a run without their journals.
-use Rattle.store_runs.proofs.Common.{[], ℕ, ◌∙◌, ◌∷◌, ◌≡◌, answered_version, ap, call_kind, changed-later, changed_at, ClosedKind, event_on, KindEvent, KindModel, List, newest, newest_in, newest_number, newest_of, None, number_in, on_kind}
-use Rattle.store_runs.proofs.{Common.{Option, option_map, refl, Run, slice_get, Some, stepped, suc, sym, VersionModel, zero}, Numbers.asked}
+use Rattle.store_runs.proofs.Common.{[], ℕ, ◌∙◌, ◌∷◌, ◌≡◌, answered_version, ap, call_kind, changed-later, changed_at, ClosedKind, event_on, KindEvent, KindModel, List, map, newest, newest_in, newest_number, newest_of, None, number_in, on_kind}
+use Rattle.store_runs.proofs.{Common.{Option, option_map, refl, Run, slice_get-map, slice_get, Some, stepped, suc, sym, VersionModel, zero}, Numbers.asked}
 use Rattle.type_core.specs.declared.events.KindEvent.TheVariants as kind_event
 
 abbrev pub machines : List ClosedKind → List KindModel
-machines [] = []
-machines (k ∷ ks) = k.machine ∷ machines ks
+machines ks = map (λ k. k.machine) ks
 
 -- the number of the newest version is that of the version that a type answers
 abbrev pub number : Option VersionModel → Option ℕ
 number o = option_map (λ v. v.number) o
-
-get-machine : (ks : List ClosedKind) (t : ℕ) → slice_get (machines ks) t ≡ option_map (λ k. k.machine) (slice_get ks t)
-get-machine [] zero = refl
-get-machine [] (suc t) = refl
-get-machine (k ∷ ks) zero = refl
-get-machine (k ∷ ks) (suc t) = get-machine ks t
 
 answered : (k : KindModel) (o : Option VersionModel) → number o ≡ number (answered_version (event_on k o kind_event.Newest).1)
 answered k None = refl
@@ -26,7 +19,7 @@ number-of None = refl
 number-of (Some k) = answered k.machine (newest_of k.machine.versions)
 
 pub newest-is : (t : ℕ) (r : Run) → newest_number t (machines r.kinds) ≡ number (newest t r)
-newest-is t r = ap number_in (get-machine r.kinds t) ∙ number-of (slice_get r.kinds t)
+newest-is t r = ap number_in (slice_get-map (λ k. k.machine) r.kinds t) ∙ number-of (slice_get r.kinds t)
 
 -- a type is changed at its place
 pub kinds-changed : (a t : ℕ) (e : KindEvent) (ks : List ClosedKind) → machines (changed_at (call_kind a e) t ks) ≡ changed_at (stepped e) t (machines ks)

@@ -1,7 +1,7 @@
 -- The newest version of a type has the number of how many there are, so it is found by its number.
 use Rattle.store_runs.proofs.Common.{[], ℕ, ◌++◌, ◌+◌, ◌-◌, ◌==◌, ◌∙◌, ◌∷◌, ◌≡◌, answered_version, ap, arith, Bool, call_kind, changed-later, changed_at, ClosedKind, defined_by, Err, event_on, false, get-changed, if◌then◌else◌}
 use Rattle.store_runs.proofs.Common.{installed_by, KindEvent, KindModel, length, length-append, List, nat_lt, ne_eqb, newest, newest_in, newest_of, next_kind, None, Ok, on_kind, Option, option_map, refl, Result, Run, same_Some, slice_get}
-use Rattle.store_runs.proofs.Common.{Some, subst, suc, sym, true, version_in, version_of, version_of_kind, VersionModel, with_version, zero}
+use Rattle.store_runs.proofs.Common.{AllRows, not_defined, row-at, Some, subst, suc, sym, true, version_in, version_of, version_of_kind, VersionModel, with_version, zero}
 use Rattle.type_core.proofs.Numbering.{none_newest}
 use Rattle.type_core.specs.declared.events.KindEvent.TheVariants as kind_event
 use Rattle.type_core.specs.declared.replies.KindReply.TheVariants as reply
@@ -48,17 +48,12 @@ by-event k (Some n) kind_event.Newest is counted = counted
 after-event : (k : KindModel) (e : KindEvent) → IsCounted k → IsCounted (next_kind k e).0
 after-event k e counted = by-event k (newest_of k.versions) e refl counted
 
-pub none-counted : (k : KindModel) → k.versions ≡ [] → IsCounted k
-none-counted k none w is = absurd (go k.versions none is)
-  where
-    go : (vs : List VersionModel) → vs ≡ [] → newest_of vs ≡ Some w → ⊥
-    go [] none is = absurd cc
-    go (v ∷ vs) none is = absurd cc
+pub fresh-counted : (t : ℕ) → IsCounted (not_defined t)
+fresh-counted t w is = absurd cc
 
 -- each type of a run
 abbrev pub AllCounted : List ClosedKind → Type 0
-AllCounted [] = Unit {0}
-AllCounted (k ∷ ks) = IsCounted k.machine × AllCounted ks
+AllCounted ks = AllRows (λ k. IsCounted k.machine) ks
 
 pub counted-changed : (a t : ℕ) (e : KindEvent) (ks : List ClosedKind) → AllCounted ks → AllCounted (changed_at (call_kind a e) t ks)
 counted-changed a zero e [] all = tt
@@ -68,11 +63,6 @@ counted-changed a (suc t) e (k ∷ ks) all = subst AllCounted (sym (changed-late
 
 pub counted-call : (a : ℕ) (e : KindEvent) (k : ClosedKind) → IsCounted k.machine → IsCounted (call_kind a e k).machine
 counted-call a e k counted = after-event k.machine e counted
-
-counted-at : (ks : List ClosedKind) (t : ℕ) (k : ClosedKind) → AllCounted ks → slice_get ks t ≡ Some k → IsCounted k.machine
-counted-at [] t k all at = absurd cc
-counted-at (x ∷ xs) zero k all at = subst (λ y. IsCounted y.machine) (same_Some x k at) all.0
-counted-at (x ∷ xs) (suc t) k all at = counted-at xs t k all.1 at
 
 -- it is found by its number
 at-number : (vs : List VersionModel) (v : VersionModel) → v.number ≡ length vs → newest_of vs ≡ Some v → version_in vs v.number ≡ Some v
@@ -92,7 +82,7 @@ found-by-number r t v all is = go (slice_get r.kinds t) refl is
     go None at is = absurd cc
     go (Some k) at is =
         let has = answered k.machine (newest_of k.machine.versions) v is in
-        at-number k.machine.versions v (counted-at r.kinds t k all at v has) has
+        at-number k.machine.versions v (row-at (λ x. IsCounted x.machine) r.kinds t k all at v has) has
 
 -- a type that is asked for its newest version stays as it is
 pub asked : (k : KindModel) (o : Option VersionModel) → (event_on k o kind_event.Newest).0 ≡ k
