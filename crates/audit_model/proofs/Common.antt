@@ -29,4 +29,4 @@ pub use Rattle.std.proofs.{lemmas.List.Sums.{count_by_more_no, count_by_more_yes
 pub use Rattle.std.specs.{Fmt.{digit_glyph, digits_onto, signed_decimal}, List.{list_all, list_any}, Option.option_or}
 pub use Rattle.type_core.proofs.Versions.{by-event, newest-told, sound-defined}
 pub use Rattle.wsm_lists.proofs.Lists.{all-rows-map, all_rows, rows-append, rows-map}
-pub use Rattle.audit_model.proofs.Lists.{by-test, if-either, keeps, drops, filter-swap, filter-rows, filter-phases, rows-filter, both-phases, take-known}
+pub use Rattle.audit_model.proofs.Lists.{all-by, by-test, if-either, keeps, drops, filter-swap, filter-rows, filter-phases, owed-rows, rows-filter, rows-owed, both-phases, take-known}

@@ -11,7 +11,6 @@ use Rattle.wsm_trail.specs.Withdrawn.{withdrawn}
 use Rattle.case_core.specs.declared.events.Event.TheVariants as event
 use Rattle.case_core.specs.declared.replies.Reply.TheVariants as reply
 use Rattle.wsm_schema.specs.declared.entries.Entry.TheVariants as entry
-use Rattle.wsm_schema.specs.declared.states.State.TheVariants as state
 
 -- ---- trails
 value_in-one : (e : ℕ) (ws : Written) → AllRows IsOneLineWrite ws → IfSome (value_in e ws) IsOneLineValue

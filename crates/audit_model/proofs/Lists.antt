@@ -1,6 +1,7 @@
 -- Facts about tests, about rows of lists, and about those that pass a test.
-use Rattle.std.proofs.Common.{◌≡◌, ℕ, zero, suc, Bool, true, false, List, [], ◌∷◌, filter, map, take, refl, sym, ap, ◌∙◌, if◌then◌else◌}
-use Rattle.wsm_lists.proofs.Lists.{all-rows-map, both_rows, rows-map}
+use Rattle.std.proofs.Common.{◌≡◌, ℕ, zero, suc, ◌==◌, eq-eqb, Bool, true, false, List, [], ◌∷◌, filter, map, take, refl, sym, ap, subst, ◌∙◌, if◌then◌else◌}
+use Rattle.line_readers.specs.Owed.{all_owed, lines_by}
+use Rattle.wsm_lists.proofs.Lists.{all-rows-map, both_rows, rows-append, rows-map, rows-parts}
 use Rattle.wsm_lists.specs.Rows.{AllRows}
 
 -- by what a test says
@@ -48,3 +49,21 @@ pub take-known : {X : Type 0} (P : X → Type 0) (n : ℕ) (xs : List X) → All
 take-known P zero xs all = tt
 take-known P (suc n) [] all = tt
 take-known P (suc n) (x ∷ xs) (one, all) = (one, take-known P n xs all)
+
+-- what holds of each actor's lines holds of all
+pub all-by : {L : Type 0} (by : L → ℕ) (IsActor : ℕ → Type 0) (P : L → Type 0) (ls : List L) → AllRows (λ l. IsActor (by l)) ls → ((a : ℕ) → IsActor a → AllRows P (lines_by by a ls)) → AllRows P ls
+all-by by IsActor P [] actors each = tt
+all-by by IsActor P (l ∷ ls) (actor, actors) each = (
+  (subst (AllRows P) (keeps (λ x. by x == by l) l ls (eq-eqb (by l) (by l) refl)) (each (by l) actor)).0,
+  all-by by IsActor P ls actors
+      (λ a is. by-test (λ b. AllRows P (if b then l ∷ lines_by by a ls else lines_by by a ls) → AllRows P (lines_by by a ls)) (by l == a) (λ own all. all.1) (λ other all. all) (each a is)),
+)
+
+-- rows of rows as one
+pub rows-owed : {X : Type 0} (P : X → Type 0) (xss : List (List X)) → AllRows (AllRows P) xss → AllRows P (all_owed xss)
+rows-owed P [] all = tt
+rows-owed P (xs ∷ xss) (one, all) = rows-append P xs (all_owed xss) one (rows-owed P xss all)
+
+pub owed-rows : {X : Type 0} (P : X → Type 0) (xss : List (List X)) → AllRows P (all_owed xss) → AllRows (AllRows P) xss
+owed-rows P [] all = tt
+owed-rows P (xs ∷ xss) all = let (one, more) = rows-parts P xs (all_owed xss) all in (one, owed-rows P xss more)

@@ -1,12 +1,12 @@
 -- The reader of a report goes on wherever it stands.
-use Rattle.std.proofs.Common.{◌≡◌, ℕ, ◌+◌, true, List, [], ◌++◌, length, Option, Some, slice_get, refl, ap, sym, subst, option_map}
+use Rattle.std.proofs.Common.{◌≡◌, ℕ, true, List, [], ◌++◌, length, Option, Some, slice_get, refl, ap, sym, subst, option_map}
 use Rattle.audit_model.proofs.Common.{AllRows, and_then, Asked, asked_among, asked_phases, both-phases, Bytes, call_of, call_writes, caller_in, calls_case, calls_kind, case_after, case_event_of, case_head, case_journal, case_made}
 use Rattle.audit_model.proofs.Common.{case_reader, case_reply, case_shown, CaseDecl, CaseId, CaseModel, cases_behind, cases_reader, cells-same, cells_in, ClosedCase, ClosedKind, defined, defined_line, end_text, filter-phases, ended, entry}
 use Rattle.audit_model.proofs.Common.{Event, event_text, expected-live, File, first_line, given, has_case, has_kind, how_many, IsActor, IsAuditable, IsGood, IsLive, IsOneLine, IsOneLineWrite, IsWorkable, journal, journal-live, Line}
 use Rattle.audit_model.proofs.Common.{mapped-live, not_created, owed_case, owed_kind, reply_text, report_reader, roles_of, Run, summary, telling, then-live, type_head, TypeDecl, VersionModel, writes-same, WritesOneLine, WritesValues}
-use Rattle.audit_model.proofs.{Common.{KeptCase, kind_after, kind_behind, kind_event_of, kind_event_text, kind_journal, kind_reader, kind_reply, kind_reply_text, kind_shown, KindEvent, KindModel, kinds_reader}, Calls.asked_actor}
-use Rattle.audit_model.proofs.{Calls.actor_of, Runs.{phases-asked, known-actors}, Callers.{tells-case, tells-kind}, KeptValues.{case-kept, case-shows}, OneLine.ended-one, OneLineTexts.{event-one, kind_event-one, kind_reply-one, line-one}}
-use Rattle.audit_model.proofs.{OneLineTexts.reply-one, Ready.{HasVersion, all-have}, Rows.row-live, TakenParts.{KindTaken, kind-at, types-of}}
+use Rattle.audit_model.proofs.{Common.{KeptCase, kind_after, kind_behind, kind_event_of, kind_event_text, kind_journal, kind_reader, kind_reply, kind_reply_text, kind_shown, KindEvent, KindModel, kinds_reader}, Common.actor_of}
+use Rattle.audit_model.proofs.{OwnLines.{HasVersion, line_actor}, Runs.{phases-asked, known-actors}, Callers.{tells-case, tells-kind}, KeptValues.{case-kept, case-shows}, OneLine.ended-one, OneLineTexts.{event-one, kind_event-one, kind_reply-one, line-one}}
+use Rattle.audit_model.proofs.{OneLineTexts.reply-one, Ready.all-have, Rows.row-live, TakenParts.{KindTaken, kind-at, types-of}}
 use Rattle.audit_model.proofs.Common.{case_event_in as event_of_case, kind_event_in as event_of_kind}
 use Rattle.line_calls.specs.declared.calls.Call.{Call}
 use Rattle.case_core.specs.declared.events.Event.TheVariants as event
@@ -30,7 +30,7 @@ module _ (f : File) (workable : IsWorkable f) (auditable : IsAuditable f) where
   kind-line-one k a s e actor any some = line-one f auditable k a (kind_event_text e) (kind_reply_text f (kind_reply s e)) (kind_event-one f auditable e) (kind_reply-one f auditable (kind_reply s e))
 
   abbrev GoodForKind : Line → Type 0
-  GoodForKind l = IsGood kind_after kind_reply actor_of kind_event_of (caller_in f) (kind_shown f) (IsActor f) AnyKind AnyEvent (λ s e kept good. tt) kind-line-one (tells-kind f auditable) l
+  GoodForKind l = IsGood kind_after kind_reply line_actor kind_event_of (caller_in f) (kind_shown f) (IsActor f) AnyKind AnyEvent (λ s e kept good. tt) kind-line-one (tells-kind f auditable) l
 
   kind-event : (t : ℕ) (k : Call) → has_kind t (cells_in k) ≡ true → (e : KindEvent) × (event_of_kind k ≡ Some e)
   kind-event t (call.Kind u e) calls = (e, refl)
@@ -42,8 +42,8 @@ module _ (f : File) (workable : IsWorkable f) (auditable : IsAuditable f) where
 
   kind_journal-live : (t : ℕ) (k : ClosedKind) → IsLive (kind_journal f t k)
   kind_journal-live t k =
-      mapped-live (kind_behind k) (journal kind_after kind_reply actor_of kind_event_of (caller_in f) (kind_shown f) (how_many (owed_kind f t)) 2 k.machine (owed_kind f t))
-      (journal-live kind_after kind_reply actor_of kind_event_of (caller_in f) (kind_shown f) (IsActor f) AnyKind AnyEvent (λ s e kept good. tt) kind-line-one (tells-kind f auditable) (how_many (owed_kind f t)) 2 k.machine (owed_kind f t) tt
+      mapped-live (kind_behind k) (journal kind_after kind_reply line_actor kind_event_of (caller_in f) (kind_shown f) (how_many (owed_kind f t)) 2 k.machine (owed_kind f t))
+      (journal-live kind_after kind_reply line_actor kind_event_of (caller_in f) (kind_shown f) (IsActor f) AnyKind AnyEvent (λ s e kept good. tt) kind-line-one (tells-kind f auditable) (how_many (owed_kind f t)) 2 k.machine (owed_kind f t) tt
       (filter-phases (λ (l : Line). IsActor f l.actor) GoodForKind (λ l. calls_kind t l.act) (good-kind t) f.phases (known-actors f workable)))
 
   kind-live : (t : ℕ) (d : TypeDecl) → IsLive (kind_reader f t d)
@@ -54,7 +54,7 @@ module _ (f : File) (workable : IsWorkable f) (auditable : IsAuditable f) where
   case-line-one k a s e actor kept good = line-one f auditable k a (event_text f e) (reply_text f (case_reply s e)) (event-one f auditable e good) (reply-one f auditable (case_reply s e) (case-shows s e kept good))
 
   abbrev GoodForCase : Asked → Type 0
-  GoodForCase l = IsGood case_after case_reply asked_actor (case_event_of f) (caller_in f) (case_shown f) (IsActor f) KeptCase WritesValues case-kept case-line-one (tells-case f auditable) l
+  GoodForCase l = IsGood case_after case_reply actor_of (case_event_of f) (caller_in f) (case_shown f) (IsActor f) KeptCase WritesValues case-kept case-line-one (tells-case f auditable) l
 
   -- a line that calls a case is an event, where it was told the version that it asks for
   record HasEvent (o : Option Event) : Type 0 where
@@ -70,7 +70,7 @@ module _ (f : File) (workable : IsWorkable f) (auditable : IsAuditable f) where
 
   -- what is known of a line that is asked
   abbrev KnownAsked : Asked → Type 0
-  KnownAsked x = (IsActor f x.0.actor × WritesOneLine x.0) × HasVersion f workable x
+  KnownAsked x = (IsActor f x.0.actor × WritesOneLine x.0) × HasVersion x
 
   good-case : (c : CaseId) (x : Asked) → KnownAsked x → calls_case c x.0.act ≡ true → GoodForCase x
   good-case c x ((actor, one), told) calls =
@@ -89,13 +89,13 @@ module _ (f : File) (workable : IsWorkable f) (auditable : IsAuditable f) where
     known-asked : AllRows (AllRows KnownAsked) phases
     known-asked =
         let both = both-phases (λ (l : Line). IsActor f l.actor) WritesOneLine (λ (l : Line). IsActor f l.actor × WritesOneLine l) (λ l x y. (x, y)) f.phases (known-actors f workable) auditable.writes in
-        both-phases (λ (x : Asked). IsActor f x.0.actor × WritesOneLine x.0) (HasVersion f workable) KnownAsked (λ x y z. (y, z)) phases
+        both-phases (λ (x : Asked). IsActor f x.0.actor × WritesOneLine x.0) HasVersion KnownAsked (λ x y z. (y, z)) phases
         (phases-asked (λ (l : Line). IsActor f l.actor × WritesOneLine l) (telling kinds) f.phases both) (all-have f workable kinds many each)
 
     case_journal-live : (d : CaseDecl) → IsLive (case_journal f phases d)
     case_journal-live d =
-        mapped-live case_made (journal case_after case_reply asked_actor (case_event_of f) (caller_in f) (case_shown f) (how_many (owed_case d.id phases)) 1 (not_created d.id.type_no) (owed_case d.id phases))
-        (journal-live case_after case_reply asked_actor (case_event_of f) (caller_in f) (case_shown f) (IsActor f) KeptCase WritesValues case-kept case-line-one (tells-case f auditable) (how_many (owed_case d.id phases)) 1 (not_created d.id.type_no) (owed_case d.id phases) tt
+        mapped-live case_made (journal case_after case_reply actor_of (case_event_of f) (caller_in f) (case_shown f) (how_many (owed_case d.id phases)) 1 (not_created d.id.type_no) (owed_case d.id phases))
+        (journal-live case_after case_reply actor_of (case_event_of f) (caller_in f) (case_shown f) (IsActor f) KeptCase WritesValues case-kept case-line-one (tells-case f auditable) (how_many (owed_case d.id phases)) 1 (not_created d.id.type_no) (owed_case d.id phases) tt
         (filter-phases KnownAsked GoodForCase (λ (x : Asked). calls_case d.id x.0.act) (good-case d.id) phases known-asked))
 
     case-live : (d : CaseDecl) → IsLive (case_reader f phases d)

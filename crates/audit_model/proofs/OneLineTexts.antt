@@ -3,7 +3,7 @@ use Rattle.std.proofs.Common.{◌≡◌, ℕ, ◌-◌, ◌==◌, true, List, [],
 use Rattle.audit_model.proofs.Common.{actor_name, ActorDecl, after_space, AllRows, assigned, block_words, Bytes, caller_text, choice_text, data_words, element, element_is, element_text, entry_text, Event, event_text, Fault, fault_text}
 use Rattle.audit_model.proofs.Common.{fault_words, File, FIRST_NAMED_ROLE, if-either, IsAuditable, IsName, IsNamed, IsOneLine, IsOneLineRead, IsOneLineValue, IsOneLineWrite, kind_event_text, kind_reply_text, KindEvent, KindReply, letter}
 use Rattle.audit_model.proofs.Common.{limit_word, line_start, list_all, listed_element, Name, node, node_and_element, node_and_node, node_text, number, position_text, read_text, Reply, reply_text, role_name, role_text, row-at, said}
-use Rattle.audit_model.proofs.{Common.{shown_line, ShowsOneLine, Value, value_or_none, value_text, why_node, why_word, Word, word_text, WritesValues, Written, wrong_choice, kind_reply}, OneLine.{stays, decimal-one, is-one, name-one}}
+use Rattle.audit_model.proofs.{Common.{shown_line, ShowsOneLine, Value, value_or_none, value_text, why_node, why_word, Word, word_text, WritesValues, Written, wrong_choice}, OneLine.{stays, decimal-one, is-one, name-one}}
 use Rattle.audit_model.proofs.OneLine.{named-one, one-all, one-append, value-one}
 use Rattle.report_words.specs.Names.{name_text}
 use Rattle.wsm_ops.specs.declared.faults.OpWhy.{OpWhy}

@@ -1,8 +1,21 @@
 -- The lines of one actor, with the versions that it was told.
-use Rattle.std.proofs.{Common.{◌≡◌, ◌≢◌, ℕ, ◌==◌, eqb, eq-eqb, ne_eqb, false, ◌&&◌, List, [], ◌∷◌, ◌++◌, filter, Option, Some, None, refl, sym, ap, ◌∙◌, if◌then◌else◌}, lemmas.Bool.eqb-true}
-use Rattle.audit_model.proofs.Common.{by-test, filter-swap, all_owed, Asked, asked_lines, asked_phases, asks, by-append, CaseId, filter-append, first_of, left_to_tell, Line, lines_by, owed_case, rest_of, Telling, told_at, version_for}
-use Rattle.audit_model.proofs.{Common.VersionModel, Calls.{asked_actor, to_case, actor_of, owed_in, to_kind}}
+use Rattle.std.proofs.{Common.{◌≡◌, ℕ, ◌==◌, Bool, eqb, eq-eqb, false, ◌&&◌, List, [], ◌∷◌, ◌++◌, filter, map, Option, Some, None, refl, sym, ap, ◌∙◌, if◌then◌else◌}, lemmas.Bool.eqb-true}
+use Rattle.audit_model.proofs.Common.{actor_of, by-test, filter-swap, all_owed, Asked, asked_lines, asked_phases, asks, calls_case, calls_kind, CaseId, filter-append, first_of, left_to_tell, Line, lines_by, rest_of, Telling, told_at, version_for, VersionModel}
+use Rattle.audit_model.proofs.Callers.{other-way}
 use Rattle.legal_run.specs.LineCalls.{lines_of}
+
+abbrev pub line_actor : Line → ℕ
+line_actor l = l.actor
+
+abbrev pub to_kind : ℕ → Line → Bool
+to_kind t l = calls_kind t l.act
+
+abbrev pub to_case : CaseId → Asked → Bool
+to_case c l = calls_case c l.0.act
+
+-- the lines of an actor in all phases
+abbrev pub own_lines : ℕ → List (List Line) → List Line
+own_lines a phases = lines_of a (all_owed phases)
 
 -- what an actor is told by each type
 abbrev pub OwnTelling : Type 0
@@ -24,85 +37,53 @@ abbrev pub own_left : OwnTelling → List Line → OwnTelling
 own_left r [] = r
 own_left r (l ∷ ls) = own_left (own_then r (asks l.act)) ls
 
--- the lines of an actor in all phases
-abbrev pub own_lines : ℕ → List (List Line) → List Line
-own_lines a [] = []
-own_lines a (lines ∷ phases) = lines_of a lines ++ own_lines a phases
+-- a line that asks was told a version
+abbrev pub HasVersion : Asked → Type 0
+HasVersion x = (t : ℕ) → asks x.0.act ≡ Some t → (v : VersionModel) × (x.1 ≡ Some v)
 
-abbrev pub Same : OwnTelling → OwnTelling → Type 0
-Same q r = (u : ℕ) → q u ≡ r u
+-- ---- all phases as one
+lines-append : (xs ys : List Line) (q : Telling) → asked_lines q (xs ++ ys) ≡ asked_lines q xs ++ asked_lines (left_to_tell q xs) ys
+lines-append [] ys q = refl
+lines-append (x ∷ xs) ys q = ap (λ zs. (x, version_for q x.actor (asks x.act)) ∷ zs) (lines-append xs ys (told_at q x.actor (asks x.act)))
 
-version-same : (q r : OwnTelling) → Same q r → (o : Option ℕ) → own_version q o ≡ own_version r o
-version-same q r same None = refl
-version-same q r same (Some t) = ap first_of (same t)
+all-asked : (q : Telling) (phases : List (List Line)) → all_owed (asked_phases q phases) ≡ asked_lines q (all_owed phases)
+all-asked q [] = refl
+all-asked q (lines ∷ phases) = ap (λ xs. asked_lines q lines ++ xs) (all-asked (left_to_tell q lines) phases) ∙ sym (lines-append lines (all_owed phases) q)
 
-then-same : (q r : OwnTelling) → Same q r → (o : Option ℕ) → Same (own_then q o) (own_then r o)
-then-same q r same None u = same u
-then-same q r same (Some t) u = ap (λ vs. if eqb u t then rest_of vs else vs) (same u)
-
-asked-same : (ls : List Line) (q r : OwnTelling) → Same q r → asked_own q ls ≡ asked_own r ls
-asked-same [] q r same = refl
-asked-same (l ∷ ls) q r same =
-    ap (λ v. (l, v) ∷ asked_own (own_then q (asks l.act)) ls) (version-same q r same (asks l.act)) ∙ ap (λ xs. (l, own_version r (asks l.act)) ∷ xs) (asked-same ls (own_then q (asks l.act)) (own_then r (asks l.act)) (then-same q r same (asks l.act)))
-
-asked-append : (xs ys : List Line) (r : OwnTelling) → asked_own r (xs ++ ys) ≡ asked_own r xs ++ asked_own (own_left r xs) ys
-asked-append [] ys r = refl
-asked-append (x ∷ xs) ys r = ap (λ zs. (x, own_version r (asks x.act)) ∷ zs) (asked-append xs ys (own_then r (asks x.act)))
+all-such : {L : Type 0} (p : L → Bool) (phases : List (List L)) → all_owed (map (λ lines. filter p lines) phases) ≡ filter p (all_owed phases)
+all-such p [] = refl
+all-such p (lines ∷ phases) = ap (λ xs. filter p lines ++ xs) (all-such p phases) ∙ sym (filter-append p lines (all_owed phases))
 
 module _ (a : ℕ) where
-  -- an actor's own line
-  pub own-version : (q : Telling) (r : OwnTelling) → Same (q a) r → (b : ℕ) → b ≡ a → (o : Option ℕ) → version_for q b o ≡ own_version r o
-  own-version q r same b is None = refl
-  own-version q r same b is (Some t) = ap (λ n. first_of (q n t)) is ∙ ap first_of (same t)
+  -- an actor's own line, and a line of another
+  version-own : (q : Telling) (b : ℕ) → b ≡ a → (o : Option ℕ) → version_for q b o ≡ own_version (q a) o
+  version-own q b is None = refl
+  version-own q b is (Some t) = ap (λ n. first_of (q n t)) is
 
-  pub own-then : (q : Telling) (r : OwnTelling) → Same (q a) r → (b : ℕ) → b ≡ a → (o : Option ℕ) → Same (told_at q b o a) (own_then r o)
-  own-then q r same b is None u = same u
-  own-then q r same b is (Some t) u = ap (λ test. if test && u == t then rest_of (q a u) else q a u) (eq-eqb a b (sym is)) ∙ ap (λ vs. if eqb u t then rest_of vs else vs) (same u)
+  then-own : (q : Telling) (b : ℕ) → b ≡ a → (o : Option ℕ) → told_at q b o a ≡ own_then (q a) o
+  then-own q b is None = refl
+  then-own q b is (Some t) = ap (λ (test : Bool). λ (u : ℕ). if test && u == t then rest_of (q a u) else q a u) (eq-eqb a b (sym is))
 
-  -- a line of another
-  pub other-then : (q : Telling) (r : OwnTelling) → Same (q a) r → (b : ℕ) → b ≢ a → (o : Option ℕ) → Same (told_at q b o a) r
-  other-then q r same b not None u = same u
-  other-then q r same b not (Some t) u = ap (λ test. if test && u == t then rest_of (q a u) else q a u) (ne_eqb a b (λ is. not (sym is))) ∙ same u
+  then-other : (q : Telling) (b : ℕ) → (b == a) ≡ false → (o : Option ℕ) → told_at q b o a ≡ q a
+  then-other q b other None = refl
+  then-other q b other (Some t) = ap (λ (test : Bool). λ (u : ℕ). if test && u == t then rest_of (q a u) else q a u) (other-way a b ∙ other)
 
-  not-own : (b : ℕ) → (b == a) ≡ false → b ≢ a
-  not-own b other same = cc (other, eq-eqb b a same)
-
-  own-asked : (ls : List Line) (q : Telling) (r : OwnTelling) → Same (q a) r → filter (λ x. asked_actor x == a) (asked_lines q ls) ≡ asked_own r (lines_of a ls)
-  own-asked [] q r same = refl
-  own-asked (l ∷ ls) q r same =
+  own-asked : (ls : List Line) (q : Telling) → lines_by actor_of a (asked_lines q ls) ≡ asked_own (q a) (lines_of a ls)
+  own-asked [] q = refl
+  own-asked (l ∷ ls) q =
       let later = told_at q l.actor (asks l.act) in
-      let mine = filter (λ (y : Asked). asked_actor y == a) (asked_lines later ls) in
-      by-test (λ test. (if test then (l, version_for q l.actor (asks l.act)) ∷ mine else mine) ≡ asked_own r (if test then l ∷ lines_of a ls else lines_of a ls)) (l.actor == a)
+      let mine = lines_by actor_of a (asked_lines later ls) in
+      let more = λ (r : OwnTelling) (same : later a ≡ r). own-asked ls later ∙ ap (λ (s : OwnTelling). asked_own s (lines_of a ls)) same in
+      by-test (λ test. (if test then (l, version_for q l.actor (asks l.act)) ∷ mine else mine) ≡ asked_own (q a) (if test then l ∷ lines_of a ls else lines_of a ls)) (l.actor == a)
       (λ own.
       let is : l.actor ≡ a = eqb-true l.actor a own in
-      ap (λ (v : Option VersionModel). (l, v) ∷ mine) (own-version q r same l.actor is (asks l.act))
-      ∙ ap (λ xs. (l, own_version r (asks l.act)) ∷ xs) (own-asked ls later (own_then r (asks l.act)) (own-then q r same l.actor is (asks l.act))))
-      (λ other. own-asked ls later r (other-then q r same l.actor (not-own l.actor other) (asks l.act)))
+      ap (λ (v : Option VersionModel). (l, v) ∷ mine) (version-own q l.actor is (asks l.act))
+      ∙ ap (λ xs. (l, own_version (q a) (asks l.act)) ∷ xs) (more (own_then (q a) (asks l.act)) (then-own q l.actor is (asks l.act))))
+      (λ other. more (q a) (then-other q l.actor other (asks l.act)))
 
-  own-left : (ls : List Line) (q : Telling) (r : OwnTelling) → Same (q a) r → Same (left_to_tell q ls a) (own_left r (lines_of a ls))
-  own-left [] q r same u = same u
-  own-left (l ∷ ls) q r same u =
-      let later = told_at q l.actor (asks l.act) in
-      by-test (λ test. left_to_tell later ls a u ≡ own_left r (if test then l ∷ lines_of a ls else lines_of a ls) u) (l.actor == a)
-      (λ own. own-left ls later (own_then r (asks l.act)) (own-then q r same l.actor (eqb-true l.actor a own) (asks l.act)) u)
-      (λ other. own-left ls later r (other-then q r same l.actor (not-own l.actor other) (asks l.act)) u)
+  -- ---- what is owed of an actor's lines: all of it, and of it what goes to a case or to a type
+  pub own-phases : (phases : List (List Line)) (q : Telling) → lines_by actor_of a (all_owed (asked_phases q phases)) ≡ asked_own (q a) (own_lines a phases)
+  own-phases phases q = ap (lines_by actor_of a) (all-asked q phases) ∙ own-asked (all_owed phases) q
 
-  -- ---- what is owed to a case, and to a type, of an actor's lines
-  pub own-owed_case : (c : CaseId) (phases : List (List Line)) (q : Telling) (r : OwnTelling) → Same (q a) r → lines_by asked_actor a (all_owed (owed_case c (asked_phases q phases))) ≡ filter (to_case c) (asked_own r (own_lines a phases))
-  own-owed_case c [] q r same = refl
-  own-owed_case c (lines ∷ phases) q r same =
-      let here = filter (to_case c) (asked_lines q lines) in
-      let later = all_owed (owed_case c (asked_phases (left_to_tell q lines) phases)) in
-      by-append asked_actor a here later
-      ∙ (ap (λ xs. xs ++ lines_by asked_actor a later) (filter-swap (λ y. asked_actor y == a) (to_case c) (asked_lines q lines) ∙ ap (filter (to_case c)) (own-asked lines q r same))
-      ∙ (ap (λ xs. filter (to_case c) (asked_own r (lines_of a lines)) ++ xs) (own-owed_case c phases (left_to_tell q lines) (own_left r (lines_of a lines)) (own-left lines q r same))
-      ∙ (sym (filter-append (to_case c) (asked_own r (lines_of a lines)) (asked_own (own_left r (lines_of a lines)) (own_lines a phases))) ∙ ap (filter (to_case c)) (sym (asked-append (lines_of a lines) (own_lines a phases) r)))))
-
-  pub own-owed_kind : (t : ℕ) (phases : List (List Line)) → lines_by actor_of a (all_owed (owed_in t phases)) ≡ filter (to_kind t) (own_lines a phases)
-  own-owed_kind t [] = refl
-  own-owed_kind t (lines ∷ phases) =
-      let here = filter (to_kind t) lines in
-      let later = all_owed (owed_in t phases) in
-      by-append actor_of a here later
-      ∙ (ap (λ xs. xs ++ lines_by actor_of a later) (filter-swap (λ (l : Line). l.actor == a) (to_kind t) lines)
-      ∙ (ap (λ xs. filter (to_kind t) (lines_of a lines) ++ xs) (own-owed_kind t phases) ∙ sym (filter-append (to_kind t) (lines_of a lines) (own_lines a phases))))
+  pub own-such : {L : Type 0} (by : L → ℕ) (p : L → Bool) (phases : List (List L)) → lines_by by a (all_owed (map (λ lines. filter p lines) phases)) ≡ filter p (lines_by by a (all_owed phases))
+  own-such by p phases = ap (lines_by by a) (all-such p phases) ∙ filter-swap (λ l. by l == a) p (all_owed phases)

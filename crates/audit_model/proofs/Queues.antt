@@ -1,10 +1,7 @@
 -- The calls of an actor's lines, taken from what types and cases have of the actor: each line takes the first of those that it calls.
-use Rattle.std.proofs.Common.{◌≡◌, ◌≢◌, ℕ, zero, suc, ◌+◌, ◌<◌, ◌≤◌, ◌==◌, eqb, eq-eqb, ne_eqb, Bool, true, false, ◌&&◌, List, [], ◌∷◌, ◌++◌, append-nil, take, refl, sym, ap, ◌∙◌, arith, append_assoc, if◌then◌else◌, nat_lt}
-use Rattle.std.proofs.lemmas.Bool.{eqb-true, ltb-false, ltb-true}
-use Rattle.audit_model.proofs.Common.{by-test, if-either, Act, and_from, and_parts, Call, calls_case, calls_kind, calls_of_case, calls_of_case-append, calls_of_kind, calls_of_kind-append, CaseEntry, CaseId, Cells, cells_of, done_by, has_case, has_kind, is_case, KindEntry, Line, of_case, of_kind, rest_of, Trace}
+use Rattle.std.proofs.{Common.{◌≡◌, ℕ, zero, suc, ◌+◌, ◌==◌, eqb, Bool, true, false, ◌&&◌, not, List, [], ◌∷◌, ◌++◌, append-nil, map, take, refl, ap, ◌∙◌, arith, append_assoc, if◌then◌else◌, nat_lt}, lemmas.Bool.eqb-true, lemmas.Bool.Decides.nat_tests}
+use Rattle.audit_model.proofs.Common.{by-test, if-either, Act, and_parts, Call, calls_case, calls_kind, calls_of_case, calls_of_case-append, calls_of_kind, calls_of_kind-append, CaseEntry, CaseId, Cells, cells_of, done_by, has_case, has_kind, is_case, KindEntry, Line, of_case, of_kind, rest_of, Trace}
 use Rattle.legal_run.specs.LineCalls.{lines_of}
-use mathlib.Core.Logic.{dite}
-use native.Mathlib.Decide.{ℕ_discrete}
 use Rattle.line_calls.specs.declared.calls.Cells.TheVariants as cells
 
 abbrev pub KindQueues : Type 0
@@ -23,12 +20,10 @@ ahead-rest [] = refl
 ahead-rest (x ∷ xs) = refl
 
 abbrev pub of_type : ℕ → List KindEntry → List Call
-of_type t [] = []
-of_type t (e ∷ es) = of_kind t e ∷ []
+of_type t es = map (of_kind t) (ahead es)
 
 abbrev pub of_one : CaseId → List CaseEntry → List Call
-of_one c [] = []
-of_one c (e ∷ es) = of_case c e ∷ []
+of_one c es = map (of_case c) (ahead es)
 
 abbrev pub id_at : ℕ → ℕ → CaseId
 id_at t place = record { type_no = t; place = place }
@@ -80,49 +75,29 @@ case-at : (C : CaseQueues) (c d : CaseId) → calls_of_case c (of_one d (C d)) �
 case-at C c d =
     case-if c d (C d) ∙ by-test (λ b. (if b then ahead (C d) else []) ≡ (if b then ahead (C c) else [])) (is_case c d) (λ is. ap (λ x. ahead (C x)) (same-id c d is)) (λ not. refl)
 
-other-type : (t p : ℕ) (c : CaseId) → t ≢ c.type_no → is_case c (id_at t p) ≡ false
-other-type t p c not = ap (λ test. test && p == c.place) (ne_eqb t c.type_no not)
+-- of those from a place on, so many
+spread : {X : Type 0} (own : Bool) (p place n : ℕ) (xs : List X) →
+    (if own && place == p then xs else []) ++ (if own && (nat_lt p (place + 1 + n) && not (nat_lt p (place + 1))) then xs else []) ≡ (if own && (nat_lt p (place + suc n) && not (nat_lt p place)) then xs else [])
+spread false p place n xs = refl
+spread true p place n xs = grind (arith, nat_tests, append-nil)
 
-other-place : (t p : ℕ) (c : CaseId) → p ≢ c.place → is_case c (id_at t p) ≡ false
-other-place t p c not = both (t == c.type_no) (p == c.place) (ne_eqb p c.place not)
+each-from : (C : CaseQueues) (c : CaseId) (t place n : ℕ) → calls_of_case c (of_each C t place n) ≡ (if t == c.type_no && (nat_lt c.place (place + n) && not (nat_lt c.place place)) then ahead (C c) else [])
+each-from C c t place zero = none (t == c.type_no) c.place place (ahead (C c))
   where
-    both : (x y : Bool) → y ≡ false → (x && y) ≡ false
-    both true y is = is
-    both false y is = refl
-
-each-more : (C : CaseQueues) (c : CaseId) (t place n : ℕ) (called : Bool) → is_case c (id_at t place) ≡ called →
-    calls_of_case c (of_each C t place (suc n)) ≡ (if called then ahead (C c) else []) ++ calls_of_case c (of_each C t (place + 1) n)
-each-more C c t place n called is =
+    none : {X : Type 0} (own : Bool) (p place : ℕ) (xs : List X) → [] ≡ (if own && (nat_lt p (place + 0) && not (nat_lt p place)) then xs else [])
+    none false p place xs = refl
+    none true p place xs = grind (arith, nat_tests)
+each-from C c t place (suc n) =
     calls_of_case-append c (of_one (id_at t place) (C (id_at t place))) (of_each C t (place + 1) n)
-    ∙ ap (λ xs. xs ++ calls_of_case c (of_each C t (place + 1) n)) (case-at C c (id_at t place) ∙ ap (λ b. if b then ahead (C c) else []) is)
-
-each-other : (C : CaseQueues) (c : CaseId) (t place n : ℕ) → ((p : ℕ) → place ≤ p → p < place + n → is_case c (id_at t p) ≡ false) → calls_of_case c (of_each C t place n) ≡ []
-each-other C c t place zero other = refl
-each-other C c t place (suc n) other = each-more C c t place n false (other place (omega arith) (omega arith)) ∙ each-other C c t (place + 1) n (λ p low high. other p (omega (arith, low)) (omega (arith, high)))
-
-each-own : (C : CaseQueues) (c : CaseId) (t place n : ℕ) → t ≡ c.type_no → place ≤ c.place → c.place < place + n → calls_of_case c (of_each C t place n) ≡ ahead (C c)
-each-own C c t place zero same low high = absurd (omega (arith, low, high))
-each-own C c t place (suc n) same low high =
-    dite (ℕ_discrete place c.place)
-    (λ (here : place ≡ c.place).
-    each-more C c t place n true (and_from (t == c.type_no) (place == c.place) (eq-eqb t c.type_no same) (eq-eqb place c.place here))
-    ∙ (ap (λ xs. ahead (C c) ++ xs) (each-other C c t (place + 1) n (λ p past end. other-place t p c (λ there. omega (arith, here, there, past)))) ∙ append-nil (ahead (C c))))
-    (λ (not : place ≢ c.place). each-more C c t place n false (other-place t place c not) ∙ each-own C c t (place + 1) n same (omega (arith, low, not)) (omega (arith, high)))
+    ∙ (ap (λ xs. xs ++ calls_of_case c (of_each C t (place + 1) n)) (case-at C c (id_at t place)) ∙ (ap (λ xs. (if is_case c (id_at t place) then ahead (C c) else []) ++ xs) (each-from C c t (place + 1) n) ∙ spread (t == c.type_no) c.place place n (ahead (C c))))
 
 -- the case is called where it is one of the first so many
 each-taken : (C : CaseQueues) (c : CaseId) (t many : ℕ) → calls_of_case c (of_each C t 0 many) ≡ (if t == c.type_no && nat_lt c.place many then ahead (C c) else [])
-each-taken C c t many = dite (ℕ_discrete t c.type_no) (λ (same : t ≡ c.type_no). of_its_type same (nat_lt c.place many) refl) (λ (not : t ≢ c.type_no). of_another not)
+each-taken C c t many = each-from C c t 0 many ∙ first (t == c.type_no) c.place many (ahead (C c))
   where
-    of_its_type : t ≡ c.type_no → (low : Bool) → nat_lt c.place many ≡ low → calls_of_case c (of_each C t 0 many) ≡ (if t == c.type_no && low then ahead (C c) else [])
-    of_its_type same true is =
-        let low = ltb-true c.place many is in
-        each-own C c t 0 many same (omega arith) (omega (arith, low)) ∙ ap (λ b. if b && true then ahead (C c) else []) (sym (eq-eqb t c.type_no same))
-    of_its_type same false is =
-        let past = ltb-false c.place many is in
-        each-other C c t 0 many (λ p low high. other-place t p c (λ there. omega (arith, there, high, past))) ∙ ap (λ b. if b && false then ahead (C c) else []) (sym (eq-eqb t c.type_no same))
-
-    of_another : t ≢ c.type_no → calls_of_case c (of_each C t 0 many) ≡ (if t == c.type_no && nat_lt c.place many then ahead (C c) else [])
-    of_another not = each-other C c t 0 many (λ p low high. other-type t p c not) ∙ ap (λ b. if b && nat_lt c.place many then ahead (C c) else []) (sym (ne_eqb t c.type_no not))
+    first : {X : Type 0} (own : Bool) (p many : ℕ) (xs : List X) → (if own && (nat_lt p (0 + many) && not (nat_lt p 0)) then xs else []) ≡ (if own && nat_lt p many then xs else [])
+    first false p many xs = refl
+    first true p many xs = grind (arith, nat_tests)
 
 -- the calls of cells, and of a line
 abbrev pub calls_in : KindQueues → CaseQueues → Cells → List Call
@@ -166,7 +141,7 @@ abbrev pub cases_left : CaseQueues → List Line → CaseQueues
 cases_left C [] = C
 cases_left C (l ∷ ls) = cases_left (cases_then C l.act) ls
 
-if-split : {X : Type 0} (test : Bool) (xs : List X) → (if test then ahead xs else []) ++ (if test then rest_of xs else xs) ≡ xs
+pub if-split : {X : Type 0} (test : Bool) (xs : List X) → (if test then ahead xs else []) ++ (if test then rest_of xs else xs) ≡ xs
 if-split true xs = ahead-rest xs
 if-split false xs = refl
 

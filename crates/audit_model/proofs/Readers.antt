@@ -1,7 +1,7 @@
 -- The report of a legal run is taken by the reader, whole: its types, its cases, and all of it.
 use Rattle.std.proofs.Common.{◌≡◌, ℕ, ◌+◌, List, [], ◌∷◌, ◌++◌, length, Some, slice_get, sym, ap, ◌∙◌, subst, arith, append_assoc}
 use Rattle.audit_model.proofs.Common.{and_then, AreTraces, Asked, asked_phases, Bytes, caller_in, case_after, case_event_of, case_head, case_journal, case_line, case_made, case_reader, case_reply, case_shown, case_text, CaseDecl, CaseEntry, cases_behind, cases_reader, cases_text, ClosedCase, ClosedKind, defined, defined_line, end_text, ended, ending, entry, expected-takes, File, first_line, given, how_many, IsActor, IsAuditable, IsLegalCase, recursion_from_All, IsLegalKind, IsReport, IsWorkable, journal, journal-takes, kind_after, kind_behind, kind_event_of, kind_journal, kind_line, kind_reader, kind_reply, kind_shown, kind_text, KindEntry, kinds_reader, kinds_text, Legal, lines_from, mapped-takes, not_created, not_defined, numbered, owed_case, owed_kind, program, report_reader, Run, summary, Takes, telling, text, then-takes, Trace, type_head, TypeDecl}
-use Rattle.audit_model.proofs.Calls.{actor_of, asked_actor}
+use Rattle.audit_model.proofs.{Common.actor_of, OwnLines.line_actor}
 use Rattle.audit_model.proofs.Runs.{kind-answers, kind-journal, case-answers, case-callers}
 use Rattle.audit_model.proofs.Callers.{tells-case, tells-kind}
 use Rattle.audit_model.proofs.Rows.{IsTaken, row-takes}
@@ -9,7 +9,7 @@ use Rattle.audit_model.proofs.Texts.{ending-append, kind-line, numbered-lines, w
 use Rattle.type_core.specs.declared.events.KindEvent.TheVariants as event
 
 abbrev pub kind_lines : File → ℕ → List KindEntry → List Bytes
-kind_lines f k es = lines_from kind_after kind_reply actor_of kind_event_of (caller_in f) (kind_shown f) k es
+kind_lines f k es = lines_from kind_after kind_reply line_actor kind_event_of (caller_in f) (kind_shown f) k es
 
 -- a type's head and its definition, as lines
 abbrev pub kind_front : File → ℕ → TypeDecl → List Bytes
@@ -18,7 +18,7 @@ kind_front f t d = ended (type_head d ++ defined_line f (defined t d))
 -- the text of a type is its lines
 pub kind-whole : (f : File) (t : ℕ) (d : TypeDecl) (k : ClosedKind) (others : List KindEntry) → k.journal ≡ (defined t d).journal ++ others → kind_text f d k ≡ ending (kind_front f t d ++ kind_lines f 2 others)
 kind-whole f t d k others journal_is =
-    let rest = numbered-lines kind_after kind_reply actor_of kind_event_of (caller_in f) (kind_line f) (kind_shown f) (kind-line f) 2 others in
+    let rest = numbered-lines kind_after kind_reply line_actor kind_event_of (caller_in f) (kind_line f) (kind_shown f) (kind-line f) 2 others in
     ap (λ es. type_head d ++ numbered (kind_line f) 1 es) journal_is
     ∙ (sym (append_assoc (type_head d) (defined_line f (defined t d)) (numbered (kind_line f) 2 others))
     ∙ (ap (λ bs. first ++ bs) rest ∙ (ap (λ bs. bs ++ ending (kind_lines f 2 others)) (sym first-whole) ∙ sym (ending-append (kind_front f t d) (kind_lines f 2 others)))))
@@ -39,9 +39,9 @@ module _ (f : File) (workable : IsWorkable f) (auditable : IsAuditable f) (trace
       let front = kind_front f t d in
       let entries = kind_lines f 2 legal.others in
       let callers = recursion_from_All (λ (e : KindEntry). IsActor f e.caller) legal.others legal.callers in
-      let taken = journal-takes kind_after kind_reply actor_of kind_event_of (caller_in f) (kind_shown f) (IsActor f) (tells-kind f auditable) (how_many (owed_kind f t)) 2 (defined t d).machine (owed_kind f t) legal.others k.machine (omega arith) callers
+      let taken = journal-takes kind_after kind_reply line_actor kind_event_of (caller_in f) (kind_shown f) (IsActor f) (tells-kind f auditable) (how_many (owed_kind f t)) 2 (defined t d).machine (owed_kind f t) legal.others k.machine (omega arith) callers
       (kind-answers f workable traces of_lines t d k legal) in
-      let made = mapped-takes (kind_behind (defined t d)) (journal kind_after kind_reply actor_of kind_event_of (caller_in f) (kind_shown f) (how_many (owed_kind f t)) 2 (defined t d).machine (owed_kind f t)) entries (legal.others, k.machine) taken in
+      let made = mapped-takes (kind_behind (defined t d)) (journal kind_after kind_reply line_actor kind_event_of (caller_in f) (kind_shown f) (how_many (owed_kind f t)) 2 (defined t d).machine (owed_kind f t)) entries (legal.others, k.machine) taken in
       let is : kind_behind (defined t d) (legal.others, k.machine) ≡ k = ap (λ js. record { machine = k.machine; journal = js }) (sym (kind-journal f workable traces of_lines t d k legal)) in
       record {
         lines = front ++ entries;
@@ -51,7 +51,7 @@ module _ (f : File) (workable : IsWorkable f) (auditable : IsAuditable f) (trace
 
 -- ---- the report of a legal run is taken by the reader, whole
 abbrev pub case_lines : File → ℕ → List CaseEntry → List Bytes
-case_lines f k es = lines_from case_after case_reply asked_actor (case_event_of f) (caller_in f) (case_shown f) k es
+case_lines f k es = lines_from case_after case_reply actor_of (case_event_of f) (caller_in f) (case_shown f) k es
 
 -- the text of a case is its lines
 abbrev pub whole_case : File → CaseDecl → ClosedCase → List Bytes
@@ -62,7 +62,7 @@ case-whole f d c =
     let head = ended (case_head f d) in
     let entries = case_lines f 1 c.journal in
     let end = ended (end_text f c.machine.live) in
-    let journal_is = numbered-lines case_after case_reply asked_actor (case_event_of f) (caller_in f) (case_line f) (case_shown f) (case-line f) 1 c.journal in
+    let journal_is = numbered-lines case_after case_reply actor_of (case_event_of f) (caller_in f) (case_line f) (case_shown f) (case-line f) 1 c.journal in
     rw (ending-append (head ++ entries) end, ending-append head entries, ending-lines (case_head f d) (head-ends f d), ending-lines (end_text f c.machine.live) (end-ends f c.machine.live), ← journal_is)
     (sym (append_assoc (case_head f d) (numbered (case_line f) 1 c.journal) (end_text f c.machine.live)))
 
@@ -76,9 +76,9 @@ module _ (f : File) (workable : IsWorkable f) (auditable : IsAuditable f) (trace
       let head = ended (case_head f d) in
       let entries = case_lines f 1 c.journal in
       let end = ended (end_text f c.machine.live) in
-      let taken = journal-takes case_after case_reply asked_actor (case_event_of f) (caller_in f) (case_shown f) (IsActor f) (tells-case f auditable) (how_many (owed_case d.id phases)) 1 (not_created d.id.type_no) (owed_case d.id phases) c.journal c.machine (omega arith)
+      let taken = journal-takes case_after case_reply actor_of (case_event_of f) (caller_in f) (case_shown f) (IsActor f) (tells-case f auditable) (how_many (owed_case d.id phases)) 1 (not_created d.id.type_no) (owed_case d.id phases) c.journal c.machine (omega arith)
       (case-callers f workable traces of_lines kinds many legal_kinds d c legal) (case-answers f workable traces of_lines kinds many legal_kinds d c legal) in
-      let made = mapped-takes case_made (journal case_after case_reply asked_actor (case_event_of f) (caller_in f) (case_shown f) (how_many (owed_case d.id phases)) 1 (not_created d.id.type_no) (owed_case d.id phases)) entries (c.journal, c.machine) taken in
+      let made = mapped-takes case_made (journal case_after case_reply actor_of (case_event_of f) (caller_in f) (case_shown f) (how_many (owed_case d.id phases)) 1 (not_created d.id.type_no) (owed_case d.id phases)) entries (c.journal, c.machine) taken in
       record {
         lines = (head ++ entries) ++ end;
         taken = then-takes (λ (x : ClosedCase). given (end_text f x.machine.live) x) (and_then (given (case_head f d) d) (case_journal f phases)) (head ++ entries) end c c

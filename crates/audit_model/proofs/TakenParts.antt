@@ -1,7 +1,7 @@
 -- What the reader of a report takes of types and of cases.
 use Rattle.std.proofs.Common.{◌≡◌, ℕ, ◌+◌, List, ◌++◌, Some, slice_get, sym, ap, ◌∙◌, subst, arith}
 use Rattle.audit_model.proofs.Common.{and_then, Answers, Asked, asked_phases, Bytes, caller_in, case_after, case_event_of, case_head, case_journal, case_made, case_reader, case_reply, case_shown, case_text, CaseDecl, cases_behind, cases_reader, ClosedCase, ClosedKind, defined, defined_line, end_text, ended, ending, File, first_line, given, how_many, journal, kind_after, kind_behind, kind_event_of, kind_journal, kind_reader, kind_reply, kind_shown, kind_text, KindEntry, kinds_reader, not_created, owed_case, owed_kind, report_reader, Run, summary, Takes, takes-expected, takes-journal, takes-mapped, takes-then, telling, type_head, TypeDecl}
-use Rattle.audit_model.proofs.Calls.{asked_actor, actor_of}
+use Rattle.audit_model.proofs.{Common.actor_of, OwnLines.line_actor}
 use Rattle.audit_model.proofs.Readers.{case_lines, case-whole, whole_case, kind_front, kind_lines, kind-whole}
 use Rattle.audit_model.proofs.Rows.{RowTaken, row-of}
 
@@ -9,7 +9,7 @@ use Rattle.audit_model.proofs.Rows.{RowTaken, row-of}
 pub record KindTaken (f : File) (t : ℕ) (d : TypeDecl) (ls : List Bytes) (k : ClosedKind) : Type 0 where
   pub others : List KindEntry
   pub journal : k.journal ≡ (defined t d).journal ++ others
-  pub answers : Answers kind_after kind_reply actor_of kind_event_of (defined t d).machine (owed_kind f t) others k.machine
+  pub answers : Answers kind_after kind_reply line_actor kind_event_of (defined t d).machine (owed_kind f t) others k.machine
   pub lines : ls ≡ kind_front f t d ++ kind_lines f 2 others
 
 pub kind-of : (f : File) (t : ℕ) (d : TypeDecl) (ls : List Bytes) (k : ClosedKind) → Takes (kind_reader f t d) ls k → KindTaken f t d ls k
@@ -18,13 +18,13 @@ kind-of f t d ls k is =
     let both = takes-then (kind_journal f t) (given front (defined t d)) ls k is in
     let (front_is, value) = takes-expected (ended front) (defined t d) both.front both.value both.first in
     let second : Takes (kind_journal f t (defined t d)) both.rest k = subst (λ v. Takes (kind_journal f t v) both.rest k) value both.second in
-    let (made, went, same) = takes-mapped (kind_behind (defined t d)) (journal kind_after kind_reply actor_of kind_event_of (caller_in f) (kind_shown f) (how_many (owed_kind f t)) 2 (defined t d).machine (owed_kind f t)) both.rest k second in
-    let j = takes-journal kind_after kind_reply actor_of kind_event_of (caller_in f) (kind_shown f) (how_many (owed_kind f t)) 2 (defined t d).machine (owed_kind f t) both.rest made (omega arith) went in
+    let (made, went, same) = takes-mapped (kind_behind (defined t d)) (journal kind_after kind_reply line_actor kind_event_of (caller_in f) (kind_shown f) (how_many (owed_kind f t)) 2 (defined t d).machine (owed_kind f t)) both.rest k second in
+    let j = takes-journal kind_after kind_reply line_actor kind_event_of (caller_in f) (kind_shown f) (how_many (owed_kind f t)) 2 (defined t d).machine (owed_kind f t) both.rest made (omega arith) went in
     let machine : k.machine ≡ made.1 = ap (λ (x : ClosedKind). x.machine) same in
     record {
       others = made.0;
       journal = ap (λ (x : ClosedKind). x.journal) same;
-      answers = subst (Answers kind_after kind_reply actor_of kind_event_of (defined t d).machine (owed_kind f t) made.0) (sym machine) j.answers;
+      answers = subst (Answers kind_after kind_reply line_actor kind_event_of (defined t d).machine (owed_kind f t) made.0) (sym machine) j.answers;
       lines = both.lines ∙ (ap (λ xs. xs ++ both.rest) front_is ∙ ap (λ xs. kind_front f t d ++ xs) j.lines);
     }
 
@@ -45,7 +45,7 @@ kind-at f ls ks h t d k at_d at_k =
 -- ---- a case
 module _ (f : File) (phases : List (List Asked)) where
   pub record CaseTaken (d : CaseDecl) (ls : List Bytes) (c : ClosedCase) : Type 0 where
-    pub answers : Answers case_after case_reply asked_actor (case_event_of f) (not_created d.id.type_no) (owed_case d.id phases) c.journal c.machine
+    pub answers : Answers case_after case_reply actor_of (case_event_of f) (not_created d.id.type_no) (owed_case d.id phases) c.journal c.machine
     pub lines : ls ≡ whole_case f d c
 
   abbrev head : CaseDecl → List Bytes
@@ -53,7 +53,7 @@ module _ (f : File) (phases : List (List Asked)) where
 
   -- the line of a case, and its journal
   record JournalTaken (d : CaseDecl) (ls : List Bytes) (c : ClosedCase) : Type 0 where
-    answers : Answers case_after case_reply asked_actor (case_event_of f) (not_created d.id.type_no) (owed_case d.id phases) c.journal c.machine
+    answers : Answers case_after case_reply actor_of (case_event_of f) (not_created d.id.type_no) (owed_case d.id phases) c.journal c.machine
     lines : ls ≡ head d ++ case_lines f 1 c.journal
 
   journal-of : (d : CaseDecl) (ls : List Bytes) (c : ClosedCase) → Takes (and_then (given (case_head f d) d) (case_journal f phases)) ls c → JournalTaken d ls c
@@ -61,8 +61,8 @@ module _ (f : File) (phases : List (List Asked)) where
       let both = takes-then (case_journal f phases) (given (case_head f d) d) ls c is in
       let (head_is, value) = takes-expected (head d) d both.front both.value both.first in
       let second : Takes (case_journal f phases d) both.rest c = subst (λ v. Takes (case_journal f phases v) both.rest c) value both.second in
-      let (made, went, same) = takes-mapped case_made (journal case_after case_reply asked_actor (case_event_of f) (caller_in f) (case_shown f) (how_many (owed_case d.id phases)) 1 (not_created d.id.type_no) (owed_case d.id phases)) both.rest c second in
-      let j = takes-journal case_after case_reply asked_actor (case_event_of f) (caller_in f) (case_shown f) (how_many (owed_case d.id phases)) 1 (not_created d.id.type_no) (owed_case d.id phases) both.rest made (omega arith) went in
+      let (made, went, same) = takes-mapped case_made (journal case_after case_reply actor_of (case_event_of f) (caller_in f) (case_shown f) (how_many (owed_case d.id phases)) 1 (not_created d.id.type_no) (owed_case d.id phases)) both.rest c second in
+      let j = takes-journal case_after case_reply actor_of (case_event_of f) (caller_in f) (case_shown f) (how_many (owed_case d.id phases)) 1 (not_created d.id.type_no) (owed_case d.id phases) both.rest made (omega arith) went in
       subst (JournalTaken d ls) (sym same) (record { answers = j.answers; lines = both.lines ∙ (ap (λ xs. xs ++ both.rest) head_is ∙ ap (λ xs. head d ++ xs) j.lines) })
 
   pub case-of : (d : CaseDecl) (ls : List Bytes) (c : ClosedCase) → Takes (case_reader f phases d) ls c → CaseTaken d ls c
