@@ -1,5 +1,5 @@
 -- Records that are compared with calls one after another.
-use Rattle.store_keep.proofs.Common.{[], ℕ, ◌++◌, ◌+◌, ◌<◌, ◌^◌, ◌∙◌, ◌∷◌, ◌≡◌, ◌≤◌, all_framed, all_short, ap, append_assoc, arith, Bool, Bytes, closed, closes, drop, EndsAt, false, finds, frame, framed, framed-more, frames, frames_from}
+use Rattle.store_keep.proofs.Common.{[], ℕ, ◌++◌, ◌+◌, ◌-◌, ◌<◌, ◌^◌, ◌∙◌, ◌∷◌, ◌≡◌, ◌≤◌, all_framed, all_short, ap, append_assoc, arith, Bool, Bytes, closed, drop, false, finds, frame, framed, framed-more, frames, frames_from}
 use Rattle.store_keep.proofs.Common.{if◌then◌else◌, is_call, IsFrame, length, length-append, length-drop, length-take-le, List, map, map_push, None, one_framed, Option, payload_of, Recorded, refl, slice_get, Some, subst, suc, sym, take}
 use Rattle.store_keep.proofs.Common.{true, with_gate, zero}
 use Rattle.std.specs.List.{AllByRecursion}
@@ -55,66 +55,56 @@ begins calls image gate = record {
   found = ap (finds 0 (map payload_of calls)) (frames-whole image gate);
 }
 
-module _ (calls : List Recorded) (image rest : List ℕ) (count place : ℕ) (so_far : Matched calls image rest count place) where
-  pub ends-here : IsFrame rest front.Closed → found.Beginning count place ≡ finds 0 (map payload_of calls) (frames image)
-  ends-here (gate, behind, shut, is) =
-      sym (ap (finds count (map payload_of (drop count calls))) (ap (frames_from place 0) is ∙ closes gate behind place shut)) ∙ so_far.found
+module _ {calls : List Recorded} {image rest : List ℕ} {count place : ℕ} (so_far : Matched calls image rest count place) (len : ℕ) (here : IsFrame rest (front.Record len)) where
+  -- the payload as it is cut out
+  abbrev pub cut_out : Bytes
+  cut_out = take (5 + len - 5) (drop 5 rest)
 
-  pub holds-here : IsFrame rest front.Closed → (count ≤ length calls) × EndsAt image (firsts calls count) place
-  holds-here (gate, behind, shut, is) = (
-    so_far.within,
-    record {
-      gate = gate;
-      behind = behind;
-      shut = shut;
-      stands = so_far.stands;
-      short = so_far.short;
-      bytes = so_far.parts ∙ ap (λ l. all_framed (firsts calls count) ++ l) is;
-    },
-  )
+  same : cut_out ≡ take len (drop 5 rest)
+  same = let many : 5 + len - 5 ≡ len = omega arith in ap (λ n. take n (drop 5 rest)) many
 
-  pub cut-here : IsFrame rest front.Damaged → found.Damaged place ≡ finds 0 (map payload_of calls) (frames image)
-  cut-here cut = sym (ap (finds count (map payload_of (drop count calls))) (cut place)) ∙ so_far.found
+  size : length cut_out ≡ len
+  size = ap length same ∙ length-take-le len (drop 5 rest) (omega (arith, length-drop 5 rest, here.0))
 
-  module _ (len : ℕ) (p after : List ℕ) (here : IsFrame rest (front.Record len)) (bytes : p ≡ take len (drop 5 rest)) (behind : after ≡ drop (5 + len) rest) where
-    size : length p ≡ len
-    size = ap length bytes ∙ length-take-le len (drop 5 rest) (omega (arith, length-drop 5 rest, here.0))
+  cut : rest ≡ framed cut_out ++ drop (5 + len) rest
+  cut = here.2 ∙ ap (λ q. framed q ++ drop (5 + len) rest) (sym same)
 
-    cut : rest ≡ framed p ++ after
-    cut = here.2 ∙ ap (λ q. framed q ++ drop (5 + len) rest) (sym bytes) ∙ ap (λ a. framed p ++ a) (sym behind)
+  abbrev others : Frames
+  others = frames_from (place + (5 + length cut_out)) 0 (drop (5 + len) rest)
 
-    first : frames_from place 0 rest ≡ frame place p (frames_from (place + (5 + length p)) 0 after)
-    first = ap (frames_from place 0) cut ∙ one_framed p after place (omega (arith, size, here.1))
+  first : frames_from place 0 rest ≡ frame place cut_out others
+  first = ap (frames_from place 0) cut ∙ one_framed cut_out (drop (5 + len) rest) place (omega (arith, size, here.1))
 
-    abbrev next : Bool → Found
-    next b = if b then finds (count + 1) (map payload_of (drop (suc count) calls)) (frames_from (place + (5 + length p)) 0 after) else found.Differs (count + 1)
+  abbrev next : Bool → Found
+  next b = if b then finds (count + 1) (map payload_of (drop (suc count) calls)) others else found.Differs (count + 1)
 
-    compared : (b : Bool) → is_call (slice_get calls count) p ≡ b → next b ≡ finds 0 (map payload_of calls) (frames image)
-    compared b is =
-        ap next (sym is) ∙ sym (found-at count calls count p (frames_from (place + (5 + length p)) 0 after) place)
-        ∙ ap (finds count (map payload_of (drop count calls))) (sym first) ∙ so_far.found
+  compared : (b : Bool) → is_call (slice_get calls count) cut_out ≡ b → next b ≡ finds 0 (map payload_of calls) (frames image)
+  compared b is = ap next (sym is) ∙ sym (found-at count calls count cut_out others place) ∙ ap (finds count (map payload_of (drop count calls))) (sym first) ∙ so_far.found
 
-    -- it is not that call
-    pub differs-here : is_call (slice_get calls count) p ≡ false → found.Differs (count + 1) ≡ finds 0 (map payload_of calls) (frames image)
-    differs-here differs = compared false differs
+  -- it is not that call
+  pub differs-here : is_call (slice_get calls count) cut_out ≡ false → found.Differs (count + 1) ≡ finds 0 (map payload_of calls) (frames image)
+  differs-here differs = compared false differs
 
-    -- it is that call
-    pub goes-on : (one at : ℕ) → one ≡ count + 1 → at ≡ place + (5 + len) → is_call (slice_get calls count) p ≡ true → Matched calls image after one at
-    goes-on one at counts stands same =
-        let hit = called (slice_get calls count) p same in
-        let there = item calls count hit.0 hit.1 in
-        let more : firsts calls (suc count) ≡ firsts calls count ++ p ∷ [] =
-        ap (map payload_of) there.1 ∙ map_push payload_of (take count calls) hit.0 ∙ ap (λ q. firsts calls count ++ q ∷ []) hit.2 in
-        let longer : all_framed (firsts calls (suc count)) ≡ all_framed (firsts calls count) ++ framed p = ap all_framed more ∙ framed-more (firsts calls count) p in
-        let plus : suc count ≡ count + 1 = omega arith in
-        let reached : place + (5 + length p) ≡ at = omega (arith, stands, size) in
-        subst (λ n. Matched calls image after n at) (plus ∙ sym counts)
-        (record {
-          within = there.0;
-          parts = so_far.parts ∙ ap (λ l. all_framed (firsts calls count) ++ l) cut ∙ sym (append_assoc (all_framed (firsts calls count)) (framed p) after) ∙ ap (λ l. l ++ after) (sym longer);
-          stands = omega (arith, reached, so_far.stands, ap length longer, length-append (all_framed (firsts calls count)) (framed p));
-          short = subst (AllByRecursion (λ x. length x < 2 ^ 32)) (sym more) (all_short (firsts calls count) p so_far.short (omega (arith, size, here.1)));
-          found =
-              ap (λ n. finds n (map payload_of (drop (suc count) calls)) (frames_from at 0 after)) plus
-              ∙ ap (λ g. finds (count + 1) (map payload_of (drop (suc count) calls)) (frames_from g 0 after)) (sym reached) ∙ compared true same;
-        })
+  -- it is that call
+  pub goes-on : (after : List ℕ) (one at : ℕ) → after ≡ drop (5 + len) rest → one ≡ count + 1 → at ≡ place + (5 + len) → is_call (slice_get calls count) cut_out ≡ true → Matched calls image after one at
+  goes-on after one at behind counts stands hits =
+      let hit = called (slice_get calls count) cut_out hits in
+      let there = item calls count hit.0 hit.1 in
+      let more : firsts calls (suc count) ≡ firsts calls count ++ cut_out ∷ [] =
+      ap (map payload_of) there.1 ∙ map_push payload_of (take count calls) hit.0 ∙ ap (λ q. firsts calls count ++ q ∷ []) hit.2 in
+      let longer : all_framed (firsts calls (suc count)) ≡ all_framed (firsts calls count) ++ framed cut_out = ap all_framed more ∙ framed-more (firsts calls count) cut_out in
+      let plus : suc count ≡ count + 1 = omega arith in
+      let reached : place + (5 + length cut_out) ≡ at = omega (arith, stands, size) in
+      subst (λ a. Matched calls image a one at) (sym behind)
+      (subst (λ n. Matched calls image (drop (5 + len) rest) n at) (plus ∙ sym counts)
+      (record {
+        within = there.0;
+        parts =
+            so_far.parts ∙ ap (λ l. all_framed (firsts calls count) ++ l) cut ∙ sym (append_assoc (all_framed (firsts calls count)) (framed cut_out) (drop (5 + len) rest))
+            ∙ ap (λ l. l ++ drop (5 + len) rest) (sym longer);
+        stands = omega (arith, reached, so_far.stands, ap length longer, length-append (all_framed (firsts calls count)) (framed cut_out));
+        short = subst (AllByRecursion (λ x. length x < 2 ^ 32)) (sym more) (all_short (firsts calls count) cut_out so_far.short (omega (arith, size, here.1)));
+        found =
+            ap (λ n. finds n (map payload_of (drop (suc count) calls)) (frames_from at 0 (drop (5 + len) rest))) plus
+            ∙ ap (λ g. finds (count + 1) (map payload_of (drop (suc count) calls)) (frames_from g 0 (drop (5 + len) rest))) (sym reached) ∙ compared true hits;
+      }))

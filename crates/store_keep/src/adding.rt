@@ -34,7 +34,6 @@ pub(crate) fn add_all<D: Disk>(
     ensures rose { IsErrOf result KeepFault.Disk → Rose (D.faults disk.old) (D.faults disk.new) }
     ensures no_fault { OnOk result (D.faults disk.new ≡ D.faults disk.old) }
     ensures no_other_fault { IfErr result (λ e. e ≢ KeepFault.Disk → D.faults disk.new ≡ D.faults disk.old) }
-    ensures never_falls { D.faults disk.old ≤ D.faults disk.new }
 {
     let mut stored = stored;
     let mut ends = ends;

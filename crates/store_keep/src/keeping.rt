@@ -36,7 +36,6 @@ pub fn keep<D: Disk>(
     ensures rose { IsErrOf result KeepFault.Disk → Rose (D.faults disk.old) (D.faults disk.new) }
     ensures no_fault { OnOk result (D.faults disk.new ≡ D.faults disk.old) }
     ensures no_other_fault { IfErr result (λ e. e ≢ KeepFault.Disk → D.faults disk.new ≡ D.faults disk.old) }
-    ensures never_falls { D.faults disk.old ≤ D.faults disk.new }
 {
     let image = open_image(alloc, disk)?;
     let found = find(alloc, calls, &image)?;

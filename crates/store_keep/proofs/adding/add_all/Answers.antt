@@ -43,40 +43,28 @@ append_group-requires g c κs within =
 
 pub returns-in_err-gate-clause-any_moment : goal.returns-in_err-gate-clause-any_moment
 returns-in_err-gate-clause-any_moment g c =
-    let k = g.D.Disk in
     let l = c.loop-stored in
-    let calls = c.args.calls.now in
     let first = c.in_ok-group.ensures.first in
-    let least = held (k.content c.args.disk.now) in
-    moments k.content k.may_leave k.moment k.left_since least (least ++ map payload_of (drop c.args.stored calls)) _ _ _ c.in_ok-group.group l.disk l.gate l.invariant.progress
-    (split-group c.in_ok-group.count (c.next_end-end.result.0 - l.stored) l.stored calls first.within) first.are c.args.disk.now c.append_group.new.disk l.invariant.moments c.append_group.ensures.any_moment
+    moments _ _ l.invariant.progress (split-group c.in_ok-group.count (c.next_end-end.result.0 - l.stored) l.stored c.args.calls.now first.within) first.are l.invariant.moments c.append_group.ensures.any_moment
 
 pub loop-stored-preserved : goal.loop-stored-preserved
 loop-stored-preserved g c =
-    let k = g.D.Disk in
     let l = c.loop-stored in
     let calls = c.args.calls.now in
     let limit = c.args.limit in
     let count = c.in_ok-group.count in
     let first = c.in_ok-group.ensures.first in
     let n = c.next_end-end.result.0 - l.stored in
-    let least = held (k.content c.args.disk.now) in
-    let all = least ++ map payload_of (drop c.args.stored calls) in
     let group = take count (take n (drop l.stored calls)) in
     let rest = drop (l.stored + count) calls in
-    let new = c.append_group.new.disk in
-    let next = c.in_ok-gate.gate in
     let added = c.in_ok-gate.ensures in
     let split = split-group count n l.stored calls first.within in
-    let at : next ≡ behind l.gate group = added.next ∙ ap (λ ps. l.gate + length (all_framed ps)) first.are in
+    let at : c.in_ok-gate.gate ≡ behind l.gate group = added.next ∙ ap (λ ps. l.gate + length (all_framed ps)) first.are in
     record {
-      progress =
-          group-more k.content k.may_leave k.moment k.left_since least all (drop l.stored calls) group rest c.in_ok-group.group l.disk l.gate l.invariant.progress split first.are new next added.acknowledged;
+      progress = group-more _ _ l.invariant.progress split first.are added.acknowledged;
       short = omega (arith, added.next, first.short);
       within = λ le. omega (arith, added.size, l.invariant.within le, first.short);
-      moments =
-          moments k.content k.may_leave k.moment k.left_since least all (drop l.stored calls) group rest c.in_ok-group.group l.disk l.gate l.invariant.progress split first.are c.args.disk.now new l.invariant.moments
-          c.append_group.ensures.any_moment;
+      moments = moments _ _ l.invariant.progress split first.are l.invariant.moments c.append_group.ensures.any_moment;
       over = λ o. l.invariant.over (subst (Overflows limit l.gate) (sym split) (over-here limit l.gate group rest (subst (λ g. Overflows limit g rest) at o)));
       fits = λ o. subst (λ g. Overflows limit g rest) (sym at) (over-behind limit l.gate group rest first.fits (subst (Overflows limit l.gate) split (l.invariant.fits o)));
       steady = added.no_fault ∙ l.invariant.steady;

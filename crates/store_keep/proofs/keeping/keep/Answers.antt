@@ -3,52 +3,40 @@ use Rattle.store_keep.proofs.keeping.keep.Goals as goal
 
 pub add_all-requires-clause-rest : goal.add_all-requires-clause-rest
 add_all-requires-clause-rest g c =
-    let k = g.D.Disk in
     let image = c.in_ok-image.ensures in
-    rest-mid k.content k.may_leave k.moment k.left_since c.args.disk.now _ _ image.settled image.bytes _ c.deref.ensures.value c.args.calls.now _ c.in_ok-found.ensures.holds _ _ c.in-Beginning.is
+    rest-mid c.args.disk.now image.settled image.bytes _ c.deref.ensures.value c.args.calls.now _ c.in_ok-found.ensures.holds _ _ c.in-Beginning.is
 
 pub returns-in-Beginning-clause-all : goal.returns-in-Beginning-clause-all
 returns-in-Beginning-clause-all g c =
-    let k = g.D.Disk in
     let image = c.in_ok-image.ensures in
     on_ok_weaker c.add_all.result
-    (all-stored k.content k.may_leave k.moment k.left_since c.args.disk.now _ _ image.settled image.bytes _ c.deref.ensures.value c.args.calls.now _ c.in_ok-found.ensures.holds _ _ c.in-Beginning.is c.add_all.new.disk)
-    c.add_all.ensures.all
+    (all-stored c.args.disk.now image.settled image.bytes _ c.deref.ensures.value c.args.calls.now _ c.in_ok-found.ensures.holds _ _ c.in-Beginning.is c.add_all.new.disk) c.add_all.ensures.all
 
 pub returns-in-Beginning-clause-begun : goal.returns-in-Beginning-clause-begun
 returns-in-Beginning-clause-begun g c =
-    let k = g.D.Disk in
     let image = c.in_ok-image.ensures in
     on_ok_weaker c.add_all.result
-    (λ stored. is-begun k.content k.may_leave k.moment k.left_since c.args.disk.now _ _ image.settled image.bytes _ c.deref.ensures.value c.args.calls.now _ c.in_ok-found.ensures.holds _ _ c.in-Beginning.is)
-    c.add_all.ensures.all
+    (λ stored. is-begun c.args.disk.now image.settled image.bytes _ c.deref.ensures.value c.args.calls.now _ c.in_ok-found.ensures.holds _ _ c.in-Beginning.is) c.add_all.ensures.all
 
 pub returns-in-Beginning-clause-any_moment : goal.returns-in-Beginning-clause-any_moment
-returns-in-Beginning-clause-any_moment g c =
-    let k = g.D.Disk in
+returns-in-Beginning-clause-any_moment g c begun =
     let image = c.in_ok-image.ensures in
-    λ begun.
-    all-moments k.content k.may_leave k.moment k.left_since c.args.disk.now _ _ image.settled image.bytes _ c.deref.ensures.value c.args.calls.now _ c.in_ok-found.ensures.holds _ _ c.in-Beginning.is
-    c.add_all.new.disk c.requires.settled c.open_image.ensures.any_moment begun c.add_all.ensures.any_moment
+    all-moments c.args.disk.now image.settled image.bytes _ c.deref.ensures.value c.args.calls.now _ c.in_ok-found.ensures.holds _ _ c.in-Beginning.is
+    c.requires.settled c.open_image.ensures.any_moment c.add_all.ensures.any_moment
 
 pub returns-in-Beginning-clause-refused : goal.returns-in-Beginning-clause-refused
 returns-in-Beginning-clause-refused g c =
-    let k = g.D.Disk in
     let image = c.in_ok-image.ensures in
-    add-tells c.args.limit c.args.calls.now (k.content c.args.disk.now) c.add_all.result c.add_all.ensures.others
+    add-tells c.args.limit c.args.calls.now (g.D.Disk.content c.args.disk.now) c.add_all.result c.add_all.ensures.others
     (λ full.
-    overflow-told k.content k.may_leave k.moment k.left_since c.args.disk.now _ _ image.settled image.bytes _ c.deref.ensures.value c.args.calls.now _ c.in_ok-found.ensures.holds _ _ c.in-Beginning.is
-    c.args.limit (c.add_all.ensures.full full))
+    overflow-told c.args.disk.now image.settled image.bytes _ c.deref.ensures.value c.args.calls.now _ c.in_ok-found.ensures.holds _ _ c.in-Beginning.is c.args.limit (c.add_all.ensures.full full))
 
 pub returns-in-Beginning-clause-fits : goal.returns-in-Beginning-clause-fits
 returns-in-Beginning-clause-fits g c =
-    let k = g.D.Disk in
     let image = c.in_ok-image.ensures in
     on_ok_weaker c.add_all.result
     (λ fits full.
-    fits
-    (told-overflows k.content k.may_leave k.moment k.left_since c.args.disk.now _ _ image.settled image.bytes _ c.deref.ensures.value c.args.calls.now _ c.in_ok-found.ensures.holds _ _ c.in-Beginning.is
-    c.args.limit full))
+    fits (told-overflows c.args.disk.now image.settled image.bytes _ c.deref.ensures.value c.args.calls.now _ c.in_ok-found.ensures.holds _ _ c.in-Beginning.is c.args.limit full))
     c.add_all.ensures.fits
 
 pub returns-in-Beginning-clause-within : goal.returns-in-Beginning-clause-within
