@@ -1,5 +1,5 @@
 -- Facts about tests, about rows of lists, and about those that pass a test.
-use Rattle.std.proofs.Common.{◌≡◌, ℕ, zero, suc, ◌==◌, eq-eqb, Bool, true, false, List, [], ◌∷◌, filter, map, take, refl, sym, ap, subst, ◌∙◌, if◌then◌else◌}
+use Rattle.std.proofs.{lemmas.List.take-append-drop, Common.{◌≡◌, ℕ, ◌==◌, drop, eq-eqb, Bool, true, false, List, [], ◌∷◌, filter, map, take, refl, sym, ap, subst, ◌∙◌, if◌then◌else◌}}
 use Rattle.line_readers.specs.Owed.{all_owed, lines_by}
 use Rattle.wsm_lists.proofs.Lists.{all-rows-map, both_rows, rows-append, rows-map, rows-parts}
 use Rattle.wsm_lists.specs.Rows.{AllRows}
@@ -46,9 +46,7 @@ pub both-phases : {X : Type 0} (P Q R : X → Type 0) → ((x : X) → P x → Q
 both-phases P Q R h xss p q = both_rows (AllRows P) (AllRows Q) (AllRows R) (λ xs one two. both_rows P Q R h xs one two) xss p q
 
 pub take-known : {X : Type 0} (P : X → Type 0) (n : ℕ) (xs : List X) → AllRows P xs → AllRows P (take n xs)
-take-known P zero xs all = tt
-take-known P (suc n) [] all = tt
-take-known P (suc n) (x ∷ xs) (one, all) = (one, take-known P n xs all)
+take-known P n xs all = (rows-parts P (take n xs) (drop n xs) (subst (AllRows P) (sym (take-append-drop n xs)) all)).0
 
 -- what holds of each actor's lines holds of all
 pub all-by : {L : Type 0} (by : L → ℕ) (IsActor : ℕ → Type 0) (P : L → Type 0) (ls : List L) → AllRows (λ l. IsActor (by l)) ls → ((a : ℕ) → IsActor a → AllRows P (lines_by by a ls)) → AllRows P ls

@@ -1,9 +1,9 @@
 -- Texts without a line feed.
-use Rattle.std.proofs.Common.{◌≡◌, ℕ, zero, suc, ◌+◌, ◌≤◌, ◌==◌, ne_eqb, Bool, true, false, ◌||◌, not, List, [], ◌∷◌, ◌++◌, flat_map, Option, Some, None, refl, arith, lit≤, inl, inr, decimal, ℤ, pos, negsuc, ◌/◌, ◌%◌, nat_lt, slice_get}
+use Rattle.std.proofs.Common.{◌≡◌, ℕ, zero, suc, ◌+◌, ◌≤◌, ◌==◌, ne_eqb, Bool, true, false, not, List, [], ◌∷◌, ◌++◌, flat_map, Option, Some, None, refl, arith, lit≤, decimal, ℤ, pos, negsuc, ◌/◌, ◌%◌, nat_lt, slice_get}
 use Rattle.std.specs.Fmt.{digits}
-use Rattle.std.proofs.lemmas.Bool.{eqb-true, leb-true}
-use Rattle.audit_model.proofs.Common.{if-either, AllRows, and_parts, Bytes, CutLines, digit_glyph, digits_onto, ended, escaped, is_escaped, IsName, IsOneLine, IsOneLineValue, lines_of, list_all, name_or, named, onto_lines, or_cases, put_first, row-at, rows-append, signed_decimal, Value, value_text}
-use Rattle.file_words.specs.Names.{in_name, in_range, is_digit, starts_name}
+use Rattle.std.proofs.lemmas.Bool.Decides.{nat_tests}
+use Rattle.audit_model.proofs.Common.{if-either, AllRows, and_parts, Bytes, CutLines, digit_glyph, digits_onto, ended, escaped, is_escaped, IsName, IsOneLine, IsOneLineValue, lines_of, list_all, name_or, named, onto_lines, put_first, row-at, rows-append, signed_decimal, Value, value_text}
+use Rattle.file_words.specs.Names.{in_name}
 use Rattle.wsm_lists.specs.declared.values.Value.TheVariants as value
 
 -- a byte that is no line feed
@@ -63,32 +63,8 @@ signed-one (negsuc n) = (refl, decimal-one (suc n))
 
 -- ---- names
 -- each byte of a name is past the space and the line feed
-range-low : (lo hi b : ℕ) → in_range lo hi b ≡ true → lo ≤ b
-range-low lo hi b is = leb-true lo b (and_parts _ _ is).0
-
-starts-low : (b : ℕ) → starts_name b ≡ true → 45 ≤ b
-starts-low b is = elim (or_cases (in_range 97 122 b || in_range 65 90 b) (b == 95) is) [
-  | inl letter ↦
-      elim (or_cases (in_range 97 122 b) (in_range 65 90 b) letter) [
-        | inl small ↦ let low = range-low 97 122 b small in omega (arith, low)
-        | inr large ↦ let low = range-low 65 90 b large in omega (arith, low)
-      ]
-  | inr line ↦ let same = eqb-true b 95 line in omega (arith, same)
-]
-
 name-low : (b : ℕ) → in_name b ≡ true → 45 ≤ b
-name-low b is = elim (or_cases (starts_name b || is_digit b || b == 45) (b == 46) is) [
-  | inl more ↦
-      elim (or_cases (starts_name b || is_digit b) (b == 45) more) [
-        | inl first ↦
-            elim (or_cases (starts_name b) (is_digit b) first) [
-              | inl start ↦ starts-low b start
-              | inr digit ↦ let low = range-low 48 57 b digit in omega (arith, low)
-            ]
-        | inr minus ↦ let same = eqb-true b 45 minus in omega (arith, same)
-      ]
-  | inr dot ↦ let same = eqb-true b 46 dot in omega (arith, same)
-]
+name-low b is = grind (arith, nat_tests)
 
 -- no byte of a name is one below 45
 pub name-without : (x : ℕ) → x ≤ 44 → (n : Bytes) → IsName n → AllRows (λ b. (b == x) ≡ false) n

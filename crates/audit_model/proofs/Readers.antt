@@ -1,11 +1,11 @@
 -- The report of a legal run is taken by the reader, whole: its types, its cases, and all of it.
-use Rattle.std.proofs.Common.{◌≡◌, ℕ, ◌+◌, List, [], ◌∷◌, ◌++◌, length, Some, slice_get, sym, ap, ◌∙◌, subst, arith, append_assoc}
+use Rattle.std.proofs.Common.{◌≡◌, ℕ, ◌+◌, List, ◌++◌, length, Some, slice_get, sym, ap, ◌∙◌, subst, arith, append_assoc}
 use Rattle.audit_model.proofs.Common.{and_then, AreTraces, Asked, asked_phases, Bytes, caller_in, case_after, case_event_of, case_head, case_journal, case_line, case_made, case_reader, case_reply, case_shown, case_text, CaseDecl, CaseEntry, cases_behind, cases_reader, cases_text, ClosedCase, ClosedKind, defined, defined_line, end_text, ended, ending, entry, expected-takes, File, first_line, given, how_many, IsActor, IsAuditable, IsLegalCase, recursion_from_All, IsLegalKind, IsReport, IsWorkable, journal, journal-takes, kind_after, kind_behind, kind_event_of, kind_journal, kind_line, kind_reader, kind_reply, kind_shown, kind_text, KindEntry, kinds_reader, kinds_text, Legal, lines_from, mapped-takes, not_created, not_defined, numbered, owed_case, owed_kind, program, report_reader, Run, summary, Takes, telling, text, then-takes, Trace, type_head, TypeDecl}
 use Rattle.audit_model.proofs.{Common.actor_of, OwnLines.line_actor}
 use Rattle.audit_model.proofs.Runs.{kind-answers, kind-journal, case-answers, case-callers}
 use Rattle.audit_model.proofs.Callers.{tells-case, tells-kind}
 use Rattle.audit_model.proofs.Rows.{IsTaken, row-takes}
-use Rattle.audit_model.proofs.Texts.{ending-append, kind-line, numbered-lines, whole-lines, case-line, ending-lines, end-ends, head-ends, header-ends, summary-ends}
+use Rattle.audit_model.proofs.Texts.{ending-append, kind-line, numbered-lines, EndsLine, ends-behind, case-line, ending-lines, end-ends, head-ends, header-ends, summary-ends}
 use Rattle.type_core.specs.declared.events.KindEvent.TheVariants as event
 
 abbrev pub kind_lines : File → ℕ → List KindEntry → List Bytes
@@ -18,20 +18,13 @@ kind_front f t d = ended (type_head d ++ defined_line f (defined t d))
 -- the text of a type is its lines
 pub kind-whole : (f : File) (t : ℕ) (d : TypeDecl) (k : ClosedKind) (others : List KindEntry) → k.journal ≡ (defined t d).journal ++ others → kind_text f d k ≡ ending (kind_front f t d ++ kind_lines f 2 others)
 kind-whole f t d k others journal_is =
-    let rest = numbered-lines kind_after kind_reply line_actor kind_event_of (caller_in f) (kind_line f) (kind_shown f) (kind-line f) 2 others in
-    ap (λ es. type_head d ++ numbered (kind_line f) 1 es) journal_is
-    ∙ (sym (append_assoc (type_head d) (defined_line f (defined t d)) (numbered (kind_line f) 2 others))
-    ∙ (ap (λ bs. first ++ bs) rest ∙ (ap (λ bs. bs ++ ending (kind_lines f 2 others)) (sym first-whole) ∙ sym (ending-append (kind_front f t d) (kind_lines f 2 others)))))
-  where
-    first : Bytes
-    first = type_head d ++ defined_line f (defined t d)
-
-    definition : KindEntry
-    definition = entry program (event.Define d.schema) (kind_reply (not_defined t) (event.Define d.schema))
-
-    first-whole : ending (kind_front f t d) ≡ first
-    first-whole =
-        whole-lines first (type_head d ++ kind_shown f 1 definition) (ap (λ bs. type_head d ++ bs) (kind-line f 1 definition) ∙ sym (append_assoc (type_head d) (kind_shown f 1 definition) (10 ∷ [])))
+    let first = type_head d ++ defined_line f (defined t d) in
+    let entries = kind_lines f 2 others in
+    let definition : KindEntry = entry program (event.Define d.schema) (kind_reply (not_defined t) (event.Define d.schema)) in
+    let ends : EndsLine first = ends-behind (type_head d) (defined_line f (defined t d)) (record { before = kind_shown f 1 definition; is = kind-line f 1 definition }) in
+    ap (λ es. type_head d ++ numbered (kind_line f) 1 es) journal_is ∙ (sym (append_assoc (type_head d) (defined_line f (defined t d)) (numbered (kind_line f) 2 others))
+    ∙ (ap (λ bs. first ++ bs) (numbered-lines kind_after kind_reply line_actor kind_event_of (caller_in f) (kind_line f) (kind_shown f) (kind-line f) 2 others)
+    ∙ (ap (λ bs. bs ++ ending entries) (sym (ending-lines first ends)) ∙ sym (ending-append (kind_front f t d) entries))))
 
 module _ (f : File) (workable : IsWorkable f) (auditable : IsAuditable f) (traces : List Trace) (of_lines : AreTraces f f.phases traces) where
   pub kind-taken : (t : ℕ) (d : TypeDecl) (k : ClosedKind) → IsLegalKind f traces t d k → IsTaken (Takes (kind_reader f t d)) (kind_text f d k) k

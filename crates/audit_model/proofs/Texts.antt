@@ -47,9 +47,6 @@ module _ {M E R W S L : Type 0} (after : S → E → S) (reply : S → E → R) 
   numbered-lines k [] = refl
   numbered-lines k (e ∷ es) = ap (λ bs. bs ++ numbered line (k + 1) es) (same k e) ∙ (append_assoc (shown k e) (10 ∷ []) (numbered line (k + 1) es) ∙ ap (λ bs. shown k e ++ 10 ∷ bs) (numbered-lines (k + 1) es))
 
-pub whole-lines : (text bs : Bytes) → text ≡ bs ++ 10 ∷ [] → ending (ended text) ≡ text
-whole-lines text bs is = ap (λ xs. ending (ended xs)) is ∙ (ending-ended bs ∙ sym is)
-
 -- ---- texts that end in a line feed
 pub record EndsLine (text : Bytes) : Type 0 where
   pub before : Bytes
@@ -62,7 +59,7 @@ pub line-feed : EndsLine (codes "\n")
 line-feed = record { before = []; is = refl }
 
 pub ending-lines : (text : Bytes) → EndsLine text → ending (ended text) ≡ text
-ending-lines text h = whole-lines text h.before h.is
+ending-lines text h = ap (λ xs. ending (ended xs)) h.is ∙ (ending-ended h.before ∙ sym h.is)
 
 -- ---- texts of a report that are whole lines
 pub head-ends : (f : File) (d : CaseDecl) → EndsLine (case_head f d)

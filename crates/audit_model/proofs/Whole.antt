@@ -1,11 +1,12 @@
 -- What is taken of the report is the report of a legal run.
-use Rattle.std.proofs.Common.{◌≡◌, ℕ, zero, suc, ◌==◌, eq-eqb, true, false, List, [], ◌∷◌, ◌++◌, filter, length, take, Some, slice_get, inl, inr, refl, sym, ap, ◌∙◌, subst, arith, if◌then◌else◌}
+use Rattle.std.proofs.Common.{◌≡◌, ℕ, zero, suc, ◌==◌, eq-eqb, true, List, [], ◌∷◌, ◌++◌, filter, length, take, Some, slice_get, refl, sym, ap, ◌∙◌, subst, arith, if◌then◌else◌}
 use Rattle.audit_model.proofs.Common.{actor_of, All-from_recursion, all_owed, all_rows, AllRows, and_from, answers-whole, AreTraces, Asked, asked_phases, by-append, Bytes, calls_of, calls_of_case, calls_of_kind, case_after, case_event_of, case_reply, CaseDecl, CaseEntry, CaseId, ClosedCase, ClosedKind, defined, done_by, ending, entry, File, first_wrong}
-use Rattle.audit_model.proofs.Common.{has_id, ids-distinct, if-either, IsActor, IsAuditable, IsDeclared, IsFirstWrong, IsKnown, IsLegal, IsLegalCase, IsLegalKind, IsReport, IsSound, IsWhole, IsWorkable, journal_of, kind_after, kind_reply, KindEntry, Legal, Line, list_any, not_created, not_defined, or_cases, owed_case, program, report_reader, row-at, Run, sound-defined, state_after, Takes, telling, Trace, TypeDecl}
+use Rattle.audit_model.proofs.Common.{has_id, ids-distinct, if-either, IsActor, IsAuditable, IsFirstWrong, IsKnown, IsLegal, IsLegalCase, IsLegalKind, IsReport, IsSound, IsWhole, IsWorkable, journal_of, kind_after, kind_reply, KindEntry, Legal, Line, not_created, not_defined, owed_case, program, report_reader, row-at, Run, sound-defined, state_after, Takes, telling, there-as, Trace, TypeDecl}
 use Rattle.audit_model.proofs.{Calls.FitCase, LineQueues.{AsksReady, CasesReady, lines-done}, Live.report-live, OwnLines.{line_actor, OwnTelling, asked_own, own-phases, own-such, own_left, own_lines, to_case}, Queues.{CaseQueues, KindQueues, cases-begin, cases_left, kinds-begin, kinds_left, same-id, take-traces_of, traces_of}}
 use Rattle.audit_model.proofs.{Readers.{report-whole, report-taken}, Ready.{calls-rows, kind_queues, kinds-ready, whole-kind}, Runs.{case-actors, case-served, in-front, kind-served, known-own, not-own, served-phases, served_case, served_kind}, TakenParts.{CaseTaken, CasesTaken, KindTaken, KindsTaken, kind-at, run-of}}
 use Rattle.legal_run.specs.{Legal.IsByPhases, LineCalls.lines_of}
 use Rattle.line_readers.proofs.FirstWrong.{first-wrong}
+use Rattle.std.proofs.lemmas.{List.Folds.Any-from_list_any, Option.slice_get-get_or}
 use Rattle.type_core.specs.declared.events.KindEvent.TheVariants as kind_event
 use Rattle.type_core.specs.declared.replies.KindReply.TheVariants as kind_answer
 
@@ -14,20 +15,6 @@ abbrev journal_for : CaseId → List CaseDecl → List ClosedCase → List CaseE
 journal_for c [] ks = []
 journal_for c (d ∷ ds) [] = []
 journal_for c (d ∷ ds) (k ∷ ks) = if has_id c d then k.journal else journal_for c ds ks
-
-for-declared : (P : CaseId → List CaseEntry → Type 0) (ds : List CaseDecl) (ks : List ClosedCase) → length ks ≡ length ds → ((i : ℕ) (d : CaseDecl) (k : ClosedCase) → slice_get ds i ≡ Some d → slice_get ks i ≡ Some k → P d.id k.journal)
-    → (c : CaseId) → IsDeclared c ds → P c (journal_for c ds ks)
-for-declared P [] ks many each c declared = absurd (cc (declared))
-for-declared P (d ∷ ds) [] many each c declared = absurd (omega (arith, many))
-for-declared P (d ∷ ds) (k ∷ ks) many each c declared =
-    if-either (P c) (has_id c d) k.journal (journal_for c ds ks) (λ is. subst (λ x. P x k.journal) (same-id c d.id is) (each 0 d k refl refl))
-    (λ not. for-declared P ds ks (omega (arith, many)) (λ i e j at_d at_k. each (suc i) e j at_d at_k) c (later not))
-  where
-    later : has_id c d ≡ false → IsDeclared c ds
-    later not = elim (or_cases (has_id c d) (list_any (has_id c) ds) declared) [
-      | inl here ↦ absurd (cc (here, not))
-      | inr more ↦ more
-    ]
 
 -- at an index, where no case before has the id
 journal-at : (ds : List CaseDecl) (ks : List ClosedCase) (i : ℕ) (d : CaseDecl) (k : ClosedCase) → slice_get ds i ≡ Some d → slice_get ks i ≡ Some k → ((j : ℕ) (e : CaseDecl) → slice_get ds j ≡ Some e → e.id ≡ d.id → j ≡ i) → journal_for d.id ds ks ≡ k.journal
@@ -72,13 +59,19 @@ module _ (f : File) (workable : IsWorkable f) where
     whole-case : (d : CaseDecl) (part : List Bytes) (c : ClosedCase) → CaseTaken f asked d part c → IsWhole case_after case_reply actor_of (case_event_of f) (IsActor f) (not_created d.id.type_no) (owed_case d.id asked) c.journal c.machine
     whole-case d part c h = answers-whole case_after case_reply actor_of (case_event_of f) (IsActor f) c.journal (not_created d.id.type_no) (owed_case d.id asked) c.machine (case-actors f workable (telling r.kinds) d.id) h.answers
 
+    own-journal : (i : ℕ) (d : CaseDecl) (c : ClosedCase) → slice_get f.cases i ≡ Some d → slice_get r.cases i ≡ Some c → journal_for d.id f.cases r.cases ≡ c.journal
+    own-journal i d c at_d at_c = journal-at f.cases r.cases i d c at_d at_c (λ j e at_e same. ids-distinct f.cases j i e d workable.placed at_e at_d same)
+
     cases-ready : (a : ℕ) → IsActor f a → CasesReady f workable a (of_cases a) (telling r.kinds a) (own_lines a f.phases)
     cases-ready a actor = record {
       cases = λ c declared.
-          for-declared (λ id journal. FitCase f (calls_of a journal) (filter (to_case id) (asked_own (telling r.kinds a) (own_lines a f.phases)))) f.cases r.cases cases.many
-          (λ i d k at_d at_k.
+          let (i, d, low, is, here) = Any-from_list_any (has_id c) f.cases declared in
+          let at_d : slice_get f.cases i ≡ Some d = slice_get-get_or f.cases i d low ∙ ap Some is in
+          let (k, at_k) = there-as f.cases r.cases i d cases.many at_d in
           let (part, h) = cases.each i d k at_d at_k in
-          subst (FitCase f (calls_of a k.journal)) (own-such a actor_of (to_case d.id) asked ∙ ap (filter (to_case d.id)) (own-phases a f.phases (telling r.kinds))) ((whole-case d part k h).whole a actor)) c declared;
+          subst (λ id. FitCase f (of_cases a id) (filter (to_case id) (asked_own (telling r.kinds a) (own_lines a f.phases)))) (same-id c d.id here)
+          (subst (λ es. FitCase f (calls_of a es) (filter (to_case d.id) (asked_own (telling r.kinds a) (own_lines a f.phases)))) (sym (own-journal i d k at_d at_k))
+          (subst (FitCase f (calls_of a k.journal)) (own-such a actor_of (to_case d.id) asked ∙ ap (filter (to_case d.id)) (own-phases a f.phases (telling r.kinds))) ((whole-case d part k h).whole a actor)));
       own = λ c declared. calls-rows (λ (e : CaseEntry). Unit {0}) a (journal_for c f.cases r.cases) (all_rows (λ (e : CaseEntry). Unit {0}) (λ e. tt) (journal_for c f.cases r.cases));
     }
 
@@ -114,9 +107,8 @@ module _ (f : File) (workable : IsWorkable f) where
     legal-case i d c at_d at_c =
         let (part, taken) = cases.each i d c at_d at_c in
         let whole = whole-case d part c taken in
-        let own = journal-at f.cases r.cases i d c at_d at_c (λ j e at_e same. ids-distinct f.cases j i e d workable.placed at_e at_d same) in
         let begun : (n a : ℕ) → IsActor f a → (left : List CaseEntry) × (calls_of_case d.id (done_by a (take n traces)) ++ left ≡ calls_of a c.journal) =
-        λ n a actor. let (left, made) = cases-begin (take n f.phases) of_kinds of_cases a d.id in (left, ap (λ ts. calls_of_case d.id (done_by a ts) ++ left) (front-traces n) ∙ (made ∙ ap (calls_of a) own)) in
+        λ n a actor. let (left, made) = cases-begin (take n f.phases) of_kinds of_cases a d.id in (left, ap (λ ts. calls_of_case d.id (done_by a ts) ++ left) (front-traces n) ∙ (made ∙ ap (calls_of a) (own-journal i d c at_d at_c))) in
         record {
           legal = whole.legal;
           machine = whole.state;
