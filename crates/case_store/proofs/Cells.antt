@@ -1,13 +1,11 @@
 -- Where cases stand, and what types and cases are before any call.
 use Rattle.case_store.proofs.Common.{[], ℕ, ◌++◌, ◌+◌, ◌-◌, ◌<◌, ◌∙◌, ◌∷◌, ◌≡◌, ◌≤◌, age, AllByRecursion, answer_of_case, ap, append_assoc, arith, Bool, call_case, case_answer, case_at, CaseId, changed_at, changed_where, ClosedKind, drop}
-use Rattle.case_store.proofs.Common.{drop_more, Event, false, Fits, fresh_cases, fresh_kinds, HasNoVersion, Held, if◌then◌else◌, length, length-append, length-replicate, List, ltb-true, nat_lt, None, not_created, not_defined, on_case}
-use Rattle.case_store.proofs.Common.{Option, place_between, place_of, put_back, refl, replicate, set, slice_get, Some, starts_from, Stored, subst, suc, sum, sum_by-cons, sym, true, weight, zero}
+use Rattle.case_store.proofs.Common.{drop_more, Event, false, fresh_cases, fresh_kinds, Held, if◌then◌else◌, length, length-append, length-replicate, List, ltb-true, nat_lt, None, not_created, not_defined, on_case}
+use Rattle.case_store.proofs.Common.{Option, place_between, place_of, put_back, refl, replicate, set, slice_get, Some, starts_from, subst, suc, sum, sum_by-cons, sym, true, weight, zero}
 use Rattle.std.proofs.{Common.get_or, lemmas.Option.slice_get_read}
 use Rattle.case_core.specs.{Machine.next_case, declared.replies.Reply.Reply}
-use Rattle.case_core.specs.declared.events.Event.TheVariants as event
 use Rattle.script_run.proofs.Aging.{age-oldest, oldest-changed_at}
 use Rattle.script_run.specs.{Oldest.oldest, declared.runs.ClosedCase.ClosedCase}
-use Rattle.store_form.specs.declared.stored.Stored.TheVariants as stored
 use Rattle.case_store.specs.declared.replies.StoredReply.TheVariants as answer
 
 -- the cases of each type begin and end among all cases
@@ -128,17 +126,3 @@ module _ (now : Held) (starts : List ℕ) (kinds : List ClosedKind) (cases : Lis
       case-older =
           let changed : oldest (changed_at (call_case caller e) i cases) ≤ oldest cases + weight e = oldest-changed_at caller e i cases in
           subst (λ cs. oldest (set cases i new) ≤ oldest cs + weight e) same (subst (λ cs. oldest cs ≤ oldest cases + weight e) (sym called) changed)
-
--- what has a payload has no version in it
-pub fits-plain : (e : Stored) → Fits e → HasNoVersion e
-fits-plain (stored.Define t s) fit = tt
-fits-plain (stored.Install t ops) fit = tt
-fits-plain (stored.Newest t) fit = tt
-fits-plain (stored.Create c number) fit = tt
-fits-plain (stored.Migrate c number) fit = tt
-fits-plain (stored.Case c (event.Create version)) fit = fit.1
-fits-plain (stored.Case c (event.Migrate version)) fit = fit.1
-fits-plain (stored.Case c (event.Start node user roles)) fit = tt
-fits-plain (stored.Case c (event.End node user choice writes)) fit = tt
-fits-plain (stored.Case c (event.Withdraw node user)) fit = tt
-fits-plain (stored.Case c (event.Change ops)) fit = tt

@@ -12,9 +12,6 @@ use Rattle.store_form.specs.declared.stored.Stored.TheVariants as stored
 behind : (front bytes : Bytes) (n : ℕ) → n ≤ length bytes → n ≤ length (front ++ bytes)
 behind front bytes n le = omega (arith, length-append front bytes)
 
-in_front : (bytes rest : Bytes) (n : ℕ) → n ≤ length bytes → n ≤ length (bytes ++ rest)
-in_front bytes rest n le = omega (arith, length-append bytes rest)
-
 -- an operation has five bytes at least: its row and a node
 op-bytes : (o : Op) → 5 ≤ length (op_bytes o)
 op-bytes (op.InsertSerial node role g) = omega arith
