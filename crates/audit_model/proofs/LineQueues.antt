@@ -1,5 +1,5 @@
 -- What stands first in an actor's queues are the calls of its next line.
-use Rattle.std.proofs.Common.{◌≡◌, ◌≢◌, ℕ, zero, suc, ◌+◌, ◌<◌, ◌≤◌, ◌==◌, eqb, eq-eqb, true, false, List, [], ◌∷◌, ◌++◌, filter, length, map, take, Option, Some, refl, sym, ap, ◌∙◌, subst, arith, inl, inr, if◌then◌else◌, nat_lt, option_map, slice_get, Bool}
+use Rattle.std.proofs.Common.{add-one, ◌≡◌, ◌≢◌, ℕ, zero, suc, ◌+◌, ◌<◌, ◌≤◌, ◌==◌, eqb, eq-eqb, true, false, List, [], ◌∷◌, ◌++◌, filter, length, map, take, Option, Some, refl, sym, ap, ◌∙◌, subst, arith, inl, inr, if◌then◌else◌, nat_lt, option_map, slice_get, Bool}
 use Rattle.std.proofs.{lemmas.Bool.{eqb-true, lt-ltb}, lemmas.List.take_all}
 use Rattle.audit_model.proofs.Common.{AllRows, and_from, AreCallsOf, AreCallsOfLines, AreOf, ArePlaced, Asked, asked, asked-known, asked_among, asks, call_of, calls_case, calls_kind, case_event_of, CaseDecl, CaseEntry, CaseId, cases_of_type, cells-same, cells_in, count_by_more_no, count_by_more_yes, Entry, entry, Event, File}
 use Rattle.audit_model.proofs.Common.{get_or_from_slice_get, has_case, has_id, has_kind, is_case, keeps, IsDeclared, IsKnownAct, IsKnownCall, IsWorkable, kind_event-same, KindEntry, KindEvent, KindReply, known-call, Line, of_kind, plain-call, Reply, rest_of, roles_of, same_Some, slice_get_cases, slice_get_within, told, told_each, told_in, VersionModel}
@@ -29,8 +29,7 @@ some-case cases placed t i (suc n) few low = elim (slice_get_cases cases n).1 [
     of_case_at earlier d at =
         let within = slice_get_within cases n d at in
         let is_d = ap (λ (e : CaseDecl). e.id.type_no == t) (get_or_from_slice_get cases n d d at) in
-        let next : suc n ≡ n + 1 = omega arith in
-        let low_then : i < cases_of_type t (take (n + 1) cases) = subst (λ m. i < cases_of_type t (take m cases)) next low in
+        let low_then : i < cases_of_type t (take (n + 1) cases) = rw add-one low in
         elim (cases_Bool (d.id.type_no == t)) [
           | inl own ↦
               let more : cases_of_type t (take (n + 1) cases) ≡ cases_of_type t (take n cases) + 1 = count_by_more_yes (λ (e : CaseDecl). e.id.type_no == t) cases n d within (is_d ∙ own) in

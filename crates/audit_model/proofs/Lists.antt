@@ -21,14 +21,12 @@ drops p x xs is = ap (λ test. if test then x ∷ filter p xs else filter p xs) 
 
 pub filter-swap : {X : Type 0} (p q : X → Bool) (xs : List X) → filter p (filter q xs) ≡ filter q (filter p xs)
 filter-swap p q [] = refl
-filter-swap {X} p q (x ∷ xs) = by (p x) (q x) refl refl (filter-swap p q xs)
-  where
-    by : (b c : Bool) → p x ≡ b → q x ≡ c → filter p (filter q xs) ≡ filter q (filter p xs) → filter p (filter q (x ∷ xs)) ≡ filter q (filter p (x ∷ xs))
-    by true true one two more =
-        ap (filter p) (keeps q x xs two) ∙ (keeps p x (filter q xs) one ∙ (ap (λ (ys : List X). x ∷ ys) more ∙ (sym (keeps q x (filter p xs) two) ∙ ap (filter q) (sym (keeps p x xs one)))))
-    by true false one two more = ap (filter p) (drops q x xs two) ∙ (more ∙ (sym (drops q x (filter p xs) two) ∙ ap (filter q) (sym (keeps p x xs one))))
-    by false true one two more = ap (filter p) (keeps q x xs two) ∙ (drops p x (filter q xs) one ∙ (more ∙ ap (filter q) (sym (drops p x xs one))))
-    by false false one two more = ap (filter p) (drops q x xs two) ∙ (more ∙ ap (filter q) (sym (drops p x xs one)))
+filter-swap {X} p q (x ∷ xs) =
+    let more = filter-swap p q xs in
+    by-test (λ b. filter p (filter q (x ∷ xs)) ≡ filter q (if b then x ∷ filter p xs else filter p xs)) (p x)
+    (λ is. by-test (λ c. filter p (if c then x ∷ filter q xs else filter q xs) ≡ (if c then x ∷ filter q (filter p xs) else filter q (filter p xs))) (q x)
+    (λ own. keeps p x (filter q xs) is ∙ ap (λ (ys : List X). x ∷ ys) more) (λ other. more))
+    (λ is. by-test (λ c. filter p (if c then x ∷ filter q xs else filter q xs) ≡ filter q (filter p xs)) (q x) (λ own. drops p x (filter q xs) is ∙ more) (λ other. more))
 
 -- what holds of those that pass a test
 pub filter-rows : {X : Type 0} (P Q : X → Type 0) (p : X → Bool) → ((x : X) → P x → p x ≡ true → Q x) → (xs : List X) → AllRows P xs → AllRows Q (filter p xs)

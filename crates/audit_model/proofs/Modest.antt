@@ -1,11 +1,12 @@
 -- Lines that ask little: what their events weigh, and how old a case is behind them.
-use Rattle.std.proofs.Common.{◌≡◌, ℕ, zero, suc, ◌+◌, ◌<◌, ◌≤◌, ◌==◌, Bool, List, [], ◌∷◌, ◌++◌, length, length-append, map, Some, refl, sym, ap, ◌∙◌, subst, arith, if◌then◌else◌, filter, slice_set}
-use Rattle.audit_model.proofs.Common.{by-test, actor_of, AllRows, AreTurns, Asked, asked_lines, asked_phases, asks, behind_front, both-phases, call_of, calls_kind, case_after, case_event_of, CaseEntry, ClosedCase, Event, File, filled, filled-many, filter-phases, how_many, if-either, IsAuditable, IsKnown, IsModest, IsModestLine, IsSteady, IsWorkable, KeptCase, kind_event_of, KindEvent, known-light, left_to_tell, Line, line_of, rows-filter, lines_in, not_created, one_taken, owed_kind, queue_of, roles_of, sum_by-cons, Telling, told_at, version_for, WritesOneLine, WritesValues}
+use Rattle.std.proofs.Common.{◌≡◌, ℕ, zero, suc, ◌+◌, ◌<◌, ◌≤◌, ◌==◌, Bool, not, List, [], ◌∷◌, ◌++◌, length, length-append, map, Some, refl, sym, ap, ◌∙◌, subst, arith, if◌then◌else◌, filter, slice_set}
+use Rattle.audit_model.proofs.Common.{by-test, actor_of, AllRows, AreTurns, Asked, asked_lines, asked_phases, asks, behind_front, both-phases, call_of, calls_kind, case_after, case_event_of, CaseEntry, ClosedCase, Event, File, filled, filled-many, filter-phases, how_many, IsAuditable, IsKnown, IsModest, IsModestLine, IsSteady, IsWorkable, KeptCase, kind_event_of, KindEvent, known-light, left_to_tell, Line, line_of, rows-filter, lines_in, not_created, one_taken, owed_kind, queue_of, roles_of, sum_by-cons, Telling, told_at, version_for, WritesOneLine, WritesValues}
 use Rattle.audit_model.proofs.Common.{case-light as call-case-light, kind-light as call-kind-light, weight as kind_weight}
 use Rattle.audit_model.proofs.KeptValues.{case-kept}
 use Rattle.audit_model.proofs.Runs.{phases-asked}
 use Rattle.case_core.proofs.AgesOfSteps.{age-next_case}
 use Rattle.case_core.specs.Ages.{weight}
+use Rattle.std.proofs.lemmas.List.Filters.{length-filter_both}
 
 -- ---- the queues of actors
 module _ {L : Type 0} (P : L → Type 0) where
@@ -74,13 +75,9 @@ file-modest f q workable auditable =
     (both-phases (IsKnown (length f.types) (length f.actors) f.cases) WritesOneLine IsModestLine (λ l known writes. (writes, λ a roles. known-light a roles (length f.types) f.cases l.act known.act)) f.phases workable.known auditable.writes)
 
 -- ---- how many lines are owed
-few-filtered : {L : Type 0} (p : L → Bool) (ls : List L) → length (filter p ls) ≤ length ls
-few-filtered p [] = omega arith
-few-filtered {L} p (l ∷ ls) = let few = few-filtered p ls in if-either (λ (xs : List L). length xs ≤ suc (length ls)) (p l) (l ∷ filter p ls) (filter p ls) (λ is. omega (arith, few)) (λ not. omega (arith, few))
-
 few-called : {L : Type 0} (p : L → Bool) (phases : List (List L)) → how_many (map (λ lines. filter p lines) phases) ≤ how_many phases
 few-called p [] = omega arith
-few-called p (lines ∷ phases) = let one = few-filtered p lines in let more = few-called p phases in omega (arith, one, more)
+few-called p (lines ∷ phases) = let one = length-filter_both p (λ l. not (p l)) (λ l. refl) lines in let more = few-called p phases in omega (arith, one, more)
 
 many-lines : (q : Telling) (lines : List Line) → length (asked_lines q lines) ≡ length lines
 many-lines q [] = refl

@@ -158,34 +158,30 @@ take-traces_of (suc k) (lines ∷ phases) K C =
     ap (λ ts. (λ (a : ℕ). calls_along (K a) (C a) (lines_of a lines)) ∷ ts) (take-traces_of k phases (λ a. kinds_left (K a) (lines_of a lines)) (λ a. cases_left (C a) (lines_of a lines)))
 
 -- what the calls of one type or one case are, and what is left of them
-module _ {X : Type 0} (calls_of : List Call → List X) (append : (xs ys : List Call) → calls_of (xs ++ ys) ≡ calls_of xs ++ calls_of ys) (none : calls_of [] ≡ []) (queue : KindQueues → CaseQueues → List X) (calls : Act → Bool)
-    (next : (K : KindQueues) (C : CaseQueues) (x : Act) → queue (kinds_then K x) (cases_then C x) ≡ (if calls x then rest_of (queue K C) else queue K C))
-    (taken : (K : KindQueues) (C : CaseQueues) (x : Act) → calls_of (calls_at K C x) ≡ (if calls x then ahead (queue K C) else [])) where
+module _ {X : Type 0} (calls_of : List Call → List X) (append : (xs ys : List Call) → calls_of (xs ++ ys) ≡ calls_of xs ++ calls_of ys) (none : calls_of [] ≡ []) (queue : KindQueues → CaseQueues → List X)
+    (step : (K : KindQueues) (C : CaseQueues) (x : Act) → calls_of (calls_at K C x) ++ queue (kinds_then K x) (cases_then C x) ≡ queue K C) where
+  join : (first rest : List Call) (left mid whole : List X) → calls_of rest ++ left ≡ mid → calls_of first ++ mid ≡ whole → calls_of (first ++ rest) ++ left ≡ whole
+  join first rest left mid whole later here = ap (λ xs. xs ++ left) (append first rest) ∙ (append_assoc (calls_of first) (calls_of rest) left ∙ (ap (λ xs. calls_of first ++ xs) later ∙ here))
+
   split : (ls : List Line) (K : KindQueues) (C : CaseQueues) → calls_of (calls_along K C ls) ++ queue (kinds_left K ls) (cases_left C ls) ≡ queue K C
   split [] K C = ap (λ xs. xs ++ queue K C) none
   split (l ∷ ls) K C =
-      let here = calls_at K C l.act in
       let K_then = kinds_then K l.act in
       let C_then = cases_then C l.act in
-      let left = queue (kinds_left K_then ls) (cases_left C_then ls) in
-      ap (λ xs. xs ++ left) (append here (calls_along K_then C_then ls))
-      ∙ (append_assoc (calls_of here) (calls_of (calls_along K_then C_then ls)) left
-      ∙ (ap (λ xs. calls_of here ++ xs) (split ls K_then C_then ∙ next K C l.act) ∙ (ap (λ xs. xs ++ (if calls l.act then rest_of (queue K C) else queue K C)) (taken K C l.act) ∙ if-split (calls l.act) (queue K C))))
+      join (calls_at K C l.act) (calls_along K_then C_then ls) (queue (kinds_left K_then ls) (cases_left C_then ls)) (queue K_then C_then) (queue K C) (split ls K_then C_then) (step K C l.act)
 
   -- what an actor did is a beginning of what there is of it
   begin : (phases : List (List Line)) (K : ℕ → KindQueues) (C : ℕ → CaseQueues) (a : ℕ) → (left : List X) × (calls_of (done_by a (traces_of phases K C)) ++ left ≡ queue (K a) (C a))
   begin [] K C a = (queue (K a) (C a), ap (λ xs. xs ++ queue (K a) (C a)) none)
   begin (lines ∷ phases) K C a =
       let own = lines_of a lines in
-      let here = calls_along (K a) (C a) own in
-      let rest = traces_of phases (λ b. kinds_left (K b) (lines_of b lines)) (λ b. cases_left (C b) (lines_of b lines)) in
-      let (left, more) = begin phases (λ b. kinds_left (K b) (lines_of b lines)) (λ b. cases_left (C b) (lines_of b lines)) a in (
-        left,
-        ap (λ xs. xs ++ left) (append here (done_by a rest)) ∙ (append_assoc (calls_of here) (calls_of (done_by a rest)) left ∙ (ap (λ xs. calls_of here ++ xs) more ∙ split own (K a) (C a))),
-      )
+      let K_left = λ (b : ℕ). kinds_left (K b) (lines_of b lines) in
+      let C_left = λ (b : ℕ). cases_left (C b) (lines_of b lines) in
+      let (left, more) = begin phases K_left C_left a in
+      (left, join (calls_along (K a) (C a) own) (done_by a (traces_of phases K_left C_left)) left (queue (K_left a) (C_left a)) (queue (K a) (C a)) more (split own (K a) (C a)))
 
 pub kinds-begin : (phases : List (List Line)) (K : ℕ → KindQueues) (C : ℕ → CaseQueues) (a t : ℕ) → (left : List KindEntry) × (calls_of_kind t (done_by a (traces_of phases K C)) ++ left ≡ K a t)
-kinds-begin phases K C a t = begin (calls_of_kind t) (calls_of_kind-append t) refl (λ Q R. Q t) (calls_kind t) (λ Q R x. refl) (λ Q R x. kind-taken Q R t (cells_of x)) phases K C a
+kinds-begin phases K C a t = begin (calls_of_kind t) (calls_of_kind-append t) refl (λ Q R. Q t) (λ Q R x. ap (λ es. es ++ kinds_then Q x t) (kind-taken Q R t (cells_of x)) ∙ if-split (calls_kind t x) (Q t)) phases K C a
 
 pub cases-begin : (phases : List (List Line)) (K : ℕ → KindQueues) (C : ℕ → CaseQueues) (a : ℕ) (c : CaseId) → (left : List CaseEntry) × (calls_of_case c (done_by a (traces_of phases K C)) ++ left ≡ C a c)
-cases-begin phases K C a c = begin (calls_of_case c) (calls_of_case-append c) refl (λ Q R. R c) (calls_case c) (λ Q R x. refl) (λ Q R x. case-taken Q R c (cells_of x)) phases K C a
+cases-begin phases K C a c = begin (calls_of_case c) (calls_of_case-append c) refl (λ Q R. R c) (λ Q R x. ap (λ es. es ++ cases_then R x c) (case-taken Q R c (cells_of x)) ∙ if-split (calls_case c x) (R c)) phases K C a

@@ -52,25 +52,23 @@ module _ (f : File) (phases : List (List Asked)) where
   head d = ended (case_head f d)
 
   -- the line of a case, and its journal
-  record JournalTaken (d : CaseDecl) (ls : List Bytes) (c : ClosedCase) : Type 0 where
-    answers : Answers case_after case_reply actor_of (case_event_of f) (not_created d.id.type_no) (owed_case d.id phases) c.journal c.machine
-    lines : ls ≡ head d ++ case_lines f 1 c.journal
-
-  journal-of : (d : CaseDecl) (ls : List Bytes) (c : ClosedCase) → Takes (and_then (given (case_head f d) d) (case_journal f phases)) ls c → JournalTaken d ls c
+  journal-of : (d : CaseDecl) (ls : List Bytes) (c : ClosedCase) → Takes (and_then (given (case_head f d) d) (case_journal f phases)) ls c
+      → Answers case_after case_reply actor_of (case_event_of f) (not_created d.id.type_no) (owed_case d.id phases) c.journal c.machine × (ls ≡ head d ++ case_lines f 1 c.journal)
   journal-of d ls c is =
       let both = takes-then (case_journal f phases) (given (case_head f d) d) ls c is in
       let (head_is, value) = takes-expected (head d) d both.front both.value both.first in
       let second : Takes (case_journal f phases d) both.rest c = subst (λ v. Takes (case_journal f phases v) both.rest c) value both.second in
       let (made, went, same) = takes-mapped case_made (journal case_after case_reply actor_of (case_event_of f) (caller_in f) (case_shown f) (how_many (owed_case d.id phases)) 1 (not_created d.id.type_no) (owed_case d.id phases)) both.rest c second in
       let j = takes-journal case_after case_reply actor_of (case_event_of f) (caller_in f) (case_shown f) (how_many (owed_case d.id phases)) 1 (not_created d.id.type_no) (owed_case d.id phases) both.rest made (omega arith) went in
-      subst (JournalTaken d ls) (sym same) (record { answers = j.answers; lines = both.lines ∙ (ap (λ xs. xs ++ both.rest) head_is ∙ ap (λ xs. head d ++ xs) j.lines) })
+      subst (λ (x : ClosedCase). Answers case_after case_reply actor_of (case_event_of f) (not_created d.id.type_no) (owed_case d.id phases) x.journal x.machine × (ls ≡ head d ++ case_lines f 1 x.journal)) (sym same)
+      (j.answers, both.lines ∙ (ap (λ xs. xs ++ both.rest) head_is ∙ ap (λ xs. head d ++ xs) j.lines))
 
   pub case-of : (d : CaseDecl) (ls : List Bytes) (c : ClosedCase) → Takes (case_reader f phases d) ls c → CaseTaken d ls c
   case-of d ls c is =
       let both = takes-then (λ (x : ClosedCase). given (end_text f x.machine.live) x) (and_then (given (case_head f d) d) (case_journal f phases)) ls c is in
-      let j = journal-of d both.front both.value both.first in
+      let (answers, lines) = journal-of d both.front both.value both.first in
       let (end_is, value) = takes-expected (ended (end_text f both.value.machine.live)) both.value both.rest c both.second in
-      subst (CaseTaken d ls) (sym value) (record { answers = j.answers; lines = both.lines ∙ (ap (λ xs. xs ++ both.rest) j.lines ∙ ap (λ xs. (head d ++ case_lines f 1 both.value.journal) ++ xs) end_is) })
+      subst (CaseTaken d ls) (sym value) (record { answers = answers; lines = both.lines ∙ (ap (λ xs. xs ++ both.rest) lines ∙ ap (λ xs. (head d ++ case_lines f 1 both.value.journal) ++ xs) end_is) })
 
   abbrev pub CasesTaken : List Bytes → List ClosedCase → Type 0
   CasesTaken ls cs = RowTaken (λ n d part c. CaseTaken d part c) (case_text f) 0 f.cases ls cs
