@@ -1,6 +1,6 @@
 -- Calls that are made one after another.
-use Rattle.case_store.proofs.Common.{[], ℕ, ◌++◌, ◌+◌, ◌∙◌, ◌∷◌, ◌≡◌, ◌≤◌, answers_of, ap, AreKnown, called, fold, Held, length, length-map, length-take-le, List, map, oldest, Recorded}
-use Rattle.case_store.proofs.Common.{refl, Run, Some, suc, sym, take, weight_of_all}
+use Rattle.case_store.proofs.Common.{[], ℕ, ◌++◌, ◌+◌, ◌∙◌, ◌∷◌, ◌≡◌, ◌≤◌, answers_of, ap, AreKnown, called, fold, Held, length, length-map, List, map, oldest, Recorded}
+use Rattle.case_store.proofs.Common.{refl, Run, Some, suc, sym, weight_of_all}
 use Rattle.case_store.specs.declared.replies.StoredReply.{StoredReply}
 
 -- how far calls have been made: what they made of what was held, what they were told, and which are left
@@ -16,6 +16,5 @@ answers-many : (starts : List ℕ) (run : Run) (rs : List Recorded) → length (
 answers-many starts run [] = refl
 answers-many starts run (r ∷ rs) = ap suc (answers-many starts (called starts run r) rs)
 
-pub told-many : (starts : List ℕ) (run : Run) (calls : List Recorded) (count : ℕ) (replies : List StoredReply) → count ≤ length calls → map Some replies ≡ answers_of starts run (take count calls)
-    → length replies ≡ count
-told-many starts run calls count replies within told = sym (length-map replies Some) ∙ ap length told ∙ answers-many starts run (take count calls) ∙ length-take-le count calls within
+pub told-many : (starts : List ℕ) (run : Run) (calls : List Recorded) (replies : List StoredReply) → map Some replies ≡ answers_of starts run calls → length replies ≡ length calls
+told-many starts run calls replies told = sym (length-map replies Some) ∙ ap length told ∙ answers-many starts run calls

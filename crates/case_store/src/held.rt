@@ -54,7 +54,7 @@ impl Model for HeldCells {
 
 impl HeldCells {
     // Types that nobody has called, with so many cases each.
-    pub(crate) fn new(alloc: Global, counts: &[u32]) -> Result<HeldCells, NoMemory>
+    fn new(alloc: Global, counts: &[u32]) -> Result<HeldCells, NoMemory>
         requires { length counts.now + sum counts.now < 2 ^ 32 }
         ensures { IfOk result (λ new. new ≡ record { starts = starts_of counts.now; run = fresh counts.now }) }
     {
@@ -231,17 +231,6 @@ impl HeldCells {
         let Some(recorded) = read_payload(alloc, payload)? else {
             return Ok(false);
         };
-        self.call_recorded(alloc, &recorded)
-    }
-
-    // Makes a recorded call. False, with no change, where it names what is not there.
-    fn call_recorded(&mut self, alloc: Global, recorded: &Recorded) -> Result<bool, NoMemory>
-        requires plain { HasNoVersion recorded.now.event }
-        requires young { oldest self.old.run.cases + stored_weight recorded.now.event ≤ 4000000000 }
-        ensures named { IfOk result (λ named. named ≡ has self.old.starts self.old.run recorded.now.event) }
-        ensures run { IfOk result (λ named. self.new ≡ (if named then record self.old { run = called self.old.starts self.old.run recorded.now } else self.old)) }
-        ensures young { IfOk result (λ _. oldest self.new.run.cases ≤ oldest self.old.run.cases + stored_weight recorded.now.event) }
-    {
         if !self.has(&recorded.event) {
             return Ok(false);
         }
@@ -249,25 +238,29 @@ impl HeldCells {
         Ok(true)
     }
 
-    // Makes the calls of all records of an image, and answers the place of the gate behind them.
-    pub(crate) fn take_all(&mut self, alloc: Global, image: &[u8]) -> Result<u64, ImageFault>
-        ghost counts: { List ℕ }
-        requires fresh { IsFoldOf counts self.old [] }
-        requires young { oldest self.old.run.cases ≡ 0 }
+    // What the records of an image make of types that nobody has called, with so many cases each, and the place of the gate
+    // behind them.
+    pub(crate) fn read(
+        alloc: Global,
+        counts: &[u32],
+        image: &[u8],
+    ) -> Result<(HeldCells, u64), ImageFault>
+        requires few { length counts.now + sum counts.now < 2 ^ 32 }
         requires gate { with_gate image.now ≡ image.now }
         requires within { length image.now ≤ 2 ^ 30 }
-        ensures ends { IfOk result (λ gate. (records : List Recorded) × IsFoldOf counts self.new records × EndsAt image.now (map payload_of records) gate) }
-        ensures young { IfOk result (λ gate. oldest self.new.run.cases ≤ gate) }
-        ensures damaged { IfErr result (λ e. TellsDamage counts image.now e) }
+        ensures ends { IfOk result (λ x. (records : List Recorded) × IsFoldOf counts.now x.0 records × EndsAt image.now (map payload_of records) x.1) }
+        ensures young { IfOk result (λ x. oldest x.0.run.cases ≤ x.1) }
+        ensures damaged { IfErr result (λ e. TellsDamage counts.now image.now e) }
     {
+        let mut held = HeldCells::new(alloc, counts)?;
         let mut rest = image;
         let mut place = 0;
         loop {
             match frame_in(rest) {
-                Frame::Closed => return Ok(place),
+                Frame::Closed => return Ok((held, place)),
                 Frame::Damaged => return Err(ImageFault::Damaged(place)),
                 Frame::Record(len) => {
-                    if !self.take_in(alloc, &rest[5..5 + len])? {
+                    if !held.take_in(alloc, &rest[5..5 + len])? {
                         return Err(ImageFault::Damaged(place));
                     }
                     rest = &rest[5 + len..];

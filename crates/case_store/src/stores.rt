@@ -153,19 +153,12 @@ impl<D: Disk + Drop> Store<D> {
         if self.is_broken {
             return Err(StoreFault::Broken);
         }
-        let gate = self.gate;
-        let framed = frame(alloc, gate, caller, event, limit)?;
+        let framed = frame(alloc, self.gate, caller, event, limit)?;
         let reply = self.held.call(alloc, caller, event)?;
-        match append(&mut self.disk, gate, &framed) {
-            Ok(next) => {
-                self.gate = next;
-                Ok(reply)
-            }
-            Err(_) => {
-                self.is_broken = true;
-                Err(StoreFault::Disk)
-            }
-        }
+        self.is_broken = true;
+        self.gate = append(&mut self.disk, self.gate, &framed)?;
+        self.is_broken = false;
+        Ok(reply)
     }
 
     /// Makes calls one after another, stores them as one group, and answers what each is told. At `Ok` each image holds them
@@ -293,6 +286,7 @@ impl<D: Disk + Drop> Store<D> {
         ensures acknowledged { OnOk result (IsStore D.content D.may_leave past.counts self.new (past.records ++ calls.now)) }
         ensures whole { OnOk result (self.new.is_broken ≡ false) }
         ensures replies { IfOk result (λ replies. map Some replies.items ≡ answers_of self.old.held.starts self.old.held.run calls.now) }
+        ensures many { IfOk result (λ replies. length replies.items ≡ length calls.now) }
         ensures every_image { OnOk result ((image : List ℕ) → D.may_leave self.new.disk image → HasList (map payload_of past.records ++ map payload_of calls.now) image) }
         ensures bytes { OnOk result (D.content self.new.disk ≡ group_appended self.old.gate (map payload_of calls.now) (D.content self.old.disk)) }
         ensures next_gate { OnOk result (get_or (D.content self.new.disk) self.new.gate 1 ≡ 0) }
@@ -339,9 +333,7 @@ fn read_cells<D: Disk>(
     disk: &mut D,
     cases: &[u32],
 ) -> Result<(HeldCells, u64), ImageFault>
-    ghost counts: { List ℕ }
-    requires few { length cases.now + sum cases.now < 2 ^ 32 }
-    requires counts { cases.now ≡ counts }
+    requires { length cases.now + sum cases.now < 2 ^ 32 }
     ensures opened { IfOk result (λ x. Opens D.content D.may_leave cases.now (D.content disk.old) (record { disk = disk.new; gate = x.1; held = x.0; is_broken = false })) }
     ensures within { OnOk result (length (D.content disk.old) ≤ 2 ^ 30) }
     ensures refused { IfErr result (λ e. Says cases.now (D.content disk.old) (refused e disk.new)) }
@@ -353,9 +345,8 @@ fn read_cells<D: Disk>(
     ensures never_falls { D.faults disk.old ≤ D.faults disk.new }
 {
     let image = open_image(alloc, disk)?;
-    let mut held = HeldCells::new(alloc, cases)?;
-    let gate = held.take_all(alloc, &image)?;
-    Ok((held, gate))
+    let cells = HeldCells::read(alloc, cases, &image)?;
+    Ok(cells)
 }
 
 // The payload of a call, framed, where it finds room behind the gate in an image of at most so many bytes.
