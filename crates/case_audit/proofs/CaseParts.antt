@@ -1,6 +1,7 @@
 -- A case's part of a report: its line, its journal, then its end.
-use Rattle.case_audit.proofs.Common.{and_then, Asked, case_head, case_journal, case_reader, CaseDecl, ClosedCase, end-ends, end_text, false, File, Followed, FollowedBy, Follows, follows-stopped, follows-then, given-follows, given-stops}
-use Rattle.case_audit.proofs.Common.{given-then, given-wrong, head-ends, List, None, Option, Reader, Some, true}
+use Rattle.case_audit.proofs.Common.{and_then, Asked, Bool, case_head, case_journal, case_reader, CaseDecl, ClosedCase, end-ends, end_text, false, File, Followed, FollowedBy, Follows, follows-stopped, follows-then, given-then, given-wrong}
+use Rattle.case_audit.proofs.{Common.{head-ends, List, None, Option, Reader, Some, true}, ReportParts.given-judged}
+use Rattle.std.specs.Bool.{then_some}
 use Rattle.audit_model.specs.ReportReader.{given}
 
 module _ (f : File) (phases : List (List Asked)) (d : CaseDecl) where
@@ -19,12 +20,7 @@ module _ (f : File) (phases : List (List Asked)) (d : CaseDecl) where
   pub journal-wrong : (old mid new : Followed) → FollowedBy (case_head f d) old mid true → Follows (case_journal f phases d) mid new None → Follows (case_reader f phases d) old new None
   journal-wrong old mid new head journal = follows-stopped ended_with headed old new (behind-head old mid new None head journal)
 
-  pub end-wrong : (c : ClosedCase) (old mid near new : Followed) → FollowedBy (case_head f d) old mid true → Follows (case_journal f phases d) mid near (Some c) → FollowedBy (end_text f c.machine.live) near new false
-      → Follows (case_reader f phases d) old new None
-  end-wrong c old mid near new head journal end =
-      follows-then ended_with headed c old near new None (behind-head old mid near (Some c) head journal) (given-stops (end_text f c.machine.live) c near new (end-ends f c.machine.live) end)
-
-  pub case-right : (c : ClosedCase) (old mid near new : Followed) → FollowedBy (case_head f d) old mid true → Follows (case_journal f phases d) mid near (Some c) → FollowedBy (end_text f c.machine.live) near new true
-      → Follows (case_reader f phases d) old new (Some c)
-  case-right c old mid near new head journal end =
-      follows-then ended_with headed c old near new (Some c) (behind-head old mid near (Some c) head journal) (given-follows (end_text f c.machine.live) c near new (end-ends f c.machine.live) end)
+  pub end-judged : (c : ClosedCase) (old mid near new : Followed) (stands : Bool) → FollowedBy (case_head f d) old mid true → Follows (case_journal f phases d) mid near (Some c) → FollowedBy (end_text f c.machine.live) near new stands
+      → Follows (case_reader f phases d) old new (then_some stands c)
+  end-judged c old mid near new stands head journal end =
+      follows-then ended_with headed c old near new (then_some stands c) (behind-head old mid near (Some c) head journal) (given-judged (end_text f c.machine.live) c near new stands (end-ends f c.machine.live) end)

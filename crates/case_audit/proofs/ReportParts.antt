@@ -1,11 +1,18 @@
 -- The parts of a report, one behind another.
-use Rattle.case_audit.proofs.Common.{ℕ, ◌≡◌, and_then, asked_phases, Bool, cases_behind, cases_reader, ClosedCase, ClosedKind, false, File, first_line, Followed, FollowedBy, Follows, follows-mapped, follows-stopped, follows-then}
-use Rattle.case_audit.proofs.Common.{given-follows, given-stops, given-then, given-wrong, header-ends, IsJudged, kinds_reader, List, None, Option, option_map, Reader, refl, Run, Some, subst, summary, summary-ends, telling, true}
+use Rattle.case_audit.proofs.Common.{ℕ, ◌&&◌, ◌==◌, ◌∙◌, ◌≡◌, and_then, asked_phases, Bool, by-test, Bytes, cases_behind, cases_reader, ClosedCase, ClosedKind, EndsLine, false, File, first_line, Followed, FollowedBy, Follows, follows-mapped}
+use Rattle.case_audit.proofs.Common.{follows-stopped, follows-then, given-follows, given-stops, given-then, given-wrong, header-ends, is_some, IsJudged, kinds_reader, left_of, length, List, None, Option, option_map, Reader, refl, Run, Some}
+use Rattle.case_audit.proofs.Common.{subst, summary, summary-ends, telling, true}
+use Rattle.std.specs.Bool.{then_some}
 use Rattle.audit_model.specs.ReportReader.{given}
 
 -- what is known of a value is known of what it is
 pub followed-as : {A B : Type 0} (r : Reader B) (old new : Followed) (g : A → B) (o p : Option A) → o ≡ p → Follows r old new (option_map g o) → Follows r old new (option_map g p)
 followed-as r old new g o p is h = subst (λ q. Follows r old new (option_map g q)) is h
+
+-- a piece was followed, whether all of it stands there or not
+pub given-judged : {A : Type 0} (text : Bytes) (a : A) (old new : Followed) (stands : Bool) → EndsLine text → FollowedBy text old new stands → Follows (given text a) old new (then_some stands a)
+given-judged text a old new true ends piece = given-follows text a old new ends piece
+given-judged text a old new false ends piece = given-stops text a old new ends piece
 
 module _ (f : File) where
   abbrev types_reader : Reader (List ClosedKind)
@@ -35,29 +42,17 @@ module _ (f : File) where
   abbrev run_of : List ClosedKind → List ClosedCase → Run
   run_of kinds cases = record { kinds = kinds; cases = cases }
 
+  runs-read : (old one two new : Followed) (kinds : List ClosedKind) (cases : Option (List ClosedCase)) → FollowedBy (first_line f) old one true → Follows (kinds_reader f 0 f.types) one two (Some kinds) → Follows (cases_of kinds) two new cases
+      → Follows runs_reader old new (option_map (run_of kinds) cases)
+  runs-read old one two new kinds cases first types read =
+      follows-then (cases_behind f) types_reader kinds old two new (option_map (run_of kinds) cases) (types-read old one two kinds first types) (follows-mapped (run_of kinds) (cases_of kinds) two new cases read)
+
   pub cases-wrong : (old one two new : Followed) (kinds : List ClosedKind) → FollowedBy (first_line f) old one true → Follows (kinds_reader f 0 f.types) one two (Some kinds) → Follows (cases_of kinds) two new None → IsJudged f old new false
-  cases-wrong old one two new kinds first types wrong = (
-    None,
-    refl,
-    follows-stopped totals runs_reader old new
-        (follows-then (cases_behind f) types_reader kinds old two new None (types-read old one two kinds first types) (follows-mapped (run_of kinds) (cases_of kinds) two new None wrong)),
-  )
+  cases-wrong old one two new kinds first types wrong = (None, refl, follows-stopped totals runs_reader old new (runs-read old one two new kinds None first types wrong))
 
-  pub totals-judged : (old one two three new : Followed) (kinds : List ClosedKind) (cases : List ClosedCase) (stands : Bool) → FollowedBy (first_line f) old one true → Follows (kinds_reader f 0 f.types) one two (Some kinds)
-      → Follows (cases_of kinds) two three (Some cases) → FollowedBy (summary f (run_of kinds cases)) three new stands → IsJudged f old new stands
-  totals-judged old one two three new kinds cases stands first types read last = by stands last
-    where
-      runs : Follows runs_reader old three (Some (run_of kinds cases))
-      runs = follows-then (cases_behind f) types_reader kinds old two three (Some (run_of kinds cases)) (types-read old one two kinds first types) (follows-mapped (run_of kinds) (cases_of kinds) two three (Some cases) read)
-
-      by : (b : Bool) → FollowedBy (summary f (run_of kinds cases)) three new b → IsJudged f old new b
-      by true last = (
-        Some (run_of kinds cases),
-        refl,
-        follows-then totals runs_reader (run_of kinds cases) old three new (Some (run_of kinds cases)) runs (given-follows (summary f (run_of kinds cases)) (run_of kinds cases) three new (summary-ends f (run_of kinds cases)) last),
-      )
-      by false last = (
-        None,
-        refl,
-        follows-then totals runs_reader (run_of kinds cases) old three new None runs (given-stops (summary f (run_of kinds cases)) (run_of kinds cases) three new (summary-ends f (run_of kinds cases)) last),
-      )
+  pub totals-judged : (old one two three new : Followed) (kinds : List ClosedKind) (cases : List ClosedCase) (whole stands : Bool) → FollowedBy (first_line f) old one true → Follows (kinds_reader f 0 f.types) one two (Some kinds)
+      → Follows (cases_of kinds) two three (Some cases) → FollowedBy (summary f (run_of kinds cases)) three new whole → stands ≡ (whole && (length (left_of new) == 0)) → IsJudged f old new stands
+  totals-judged old one two three new kinds cases whole stands first types read last is =
+      let r = run_of kinds cases in
+      let read_all = follows-then totals runs_reader r old three new _ (runs-read old one two three kinds (Some cases) first types read) (given-judged (summary f r) r three new whole (summary-ends f r) last) in
+      (then_some whole r, is ∙ by-test (λ b. (b && (length (left_of new) == 0)) ≡ (is_some (then_some b r) && (length (left_of new) == 0))) whole (λ yes. refl) (λ no. refl), read_all)

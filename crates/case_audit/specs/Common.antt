@@ -12,4 +12,5 @@ pub use Rattle.case_audit.specs.Asking.{all_told, all_turns, asked_by, asked_in,
 pub use Rattle.case_audit.specs.{Asking.{with_told, with_turn, with_version}, Callers.{begins_with_word, named_from}, Endings.{EndsAudit, IsRefused, IsVerdictOn, TellsBytes, TellsOne, TellsReport}, Owing.{called_case, calls_decl, calls_in}}
 pub use Rattle.case_audit.specs.{Owing.{calls_number, case_put, declared_at, given, kind_put, moved_type, numbered_of, numbers, owed_of, put_line, put_where}, Parts.{before_report, begins_report, file_length, file_part, is_too_long}}
 pub use Rattle.case_audit.specs.{Parts.{most_bytes, most_in_file, most_in_report, report_part}, Sections.{AreOwed, AreSections, CanJudge, HasScript, IsCaseAt, IsModestOwed, IsModestScript, IsSection}, Statuses.{end_status, of_file}}
+pub use Rattle.case_audit.specs.Pieces.{piece_text}
 pub use Rattle.case_audit.specs.Verdicts.{CanAudit, IsJudged, IsRead, IsVerdict, verdict_text}

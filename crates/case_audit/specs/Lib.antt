@@ -4,6 +4,7 @@ pub mod Owing
 pub mod Callers
 pub mod Verdicts
 pub mod Parts
+pub mod Pieces
 pub mod Sections
 pub mod Endings
 pub mod Statuses

@@ -1,12 +1,12 @@
 -- What a verdict says of a report.
-use Rattle.std.specs.{Prelude.{◌≡◌, ℕ, ◌++◌, Bool, Option, Some, None, Ok, codes, decimal}, Option.is_some}
-use Rattle.audit_model.specs.{Common.{IsAuditable, IsWorkable, Bytes, File, file, Followed, Follows, IsFirstWrong, Run}, ReportReader.report_reader, Reports.IsReport}
+use Rattle.std.specs.{Prelude.{◌≡◌, ℕ, ◌==◌, ◌&&◌, ◌++◌, Bool, length, Option, Some, None, Ok, codes, decimal}, Option.is_some}
+use Rattle.audit_model.specs.{Common.{IsAuditable, IsWorkable, Bytes, File, file, Followed, Follows, IsFirstWrong, left_of, Run}, ReportReader.report_reader, Reports.IsReport}
 use Rattle.case_audit.specs.declared.reports.Verdict.{Verdict}
 use Rattle.case_audit.specs.declared.reports.Verdict.TheVariants as verdict
 
--- the report was gone along from one place to another: to its last line, or to the line that is wrong
+-- the report was gone along from one place to another: to its last line, or to the line that is wrong; whether all stands there, and nothing behind it
 abbrev pub IsJudged : File → Followed → Followed → Bool → Type 0
-IsJudged f old new stands = (value : Option Run) × (stands ≡ is_some value) × Follows (report_reader f) old new value
+IsJudged f old new stands = (value : Option Run) × (stands ≡ (is_some value && (length (left_of new) == 0))) × Follows (report_reader f) old new value
 
 -- a file whose report can be judged
 pub record CanAudit (f : File) : Type 0 where

@@ -1,18 +1,18 @@
 // A case of a report.
 ghost use Rattle.std.specs.Prelude.{◌≡◌, ◌≤◌, ◌<◌, ◌+◌, ◌++◌, ◌∷◌, [], List, length, IfOk, OnOk};
-ghost use Rattle.case_audit.specs.Common.{actor_of, age, AllRows, AreTurns, Asked, asked_in, asked_of, CanAudit, case_after, case_event_of, case_head, case_journal, case_line, case_reader, case_reply, cases, end_text, entry, filled, FollowedBy, Follows, IsModest, IsModestOwed, IsSteady, LineJudged, owed_case, owed_of, PhaseJudged, queues_of};
+ghost use Rattle.case_audit.specs.Common.{actor_of, age, AllRows, AreTurns, Asked, asked_in, asked_of, CanAudit, case_after, case_event_of, case_journal, case_line, case_reader, case_reply, cases, entry, filled, FollowedBy, Follows, IsModest, IsModestOwed, IsSteady, LineJudged, owed_case, owed_of, PhaseJudged, queues_of};
 ghost use Rattle.case_core.specs.Ages.{weight};
 
 use crate::asked::AskedLine;
 use crate::owed::Owed;
+use crate::pieces::{Piece, follow};
 use crate::turns::Turns;
 use case_core::{Case, Event};
 use file_model::{CaseDecl, File};
 use line_calls::{Call, call_of, roles_of};
-use report_text::{put_case_head, put_case_line, put_end};
 use script_run::{CaseEntry, CaseJournal, ClosedCase};
-use std::alloc::{AllocError, Global};
-use text_follower::{Follower, GrowingSink};
+use std::alloc::Global;
+use text_follower::Follower;
 use turn_cell::Machine;
 use wsm_lists::NoMemory;
 
@@ -29,46 +29,14 @@ pub fn judge_case(
     ensures { (phases : List (List Asked)) → owed_of owed.now ≡ filled (owed_case decl.now.id phases)
         → IfOk result (Follows (case_reader file.now phases decl.now) report.old report.new) }
 {
-    if !follow_head(alloc, file, decl, report)? {
+    if !follow(alloc, file, Piece::CaseHead(decl), report)? {
         return Ok(None);
     }
     let Some(case) = judge_journal(alloc, file, decl, owed, report)? else {
         return Ok(None);
     };
-    if !follow_end(alloc, file, &case, report)? {
-        return Ok(None);
-    }
-    Ok(Some(case))
-}
-
-fn follow_head(
-    alloc: Global,
-    file: &File,
-    decl: &CaseDecl,
-    report: &mut Follower<'_>,
-) -> Result<bool, NoMemory>
-    ensures { IfOk result (FollowedBy (case_head file.now decl.now) report.old report.new) }
-{
-    let mut line = GrowingSink::new(alloc);
-    if !put_case_head(&mut line, true, file, decl) {
-        return Err(AllocError);
-    }
-    Ok(report.follow(line.as_slice()))
-}
-
-fn follow_end(
-    alloc: Global,
-    file: &File,
-    case: &ClosedCase,
-    report: &mut Follower<'_>,
-) -> Result<bool, NoMemory>
-    ensures { IfOk result (FollowedBy (end_text file.now case.now.machine.live) report.old report.new) }
-{
-    let mut lines = GrowingSink::new(alloc);
-    if !put_end(&mut lines, true, file, case.machine.live()) {
-        return Err(AllocError);
-    }
-    Ok(report.follow(lines.as_slice()))
+    let stands = follow(alloc, file, Piece::CaseEnd(&case), report)?;
+    Ok(stands.then_some(case))
 }
 
 fn judge_journal(
@@ -169,7 +137,7 @@ fn judge_call(
         event,
         reply,
     };
-    let stands = follow_line(alloc, file, place, &entry, report)?;
+    let stands = follow(alloc, file, Piece::CaseLine(place, &entry), report)?;
     case.journal.push(entry)?;
     Ok(stands)
 }
@@ -179,22 +147,6 @@ fn next_place(journal: &[CaseEntry]) -> u64
     ensures { result ≡ length journal.now + 1 }
 {
     journal.len() as u64 + 1
-}
-
-fn follow_line(
-    alloc: Global,
-    file: &File,
-    place: u64,
-    entry: &CaseEntry,
-    report: &mut Follower<'_>,
-) -> Result<bool, NoMemory>
-    ensures { IfOk result (FollowedBy (case_line file.now place entry.now) report.old report.new) }
-{
-    let mut line = GrowingSink::new(alloc);
-    if !put_case_line(&mut line, true, file, place, entry) {
-        return Err(AllocError);
-    }
-    Ok(report.follow(line.as_slice()))
 }
 
 // The event of a case that a line is, with the version that its actor was told.

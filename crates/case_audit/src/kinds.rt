@@ -1,17 +1,17 @@
 // The types of a report.
-ghost use Rattle.std.specs.Prelude.{◌≡◌, ◌≤◌, ◌<◌, ◌+◌, ◌++◌, ◌∷◌, [], List, length, option_map, IfOk, OnOk, Some, true};
+ghost use Rattle.std.specs.Prelude.{◌≡◌, ◌≤◌, ◌<◌, ◌+◌, ◌++◌, ◌∷◌, [], List, length, option_map, IfOk, OnOk};
 ghost use Rattle.std.specs.List.{range_with_len};
-ghost use Rattle.case_audit.specs.Common.{actor_of, AllRows, AreTurns, Asked, asked_in, asked_phases, calls_number, CanAudit, cards_of, defined, defined_line, entry, filled, FollowedBy, Follows, given, Gives, IsModest, kind_after, kind_event_in, kind_line, kind_reader, kind_reply, kinds, kinds_reader, LineJudged, numbers, owed_kind, owed_lines, owed_of, PhaseJudged, queues_of, telling, type_head, weight};
+ghost use Rattle.case_audit.specs.Common.{actor_of, AllRows, AreTurns, Asked, asked_in, asked_phases, calls_number, CanAudit, cards_of, defined, entry, filled, FollowedBy, Follows, given, IsModest, kind_after, kind_event_in, kind_line, kind_reader, kind_reply, kinds, kinds_reader, LineJudged, numbers, owed_kind, owed_lines, owed_of, PhaseJudged, queues_of, telling, weight};
 
 use crate::asked::{AskedLine, asked_phases};
 use crate::owed::{Owed, owed_kinds};
+use crate::pieces::{Piece, follow};
 use crate::turns::Turns;
 use file_model::{Act, File, TypeDecl};
 use line_calls::{Call, call_of};
-use report_text::{put_kind_line, put_type_head};
 use script_run::{ClosedKind, KindEntry, KindJournal};
-use std::alloc::{AllocError, Global};
-use text_follower::{Follower, GrowingSink};
+use std::alloc::Global;
+use text_follower::Follower;
 use turn_cell::Machine;
 use type_core::{Kind, KindEvent};
 use wsm_lists::NoMemory;
@@ -69,7 +69,7 @@ fn judge_kind(
     ensures { IfOk result (Follows (kind_reader file.now number decl.now) report.old report.new) }
 {
     let mut kind = defined(alloc, number, decl)?;
-    if !follow_front(alloc, file, decl, &kind, report)? {
+    if !follow(alloc, file, Piece::TypeFront(decl, &kind), report)? {
         return Ok(None);
     }
     for phase in owed.phases.as_slice() {
@@ -93,41 +93,6 @@ fn defined(alloc: Global, number: u32, decl: &TypeDecl) -> Result<ClosedKind, No
     let entry = entry_of(alloc, &mut kind, PROGRAM, definition)?;
     kind.journal.push(entry)?;
     Ok(kind)
-}
-
-// The line of a type, and that of its definition.
-fn follow_front(
-    alloc: Global,
-    file: &File,
-    decl: &TypeDecl,
-    kind: &ClosedKind,
-    report: &mut Follower<'_>,
-) -> Result<bool, NoMemory>
-    ensures { IfOk result (FollowedBy (type_head decl.now ++ defined_line file.now kind.now) report.old report.new) }
-{
-    let mut lines = GrowingSink::new(alloc);
-    if !put_front(&mut lines, file, decl, kind) {
-        return Err(AllocError);
-    }
-    Ok(report.follow(lines.as_slice()))
-}
-
-#[tactic(auto, using(adept_io::proofs::Sent::gives_then))]
-fn put_front(lines: &mut GrowingSink, file: &File, decl: &TypeDecl, kind: &ClosedKind) -> bool
-    ensures { Gives (λ s. Some s.bytes) (λ s. s.faults) true result lines.old lines.new (type_head decl.now ++ defined_line file.now kind.now) }
-{
-    let ok = put_type_head(lines, true, decl);
-    put_definition(lines, ok, file, kind)
-}
-
-#[tactic(auto, using(adept_io::proofs::Sent::gives_nothing))]
-fn put_definition(lines: &mut GrowingSink, ok: bool, file: &File, kind: &ClosedKind) -> bool
-    ensures { Gives (λ s. Some s.bytes) (λ s. s.faults) ok result lines.old lines.new (defined_line file.now kind.now) }
-{
-    match kind.journal.get(0) {
-        None => ok,
-        Some(entry) => put_kind_line(lines, ok, file, 1, entry),
-    }
 }
 
 // As many lines of a journal as calls are owed in a phase.
@@ -191,7 +156,7 @@ fn judge_call(
 {
     let place = next_place(kind.journal.as_slice());
     let entry = entry_of(alloc, kind, caller, event)?;
-    let stands = follow_line(alloc, file, place, &entry, report)?;
+    let stands = follow(alloc, file, Piece::KindLine(place, &entry), report)?;
     kind.journal.push(entry)?;
     Ok(stands)
 }
@@ -221,22 +186,6 @@ fn entry_of(
         event,
         reply,
     })
-}
-
-fn follow_line(
-    alloc: Global,
-    file: &File,
-    place: u64,
-    entry: &KindEntry,
-    report: &mut Follower<'_>,
-) -> Result<bool, NoMemory>
-    ensures { IfOk result (FollowedBy (kind_line file.now place entry.now) report.old report.new) }
-{
-    let mut line = GrowingSink::new(alloc);
-    if !put_kind_line(&mut line, true, file, place, entry) {
-        return Err(AllocError);
-    }
-    Ok(report.follow(line.as_slice()))
 }
 
 // The event of a type that a line is.

@@ -12,6 +12,7 @@ mod dividing;
 mod inputs;
 mod kinds;
 mod owed;
+mod pieces;
 mod reports;
 mod sections;
 mod told;

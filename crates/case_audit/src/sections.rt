@@ -127,7 +127,8 @@ fn judge_section(
 ) -> Result<Section, NoMemory>
     requires owed { AreOwed file.now owed.now }
     requires within { index < length file.now.cases }
-    ensures { IfOk result (IsSection file.now owed.now text.now index) }
+    ensures start { IfOk result (λ section. guess ≤ length text.now → section.start ≡ guess) }
+    ensures section { IfOk result (IsSection file.now owed.now text.now index) }
 {
     let start = guess.min(text.len());
     let mut report = Follower::of(text, start);
@@ -182,8 +183,9 @@ fn next_case(
         *report = Follower::of(report.text(), section.end);
         return Ok(section.case);
     }
-    let decl = &file.cases.as_slice()[index];
-    judge_case(alloc, file, decl, &owed[index], report)
+    let again = judge_section(alloc, file, owed, report.text(), index, report.place())?;
+    *report = Follower::of(report.text(), again.end);
+    Ok(again.case)
 }
 
 // What the work gives for each number below a count, in order, from as many threads as serve.

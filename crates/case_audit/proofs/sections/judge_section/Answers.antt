@@ -1,11 +1,14 @@
-use Rattle.case_audit.proofs.{Common.{ℕ, ◌∙◌, ◌≡◌, ap, arith, Followed, get_or, IsCaseAt, IsModestOwed, length, Ok, subst}, CaseSections.{followed-is, judged-at, text-stays}, OwedPhases.row-at}
+use Rattle.case_audit.proofs.{Common.{◌∙◌, ◌≡◌, ap, arith, Followed, get_or, IsCaseAt, IsModestOwed, length, subst}, CaseSections.{followed-is, judged-at, text-stays}, OwedPhases.row-at}
 use Rattle.case_audit.proofs.sections.judge_section.Goals as goal
 
 pub judge_case-requires-clause-modest : goal.judge_case-requires-clause-modest
 judge_case-requires-clause-modest c = row-at IsModestOwed c.args.owed.now c.args.index c.index-owed-index.result c.requires.owed.modest (omega (arith, c.requires.within, c.requires.owed.many)) c.index-owed-index.is
 
-pub returns : goal.returns
-returns c =
+pub returns-clause-start : goal.returns-clause-start
+returns-clause-start c = λ within. omega (arith, within, c.min-start.ensures)
+
+pub returns-clause-section : goal.returns-clause-section
+returns-clause-section c =
     let f = c.args.file.now in
     let owed = c.args.owed.now in
     let text = c.args.text.now in
@@ -15,8 +18,8 @@ returns c =
     let new = c.judge_case.new.report in
     let case = c.in_ok-case.case in
     let is = subst (λ cs. decl ≡ get_or cs i decl) c.as_slice.ensures c.index-as_slice-index.is in
-    let at = judged-at f owed {E = ℕ} i decl c.index-owed-index.result old new (Ok case) c.requires.within is (omega (arith, c.requires.within, c.requires.owed.many)) c.index-owed-index.is c.in_ok-case.ensures in
-    let same : new.text ≡ text = text-stays f owed {E = ℕ} i old new (Ok case) c.requires.within c.requires.owed.script at ∙ ap (λ s. s.text) c.of-report.ensures in
+    let at = judged-at f owed i decl c.index-owed-index.result old new case c.requires.within is (omega (arith, c.requires.within, c.requires.owed.many)) c.index-owed-index.is c.in_ok-case.ensures in
+    let same : new.text ≡ text = text-stays f owed i old new case c.requires.within c.requires.owed.script at ∙ ap (λ s. s.text) c.of-report.ensures in
     record {
       start = omega (arith, c.min-start.ensures);
       end = omega (arith, c.place.ensures.bound, ap length same);
