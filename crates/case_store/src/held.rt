@@ -1,14 +1,14 @@
 // The types and cases of a store, which the records make by fold.
-ghost use Rattle.std.specs.{Prelude.{◌≡◌, ℕ, ◌+◌, ◌<◌, ◌≤◌, ◌^◌, List, ◌++◌, ◌∷◌, [], Some, true, fold, length, map, slice_get, sum, IfOk, IfErr, OnErr, OnOk, if◌then◌else◌, replicate}, Option.{is_some, option_copied}};
+ghost use Rattle.std.specs.{Prelude.{◌≡◌, ℕ, ◌+◌, ◌<◌, ◌≤◌, ◌^◌, List, ◌++◌, ◌∷◌, [], Some, true, fold, length, map, slice_get, sum, IfOk, IfSome, IfErr, OnErr, OnOk, if◌then◌else◌, replicate}, Option.{is_some, option_copied}};
 ghost use Rattle.case_core.specs.{Ages.{age, weight}, CaseModel.not_created, Machine.next_case};
-ghost use Rattle.case_store.specs.{Damage.{TakesIn, TellsDamage}, Folding.{answer_of, answer_of_case, answers_of, called, fresh, fresh_cases, fresh_kinds, has, has_case, has_names, kind_answer, made, on_case, place_of, starts_of}};
+ghost use Rattle.case_store.specs.{Damage.{TakesIn, TellsDamage}, Folding.{answer_of, answer_of_case, answers_of, called, case_answer, fresh, fresh_cases, fresh_kinds, has, has_case, has_names, kind_answer, made, on_case, place_of, starts_of}};
 ghost use Rattle.case_store.specs.{Folding.{stored_weight, version_of, weight_of_all}, Standing.{AreKnown, IsFoldOf}};
-ghost use Rattle.script_run.specs.{Calls.{call_case, call_kind, on_kind}, Oldest.oldest};
+ghost use Rattle.script_run.specs.{Calls.{call_case, call_kind, changed_at, on_kind}, Oldest.oldest};
 ghost use Rattle.store_disk.specs.{Opening.with_gate, Rest.EndsAt};
 ghost use Rattle.store_form.specs.{Stored.HasNoVersion, declared.stored.Recorded.Recorded};
 ghost use Rattle.store_room.specs.Room.{payload_of};
 ghost use Rattle.turn_cell.specs.History.{entry};
-ghost use Rattle.type_core.specs.Machine.{next_kind, weight as kind_weight};
+ghost use Rattle.type_core.specs.{KindModel.not_defined, Machine.{next_kind, weight as kind_weight}};
 
 use crate::refusals::ImageFault;
 use crate::replies::StoredReply;
@@ -75,7 +75,8 @@ impl HeldCells {
 
     // Where a case stands.
     pub(crate) fn place_of(&self, case: CaseId) -> Option<usize>
-        ensures { result ≡ place_of self.now.starts case }
+        ensures place { result ≡ place_of self.now.starts case }
+        ensures within { IfSome result (λ place. place < length self.now.run.cases) }
     {
         let kind = case.type_no as usize;
         let start = *self.starts.get(kind)? as usize;
@@ -217,6 +218,24 @@ impl HeldCells {
             None => unreachable!(),
             Some(place) => place,
         };
+        let reply = self.on_place(alloc, caller, place, event)?;
+        Ok(reply)
+    }
+
+    // A call of the case at a place.
+    fn on_place(
+        &mut self,
+        alloc: Global,
+        caller: u32,
+        place: usize,
+        event: Event,
+    ) -> Result<StoredReply, NoMemory>
+        requires there { place < length self.old.run.cases }
+        requires young { oldest self.old.run.cases + weight event ≤ 4000000000 }
+        ensures run { IfOk result (λ _. self.new ≡ record self.old { run = record { kinds = self.old.run.kinds; cases = changed_at (call_case caller event) place self.old.run.cases } }) }
+        ensures reply { IfOk result (λ reply. case_answer event (slice_get self.old.run.cases place) ≡ Some reply) }
+        ensures kept { OnErr result (self.new ≡ self.old) }
+    {
         let reply = call_case(alloc, &mut self.cases[place], caller, event)?;
         Ok(StoredReply::Case(reply))
     }
@@ -293,12 +312,18 @@ fn fresh_kinds(alloc: Global, counts: &[u32]) -> Result<Vec<ClosedKind>, NoMemor
 {
     let mut kinds = Vec::new(alloc);
     for type_no in 0..counts.len() as u32 {
-        kinds.push(ClosedKind {
-            machine: Kind::new(alloc, type_no),
-            journal: KindJournal::new(alloc),
-        })?;
+        kinds.push(fresh_kind(alloc, type_no))?;
     }
     Ok(kinds)
+}
+
+fn fresh_kind(alloc: Global, type_no: u32) -> ClosedKind
+    ensures { result ≡ record { machine = not_defined type_no; journal = [] } }
+{
+    ClosedKind {
+        machine: Kind::new(alloc, type_no),
+        journal: KindJournal::new(alloc),
+    }
 }
 
 // Cases that nobody has called, by type and place.
@@ -323,12 +348,18 @@ fn add_cases(
     ensures { OnOk result (cases.new.items ≡ cases.old.items ++ replicate count (record { machine = not_created type_no; journal = [] })) }
 {
     for _ in 0..count {
-        cases.push(ClosedCase {
-            machine: Case::new(alloc, type_no),
-            journal: CaseJournal::new(alloc),
-        })?;
+        cases.push(fresh_case(alloc, type_no))?;
     }
     Ok(())
+}
+
+fn fresh_case(alloc: Global, type_no: u32) -> ClosedCase
+    ensures { result ≡ record { machine = not_created type_no; journal = [] } }
+{
+    ClosedCase {
+        machine: Case::new(alloc, type_no),
+        journal: CaseJournal::new(alloc),
+    }
 }
 
 // A call of a type, and its entry in the journal. After want of memory all is as before.
