@@ -83,16 +83,16 @@ call-payable ds a kinds (call.Case c e) plain = (case-payable a c e plain, tt)
 call-payable ds a kinds (call.Newest t (told.Create c)) plain = ((refl, tt), create-payable a c (newest_number t kinds))
 call-payable ds a kinds (call.Newest t (told.Migrate many)) plain = ((refl, tt), migrate-payable a t many ds (newest_number t kinds))
 
-lines-payable : (f : File) (lines : List Line) (s : Told) → All s.calls → All (told_phase f s lines).calls
-lines-payable f [] s all = all
-lines-payable f (l ∷ ls) s all =
+line-payable : (f : File) (s : Told) (l : Line) → All s.calls → All (told_line f s l).calls
+line-payable f s l all =
     let a = l.actor in
     let k = call_of a (roles_of f a) l.act in
-    lines-payable f ls (told_line f s l) (all-append s.calls (records f.cases a s.kinds k) all (call-payable f.cases a s.kinds k (plain-call a (roles_of f a) l.act)))
+    all-append s.calls (records f.cases a s.kinds k) all (call-payable f.cases a s.kinds k (plain-call a (roles_of f a) l.act))
 
-phases-payable : (f : File) (phases : List (List Line)) (s : Told) → All s.calls → All (fold (told_phase f) s phases).calls
-phases-payable f [] s all = all
-phases-payable f (p ∷ ps) s all = phases-payable f ps (told_phase f s p) (lines-payable f p s all)
+all-told : {X : Type 0} (step : Told → X → Told) → ((s : Told) (x : X) → All s.calls → All (step s x).calls) → (xs : List X) (s : Told) → All s.calls → All (fold step s xs).calls
+all-told step one [] s all = all
+all-told step one (x ∷ xs) s all = all-told step one xs (step s x) (one s x all)
 
 pub payable_calls : (f : File) → IsWorkable f → AllByRecursion IsPayable (calls f)
-payable_calls f workable = phases-payable f f.phases (told_types f.types) (definitions-payable 0 f.types workable.sound)
+payable_calls f workable =
+    all-told (told_phase f) (λ s p all. all-told (told_line f) (line-payable f) p s all) f.phases (told_types f.types) (definitions-payable 0 f.types workable.sound)

@@ -6,6 +6,7 @@ use Rattle.line_calls.specs.{Calls.call_of, Files.roles_of, declared.calls.Call.
 use Rattle.line_calls.specs.declared.calls.Call.TheVariants as call
 use Rattle.line_calls.specs.declared.calls.Told.TheVariants as told
 use Rattle.script_run.specs.{Calls.changed_at, Serial.program, Verdicts.{defined_from, stepped}}
+use Rattle.store_calls.specs.declared.telling.Telling.{Telling}
 use Rattle.store_form.specs.{Payload.Bytes, declared.stored.Recorded.Recorded, declared.stored.Stored.Stored}
 use Rattle.store_form.specs.declared.stored.Stored.TheVariants as stored
 use Rattle.store_room.specs.Room.{payload_of}
@@ -65,6 +66,16 @@ kinds_behind (call.Newest t w) kinds = kinds
 pub record Told : Type 0 where
   pub kinds : List KindModel
   pub calls : List Recorded
+
+abbrev pub told_of : Telling → Told
+told_of t = record { kinds = t.kinds.items; calls = t.calls.items }
+
+-- more calls, of which no type is changed
+abbrev pub with_calls : List Recorded → Told → Told
+with_calls calls s = record { kinds = s.kinds; calls = s.calls ++ calls }
+
+abbrev pub with_call : ℕ → Stored → Told → Told
+with_call a e s = with_calls (by a e ∷ []) s
 
 abbrev pub told_call : List CaseDecl → ℕ → Call → Told → Told
 told_call ds a k s = record { kinds = kinds_behind k s.kinds; calls = s.calls ++ records ds a s.kinds k }

@@ -2,9 +2,8 @@
 ghost use Rattle.std.specs.{Prelude.{◌≡◌, ◌∷◌, ◌++◌, ◌≤◌, [], true, length, IfOk, OnOk}, List.{AllByRecursion, list_all}};
 ghost use Rattle.file_facts.specs.Facts.{IsWorkable};
 ghost use Rattle.file_model.specs.Sizes.{IsBounded, is_small, line_effort, phase_effort};
-ghost use Rattle.line_calls.specs.Calls.{call_weight};
 ghost use Rattle.script_run.specs.{Serial.program, Verdicts.defined_kind};
-ghost use Rattle.store_calls.specs.{Calls.{calls, by, migrations, newest_number, phase_ends, stored_kind, told_call, told_line, told_phase, told_types}, Told.{told_of, with_call, with_calls}};
+ghost use Rattle.store_calls.specs.Calls.{calls, by, migrations, newest_number, phase_ends, stored_kind, told_call, told_line, told_of, told_phase, told_types, with_call, with_calls};
 ghost use Rattle.store_room.specs.Room.{IsPayable};
 ghost use Rattle.type_core.specs.Machine.{weight as kind_weight};
 ghost use Rattle.wsm_schema.specs.Flat.{cards_of};
@@ -102,28 +101,13 @@ impl Telling {
         Ok(())
     }
 
-    // The calls of a line.
+    // The calls of a line: its own, and those that the answer to it brings.
     fn tell(&mut self, alloc: Global, file: &File, line: &Line) -> Result<(), NoMemory>
         requires { line_effort line.now ≤ 4000000000 }
         ensures { OnOk result (told_of self.new ≡ told_line file.now (told_of self.old) line.now) }
     {
         let caller = line.actor;
-        let call = call_of(alloc, caller, roles_of(file, caller), &line.act)?;
-        self.tell_call(alloc, file, caller, call)
-    }
-
-    // A call, and those that the answer to it brings.
-    fn tell_call(
-        &mut self,
-        alloc: Global,
-        file: &File,
-        caller: u32,
-        call: Call,
-    ) -> Result<(), NoMemory>
-        requires { call_weight call ≤ 4000000000 }
-        ensures { OnOk result (told_of self.new ≡ told_call file.now.cases caller call (told_of self.old)) }
-    {
-        match call {
+        match call_of(alloc, caller, roles_of(file, caller), &line.act)? {
             Call::Kind { type_no, event } => self.tell_kind(alloc, caller, type_no, event),
             Call::Case { id, event } => self.note(caller, Stored::Case(id, event)),
             Call::Newest { type_no, then } => {

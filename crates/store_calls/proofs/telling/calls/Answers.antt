@@ -1,6 +1,6 @@
 use Rattle.std.proofs.{Common.{◌≡◌, ◌∙◌, ap, fold, subst, sym}, lemmas.List.at_drop_all}
 use Rattle.std.specs.List.{AllByRecursion}
-use Rattle.store_calls.specs.{Calls.{told_file, told_phase}, Told.told_of}
+use Rattle.store_calls.specs.Calls.{told_file, told_of, told_phase}
 use Rattle.store_room.specs.Room.{IsPayable}
 use Rattle.store_calls.proofs.Payable.{payable_calls}
 use Rattle.store_calls.proofs.telling.calls.Goals as goal

@@ -1,7 +1,7 @@
 use Rattle.std.proofs.Common.{◌≡◌, ◌≤◌, ◌++◌, drop, fold}
 use Rattle.std.specs.List.{sum_by}
 use Rattle.file_model.specs.Sizes.{phase_effort}
-use Rattle.store_calls.specs.{Calls.{ends_from, phase_ends, told_file, told_phase}, Told.told_of}
+use Rattle.store_calls.specs.Calls.{ends_from, phase_ends, told_file, told_of, told_phase}
 use Rattle.store_calls.proofs.telling.calls.Given as goal
 
 abbrev pub invariant-loop-lines : goal.invariant-loop-lines

@@ -1,6 +1,6 @@
 use Rattle.std.proofs.Common.{◌≡◌, ◌≤◌, drop}
 use Rattle.file_model.specs.Sizes.{phase_effort}
-use Rattle.store_calls.specs.{Calls.told_phase, Told.told_of}
+use Rattle.store_calls.specs.Calls.{told_of, told_phase}
 use Rattle.store_calls.proofs.telling.Telling.tell_phase.Given as goal
 
 abbrev pub invariant-loop-line : goal.invariant-loop-line
