@@ -5,8 +5,7 @@ pub use Rattle.file_facts.proofs.Cases.{declared-placed, declared-typed, ids-dis
 pub use Rattle.file_facts.specs.Facts.{IsDeclared, IsKnown, IsWorkable}
 pub use Rattle.line_calls.proofs.Facts.{known-call, plain-call}
 pub use Rattle.std.proofs.Common.{[], ℕ, ◌++◌, ◌+◌, ◌-◌, ◌<◌, ◌==◌, ◌||◌, ◌∙◌, ◌∷◌, ◌≡◌, ◌≤◌, ap, append_assoc, arith, Bool, cond, drop, Err, false, fold, get_or, inl, inr, length, length-append, List, map, None, Ok, Option, refl, Result, Some}
-pub use Rattle.std.proofs.{Common.{subst, suc, sym, take, true, zero}, lemmas.Option.{slice_get-map, slice_get_within, get_or_from_slice_get, same_Some}, lemmas.Bool.{and_from, and_parts, cases_order, eq-eqb, eqb-true, ne_eqb, or_cases}}
-pub use Rattle.std.proofs.lemmas.Bool.Decides.{nat_tests}
+pub use Rattle.std.proofs.{Common.{lt-ltb, subst, suc, sym, take, true, zero}, lemmas.Option.{slice_get-map, slice_get_within, get_or_from_slice_get, same_Some}, lemmas.Bool.{and_from, and_parts, cases_order, eq-eqb, eqb-true, ne_eqb, or_cases}}
 pub use Rattle.store_calls.specs.Calls.{by, calls, create_calls, definitions, kinds_behind, migrate_calls, migrations, newest_number, number_in, records, stored_kind, Told, told_line, told_phase, told_types}
 pub use Rattle.store_form.specs.declared.stored.Recorded.{Recorded}
 pub use Rattle.store_runs.specs.Stored.{case_counts, counts_from, IsSameRun, stored_run}

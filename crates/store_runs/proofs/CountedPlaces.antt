@@ -1,7 +1,6 @@
 -- Where the cases of a file stand by type and place: no two at one place.
 use Rattle.store_runs.proofs.Common.{[], ℕ, ◌+◌, ◌<◌, ◌∙◌, ◌∷◌, ◌≡◌, ◌≤◌, ap, arith, case_counts, CaseDecl, CaseId, cases_of_type, cases_order, ClosedCase, counts_from, declared-placed, declared-typed, File, fresh_cases, get-behind}
-use Rattle.store_runs.proofs.Common.{get-replica, if◌then◌else◌, inl, inr, IsDeclared, IsWorkable, length, List, nat_lt, nat_tests, None, Option, place_between, place_of, refl, same_Some, slice_get, slice_get_within, Some, starts_from, starts_of, suc, sym}
-use Rattle.store_runs.proofs.Common.{true, TypeDecl, zero}
+use Rattle.store_runs.proofs.Common.{get-replica, inl, inr, IsDeclared, IsWorkable, length, List, lt-ltb, Option, place_between, place_of, refl, same_Some, slice_get, slice_get_within, Some, starts_from, starts_of, suc, sym, TypeDecl, zero}
 use Rattle.case_core.specs.CaseModel.{not_created}
 
 -- the counts of the types before one
@@ -21,27 +20,22 @@ sum-rises (suc t) zero ns le = absurd (omega (arith, le))
 sum-rises (suc t) (suc u) [] le = omega arith
 sum-rises (suc t) (suc u) (n ∷ ns) le = omega (arith, sum-rises t u ns (omega (arith, le)))
 
-some-at : {a b : ℕ} → a ≡ b → Some a ≡ Some b
-some-at is = ap (λ n. Some n) is
-
 starts-get : (s t : ℕ) (ns : List ℕ) → t ≤ length ns → slice_get (starts_from s ns) t ≡ Some (s + sum-upto t ns)
-starts-get s zero [] le = some-at (omega arith)
+starts-get s zero [] le = ap Some (omega arith)
 starts-get s (suc t) [] le = absurd (omega (arith, le))
-starts-get s zero (n ∷ ns) le = some-at (omega arith)
-starts-get s (suc t) (n ∷ ns) le = starts-get (s + n) t ns (omega (arith, le)) ∙ some-at (omega arith)
+starts-get s zero (n ∷ ns) le = ap Some (omega arith)
+starts-get s (suc t) (n ∷ ns) le = starts-get (s + n) t ns (omega (arith, le)) ∙ ap Some (omega arith)
 
 between : (p a n : ℕ) → p < n → place_between p (Some a) (Some (a + n)) ≡ Some (a + p)
-between p a n lt =
-    let within : nat_lt (a + p) (a + n) ≡ true = grind (arith, nat_tests, lt) in
-    ap (λ b. if b then Some (a + p) else None) within
+between p a n lt = rw (lt-ltb (a + p) (a + n) (omega (arith, lt))) refl
 
 pub placed-at : (ns : List ℕ) (c : CaseId) (n : ℕ) → slice_get ns c.type_no ≡ Some n → c.place < n → place_of (starts_of ns) c ≡ Some (sum-upto c.type_no ns + c.place)
 placed-at ns c n at lt =
     let within = slice_get_within ns c.type_no n at in
-    let one : slice_get (starts_of ns) c.type_no ≡ Some (sum-upto c.type_no ns) = starts-get 0 c.type_no ns (omega (arith, within)) ∙ some-at (omega arith) in
+    let one : slice_get (starts_of ns) c.type_no ≡ Some (sum-upto c.type_no ns) = starts-get 0 c.type_no ns (omega (arith, within)) ∙ ap Some (omega arith) in
     let next : c.type_no + 1 ≡ suc c.type_no = omega arith in
     let two : slice_get (starts_of ns) (c.type_no + 1) ≡ Some (sum-upto c.type_no ns + n) =
-    ap (slice_get (starts_of ns)) next ∙ starts-get 0 (suc c.type_no) ns (omega (arith, within)) ∙ some-at (omega (arith, sum-next c.type_no n ns at)) in
+    ap (slice_get (starts_of ns)) next ∙ starts-get 0 (suc c.type_no) ns (omega (arith, within)) ∙ ap Some (omega (arith, sum-next c.type_no n ns at)) in
     ap (λ o. place_between c.place o (slice_get (starts_of ns) (c.type_no + 1))) one ∙ ap (place_between c.place (Some (sum-upto c.type_no ns))) two ∙ between c.place (sum-upto c.type_no ns) n lt
 
 -- two places of one number are of one type and place

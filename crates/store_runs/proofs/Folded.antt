@@ -2,20 +2,19 @@
 use Rattle.store_runs.proofs.Common.{[], ℕ, ◌++◌, ◌+◌, ◌<◌, ◌∙◌, ◌∷◌, ◌≡◌, ◌≤◌, AllByRecursion, AllRows, and_from, and_parts, ap, append_assoc, arith, Bool, by, Call, call_of, called, calls, case_at, case_counts, CaseDecl, CaseId}
 use Rattle.store_runs.proofs.Common.{changed-seam, ClosedCase, ClosedKind, create_calls, declared-typed, defined, defined_from, defined_kind, definitions, drop, eq-eqb, eqb-true, false, File, fold, folded, fresh}
 use Rattle.store_runs.proofs.Common.{fresh_cases, fresh_kinds, get-changed, get-other, get_or, get_or_from_slice_get, has_case, has_id, has_names, ids-distinct, if◌then◌else◌, inl, inr, is_among, IsDeclared, IsKnown, IsKnownCall, IsPlain}
-use Rattle.store_runs.proofs.Common.{IsSameRun, IsWorkable, KindEvent, kinds_behind, kinds_from, known-call, length, length-append, Line, List, migrate_calls, migrations, nat_lt, nat_tests, newest_number, None, not_defined}
+use Rattle.store_runs.proofs.Common.{IsSameRun, IsWorkable, KindEvent, kinds_behind, kinds_from, known-call, length, length-append, Line, List, migrate_calls, migrations, lt-ltb, nat_lt, newest_number, None, not_defined}
 use Rattle.store_runs.proofs.Common.{on_version, opening, Option, option_map, phase_worked, place_of, plain-call, position, program, Recorded, records, refl, roles_of, Run, same_Some, serial, slice_get, slice_get-map}
 use Rattle.store_runs.proofs.Common.{slice_get_within, Some, starts_of, stored_kind, stored_run, subst, suc, sym, take, Told, told_line, told_phase, told_types}
 use Rattle.store_runs.proofs.{Common.{true, TypeDecl, uncalled, version_of, version_of_kind, VersionModel, zero}, CountedPlaces.{counts-size, declared-place, fresh-at, place-number, same-id, same-place}, Machines.{kinds-changed, kinds-same}}
-use Rattle.store_runs.proofs.{Machines.{machines, newest-is, number}, Numbers.{AllCounted, counted-call, counted-changed, found-by-number, found-when-asked, fresh-counted}}
-use Rattle.std.specs.Option.{is_some}
+use Rattle.store_runs.proofs.{Machines.{machines, newest-is, number}, Numbers.{AllCounted, after-event, counted-changed, found-by-number, found-when-asked}}
 use Rattle.case_store.proofs.Staying.{AreThere, all-types-stay, known-append, known-there}
 use Rattle.case_store.specs.Standing.{AreKnown}
 use Rattle.store_calls.proofs.Payable.{call-payable, definitions-payable}
 use Rattle.store_form.specs.Stored.{is_shallow}
 use Rattle.store_room.specs.Room.{IsPayable}
-use Rattle.std.proofs.{Common.lt-ltb, Math.ListN.drop_of_length-le, Math.Seq.take-length, lemmas.Bool.{ltb-false, ltb-true}, lemmas.List.drop_more, lemmas.List.Folds.Any-from_list_any, lemmas.Map.Keys.any_passes_from_place}
+use Rattle.std.proofs.{Math.ListN.drop_of_length-le, Math.Seq.take-length, lemmas.Bool.{ltb-false, ltb-true}, lemmas.List.drop_more, lemmas.List.Folds.Any-from_list_any, lemmas.Map.Keys.any_passes_from_place}
 use Rattle.std.proofs.{lemmas.List.Sums.{fails_before_first, fold-append, passes_at_first}, lemmas.Option.{slice_get-get_or, slice_get_cases}}
-use Rattle.std.specs.List.{position_or_len}
+use Rattle.std.specs.{List.position_or_len, Option.is_some}
 use mathlib.Core.Logic.{dite}
 use native.Mathlib.Decide.{ℕ_discrete}
 use Rattle.case_core.specs.declared.events.Event.{Event}
@@ -29,8 +28,7 @@ use Rattle.script_run.specs.Calls.{call_case, call_kind, called as run_called, c
 use Rattle.store_form.specs.declared.stored.Stored.TheVariants as stored
 use Rattle.type_core.specs.declared.events.KindEvent.TheVariants as kind_event
 
--- ---- the case of an id
--- the first that has it
+-- ---- the first case of an id
 record Found (c : CaseId) (ds : List CaseDecl) : Type 0 where
   at : ℕ
   decl : CaseDecl
@@ -344,7 +342,7 @@ module _ (f : File) (workable : IsWorkable f) where
 
   defined-counted : (t : ℕ) (ds : List TypeDecl) → AllCounted (kinds_from t ds)
   defined-counted t [] = tt
-  defined-counted t (d ∷ ds) = (counted-call program (kind_event.Define d.schema) (record { machine = not_defined t; journal = [] }) (fresh-counted t), defined-counted (t + 1) ds)
+  defined-counted t (d ∷ ds) = (after-event (not_defined t) (kind_event.Define d.schema) (λ w is. absurd cc), defined-counted (t + 1) ds)
 
   types-same : (t : ℕ) (ds : List TypeDecl) → defined_from t ds ≡ machines (kinds_from t ds)
   types-same t [] = refl

@@ -1,6 +1,6 @@
 -- The types of a run without their journals.
-use Rattle.store_runs.proofs.Common.{[], ℕ, ◌∙◌, ◌∷◌, ◌≡◌, answered_version, ap, call_kind, changed-later, changed_at, ClosedKind, event_on, KindEvent, KindModel, List, map, newest, newest_in, newest_number, newest_of, None, number_in, on_kind}
-use Rattle.store_runs.proofs.{Common.{Option, option_map, refl, Run, slice_get-map, slice_get, Some, stepped, suc, sym, VersionModel, zero}, Numbers.asked}
+use Rattle.store_runs.proofs.Common.{[], ℕ, ◌∙◌, ◌∷◌, ◌≡◌, ap, call_kind, changed-later, changed_at, ClosedKind, KindEvent, KindModel, List, map, newest, newest_in, newest_number, newest_of, None, number_in, on_kind}
+use Rattle.store_runs.proofs.{Common.{Option, option_map, refl, Run, slice_get-map, slice_get, Some, stepped, suc, sym, VersionModel, zero}, Numbers.{answer-is, asked}}
 use Rattle.type_core.specs.declared.events.KindEvent.TheVariants as kind_event
 
 abbrev pub machines : List ClosedKind → List KindModel
@@ -10,13 +10,9 @@ machines ks = map (λ k. k.machine) ks
 abbrev pub number : Option VersionModel → Option ℕ
 number o = option_map (λ v. v.number) o
 
-answered : (k : KindModel) (o : Option VersionModel) → number o ≡ number (answered_version (event_on k o kind_event.Newest).1)
-answered k None = refl
-answered k (Some v) = refl
-
 number-of : (o : Option ClosedKind) → number_in (option_map (λ k. k.machine) o) ≡ number (newest_in o)
 number-of None = refl
-number-of (Some k) = answered k.machine (newest_of k.machine.versions)
+number-of (Some k) = ap number (sym (answer-is k.machine (newest_of k.machine.versions)))
 
 pub newest-is : (t : ℕ) (r : Run) → newest_number t (machines r.kinds) ≡ number (newest t r)
 newest-is t r = ap number_in (slice_get-map (λ k. k.machine) r.kinds t) ∙ number-of (slice_get r.kinds t)

@@ -1,7 +1,7 @@
 -- The newest version of a type has the number of how many there are, so it is found by its number.
 use Rattle.store_runs.proofs.Common.{[], ℕ, ◌++◌, ◌+◌, ◌-◌, ◌==◌, ◌∙◌, ◌∷◌, ◌≡◌, answered_version, ap, arith, Bool, call_kind, changed-later, changed_at, ClosedKind, defined_by, Err, event_on, false, get-changed, if◌then◌else◌}
 use Rattle.store_runs.proofs.Common.{installed_by, KindEvent, KindModel, length, length-append, List, nat_lt, ne_eqb, newest, newest_in, newest_of, next_kind, None, Ok, on_kind, Option, option_map, refl, Result, Run, same_Some, slice_get}
-use Rattle.store_runs.proofs.Common.{AllRows, not_defined, row-at, Some, subst, suc, sym, true, version_in, version_of, version_of_kind, VersionModel, with_version, zero}
+use Rattle.store_runs.proofs.Common.{AllRows, row-at, Some, subst, suc, sym, true, version_in, version_of, version_of_kind, VersionModel, with_version, zero}
 use Rattle.type_core.proofs.Numbering.{none_newest}
 use Rattle.type_core.specs.declared.events.KindEvent.TheVariants as kind_event
 use Rattle.type_core.specs.declared.replies.KindReply.TheVariants as reply
@@ -16,16 +16,13 @@ last-is : (vs : List VersionModel) (v : VersionModel) → slice_get (vs ++ v ∷
 last-is [] v = refl
 last-is (u ∷ us) v = last-is us v
 
-size-more : (vs : List VersionModel) (v : VersionModel) → length (vs ++ v ∷ []) ≡ length vs + 1
-size-more vs v = length-append vs (v ∷ [])
-
 newest-is : (vs : List VersionModel) (v : VersionModel) → newest_of (vs ++ v ∷ []) ≡ Some v
-newest-is vs v = ap (slice_get (vs ++ v ∷ [])) (omega (arith, size-more vs v)) ∙ last-is vs v
+newest-is vs v = ap (slice_get (vs ++ v ∷ [])) (omega (arith, length-append vs (v ∷ []))) ∙ last-is vs v
 
 one-more : (k : KindModel) (v : VersionModel) → v.number ≡ length k.versions + 1 → IsCounted (with_version k v)
 one-more k v number w is =
     let same : v ≡ w = same_Some v w (sym (newest-is k.versions v) ∙ is) in
-    ap (λ x. x.number) (sym same) ∙ number ∙ sym (size-more k.versions v)
+    ap (λ x. x.number) (sym same) ∙ number ∙ sym (length-append k.versions (v ∷ []))
 
 by-defined : (k : KindModel) (r : Result SchemaModel Fault) → IsCounted k → length k.versions ≡ 0 → IsCounted (defined_by k (with_schema (first_version k.type_no) r)).0
 by-defined k (Ok s) counted none = one-more k (first_version k.type_no s) (omega (arith, none))
@@ -45,11 +42,8 @@ by-event k (Some n) (kind_event.Define s) is counted = counted
 by-event k (Some n) (kind_event.Install ops) is counted = by-installed k (nat_lt 255 (length k.versions)) n ops (changed_by n.schema ops) counted is
 by-event k (Some n) kind_event.Newest is counted = counted
 
-after-event : (k : KindModel) (e : KindEvent) → IsCounted k → IsCounted (next_kind k e).0
+pub after-event : (k : KindModel) (e : KindEvent) → IsCounted k → IsCounted (next_kind k e).0
 after-event k e counted = by-event k (newest_of k.versions) e refl counted
-
-pub fresh-counted : (t : ℕ) → IsCounted (not_defined t)
-fresh-counted t w is = absurd cc
 
 -- each type of a run
 abbrev pub AllCounted : List ClosedKind → Type 0
@@ -61,9 +55,6 @@ counted-changed a (suc t) e [] all = tt
 counted-changed a zero e (k ∷ ks) all = (after-event k.machine e all.0, all.1)
 counted-changed a (suc t) e (k ∷ ks) all = subst AllCounted (sym (changed-later (call_kind a e) t k ks)) (all.0, counted-changed a t e ks all.1)
 
-pub counted-call : (a : ℕ) (e : KindEvent) (k : ClosedKind) → IsCounted k.machine → IsCounted (call_kind a e k).machine
-counted-call a e k counted = after-event k.machine e counted
-
 -- it is found by its number
 at-number : (vs : List VersionModel) (v : VersionModel) → v.number ≡ length vs → newest_of vs ≡ Some v → version_in vs v.number ≡ Some v
 at-number [] v number is = absurd cc
@@ -71,9 +62,10 @@ at-number (x ∷ xs) v number is =
     let some : (length (x ∷ xs) == 0) ≡ false = ne_eqb (length (x ∷ xs)) 0 (λ none. omega (arith, none)) in
     ap (version_in (x ∷ xs)) number ∙ ap (λ b. if b then None else slice_get (x ∷ xs) (length (x ∷ xs) - 1)) some ∙ is
 
-answered : (k : KindModel) (o : Option VersionModel) (v : VersionModel) → answered_version (event_on k o kind_event.Newest).1 ≡ Some v → o ≡ Some v
-answered k None v is = absurd cc
-answered k (Some w) v is = is
+-- a type that is asked answers its newest version
+pub answer-is : (k : KindModel) (o : Option VersionModel) → answered_version (event_on k o kind_event.Newest).1 ≡ o
+answer-is k None = refl
+answer-is k (Some v) = refl
 
 pub found-by-number : (r : Run) (t : ℕ) (v : VersionModel) → AllCounted r.kinds → newest t r ≡ Some v → version_of r t v.number ≡ Some v
 found-by-number r t v all is = go (slice_get r.kinds t) refl is
@@ -81,7 +73,7 @@ found-by-number r t v all is = go (slice_get r.kinds t) refl is
     go : (o : Option ClosedKind) → slice_get r.kinds t ≡ o → newest_in o ≡ Some v → version_of_kind v.number o ≡ Some v
     go None at is = absurd cc
     go (Some k) at is =
-        let has = answered k.machine (newest_of k.machine.versions) v is in
+        let has = sym (answer-is k.machine (newest_of k.machine.versions)) ∙ is in
         at-number k.machine.versions v (row-at (λ x. IsCounted x.machine) r.kinds t k all at v has) has
 
 -- a type that is asked for its newest version stays as it is
